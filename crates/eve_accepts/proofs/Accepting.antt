@@ -2,10 +2,11 @@
 use Rattle.std.proofs.Common.{◌≡◌, ℕ, List, ap, subst, ◌∙◌, inl, inr, ◌⊎◌}
 use Rattle.std.specs.Prelude.{IsPermutation}
 use Rattle.eve_grammar.specs.Trace.{Asked, Step, Trace}
-use Rattle.eve_grammar.specs.Limits.{Spells, HasLimits}
+use Rattle.eve_grammar.specs.Limits.{HasLimits}
 use Rattle.eve_grammar.specs.Spelling.{steps_at}
+use Rattle.eve_grammar.specs.Following.{Spells}
 use Rattle.eve_views.specs.declared.fault.Fault.{Fault}
-use Rattle.eve_views.specs.Form.{IsFormFault}
+use Rattle.eve_views.specs.Form.{StandsInForm, IsFaultSomewhere, IsFaultOutside}
 use Rattle.eve_history.specs.Section.{SectionState, start, next}
 use Rattle.eve_history.specs.SectionHistory.{IsRightSection}
 use Rattle.eve_chains.specs.Sound.{SettledAreSound}
@@ -14,11 +15,11 @@ use Rattle.eve_votes.specs.Faults.{AreVotesSound}
 use Rattle.eve_agree.specs.Tables.{RestoresAreRight}
 use Rattle.eve_agree.specs.DueTokens.{TokensAreDue}
 use Rattle.eve_agree.specs.Majority.{AllAreBacked}
-use Rattle.eve_agree.specs.Agreement.{IsOutcomeFault}
 use Rattle.eve_agree.specs.SentReplies.{AllReplied}
 use Rattle.eve_agree.proofs.RestoresInOrder.{faultless}
 use Rattle.eve_agree.proofs.Sending.{no_fault}
 use Rattle.eve_agree.proofs.TokensInOrder.{no_token_fault}
+use Rattle.eve_agree.specs.Agreement.{StandsInAgreement}
 use Rattle.eve_workload.specs.declared.mixer.Mixer.{Mixer}
 use Rattle.eve_workload.specs.Mixing.{cut, batch_with}
 use Rattle.eve_workload.specs.Workload.{Workload, IsWorkload}
@@ -92,13 +93,13 @@ module _ (cuts : (names : List (List ℕ)) → (m : Mixer) → (requests : List 
   replied : AllReplied t
   replied = all_replied w mixer t run right
 
-  common_collides : (f : Fault) → IsCommonFault t f → IsOutcomeFault t f × Collides t
+  common_collides : (f : Fault) → IsCommonFault t f → IsFaultSomewhere StandsInAgreement t f × Collides t
   common_collides f (of_votes is) = absurd (no_vote_fault t votes f is)
   common_collides f (of_majorities is) = absurd (no_majority_fault t backed f is)
   common_collides f (of_agreement is) = (is, outcome_collides t limits right due votes backed f is)
   common_collides f (of_replies is) = absurd (no_fault t replied f is)
 
-  pub fault_collides : (f : Fault) → IsTraceFault t f → IsOutcomeFault t f × Collides t
+  pub fault_collides : (f : Fault) → IsTraceFault t f → IsFaultSomewhere StandsInAgreement t f × Collides t
   fault_collides f (in_orders is) =
       absurd (no_order_fault w mixer t asked run.customers run.batches cuts f is)
   fault_collides f (in_section is) = absurd (own_faultless is.0 f is.2)
@@ -106,7 +107,7 @@ module _ (cuts : (names : List (List ℕ)) → (m : Mixer) → (requests : List 
 
 -- the verdict on bytes that spell a trace each of whose faults is a collision
 module _ (bytes : List ℕ) (t : Trace) (collides : (f : Fault) → IsTraceFault t f → Collides t)
-    (once : (u : Trace) → Spells bytes u → u ≡ t) (formed : (f : Fault) → ¬ IsFormFault bytes f) where
+    (once : (u : Trace) → Spells bytes u → u ≡ t) (formed : (f : Fault) → ¬ IsFaultOutside StandsInForm bytes f) where
   standing_collides : (f : Fault) → Stands bytes f → Collides t
   standing_collides f (in_form is) = absurd (formed f is)
   standing_collides f (in_trace u other is) =

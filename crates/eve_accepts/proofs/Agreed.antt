@@ -11,12 +11,13 @@ use Rattle.eve_grammar.proofs.Lists.{item_within}
 use Rattle.eve_views.specs.declared.fault.Code.{Code}
 use Rattle.eve_views.specs.declared.fault.Code.TheVariants as code
 use Rattle.eve_views.specs.declared.fault.Fault.{Fault}
+use Rattle.eve_views.specs.Form.{IsFaultSomewhere}
 use Rattle.eve_history.specs.Section.{Placed}
 use Rattle.eve_history.specs.SectionHistory.{history, committed_at, IsRightSection}
 use Rattle.eve_chains.proofs.Linked.{last_committed, committed_number, in_at, none≢some}
 use Rattle.eve_votes.specs.Faults.{AreVotesSound}
 use Rattle.eve_votes.proofs.Places.{get_between}
-use Rattle.eve_agree.specs.Agreement.{first_to_commit, HaveSameOutcome, StandsInAgreement, IsOutcomeFault}
+use Rattle.eve_agree.specs.Agreement.{first_to_commit, HaveSameOutcome, StandsInAgreement}
 use Rattle.eve_agree.specs.DueTokens.{due_token, TokensAreDue}
 use Rattle.eve_agree.specs.Majority.{AllAreBacked}
 use Rattle.eve_agree.proofs.Outcomes.{first_there}
@@ -69,12 +70,12 @@ module _ (t : Trace) (limits : HasLimits t) (right : (e : ℕ) → IsRightSectio
       (committed_decided t e (right e) (backed e) n q at) (committed_decided t f (right f) (backed f) n r also)) apart
 
   -- a fault of agreement
-  pub outcome_collides : (f : Fault) → IsOutcomeFault t f → Collides t
-  outcome_collides f is = by f.code is.stands
+  pub outcome_collides : (f : Fault) → IsFaultSomewhere StandsInAgreement t f → Collides t
+  outcome_collides f is = by f.code is.1.stands
     where
-      by : (c : Code) → StandsInAgreement c t is.replica f.offset → Collides t
+      by : (c : Code) → StandsInAgreement c t is.0 f.offset → Collides t
       by code.Outcome place =
-          let e = is.replica in
+          let e = is.0 in
           let n = length place.before in
           let here : committed_at t e (suc n) ≡ Some place.item = ap (λ (ps : List Placed). slice_get ps n) place.is
           ∙ get_between place.before place.item place.rest in

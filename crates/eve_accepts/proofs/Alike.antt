@@ -15,7 +15,7 @@ use Rattle.eve_replica.specs.Sections.{RunPlan}
 pub record IsPlanOf (p : RunPlan) (t : Trace) : Type 0 where
   pub names : p.names ≡ names_of t
   pub batches : p.batches ≡ t.batches
-  pub first : p.first ≡ opening (opening_rows t.customers) t.workers t.window
+  pub first : p.first ≡ opening (opening_rows t.customers) t.head.workers t.head.window
 
 -- what an attempt of the trace wrote, in its certificate's order
 abbrev pub written_by : Trace → Attempt → List Entry
@@ -31,8 +31,8 @@ pub record AreAlike (t : Trace) (s : SectionState) (l : Ledger) : Type 0 where
   pub view : s.view ≡ l.view
   pub last : s.last ≡ l.committed
   pub serial : s.rolled_back ≡ l.is_next_serial
-  pub workers : l.workers ≡ t.workers
-  pub window : l.window ≡ t.window
+  pub workers : l.workers ≡ t.head.workers
+  pub window : l.window ≡ t.head.window
   pub rows : ledger_rows l ≡ 2 * length t.customers
   pub opened : l.opened ≡ map (opened_of t) (attempts_of s.pending)
   pub due : s.last + length s.pending ≤ length t.batches

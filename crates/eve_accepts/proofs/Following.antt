@@ -5,7 +5,7 @@ use Rattle.std.proofs.Common.{subst, ap, ◌∙◌, inl, inr, append_assoc, appe
 use mathlib.Core.Path.{fun_ext}
 use Rattle.std.specs.Prelude.{if◌then◌else◌, slice_index_or}
 use Rattle.std.specs.Bool.{beq}
-use Rattle.std.specs.Cmp.Lexicographic.{bytes_decides}
+use Rattle.std.specs.Cmp.Lexicographic.{bytes_decides, pointwise}
 use Rattle.std.proofs.lemmas.Bool.{and_from, cases_lt, eq-eqb, le-leb, lt-ltb}
 use Rattle.std.proofs.lemmas.List.{length-map, map-append}
 use Rattle.std.proofs.lemmas.List.Elements.{All-get_or}
@@ -24,7 +24,7 @@ use Rattle.eve_grammar.proofs.OpeningRows.{length-opening_rows}
 use Rattle.eve_grammar.proofs.Lists.{same_first, same_others, no_item}
 use Rattle.eve_history.specs.Section.{Placed, SectionState, start, path_of, committing, next, state_after}
 use Rattle.eve_history.specs.Section.{batch_at, request_count, worker_count, is_due, is_right_attempt}
-use Rattle.eve_history.specs.Section.{is_right_certificate, are_right_accesses, same_bytes, commits_first}
+use Rattle.eve_history.specs.Section.{is_right_certificate, are_right_accesses, commits_first}
 use Rattle.eve_history.specs.Section.{is_right_commit, is_right_rollback, is_right, are_right}
 use Rattle.eve_history.specs.SectionHistory.{history, IsRightSection}
 use Rattle.eve_history.proofs.Rights.{none_at}
@@ -72,7 +72,7 @@ opening_now : (t : Trace) → table_of_rows (rows_at_first (opening_rows t.custo
 opening_now t = fun_ext (λ row. ap (λ (n : ℕ). record { version = n; value = opening_of t row })
     (version_first (length (opening_rows t.customers)) row))
 
-alike_opening : (t : Trace) → AreAlike t start (opening (opening_rows t.customers) t.workers t.window)
+alike_opening : (t : Trace) → AreAlike t start (opening (opening_rows t.customers) t.head.workers t.head.window)
 alike_opening t = record {
   view = refl;
   last = refl;
@@ -93,12 +93,12 @@ same_mode true y same = ap (beq true) (sym same)
 same_mode false y same = ap (beq false) (sym same)
 
 due_from : (t : Trace) (s : SectionState) (a : Attempt) → a.seq ≡ s.last + 1 + length s.pending
-    → a.seq ≤ length t.batches → a.seq ≤ s.last + t.window → a.view ≡ s.view → a.serial ≡ s.rolled_back
+    → a.seq ≤ length t.batches → a.seq ≤ s.last + t.head.window → a.view ≡ s.view → a.serial ≡ s.rolled_back
     → is_due t s a ≡ true
 due_from t s a number there room view mode =
     and_from (a.seq == s.last + 1 + length s.pending) _ (eq-eqb a.seq (s.last + 1 + length s.pending) number)
     (and_from (nat_le a.seq (length t.batches)) _ (le-leb a.seq (length t.batches) there)
-    (and_from (nat_le a.seq (s.last + t.window)) _ (le-leb a.seq (s.last + t.window) room)
+    (and_from (nat_le a.seq (s.last + t.head.window)) _ (le-leb a.seq (s.last + t.head.window) room)
     (and_from (a.view == s.view) (beq a.serial s.rolled_back) (eq-eqb a.view s.view view)
     (same_mode a.serial s.rolled_back mode))))
 
@@ -116,7 +116,7 @@ first_committed : (t : Trace) (pending : List Placed) (first : Opened) (others :
 first_committed t [] first others c opened view token = absurd (no_item [] first others opened)
 first_committed t (q ∷ ps) first others c opened view token =
     let own = same_first (opened_of t q.attempt) first (map (opened_of t) (attempts_of ps)) others opened in
-    and_from (q.attempt.view == c.view) (same_bytes q.attempt.token c.token)
+    and_from (q.attempt.view == c.view) (pointwise ◌==◌ q.attempt.token c.token)
     (eq-eqb q.attempt.view c.view (ap (λ (o : Opened). o.view) own ∙ view))
     ((bytes_decides q.attempt.token c.token).1 (ap (λ (o : Opened). o.token) own ∙ token))
 

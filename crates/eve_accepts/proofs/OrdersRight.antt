@@ -13,7 +13,8 @@ use Rattle.std.proofs.lemmas.Map.Made.{AllPairs-from_IsDistinct, IsDistinct-from
 use Rattle.eve_grammar.specs.Trace.{Customer, Asked, Batch, Trace}
 use Rattle.eve_grammar.specs.Spelling.{located, customer_text, batch_text, batches_start, customers_at, batches_at}
 use Rattle.eve_views.specs.declared.fault.Fault.{Fault}
-use Rattle.eve_history.specs.Faults.{name_in, request_ids_at, IsOrderFault}
+use Rattle.eve_views.specs.Form.{IsFaultOutside}
+use Rattle.eve_history.specs.Faults.{name_in, request_ids_at, StandsInOrders}
 use Rattle.eve_grammar.specs.Trace.{RequestId, request_id}
 use Rattle.eve_history.specs.Notes.{HasDistinctNames, HasDistinctRequests}
 use Rattle.eve_history.proofs.OrderLaws.{none_twice}
@@ -121,7 +122,7 @@ pub no_order_fault : (w : Workload) (mixer : Mixer) (t : Trace) → IsWorkload w
     → t.batches ≡ batches_cut w mixer
     → ((names : List (List ℕ)) → (m : Mixer) → (requests : List Asked)
     → IsPermutation requests (batch_with (cut names m requests)).requests)
-    → (f : Fault) → ¬ IsOrderFault t f
+    → (f : Fault) → ¬ IsFaultOutside StandsInOrders t f
 no_order_fault w mixer t workload customers batches cuts =
     let names : List (List ℕ) = customer_names w.customers in
     none_twice t

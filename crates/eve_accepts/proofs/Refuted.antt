@@ -12,20 +12,21 @@ use Rattle.eve_grammar.specs.Spelling.{frame_text, located, steps_at, verifier_s
 use Rattle.eve_views.specs.declared.fault.Code.{Code}
 use Rattle.eve_views.specs.declared.fault.Code.TheVariants as code
 use Rattle.eve_views.specs.declared.fault.Fault.{Fault}
+use Rattle.eve_views.specs.Form.{IsFaultSomewhere, IsFaultOutside, IsFaultIn, SomePlace}
 use Rattle.eve_votes.specs.Votes.{is_vote_on, IsDecided, IsRolledBack}
-use Rattle.eve_votes.specs.Faults.{IsFurtherAt, StandsInVotes, IsVoteFault, AreVotesSound}
+use Rattle.eve_votes.specs.Faults.{StandsInVotes, AreVotesSound, IsFurther}
 use Rattle.eve_votes.proofs.Places.{located_values}
 use Rattle.eve_history.specs.Section.{start}
 use Rattle.eve_history.specs.SectionHistory.{IsRightSection}
-use Rattle.eve_history.specs.Faults.{OfCommit, OfRollback, IsStructureFault}
+use Rattle.eve_history.specs.Faults.{OfCommit, OfRollback, StandsInStructure}
 use Rattle.eve_history.specs.FirstWrong.{first_wrong}
 use Rattle.eve_history.proofs.Structure.{steps_on, none_stands}
-use Rattle.eve_agree.specs.Majority.{IsBacked, AllAreBacked, StandsInMajorities, IsMajorityFault}
+use Rattle.eve_agree.specs.Majority.{IsBacked, AllAreBacked, StandsInMajorities}
 use Rattle.eve_agree.proofs.TokensInOrder.{none_fails}
 
 -- ---- structure
 
-pub no_structure_fault : (t : Trace) (e : ℕ) → IsRightSection t e → (f : Fault) → ¬ IsStructureFault t e f
+pub no_structure_fault : (t : Trace) (e : ℕ) → IsRightSection t e → (f : Fault) → ¬ IsFaultIn StandsInStructure t e f
 no_structure_fault t e right f fault =
     none_stands t e f
     (ap (first_wrong t start) (sym (append-nil (steps_at t e))) ∙ steps_on t start (steps_at t e) [] right) fault
@@ -61,7 +62,7 @@ module _ (t : Trace) (sound : AreVotesSound t) where
   votes_plain v = located_values (λ w. frame_text (OfVote w))
       (verifier_start t v + length (frame_text (OfVerifier v))) (votes_of t v)
 
-  none_further : (v at : ℕ) → IsFurtherAt (votes_at t v) at → ⊥
+  none_further : (v at : ℕ) → SomePlace (votes_at t v) (λ before w. (w.0 ≡ at) × IsFurther before w) → ⊥
   none_further v at place =
       let w = place.item.1 in
       let two : 2 ≤ length (filter (is_vote_on w.seq w.view) (map (λ x. x.1) (votes_at t v))) =
@@ -74,15 +75,15 @@ module _ (t : Trace) (sound : AreVotesSound t) where
       (sound.once v w.seq w.view) in
       omega (arith, two, one)
 
-  pub no_vote_fault : (f : Fault) → ¬ IsVoteFault t f
+  pub no_vote_fault : (f : Fault) → ¬ IsFaultOutside StandsInVotes t f
   no_vote_fault f fault = by f.code fault.stands
     where
       by : (c : Code) → StandsInVotes c t f.offset → ⊥
       by code.TwoVotes stands = none_further stands.0 f.offset stands.1
       by code.TwoDecisions stands =
           let two = stands.holds.1 in
-          two.apart (sound.one_view stands.item.1.0 two.view two.other two.token two.other_token two.decided
-          two.other_decided)
+          two.4 (sound.one_view stands.item.1.0 two.0 two.1 two.2 two.3 two.5
+          two.6)
       by c stands = absurd stands
 
 -- ---- majorities
@@ -99,17 +100,17 @@ module _ (t : Trace) where
   rollback_backed (Commits c) backed wrong = wrong
   rollback_backed (RollsBack r) backed wrong = wrong backed
 
-  pub no_majority_fault : AllAreBacked t → (f : Fault) → ¬ IsMajorityFault t f
-  no_majority_fault backed f fault = by f.code fault.stands
+  pub no_majority_fault : AllAreBacked t → (f : Fault) → ¬ IsFaultSomewhere StandsInMajorities t f
+  no_majority_fault backed f fault = by f.code fault.1.stands
     where
-      by : (c : Code) → StandsInMajorities c t fault.replica f.offset → ⊥
+      by : (c : Code) → StandsInMajorities c t fault.0 f.offset → ⊥
       by code.NoMajority stands = none_fails (λ step. IsBacked t step.1)
           (λ _ step. (step.0 ≡ f.offset) × OfCommit step.1 (λ c. ¬ IsDecided t c.seq c.view c.token))
-          (steps_at t fault.replica) (backed fault.replica)
+          (steps_at t fault.0) (backed fault.0)
           (λ b step is wrong. commit_backed step.1 is wrong.1) stands
       by code.RollbackNoMajority stands = none_fails (λ step. IsBacked t step.1)
           (λ _ step. (step.0 ≡ f.offset) × OfRollback step.1 (λ r. ¬ IsRolledBack t (r.to + 1) (r.view - 1)))
-          (steps_at t fault.replica) (backed fault.replica)
+          (steps_at t fault.0) (backed fault.0)
           (λ b step is wrong. rollback_backed step.1 is wrong.1) stands
       by c stands = absurd stands
 

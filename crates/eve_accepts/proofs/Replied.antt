@@ -3,9 +3,11 @@ use Rattle.std.proofs.Common.{◌≡◌, ℕ, zero, suc, ◌+◌, ◌-◌, List,
 use Rattle.std.proofs.Common.{refl, sym, ap, subst, ◌∙◌, zero-add, arith}
 use Rattle.std.specs.List.{AllByRecursion}
 use Rattle.std.proofs.lemmas.List.{map-append}
+use Rattle.std.specs.Prelude.{option_map}
 use Rattle.eve_smallbank.specs.declared.request.Reply.{Reply}
 use Rattle.eve_smallbank.proofs.Members.{all_in, all_from_in}
 use Rattle.eve_grammar.specs.Trace.{Asked, Batch, Attempt, Commit, Step, Attempts, Commits, RollsBack, Sent, Trace}
+use Rattle.eve_grammar.specs.Trace.{request_id}
 use Rattle.eve_grammar.specs.Frames.{OfReplica}
 use Rattle.eve_grammar.specs.Spelling.{frame_text, step_text, section_start, steps_of, steps_at}
 use Rattle.eve_grammar.proofs.Lists.{all-append, get_in_front}
@@ -174,12 +176,11 @@ replied t e s right by =
     record {
       placed = by.placed;
       index = by.answer.index;
-      asked = by.answer.asked;
       committed = ap (committed_at t s.replica) seq ∙ ap (λ (r : ℕ). committed_at t r (suc by.place)) by.answer.replica
           ∙ by.there;
-      request = ap (λ (xs : List Asked). slice_get xs by.answer.index) (sym requests) ∙ by.answer.request;
-      client = by.answer.client;
-      number = by.answer.number;
+      request = ap (option_map request_id)
+          (ap (λ (xs : List Asked). slice_get xs by.answer.index) (sym requests) ∙ by.answer.request)
+          ∙ (λ j. Some (by.answer.client j, by.answer.number j));
       reply = by.answer.reply;
     }
 

@@ -11,7 +11,8 @@ use Rattle.std.proofs.lemmas.Map.Views.{any-filter_same}
 use Rattle.eve_smallbank.specs.declared.entry.Entry.{Entry}
 use Rattle.eve_smallbank.specs.Access.{Executed, is_write, writes_row}
 use Rattle.eve_smallbank.specs.Chain.{Table}
-use Rattle.eve_grammar.specs.Trace.{Attempt, Restore, Step, Attempts, Commits, RollsBack, Trace}
+use Rattle.eve_grammar.specs.Trace.{Attempt, Step, Attempts, Commits, RollsBack, Trace}
+use Rattle.eve_grammar.specs.declared.restore.Restore.{Restore}
 use Rattle.eve_history.specs.Section.{SectionState, next}
 use Rattle.eve_chains.specs.Visible.{execution, executions}
 use Rattle.eve_chains.specs.Committed.{attempts_of}

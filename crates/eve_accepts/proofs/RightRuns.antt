@@ -1,6 +1,7 @@
 -- Each section of a run is right, and its committed attempts have the tokens that are due.
 use Rattle.std.proofs.Common.{◌≡◌, ℕ, sym, ap}
-use Rattle.eve_grammar.specs.Trace.{Trace, Head, opening_rows}
+use Rattle.eve_grammar.specs.Trace.{Trace, opening_rows}
+use Rattle.eve_grammar.specs.declared.head.Head.{Head}
 use Rattle.eve_history.specs.SectionHistory.{IsRightSection}
 use Rattle.eve_agree.specs.DueTokens.{TokensAreDue}
 use Rattle.eve_workload.specs.declared.mixer.Mixer.{Mixer}
@@ -17,8 +18,8 @@ plan_of w mixer t run = record {
   names = ap customer_names (sym run.customers);
   batches = sym run.batches;
   first =
-      let workers : w.deployment.workers ≡ t.workers = sym (ap (λ (h : Head). h.workers) run.head) in
-      let window : w.deployment.window ≡ t.window = sym (ap (λ (h : Head). h.window) run.head) in
+      let workers : w.deployment.workers ≡ t.head.workers = sym (ap (λ (h : Head). h.workers) run.head) in
+      let window : w.deployment.window ≡ t.head.window = sym (ap (λ (h : Head). h.window) run.head) in
       let customers : w.customers ≡ t.customers = sym run.customers in
       λ i. opening (opening_rows (customers i)) (workers i) (window i);
 }

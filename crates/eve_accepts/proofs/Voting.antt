@@ -64,7 +64,7 @@ module _ (t : Trace) (limits : HasLimits t) (all : AreLed t) where
   votes_are : (v : ℕ) → v < length t.verifiers → votes_of t v ≡ all.led
   votes_are v below = all.gave v [] below
 
-  some_quorum : 1 ≤ t.quorum
+  some_quorum : 1 ≤ t.head.quorum
   some_quorum = let quorum = quorum_limits t limits in omega (arith, quorum.1)
 
   once : (v n view : ℕ) → length (filter (is_vote_on n view) (votes_of t v)) ≤ 1
@@ -78,7 +78,8 @@ module _ (t : Trace) (limits : HasLimits t) (all : AreLed t) where
           (sym (get_or_past t.verifiers v [] beyond)) (omega arith)
 
   -- what holds of each of the votes holds of each that a verifier gave
-  each_gave : (P : Vote → Type 0) → All P all.led → (v : ℕ) → v + t.quorum ≤ length t.verifiers → All P (votes_of t v)
+  each_gave : (P : Vote → Type 0) → All P all.led → (v : ℕ) → v + t.head.quorum ≤ length t.verifiers
+      → All P (votes_of t v)
   each_gave P holds v early =
       let some = some_quorum in
       subst (All P) (sym (votes_are v (omega (arith, some, early)))) holds
@@ -147,7 +148,7 @@ same_self (ForCommit token) = by (pointwise ◌==◌ token token) refl
 
 module _ (t : Trace) (limits : HasLimits t) where
   -- what is each verifier's only vote on its batch in its view has all verifiers for it
-  all_for : (w : Vote) → All (λ votes. IsAlone votes w) t.verifiers → t.quorum ≤ backers t w.seq w.view w.choice
+  all_for : (w : Vote) → All (λ votes. IsAlone votes w) t.verifiers → t.head.quorum ≤ backers t w.seq w.view w.choice
   all_for w alone =
       let for_it : List Vote → Bool = λ votes. is_only w.choice (filter (is_vote_on w.seq w.view) votes) in
       let all = counted_all for_it t.verifiers

@@ -2,10 +2,11 @@
 
 ghost use Rattle.std.specs.Prelude.{◌≡◌, ◌⊎◌, ℕ, List};
 ghost use Rattle.eve_grammar.specs.Trace.{Trace};
-ghost use Rattle.eve_grammar.specs.Limits.{Spells, HasLimits};
+ghost use Rattle.eve_grammar.specs.Limits.{HasLimits};
 ghost use Rattle.eve_grammar.specs.Places.{IsBytes};
+ghost use Rattle.eve_grammar.specs.Following.{Spells};
 ghost use Rattle.eve_views.specs.declared.fault.Fault.{Fault};
-ghost use Rattle.eve_agree.specs.Agreement.{IsOutcomeFault};
+ghost use Rattle.eve_views.specs.Form.{IsFaultSomewhere};
 ghost use Rattle.eve_workload.specs.declared.mixer.Mixer.{Mixer};
 ghost use Rattle.eve_workload.specs.Workload.{Workload, IsWorkload};
 ghost use Rattle.eve_replica.specs.Run.{IsTraceOf};
@@ -17,6 +18,7 @@ ghost use Rattle.eve_tool.specs.Audit.{Audits};
 ghost use Rattle.eve_tool.specs.Run.{Runs};
 ghost use Rattle.eve_accepts.specs.Collision.{Collides};
 ghost use Rattle.eve_accepts.specs.RolledBack.{AreRolledBackOnce};
+ghost use Rattle.eve_agree.specs.Agreement.{StandsInAgreement};
 
 /// No fault stands in the trace of a run but one of agreement, and where one does the trace shows a collision of
 /// SHA-256: two replicas committed a batch by one token, the hash of two messages that differ.
@@ -24,7 +26,7 @@ ghost use Rattle.eve_accepts.specs.RolledBack.{AreRolledBackOnce};
 /// docs/MODEL.md, "A run is accepted".
 pub fn faults_of_runs_are_collisions()
     ensures { (w : Workload) (mixer : Mixer) (t : Trace) (f : Fault) → IsWorkload w → IsTraceOf w mixer t → HasLimits t
-        → IsTraceFault t f → IsOutcomeFault t f × Collides t }
+        → IsTraceFault t f → IsFaultSomewhere StandsInAgreement t f × Collides t }
 {
     eve_workload::laws::cuts_keep_requests();
     eve_chains::laws::sound_sections_have_no_fault();

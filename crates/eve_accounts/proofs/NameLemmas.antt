@@ -12,12 +12,12 @@ use Rattle.std.proofs.lemmas.List.Quantifiers.{all_pairs_push}
 use Rattle.std.proofs.lemmas.Map.Text.{is_eq-slice_cmp}
 use Rattle.std.proofs.lemmas.Option.{none-some, same_Some, slice_get_within, get_or_from_slice_get}
 use Rattle.std.specs.Cmp.Lexicographic.{pointwise, same_text, other_text}
-use Rattle.std.specs.List.{list_any, position_or_len}
+use Rattle.std.specs.List.{list_any, position_or_len, position_from}
 use Rattle.std.specs.Prelude.{Result, Ok, Err}
 use Rattle.eve_accounts.specs.declared.name_key.NameKey.{NameKey}
 use Rattle.eve_accounts.specs.declared.names.NameFault.{NameFault}
 use Rattle.eve_accounts.specs.declared.names.NameFault.TheVariants as fault
-use Rattle.eve_accounts.specs.Names.{is_name, same_name, customer_named_from, customer_named, NameList, IsNameList}
+use Rattle.eve_accounts.specs.Names.{is_name, same_name, customer_named, NameList, IsNameList}
 use Rattle.eve_accounts.specs.Names.{CanTake}
 
 -- ---- names that are the same
@@ -37,22 +37,24 @@ same_name-other a b apart = false_from_ne_true (same_name a b) (λ h. apart (sam
 -- ---- a customer's number
 
 -- the number of a name is its place
-place_from : (c n : ℕ) (names : List (List ℕ)) (name : List ℕ) → customer_named_from c names name ≡ Some n → (i : ℕ)
+place_from : (c n : ℕ) (names : List (List ℕ)) (name : List ℕ) → position_from (same_name name) c names ≡ Some n
+    → (i : ℕ)
     × (n ≡ c + i) × (slice_get names i ≡ Some name)
 place_from c n [] name e = absurd (none-some n e)
 place_from c n (first ∷ names) name e = by (same_name name first) refl (place_from (c + 1) n names name)
   where
     by : (b : Bool) → same_name name first ≡ b
-        → (customer_named_from (c + 1) names name ≡ Some n → (i : ℕ) × (n ≡ c + 1 + i)
+        → (position_from (same_name name) (c + 1) names ≡ Some n → (i : ℕ) × (n ≡ c + 1 + i)
         × (slice_get names i ≡ Some name))
         → (i : ℕ) × (n ≡ c + i) × (slice_get (first ∷ names) i ≡ Some name)
     by true h rest =
         let is : ◌≡◌ {A = Option ℕ} (Some c) (Some n) =
-        sym (cond-true (same_name name first) (Some c) (customer_named_from (c + 1) names name) h) ∙ e in
+        sym (cond-true (same_name name first) (Some c) (position_from (same_name name) (c + 1) names) h) ∙ e in
         let same : c ≡ n = cc in
         (0, omega arith, ap Some (sym (same_name-true name first h)))
     by false h rest =
-        let later = rest (sym (cond-false (same_name name first) (Some c) (customer_named_from (c + 1) names name) h)
+        let later = rest
+        (sym (cond-false (same_name name first) (Some c) (position_from (same_name name) (c + 1) names) h)
         ∙ e) in
         let i : ℕ = later.0 in
         let is : n ≡ c + 1 + i = later.1 in
@@ -68,17 +70,17 @@ place_of_customer names name n e =
 
 -- where the names are distinct, the place of a name is its number
 number_from : (c i : ℕ) (names : List (List ℕ)) (name : List ℕ) → AllPairs (λ a b. a ≢ b) names → slice_get names i
-    ≡ Some name → customer_named_from c names name ≡ Some (c + i)
+    ≡ Some name → position_from (same_name name) c names ≡ Some (c + i)
 number_from c i [] name distinct e = absurd (no_name name e)
   where
     no_name : (name : List ℕ) → ◌≡◌ {A = Option (List ℕ)} None (Some name) → ⊥
     no_name name h = cc
 number_from c zero (first ∷ names) name distinct e =
-    cond-true (same_name name first) (Some c) (customer_named_from (c + 1) names name)
+    cond-true (same_name name first) (Some c) (position_from (same_name name) (c + 1) names)
     (same_name-itself name first (sym (same_Some first name e)))
     ∙ ap Some (sym (add-zero c))
 number_from c (suc i) (first ∷ names) name distinct e =
-    cond-false (same_name name first) (Some c) (customer_named_from (c + 1) names name)
+    cond-false (same_name name first) (Some c) (position_from (same_name name) (c + 1) names)
     (same_name-other name first (later (slice_get_within names i name e)))
     ∙ number_from (c + 1) i names name (λ j k d l m. distinct (suc j) (suc k) d (omega arith) (omega arith)) e
     ∙ ap Some (moved c i)
@@ -127,13 +129,14 @@ is_key name key = pointwise nat_eq name (text key)
 
 -- the set's index of a name is the customer's number
 number_by_index : (c : ℕ) (keys : List NameKey) (name : List ℕ)
-    → customer_named_from c (map text keys) name ≡ cond (nat_lt (position_or_len (is_key name) keys) (length keys))
+    → position_from (same_name name) c (map text keys)
+    ≡ cond (nat_lt (position_or_len (is_key name) keys) (length keys))
     (Some (c + position_or_len (is_key name) keys)) None
 number_by_index c [] name = refl
 number_by_index c (key ∷ keys) name =
-    ap (λ b. cond b (Some c) (customer_named_from (c + 1) (map text keys) name)) (is_eq-slice_cmp name (text key))
+    ap (λ b. cond b (Some c) (position_from (same_name name) (c + 1) (map text keys))) (is_eq-slice_cmp name (text key))
     ∙ by (is_key name key) (position_or_len (is_key name) keys) (length keys)
-    (customer_named_from (c + 1) (map text keys) name) (number_by_index (c + 1) keys name)
+    (position_from (same_name name) (c + 1) (map text keys)) (number_by_index (c + 1) keys name)
   where
     moved : (c p : ℕ) → c + 1 + p ≡ c + (1 + p)
     moved c p = omega arith

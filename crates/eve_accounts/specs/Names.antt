@@ -1,7 +1,7 @@
 -- Customers by name, in the order in which they came. docs/MODEL.md, "Names".
-use Rattle.std.specs.Prelude.{ℕ, ◌+◌, ◌-◌, ◌<◌, ◌≤◌, ◌≢◌, Bool, ◌&&◌, IsTrue, nat_le, if◌then◌else◌, List, [], ◌∷◌}
-use Rattle.std.specs.Prelude.{◌++◌, length, replicate, All, AllPairs, Contains, Option, Some, None}
-use Rattle.std.specs.List.{list_all}
+use Rattle.std.specs.Prelude.{ℕ, ◌-◌, ◌<◌, ◌≤◌, ◌≢◌, Bool, ◌&&◌, IsTrue, nat_le, List, ◌++◌, length, replicate, All}
+use Rattle.std.specs.Prelude.{AllPairs, Contains, Option}
+use Rattle.std.specs.List.{list_all, position_from}
 use Rattle.std.specs.declared.cmp.Ordering.{Ordering}
 use Rattle.std.specs.Ordering.{nat_cmp, is_eq}
 use Rattle.std.specs.Cmp.Lexicographic.{slice_cmp}
@@ -28,15 +28,9 @@ name_cmp = slice_cmp nat_cmp
 abbrev pub same_name : List ℕ → List ℕ → Bool
 same_name a b = is_eq (name_cmp a b)
 
--- the number of the first customer of the name, of the customers from this number on
-abbrev pub customer_named_from : ℕ → List (List ℕ) → List ℕ → Option ℕ
-customer_named_from customer [] name = None
-customer_named_from customer (first ∷ names) name =
-    if same_name name first then Some customer else customer_named_from (customer + 1) names name
-
--- a customer's number: the place of the name, from 0
+-- a customer's number: the place of the first of that name, from 0
 unfoldable pub customer_named : List (List ℕ) → List ℕ → Option ℕ
-customer_named names name = customer_named_from 0 names name
+customer_named names name = position_from (same_name name) 0 names
 
 -- customers by number, and how many there may be
 pub record NameList : Type 0 where

@@ -11,7 +11,7 @@ use Rattle.eve_grammar.proofs.Lists.{item_within}
 use Rattle.eve_views.specs.declared.fault.Code.{Code}
 use Rattle.eve_views.specs.declared.fault.Code.TheVariants as code
 use Rattle.eve_views.specs.declared.fault.Fault.{Fault}
-use Rattle.eve_views.specs.Form.{IsUpTo, IsLeast}
+use Rattle.eve_views.specs.Form.{IsUpTo, IsLeast, IsFaultSomewhere}
 use Rattle.eve_views.specs.Code.{code_number, phase_of}
 use Rattle.eve_views.specs.First.{is_before, first_of}
 use Rattle.eve_views.proofs.Firsts.{before_precedes, behind_precedes, up_to_from}
@@ -23,7 +23,6 @@ use Rattle.eve_history.specs.SectionHistory.{IsRightSection}
 use Rattle.eve_history.proofs.Rights.{as_many_told, section_history_at}
 use Rattle.eve_chains.proofs.Linked.{last_committed, none≢some, take_length}
 use Rattle.eve_agree.specs.Agreement.{first_to_commit, HaveSameOutcome, ReplicasAgree, StandsInAgreement}
-use Rattle.eve_agree.specs.Agreement.{IsOutcomeFault}
 use Rattle.eve_agree.specs.Judging.{NoneBefore, Stand, IsUpToAt, KeepsFound, AgreesOrIsFound}
 use Rattle.eve_agree.proofs.Outcomes.{IsOf, last_told, committed_low, replica_there, first_there}
 
@@ -65,7 +64,8 @@ lower_here : (t : Trace) (least : Option Fault) (at e : ℕ) → Stand t least �
 lower_here t None at e stand = omega arith
 lower_here t (Some f) at e stand = up_to_both f at e at stand.0 (inr (omega arith))
 
-pub lower_stands : (t : Trace) (least : Option Fault) (at e : ℕ) → Stand t least → IsOutcomeFault t (outcome_fault at e)
+pub lower_stands : (t : Trace) (least : Option Fault) (at e : ℕ) → Stand t least
+    → IsFaultSomewhere StandsInAgreement t (outcome_fault at e)
     → Stand t (with_outcome least at e)
 lower_stands t None at e stand is = (refl, is)
 lower_stands t (Some f) at e stand is = by (is_before (outcome_fault at e) f)
@@ -83,31 +83,32 @@ judged_later t least now e n lowers judged p at =
 
 -- it differs
 pub differs : (t : Trace) (e f n at : ℕ) (rs : List Reply) → IsOf t e n at rs → first_to_commit t n ≡ Some f
-    → ¬ HaveSameOutcome t e f n → IsOutcomeFault t (outcome_fault at e)
+    → ¬ HaveSameOutcome t e f n → IsFaultSomewhere StandsInAgreement t (outcome_fault at e)
 differs t e f n at rs own first apart = by n own.item own.at own.offset_is first apart
   where
     by : (n : ℕ) (p : Placed) → committed_at t e n ≡ Some p → at ≡ p.offset → first_to_commit t n ≡ Some f
-        → ¬ HaveSameOutcome t e f n → IsOutcomeFault t (outcome_fault at e)
+        → ¬ HaveSameOutcome t e f n → IsFaultSomewhere StandsInAgreement t (outcome_fault at e)
     by zero p here is first apart = none≢some p here
     by (suc m) p here is first apart =
         let number : length (take m (history t e).committed) + 1 ≡ suc m =
-        add-one (length (take m (history t e).committed)) ∙ ap suc (take_length (history t e).committed m p here) in
-        record {
-          replica = e;
-          stands = record {
-            before = take m (history t e).committed;
-            item = p;
-            rest = drop (suc m) (history t e).committed;
-            is = cut_at (history t e).committed m p here;
-            holds = (
-              sym is,
-              subst (λ (k : ℕ). IfSome (first_to_commit t k) (λ g. ¬ HaveSameOutcome t e g k))
-                  (sym number) (subst (λ (o : Option ℕ). IfSome o (λ g. ¬ HaveSameOutcome t e g (suc m)))
-                  (sym first) apart),
-            );
-          };
-          inside = refl;
-        }
+        add-one (length (take m (history t e).committed)) ∙ ap suc (take_length (history t e).committed m p here) in (
+          e,
+          record {
+            stands = record {
+              before = take m (history t e).committed;
+              item = p;
+              rest = drop (suc m) (history t e).committed;
+              is = cut_at (history t e).committed m p here;
+              holds = (
+                sym is,
+                subst (λ (k : ℕ). IfSome (first_to_commit t k) (λ g. ¬ HaveSameOutcome t e g k))
+                    (sym number) (subst (λ (o : Option ℕ). IfSome o (λ g. ¬ HaveSameOutcome t e g (suc m)))
+                    (sym first) apart),
+              );
+            };
+            inside = refl;
+          },
+        )
 
 pub judged_same : (t : Trace) (least : Option Fault) (e f n : ℕ) → first_to_commit t n ≡ Some f
     → HaveSameOutcome t e f n → AgreesOrIsFound t least e n
@@ -228,18 +229,18 @@ module _ (t : Trace) where
       ]
 
   pub none_stands : ((e : ℕ) → IsRightSection t e) → ((e m : ℕ) → AgreesOrIsFound t None e m) → (f : Fault)
-      → ¬ IsOutcomeFault t f
-  none_stands right judged f is = by f.code is.stands
+      → ¬ IsFaultSomewhere StandsInAgreement t f
+  none_stands right judged f is = by f.code is.1.stands
     where
-      by : (c : Code) → StandsInAgreement c t is.replica f.offset → ⊥
-      by code.Outcome stands = up_to_each None is.replica f.offset right judged stands
+      by : (c : Code) → StandsInAgreement c t is.0 f.offset → ⊥
+      by code.Outcome stands = up_to_each None is.0 f.offset right judged stands
       by c stands = absurd stands
 
   pub is_least : (f : Fault) → ((e : ℕ) → IsRightSection t e) → ((e m : ℕ) → AgreesOrIsFound t (Some f) e m)
       → Stand t (Some f)
-      → IsLeast (IsOutcomeFault t) f
+      → IsLeast (IsFaultSomewhere StandsInAgreement t) f
   is_least f right judged stand =
-      record { is = stand.1; least = λ g is. by g.code g.offset g.replica is.replica is.stands }
+      record { is = stand.1; least = λ g is. by g.code g.offset g.replica is.0 is.1.stands }
     where
       by : (c : Code) (at : ℕ) (r : Option ℕ) (e : ℕ) → StandsInAgreement c t e at
           → IsUpTo f (record { code = c; offset = at; replica = r })

@@ -1,7 +1,7 @@
 -- What is answered, and by which reply.
 use Rattle.std.proofs.Common.{◌≡◌, ℕ, zero, suc, ◌-◌, ◌≤◌, List, map, slice_get, Some, None}
 use Rattle.std.proofs.Common.{sym, ap, ◌∙◌, arith}
-use Rattle.std.proofs.lemmas.Option.{same_Some}
+use Rattle.std.proofs.lemmas.Option.{same_Some, slice_get-map}
 use Rattle.eve_smallbank.specs.declared.request.Reply.{Reply}
 use Rattle.eve_grammar.specs.Trace.{Attempt, Sent, Trace}
 use Rattle.eve_history.specs.Section.{Placed, batch_at}
@@ -56,16 +56,12 @@ pub replied_from : (t : Trace) (s : Sent) (replies : List Reply) (request_ids : 
     → IsCommitted t s.replica s.seq replies → request_ids ≡ map request_id (batch_at t s.seq).requests
     → AnswersAt request_ids replies s i → IsReplied t s
 replied_from t s replies request_ids i committed is answer =
-    let a = unmapped request_id (batch_at t s.seq).requests i (s.client, s.number)
-    (ap (λ (xs : List RequestId). slice_get xs i) (sym is) ∙ answer.request_id) in
     record {
       placed = committed.placed;
       index = i;
-      asked = a.0;
       committed = committed.at;
-      request = a.1;
-      client = ap (λ (y : ℕ × ℕ). y.0) a.2;
-      number = ap (λ (y : ℕ × ℕ). y.1) a.2;
+      request = sym (slice_get-map request_id (batch_at t s.seq).requests i)
+          ∙ ap (λ (xs : List RequestId). slice_get xs i) (sym is) ∙ answer.request_id;
       reply = ap (λ (rs : List Reply). slice_get rs i) committed.is ∙ answer.reply;
     }
 
@@ -78,8 +74,7 @@ answer_from t s replies request_ids committed is replied =
       replied.index,
       record {
         request_id = ap (λ (xs : List RequestId). slice_get xs replied.index) is
-            ∙ get_mapped request_id (batch_at t s.seq).requests replied.index replied.asked replied.request
-            ∙ (λ j. Some (replied.client j, replied.number j));
+            ∙ slice_get-map request_id (batch_at t s.seq).requests replied.index ∙ replied.request;
         reply = ap (λ (rs : List Reply). slice_get rs replied.index) (sym committed.is)
             ∙ ap (λ (p : Placed). slice_get p.attempt.replies replied.index) (sym same) ∙ replied.reply;
       },

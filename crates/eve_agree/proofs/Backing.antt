@@ -18,7 +18,7 @@ use Rattle.eve_views.specs.StepKinds.{IsStep}
 use Rattle.eve_views.specs.declared.steps.Step as met
 use Rattle.eve_views.specs.declared.steps.Step.TheVariants as of
 use Rattle.eve_views.specs.Code.{code_number, phase_of}
-use Rattle.eve_views.specs.Form.{IsUpTo, SomePlace, IsLeast}
+use Rattle.eve_views.specs.Form.{IsUpTo, SomePlace, IsLeast, IsFaultSomewhere}
 use Rattle.eve_views.specs.declared.fault.Code.{Code}
 use Rattle.eve_views.specs.declared.fault.Code.TheVariants as code
 use Rattle.eve_views.specs.declared.fault.Fault.{Fault}
@@ -27,7 +27,7 @@ use Rattle.eve_history.specs.SectionHistory.{IsRightSection}
 use Rattle.eve_history.specs.Faults.{OfCommit, OfRollback}
 use Rattle.eve_votes.specs.Votes.{IsDecided, IsRolledBack}
 use Rattle.eve_history.proofs.Places.{place_here, place_later, no_place, place_cases, located_rising, from_low}
-use Rattle.eve_agree.specs.Majority.{IsBacked, IsBackedSection, AllAreBacked, StandsInMajorities, IsMajorityFault}
+use Rattle.eve_agree.specs.Majority.{IsBacked, IsBackedSection, AllAreBacked, StandsInMajorities}
 use Rattle.eve_agree.specs.Unbacked.{HasRoom, lacks, IsUnbacked, IsUnbackedIn, IsFirstUnbackedIn}
 use Rattle.eve_views.specs.First.{first_of}
 use Rattle.eve_views.proofs.Firsts.{first_of_two, up_to_from}
@@ -62,30 +62,31 @@ place_of f place = record {
   holds = f place.before place.item place.holds;
 }
 
-pub unbacked_from : (t : Trace) (f : Fault) → (fault : IsMajorityFault t f) → IsUnbackedIn t fault.replica f
-unbacked_from t f fault = by f.code refl fault.stands
+pub unbacked_from : (t : Trace) (f : Fault) → (fault : IsFaultSomewhere StandsInMajorities t f)
+    → IsUnbackedIn t fault.0 f
+unbacked_from t f fault = by f.code refl fault.1.stands
   where
     commit : f.code ≡ code.NoMajority → (at : ℕ) (step : Step) → at ≡ f.offset
-        → OfCommit step (λ c. ¬ IsDecided t c.seq c.view c.token) → IsUnbacked t fault.replica (at, step) f
+        → OfCommit step (λ c. ¬ IsDecided t c.seq c.view c.token) → IsUnbacked t fault.0 (at, step) f
     commit is at (Attempts a) offset holds = absurd holds
     commit is at (Commits c) offset holds =
-        record { unbacked = holds; lacking = is; offset = offset; inside = fault.inside }
+        record { unbacked = holds; lacking = is; offset = offset; inside = fault.1.inside }
     commit is at (RollsBack r) offset holds = absurd holds
 
     rollback : f.code ≡ code.RollbackNoMajority → (at : ℕ) (step : Step) → at ≡ f.offset
-        → OfRollback step (λ r. ¬ IsRolledBack t (r.to + 1) (r.view - 1)) → IsUnbacked t fault.replica (at, step) f
+        → OfRollback step (λ r. ¬ IsRolledBack t (r.to + 1) (r.view - 1)) → IsUnbacked t fault.0 (at, step) f
     rollback is at (Attempts a) offset holds = absurd holds
     rollback is at (Commits c) offset holds = absurd holds
     rollback is at (RollsBack r) offset holds =
-        record { unbacked = holds; lacking = is; offset = offset; inside = fault.inside }
+        record { unbacked = holds; lacking = is; offset = offset; inside = fault.1.inside }
 
-    by : (c : Code) → f.code ≡ c → StandsInMajorities c t fault.replica f.offset → IsUnbackedIn t fault.replica f
+    by : (c : Code) → f.code ≡ c → StandsInMajorities c t fault.0 f.offset → IsUnbackedIn t fault.0 f
     by code.NoMajority is stands = place_of (λ b s h. commit is s.0 s.1 h.0 h.1) stands
     by code.RollbackNoMajority is stands = place_of (λ b s h. rollback is s.0 s.1 h.0 h.1) stands
     by c is stands = absurd stands
 
-pub fault_from : (t : Trace) (e : ℕ) (f : Fault) → IsUnbackedIn t e f → IsMajorityFault t f
-fault_from t e f place = record { replica = e; stands = by place.item refl place.holds; inside = place.holds.inside }
+pub fault_from : (t : Trace) (e : ℕ) (f : Fault) → IsUnbackedIn t e f → IsFaultSomewhere StandsInMajorities t f
+fault_from t e f place = (e, record { stands = by place.item refl place.holds; inside = place.holds.inside })
   where
     by : (step : ℕ × Step) → place.item ≡ step → IsUnbacked t e step f → StandsInMajorities f.code t e f.offset
     by (at, Attempts a) is here = absurd here.lacking
@@ -349,22 +350,22 @@ all_backed t n many found e = elim (cases_lt e n) [
   | inr ge ↦ subst (AllByRecursion (λ s. IsBacked t s.1)) (sym (none_at t e (omega arith))) tt
 ]
 
-pub no_fault : (t : Trace) → AllAreBacked t → (f : Fault) → IsMajorityFault t f → ⊥
-no_fault t backed f fault = none_unbacked t fault.replica f (steps_at t fault.replica) (backed fault.replica)
+pub no_fault : (t : Trace) → AllAreBacked t → (f : Fault) → IsFaultSomewhere StandsInMajorities t f → ⊥
+no_fault t backed f fault = none_unbacked t fault.0 f (steps_at t fault.0) (backed fault.0)
     (unbacked_from t f fault)
 
 pub least_fault : (t : Trace) (n : ℕ) (f : Fault) → length t.sections ≤ n → IsFirstBelow t n f
-    → IsLeast (IsMajorityFault t) f
+    → IsLeast (IsFaultSomewhere StandsInMajorities t) f
 least_fault t n f many found = record {
   is = fault_from t found.replica f found.is;
-  least = λ g fault. by g fault (cases_lt fault.replica n);
+  least = λ g fault. by g fault (cases_lt fault.0 n);
 }
   where
-    by : (g : Fault) → (fault : IsMajorityFault t g) → (fault.replica < n) ⊎ (n ≤ fault.replica) → IsUpTo f g
-    by g fault (inl lt) = found.first fault.replica g lt (unbacked_from t g fault)
+    by : (g : Fault) → (fault : IsFaultSomewhere StandsInMajorities t g) → (fault.0 < n) ⊎ (n ≤ fault.0) → IsUpTo f g
+    by g fault (inl lt) = found.first fault.0 g lt (unbacked_from t g fault)
     by g fault (inr ge) =
-        absurd (no_place _ (subst (λ (xs : List (ℕ × Step)). IsUnbackedAmong t fault.replica xs g)
-        (none_at t fault.replica (omega arith)) (unbacked_from t g fault)))
+        absurd (no_place _ (subst (λ (xs : List (ℕ × Step)). IsUnbackedAmong t fault.0 xs g)
+        (none_at t fault.0 (omega arith)) (unbacked_from t g fault)))
 
 -- ---- what is read of a frame
 

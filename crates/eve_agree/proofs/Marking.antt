@@ -12,11 +12,12 @@ use Rattle.std.proofs.lemmas.Bool.{eqb-true, ne_eqb, ltb-true, false≢true}
 use Rattle.std.proofs.lemmas.List.Folds.{list_any-append}
 use Rattle.eve_smallbank.specs.declared.entry.Entry.{Entry}
 use Rattle.eve_smallbank.specs.Access.{Executed, is_write, writes_row}
-use Rattle.eve_smallbank.specs.Chain.{Versioned, Table, Sees, table_after}
+use Rattle.eve_smallbank.specs.Chain.{Table, Sees, table_after}
 use Rattle.eve_smallbank.proofs.Chains.{Follows}
 use Rattle.eve_smallbank.proofs.Orders.{writes_own, unwritten}
-use Rattle.eve_grammar.specs.Trace.{Restore}
+use Rattle.eve_smallbank.specs.declared.versioned.Versioned.{Versioned}
 use Rattle.eve_grammar.specs.Limits.{is_rising}
+use Rattle.eve_grammar.specs.declared.restore.Restore.{Restore}
 use Rattle.eve_agree.specs.Tables.{entries_of, are_written_in}
 use Rattle.eve_agree.specs.Marking.{Marking, marking_of, unmarked, marked_count, seen_by, marked_once, marked}
 use Rattle.eve_agree.specs.Marking.{written_in, is_marked, restores_row, taken}

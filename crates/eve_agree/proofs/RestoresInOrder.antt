@@ -23,7 +23,7 @@ use Rattle.eve_views.specs.StepKinds.{IsStep}
 use Rattle.eve_views.specs.declared.steps.Step as met
 use Rattle.eve_views.specs.declared.steps.Step.TheVariants as of
 use Rattle.eve_views.specs.Code.{code_number}
-use Rattle.eve_views.specs.Form.{IsUpTo, SomePlace, IsLeast}
+use Rattle.eve_views.specs.Form.{IsUpTo, SomePlace, IsLeast, IsFaultIn}
 use Rattle.eve_views.specs.declared.fault.Code.{Code}
 use Rattle.eve_views.specs.declared.fault.Code.TheVariants as code
 use Rattle.eve_views.specs.declared.fault.Fault.{Fault}
@@ -44,7 +44,7 @@ use Rattle.eve_chains.specs.Visible.{executions}
 use Rattle.eve_chains.specs.Committed.{attempts_of}
 use Rattle.eve_agree.specs.Tables.{committed_rows, open_entries, are_right_restores, restores_rightly}
 use Rattle.eve_agree.specs.Tables.{all_restore_rightly, are_written_in, RestoresAreRight}
-use Rattle.eve_agree.specs.Restores.{StandsInRestores, IsRestoreFault}
+use Rattle.eve_agree.specs.Restores.{StandsInRestores}
 use Rattle.eve_agree.specs.Marking.{unmarked, marked, noted_between, written_in}
 use Rattle.eve_agree.proofs.Marking.{first_writes}
 use Rattle.eve_agree.proofs.Discarding.{follows_committed, open_noted}
@@ -338,7 +338,7 @@ none_wrong t s (x ∷ steps) rightly place =
     own (Commits c) right wrong = wrong
     own (RollsBack r) right wrong = false≢true (sym wrong ∙ right)
 
-pub faultless : (t : Trace) (e : ℕ) → RestoresAreRight t e → (f : Fault) → ¬ IsRestoreFault t e f
+pub faultless : (t : Trace) (e : ℕ) → RestoresAreRight t e → (f : Fault) → ¬ IsFaultIn StandsInRestores t e f
 faultless t e right f is = by f.code is.stands
   where
     by : (c : Code) → StandsInRestores c t e f.offset → ⊥
@@ -353,7 +353,7 @@ steps_rising t e = located_rising step_text (section_start t e + length (frame_t
 pub wrong_is_least : (t : Trace) (e at : ℕ) (r : Rollback) (rest : List (ℕ × Step)) (first end : ℕ)
     (judged : HasJudged t e ((at, RollsBack r) ∷ rest) first end)
     → SettledAreSound t e → are_right_restores t (state_after start judged.front) r.restores ≡ false
-    → IsLeast (IsRestoreFault t e) (record { code = code.Restore; offset = at; replica = Some e })
+    → IsLeast (IsFaultIn StandsInRestores t e) (record { code = code.Restore; offset = at; replica = Some e })
 wrong_is_least t e at r rest first end judged sound wrong = record {
   is = record {
     stands = record {

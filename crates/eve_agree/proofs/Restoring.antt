@@ -11,11 +11,13 @@ use Rattle.std.proofs.lemmas.Option.{same_Some, none-some}
 use Rattle.std.proofs.lemmas.List.Folds.{list_any-append}
 use Rattle.std.proofs.lemmas.Grind.{flat_map-append}
 use Rattle.eve_smallbank.specs.Access.{Executed, writes_row}
-use Rattle.eve_smallbank.specs.Chain.{Versioned, Table, table_after, table_after_all}
+use Rattle.eve_smallbank.specs.Chain.{Table, table_after, table_after_all}
 use Rattle.eve_smallbank.proofs.Members.{In, here, there, all_of_list_all}
 use Rattle.eve_smallbank.proofs.Orders.{unwritten}
-use Rattle.eve_grammar.specs.Trace.{Attempt, Commit, Restore, Rollback, Step, Attempts, Commits, RollsBack, Trace}
+use Rattle.eve_smallbank.specs.declared.versioned.Versioned.{Versioned}
+use Rattle.eve_grammar.specs.Trace.{Attempt, Commit, Rollback, Step, Attempts, Commits, RollsBack, Trace}
 use Rattle.eve_grammar.specs.Spelling.{steps_at}
+use Rattle.eve_grammar.specs.declared.restore.Restore.{Restore}
 use Rattle.eve_history.specs.Section.{Placed, SectionState, start, path_of, committing, next, state_after}
 use Rattle.eve_chains.specs.Visible.{opening_table, execution, executions}
 use Rattle.eve_chains.specs.Committed.{attempts_of}

@@ -12,7 +12,7 @@ use Rattle.eve_views.specs.Code.{code_number}
 use Rattle.eve_views.specs.declared.fault.Code.{Code}
 use Rattle.eve_views.specs.declared.fault.Code.TheVariants as code
 use Rattle.eve_views.specs.declared.fault.Fault.{Fault}
-use Rattle.eve_views.specs.Form.{SomePlace, IsLeast}
+use Rattle.eve_views.specs.Form.{SomePlace, IsLeast, IsFaultOutside}
 use Rattle.eve_views.proofs.Lists.{cut_at}
 use Rattle.eve_views.proofs.Locating.{located_get}
 use Rattle.eve_history.specs.SectionHistory.{SectionHistory, section_history, section_histories}
@@ -20,7 +20,7 @@ use Rattle.eve_history.proofs.Places.{no_place, place_cases, Rising, located_ris
 use Rattle.eve_history.proofs.Places.{weaker_place}
 use Rattle.eve_history.proofs.Rights.{section_history_at}
 use Rattle.eve_chains.proofs.Linked.{none≢some}
-use Rattle.eve_agree.specs.SentReplies.{IsReplied, AllReplied, StandsInReplies, IsReplyFault}
+use Rattle.eve_agree.specs.SentReplies.{IsReplied, AllReplied, StandsInReplies}
 
 -- a reply that no committed attempt gave
 abbrev pub IsUnreplied : Trace → List (ℕ × Sent) → ℕ × Sent → Type 0
@@ -59,7 +59,7 @@ replied_more t i s all at one = let next : suc i ≡ i + 1 = omega arith in
     more (x ∷ xs) zero before there = (subst (IsReplied t) (sym (same_Some x s there)) one, tt)
     more (x ∷ xs) (suc k) before there = (before.0, more xs k before.1 there)
 
-pub no_fault : (t : Trace) → AllReplied t → (f : Fault) → ¬ IsReplyFault t f
+pub no_fault : (t : Trace) → AllReplied t → (f : Fault) → ¬ IsFaultOutside StandsInReplies t f
 unfolding sent_at
 no_fault t all f is = by f.code is.stands
   where
@@ -73,9 +73,9 @@ no_fault t all f is = by f.code is.stands
 pub first_fault : (t : Trace) (i o : ℕ) (s : Sent) (f : Fault) → AllByRecursion (IsReplied t) (take i t.sent)
     → slice_get (sent_at t) i ≡ Some (o, s) → ¬ IsReplied t s
     → f ≡ record { code = code.Reply; offset = o; replica = None }
-    → IsLeast (IsReplyFault t) f
+    → IsLeast (IsFaultOutside StandsInReplies t) f
 unfolding sent_at
-first_fault t i o s f all at not is = subst (IsLeast (IsReplyFault t)) (sym is) (record {
+first_fault t i o s f all at not is = subst (IsLeast (IsFaultOutside StandsInReplies t)) (sym is) (record {
   is = record {
     stands = record {
       before = take i (sent_at t);

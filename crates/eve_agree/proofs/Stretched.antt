@@ -10,7 +10,7 @@ use Rattle.eve_grammar.specs.Trace.{Attempt, Trace}
 use Rattle.eve_grammar.proofs.Lists.{unmapped}
 use Rattle.eve_views.specs.declared.fault.Code.{Code}
 use Rattle.eve_views.specs.declared.fault.Code.TheVariants as code
-use Rattle.eve_views.specs.Form.{IsUpTo, IsLeast}
+use Rattle.eve_views.specs.Form.{IsUpTo, IsLeast, IsFaultIn}
 use Rattle.eve_views.proofs.Lists.{cut_at}
 use Rattle.eve_token.specs.Token.{token_of, flat_token}
 use Rattle.eve_history.specs.Section.{Placed}
@@ -21,7 +21,7 @@ use Rattle.eve_chains.specs.Committed.{balances_to, values_to}
 use Rattle.eve_chains.specs.Settling.{Settling, settling, values_in}
 use Rattle.eve_chains.proofs.Linked.{committed_number, batches_counted}
 use Rattle.eve_agree.specs.Judging.{IsAfter}
-use Rattle.eve_agree.specs.DueTokens.{due_token, TokensAreDue, StandsInTokens, IsTokenFault, IsDueIn, IsFirstWrong}
+use Rattle.eve_agree.specs.DueTokens.{due_token, TokensAreDue, StandsInTokens, IsDueIn, IsFirstWrong}
 use Rattle.eve_agree.specs.Stretches.{IsReadyStretch, IsJudgedStretch, ReachesBatch, or_else, first_found}
 use Rattle.eve_agree.specs.declared.due_tokens.Stretch.{Stretch}
 use Rattle.eve_agree.proofs.Outcomes.{balances_are}
@@ -119,12 +119,12 @@ module _ (t : Trace) (e : ℕ) where
   )
 
   pub first_is_least : (last at : ℕ) → IsFirstWrong t e 0 last (Some at) →
-      IsLeast (IsTokenFault t e) (record { code = code.Token; offset = at; replica = Some e })
+      IsLeast (IsFaultIn StandsInTokens t e) (record { code = code.Token; offset = at; replica = Some e })
   first_is_least last at first = by first.n first.low first.item first.is first.offset first.wrong first.early
     where
       by : (n : ℕ) → 0 < n → (p : Placed) → committed_at t e n ≡ Some p → at ≡ p.offset →
           p.attempt.token ≢ due_token t e p → ((m : ℕ) → 0 < m → m < n → IsDueIn t e m)
-          → IsLeast (IsTokenFault t e) (record { code = code.Token; offset = at; replica = Some e })
+          → IsLeast (IsFaultIn StandsInTokens t e) (record { code = code.Token; offset = at; replica = Some e })
       by zero low p is offset wrong early = absurd (omega arith)
       by (suc n) low p is offset wrong early = record {
         is = record {

@@ -12,7 +12,7 @@ use Rattle.eve_grammar.specs.Spelling.{frame_text, step_text, section_start, ste
 use Rattle.eve_views.specs.declared.fault.Code.{Code}
 use Rattle.eve_views.specs.declared.fault.Code.TheVariants as code
 use Rattle.eve_views.specs.declared.fault.Fault.{Fault}
-use Rattle.eve_views.specs.Form.{SomePlace}
+use Rattle.eve_views.specs.Form.{SomePlace, IsFaultIn}
 use Rattle.eve_token.specs.Token.{token_of, flat_token}
 use Rattle.eve_history.specs.declared.fate.Fate.{Fate}
 use Rattle.eve_history.specs.Section.{Placed}
@@ -23,7 +23,7 @@ use Rattle.eve_history.proofs.Places.{Rising, At, located_rising, first_place, n
 use Rattle.eve_grammar.proofs.OpeningRows.{length-opening_rows}
 use Rattle.eve_chains.specs.Committed.{first_rows, balances_to}
 use Rattle.eve_chains.specs.Settling.{settling}
-use Rattle.eve_agree.specs.DueTokens.{due_token, TokensAreDue, StandsInTokens, IsTokenFault}
+use Rattle.eve_agree.specs.DueTokens.{due_token, TokensAreDue, StandsInTokens}
 
 -- ---- lists
 
@@ -135,7 +135,7 @@ module _ (t : Trace) (e : ℕ) where
   abbrev pub IsWrong : ℕ × Attempt → Type 0
   IsWrong x = x.1.token ≢ flat_token x.1.seq (balances_to t e x.1.seq) x.1.replies
 
-  pub no_token_fault : TokensAreDue t e → (f : Fault) → ¬ IsTokenFault t e f
+  pub no_token_fault : TokensAreDue t e → (f : Fault) → ¬ IsFaultIn StandsInTokens t e f
   no_token_fault due f is = by f.code is.stands
     where
       by : (c : Code) → StandsInTokens c t e f.offset → ⊥

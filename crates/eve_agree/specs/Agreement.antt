@@ -35,9 +35,3 @@ StandsInAgreement code.Outcome t e at =
     (λ before p. (p.offset ≡ at) × IfSome (first_to_commit t (length before + 1))
     (λ f. ¬ HaveSameOutcome t e f (length before + 1)))
 StandsInAgreement _ t e at = ⊥
-
--- the fault is one of agreement, in the section of some replica
-pub record IsOutcomeFault (t : Trace) (f : Fault) : Type 0 where
-  pub replica : ℕ
-  pub stands : StandsInAgreement f.code t replica f.offset
-  pub inside : f.replica ≡ Some replica

@@ -22,13 +22,8 @@ TokensAreDue t e = AllByRecursion (λ p. p.attempt.token ≡ due_token t e p) (h
 -- a fault of tokens stands at this offset in replica e's section
 abbrev pub StandsInTokens : Code → Trace → ℕ → ℕ → Type 0
 StandsInTokens code.Token t e at = SomePlace (history t e).committed (λ _ p. (p.offset ≡ at) ×
-    (p.attempt.token ≢ due_token t e p))
+    (p.attempt.token ≢ flat_token p.attempt.seq (balances_to t e p.attempt.seq) p.attempt.replies))
 StandsInTokens _ t e at = ⊥
-
--- the fault is one of tokens in replica e's section
-pub record IsTokenFault (t : Trace) (e : ℕ) (f : Fault) : Type 0 where
-  pub stands : StandsInTokens f.code t e f.offset
-  pub inside : f.replica ≡ Some e
 
 -- ---- from batch to batch
 

@@ -5,10 +5,11 @@ use Rattle.eve_smallbank.specs.Access.{balance_of_row}
 use Rattle.eve_grammar.specs.Trace.{Trace}
 use Rattle.eve_views.specs.declared.fault.Code.TheVariants as code
 use Rattle.eve_views.specs.declared.fault.Fault.{Fault}
+use Rattle.eve_views.specs.Form.{IsFaultSomewhere}
 use Rattle.eve_history.specs.Section.{Placed}
 use Rattle.eve_history.specs.SectionHistory.{SectionHistory, history, committed_at}
 use Rattle.eve_chains.specs.Settling.{Settling, settling, values_in, HaveSameBalances}
-use Rattle.eve_agree.specs.Agreement.{first_to_commit, HaveSameOutcome, IsOutcomeFault}
+use Rattle.eve_agree.specs.Agreement.{first_to_commit, HaveSameOutcome, StandsInAgreement}
 
 -- the balances are those after the first n batches of the replica, or after all where it has fewer
 pub record IsAfter (s : Settling) (n : ℕ) (balances : List ℤ) : Type 0 where
@@ -26,7 +27,7 @@ NoneBefore hs n e = (i : ℕ) (h : SectionHistory) → i < e → slice_get hs i 
 
 -- what was found is a fault of agreement
 abbrev pub Stand : Trace → Option Fault → Type 0
-Stand t least = IfSome least (λ f. (f.code ≡ code.Outcome) × IsOutcomeFault t f)
+Stand t least = IfSome least (λ f. (f.code ≡ code.Outcome) × IsFaultSomewhere StandsInAgreement t f)
 
 -- something was found at this offset or before it
 abbrev pub IsUpToAt : Option Fault → ℕ → Type 0

@@ -33,9 +33,3 @@ StandsInMajorities code.RollbackNoMajority t e at =
     SomePlace (steps_at t e)
     (λ _ step. (step.0 ≡ at) × OfRollback step.1 (λ r. ¬ IsRolledBack t (r.to + 1) (r.view - 1)))
 StandsInMajorities _ t e at = ⊥
-
--- the fault is one of majorities, in the section of some replica
-pub record IsMajorityFault (t : Trace) (f : Fault) : Type 0 where
-  pub replica : ℕ
-  pub stands : StandsInMajorities f.code t replica f.offset
-  pub inside : f.replica ≡ Some replica

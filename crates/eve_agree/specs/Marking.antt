@@ -5,10 +5,11 @@ use Rattle.std.specs.List.{list_any, flat_map, sum_by}
 use Rattle.std.specs.Ordering.{int_eq}
 use Rattle.eve_smallbank.specs.declared.entry.Entry.{Entry}
 use Rattle.eve_smallbank.specs.Access.{writes_row}
-use Rattle.eve_smallbank.specs.Chain.{Versioned, Table}
-use Rattle.eve_grammar.specs.Trace.{Restore}
+use Rattle.eve_smallbank.specs.Chain.{Table}
+use Rattle.eve_smallbank.specs.declared.versioned.Versioned.{Versioned}
 use Rattle.eve_history.specs.SectionHistory.{ExecutedAttempt}
 use Rattle.eve_chains.specs.Along.{entries_along}
+use Rattle.eve_grammar.specs.declared.restore.Restore.{Restore}
 
 -- what is marked of each row, where something is
 abbrev pub Marking : Type 0

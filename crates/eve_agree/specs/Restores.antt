@@ -17,8 +17,3 @@ StandsInRestores code.Restore t e at =
     (λ before step. (step.0 ≡ at)
     × OfRollback step.1 (λ r. IsFalse (are_right_restores t (state_after start before) r.restores)))
 StandsInRestores _ t e at = ⊥
-
--- the fault is one of restores in replica e's section
-pub record IsRestoreFault (t : Trace) (e : ℕ) (f : Fault) : Type 0 where
-  pub stands : StandsInRestores f.code t e f.offset
-  pub inside : f.replica ≡ Some e

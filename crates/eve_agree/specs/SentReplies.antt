@@ -1,7 +1,7 @@
 -- Replies sent that no committed attempt gave. docs/MODEL.md, "Sent replies".
-use Rattle.std.specs.Prelude.{◌≡◌, ℕ, None, Some, slice_get}
+use Rattle.std.specs.Prelude.{◌≡◌, ℕ, None, Some, slice_get, option_map}
 use Rattle.std.specs.List.{AllByRecursion}
-use Rattle.eve_grammar.specs.Trace.{Asked, Sent, Trace}
+use Rattle.eve_grammar.specs.Trace.{Sent, Trace, request_id}
 use Rattle.eve_grammar.specs.Spelling.{sent_at}
 use Rattle.eve_views.specs.declared.fault.Code.{Code}
 use Rattle.eve_views.specs.declared.fault.Code.TheVariants as code
@@ -14,11 +14,8 @@ use Rattle.eve_history.specs.SectionHistory.{committed_at}
 pub record IsReplied (t : Trace) (s : Sent) : Type 0 where
   pub placed : Placed
   pub index : ℕ
-  pub asked : Asked
   pub committed : committed_at t s.replica s.seq ≡ Some placed
-  pub request : slice_get (batch_at t s.seq).requests index ≡ Some asked
-  pub client : asked.client ≡ s.client
-  pub number : asked.number ≡ s.number
+  pub request : option_map request_id (slice_get (batch_at t s.seq).requests index) ≡ Some (s.client, s.number)
   pub reply : slice_get placed.attempt.replies index ≡ Some s.reply
 
 -- each reply that was sent is one that its replica committed
@@ -29,8 +26,3 @@ AllReplied t = AllByRecursion (IsReplied t) t.sent
 abbrev pub StandsInReplies : Code → Trace → ℕ → Type 0
 StandsInReplies code.Reply t at = SomePlace (sent_at t) (λ _ s. (s.0 ≡ at) × ¬ IsReplied t s.1)
 StandsInReplies _ t at = ⊥
-
--- the fault is one of replies; it lies outside the sections
-pub record IsReplyFault (t : Trace) (f : Fault) : Type 0 where
-  pub stands : StandsInReplies f.code t f.offset
-  pub outside : f.replica ≡ None

@@ -1,14 +1,15 @@
 -- What all rows have along a section: as the replica works, and as it is committed; and what a rollback must restore.
 -- docs/MODEL.md, "Working table, committed table".
 use Rattle.std.specs.Prelude.{◌≡◌, ℕ, suc, ◌==◌, Bool, true, not, ◌&&◌, ◌||◌, IsTrue, if◌then◌else◌, List, [], ◌∷◌}
-use Rattle.std.specs.Prelude.{take, slice_get, Some}
+use Rattle.std.specs.Prelude.{take, slice_get, Some, fold}
 use Rattle.std.specs.List.{list_all, list_any, flat_map}
 use Rattle.std.specs.Ordering.{int_eq}
 use Rattle.eve_smallbank.specs.declared.entry.Entry.{Entry}
 use Rattle.eve_smallbank.specs.Access.{Executed, is_write, writes_row}
 use Rattle.eve_smallbank.specs.Chain.{Table, table_after_all}
-use Rattle.eve_grammar.specs.Trace.{Restore, Rollback, Step, Attempts, Commits, RollsBack, Trace}
+use Rattle.eve_grammar.specs.Trace.{Rollback, Step, Attempts, Commits, RollsBack, Trace}
 use Rattle.eve_grammar.specs.Spelling.{steps_at}
+use Rattle.eve_grammar.specs.declared.restore.Restore.{Restore}
 use Rattle.eve_history.specs.Section.{SectionState, start, next, state_after}
 use Rattle.eve_chains.specs.Visible.{opening_table, execution, executions, rows_after}
 use Rattle.eve_chains.specs.Committed.{attempts_of}
@@ -17,9 +18,8 @@ use Rattle.eve_chains.specs.Committed.{attempts_of}
 
 -- a table after restores
 abbrev pub restored : Table → List Restore → Table
-restored table [] = table
-restored table (r ∷ rs) =
-    restored (λ row. if r.row == row then record { version = r.version; value = r.value } else table row) rs
+restored table rs =
+    fold (λ now r row. if r.row == row then record { version = r.version; value = r.value } else now row) table rs
 
 -- a table after steps: every attempt writes, and a rollback restores
 abbrev pub worked : Trace → Table → List (ℕ × Step) → Table
@@ -52,7 +52,7 @@ entries_of xs = flat_map (λ x. x.entries) xs
 
 -- all that the open attempts noted
 abbrev pub open_entries : Trace → SectionState → List Entry
-open_entries t s = entries_of (executions t (attempts_of s.pending))
+open_entries t s = flat_map (λ x. x.entries) (executions t (attempts_of s.pending))
 
 -- a row that these entries write, as it is in the table
 abbrev pub is_written_in : Table → List Entry → Restore → Bool

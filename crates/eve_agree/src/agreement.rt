@@ -3,13 +3,13 @@
 ghost use Rattle.std.specs.Prelude.{◌≡◌, ◌≤◌, ◌<◌, ◌-◌, ◌↔◌, ℕ, IsTrue, IfOk, IfErr, IfSome, IfNone, Some, length};
 ghost use Rattle.std.specs.Prelude.{slice_get};
 ghost use Rattle.eve_frames.specs.Said.{attempt_said};
-ghost use Rattle.eve_views.specs.Form.{IfFound, IsLeast, HasNone};
+ghost use Rattle.eve_views.specs.Form.{IfFound, IsLeast, HasNone, IsFaultSomewhere};
 ghost use Rattle.eve_views.specs.declared.fault.Code.TheVariants as code;
 ghost use Rattle.eve_grammar.specs.Trace.{Trace as TraceValue};
 ghost use Rattle.eve_history.specs.SectionHistory.{ExecutedAttempt, SectionHistory, section_histories, IsRightSection};
 ghost use Rattle.eve_chains.specs.Settling.{settling, settlings, values_in, HaveSameBalances};
 ghost use Rattle.eve_chains.specs.Committed.{values_to};
-ghost use Rattle.eve_agree.specs.Agreement.{first_to_commit, ReplicasAgree, IsOutcomeFault};
+ghost use Rattle.eve_agree.specs.Agreement.{first_to_commit, ReplicasAgree, StandsInAgreement};
 ghost use Rattle.eve_agree.specs.Judging.{NoneBefore, IsAfter, AreAfter, AllHaveSame, Stand, KeepsFound};
 ghost use Rattle.eve_agree.specs.Judging.{AgreesOrIsFound};
 
@@ -38,8 +38,8 @@ pub fn equal_balances(
     requires histories { histories.now ≡ section_histories trace.now }
     requires settled { settled.now ≡ settlings trace.now }
     ensures agree { IfOk result (λ _. ReplicasAgree trace.now) }
-    ensures none { IfOk result (λ _. HasNone (IsOutcomeFault trace.now)) }
-    ensures least { IfErr result (λ why. IfFound why (IsLeast (IsOutcomeFault trace.now))) }
+    ensures none { IfOk result (λ _. HasNone (IsFaultSomewhere StandsInAgreement trace.now)) }
+    ensures least { IfErr result (λ why. IfFound why (IsLeast (IsFaultSomewhere StandsInAgreement trace.now))) }
 {
     recall_all_right(histories);
     if histories.len() < 2 {

@@ -3,10 +3,10 @@
 ghost use Rattle.std.specs.Prelude.{◌≡◌, ◌≤◌, ◌<◌, ◌-◌, ◌↔◌, ℕ, All, IsTrue, OnOk, IfOk, IfErr, length, slice_index_or};
 ghost use Rattle.eve_frames.specs.Said.{attempt_said};
 ghost use Rattle.eve_token.specs.Token.{token_of};
-ghost use Rattle.eve_views.specs.Form.{IfFound, IsLeast, HasNone};
+ghost use Rattle.eve_views.specs.Form.{IfFound, IsLeast, HasNone, IsFaultIn};
 ghost use Rattle.eve_history.specs.SectionHistory.{section_history};
 ghost use Rattle.eve_chains.specs.Settling.{settling};
-ghost use Rattle.eve_agree.specs.DueTokens.{TokensAreDue, IsTokenFault, IsFirstWrong};
+ghost use Rattle.eve_agree.specs.DueTokens.{TokensAreDue, IsFirstWrong, StandsInTokens};
 ghost use Rattle.eve_agree.specs.Judging.{IsAfter};
 ghost use Rattle.eve_agree.specs.Stretches.{AreOfSection, IsReadyStretch, IsJudgedStretch, AreReadyStretches};
 ghost use Rattle.eve_agree.specs.Stretches.{first_found};
@@ -232,8 +232,9 @@ pub(crate) fn answer(
     requires section { AreOfSection trace.now history.now settled.now }
     requires wrong { IsFirstWrong trace.now history.now.replica 0 (length settled.now.batches) wrong }
     ensures due { IfOk result (λ _. TokensAreDue trace.now history.now.replica) }
-    ensures none { IfOk result (λ _. HasNone (IsTokenFault trace.now history.now.replica)) }
-    ensures least { IfErr result (λ why. IfFound why (IsLeast (IsTokenFault trace.now history.now.replica))) }
+    ensures none { IfOk result (λ _. HasNone (IsFaultIn StandsInTokens trace.now history.now.replica)) }
+    ensures least { IfErr result (λ why. IfFound why
+        (IsLeast (IsFaultIn StandsInTokens trace.now history.now.replica))) }
 {
     match wrong {
         Some(offset) => Err(CheckFault::Found(Fault {
@@ -265,8 +266,9 @@ pub fn tokens<R: Threads + Sync>(
     requires settled { settled.now ≡ settling trace.now history.now.replica }
     requires some { 1 ≤ jobs }
     ensures due { IfOk result (λ _. TokensAreDue trace.now history.now.replica) }
-    ensures none { IfOk result (λ _. HasNone (IsTokenFault trace.now history.now.replica)) }
-    ensures least { IfErr result (λ why. IfFound why (IsLeast (IsTokenFault trace.now history.now.replica))) }
+    ensures none { IfOk result (λ _. HasNone (IsFaultIn StandsInTokens trace.now history.now.replica)) }
+    ensures least { IfErr result (λ why. IfFound why
+        (IsLeast (IsFaultIn StandsInTokens trace.now history.now.replica))) }
 {
     let wrong = first_in(rt, alloc, trace, history, settled, jobs)?;
     answer(trace, history, settled, wrong)

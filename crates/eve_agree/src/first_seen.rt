@@ -5,16 +5,14 @@ ghost use Rattle.std.specs.Prelude.{replicate, [], ◌∷◌};
 ghost use Rattle.std.specs.List.{list_all};
 ghost use Rattle.eve_smallbank.specs.Chain as chain;
 ghost use Rattle.eve_smallbank.specs.declared.entry.Entry as noted;
-ghost use Rattle.eve_grammar.specs.Bodies.{restore};
 ghost use Rattle.eve_grammar.specs.Limits.{is_entry, is_restore, is_rising};
 ghost use Rattle.eve_agree.specs.Marking.{marking_of, unmarked, marked_once, marked, written_in, is_marked, taken};
 ghost use Rattle.eve_agree.specs.Tables.{are_written_in};
 
 use eve_accounts::Row;
-use eve_chains::Versioned;
 use eve_frames::{Entries, Restores};
 use eve_grammar::Restore;
-use eve_smallbank::{Entry, Kind};
+use eve_smallbank::{Entry, Kind, Versioned};
 use std::alloc::{AllocError, Global};
 use std::marker::Model;
 
@@ -30,10 +28,10 @@ pub struct FirstSeen {
 
 impl Model for FirstSeen {
     ghost use Rattle.std.specs.Prelude.{◌≡◌, List, Option};
-    ghost use Rattle.eve_smallbank.specs.Chain as chain;
+    ghost use Rattle.eve_smallbank.specs.declared.versioned.Versioned as versioned;
     ghost use Rattle.eve_agree.specs.Marking.{marked_count};
 
-    ghost Value = { List (Option chain.Versioned) };
+    ghost Value = { List (Option versioned.Versioned) };
 
     ghost view = { λ m. m.rows.items };
 
@@ -80,7 +78,13 @@ impl FirstSeen {
     {
         match entry.kind {
             Kind::Read => {}
-            Kind::Write => self.mark(entry.row, Versioned::new(entry.version, entry.seen)),
+            Kind::Write => self.mark(
+                entry.row,
+                Versioned {
+                    version: entry.version,
+                    value: entry.seen,
+                },
+            ),
         }
     }
 
@@ -99,14 +103,14 @@ impl FirstSeen {
     fn take(&mut self, restored: &Restore) -> bool
         requires { restored.now.row < length self.old }
         ensures as_many { length self.new ≡ length self.old }
-        ensures right { result ≡ is_marked (marking_of self.old restored.now.row) (restore restored.now) }
-        ensures taken { IsTrue result → marking_of self.new ≡ taken (marking_of self.old) (restore restored.now ∷ []) }
+        ensures right { result ≡ is_marked (marking_of self.old restored.now.row) restored.now }
+        ensures taken { IsTrue result → marking_of self.new ≡ taken (marking_of self.old) (restored.now ∷ []) }
     {
         let row = restored.row.number() as usize;
         let Some(seen) = self.rows[row] else {
             return false;
         };
-        if seen.version() != restored.version || seen.value() != restored.value {
+        if seen.version != restored.version || seen.value != restored.value {
             return false;
         }
         self.rows[row] = None;

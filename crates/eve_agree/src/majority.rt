@@ -4,12 +4,12 @@ ghost use Rattle.std.specs.Prelude.{◌≡◌, ◌≢◌, ◌<◌, ◌≤◌, �
 ghost use Rattle.std.specs.Prelude.{IfSome, IfNone, IfOk, IfErr};
 ghost use Rattle.eve_grammar.specs.Trace.{Step as StepValue};
 ghost use Rattle.eve_frames.specs.Said.{commit_said, rollback_said};
-ghost use Rattle.eve_views.specs.Form.{IfFound, IsLeast, HasNone};
+ghost use Rattle.eve_views.specs.Form.{IfFound, IsLeast, HasNone, IsFaultSomewhere};
 ghost use Rattle.eve_views.specs.StepKinds.{IsStep};
 ghost use Rattle.eve_views.specs.declared.fault.CheckFault.TheVariants.{Memory};
 ghost use Rattle.eve_history.specs.SectionHistory.{section_histories, IsRightSection};
 ghost use Rattle.eve_votes.specs.Votes.{IsDecided, IsRolledBack};
-ghost use Rattle.eve_agree.specs.Majority.{IsBacked, IsBackedSection, AllAreBacked, IsMajorityFault};
+ghost use Rattle.eve_agree.specs.Majority.{IsBacked, IsBackedSection, AllAreBacked, StandsInMajorities};
 ghost use Rattle.eve_agree.specs.Unbacked.{HasRoom, IsUnbacked, IsFirstUnbackedIn};
 
 use eve_frames::{CommitView, RollbackView};
@@ -99,8 +99,8 @@ pub fn majorities(
     requires histories { histories.now ≡ section_histories trace.now }
     requires tally { tally.now ≡ trace.now }
     ensures backed { IfOk result (λ _. AllAreBacked trace.now) }
-    ensures none { IfOk result (λ _. HasNone (IsMajorityFault trace.now)) }
-    ensures least { IfErr result (λ why. IfFound why (IsLeast (IsMajorityFault trace.now))) }
+    ensures none { IfOk result (λ _. HasNone (IsFaultSomewhere StandsInMajorities trace.now)) }
+    ensures least { IfErr result (λ why. IfFound why (IsLeast (IsFaultSomewhere StandsInMajorities trace.now))) }
     ensures found { IfErr result (λ why. why ≢ Memory) }
 {
     recall_all_right(histories);

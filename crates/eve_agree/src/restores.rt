@@ -6,15 +6,15 @@ ghost use Rattle.eve_smallbank.specs.Chain.{Table};
 ghost use Rattle.eve_smallbank.specs.declared.entry.Entry as noted;
 ghost use Rattle.eve_grammar.specs.Limits.{is_restore, is_rising};
 ghost use Rattle.eve_frames.specs.Said.{rollback_said};
-ghost use Rattle.eve_views.specs.Form.{IfFound, IsLeast, HasNone};
+ghost use Rattle.eve_views.specs.Form.{IfFound, IsLeast, HasNone, IsFaultIn};
 ghost use Rattle.eve_views.specs.declared.fault.CheckFault.TheVariants.{Found};
 ghost use Rattle.eve_views.specs.declared.fault.Code.TheVariants as code;
 ghost use Rattle.eve_history.specs.SectionHistory.{ExecutedAttempt, section_history, IsRightSection};
 ghost use Rattle.eve_chains.specs.Along.{entries_along, AreWithin};
 ghost use Rattle.eve_chains.specs.Sound.{SettledAreSound};
 ghost use Rattle.eve_agree.specs.Tables.{RestoresAreRight, are_written_in};
-ghost use Rattle.eve_agree.specs.Restores.{IsRestoreFault};
 ghost use Rattle.eve_agree.specs.Marking.{marking_of, unmarked, marked, noted_between, written_in};
+ghost use Rattle.eve_agree.specs.Restores.{StandsInRestores};
 
 use crate::first_seen::FirstSeen;
 use eve_chains::Settled;
@@ -88,7 +88,7 @@ pub(crate) fn judge(
     ensures right { SettledAreSound trace.now history.now.replica
         → IfOk result (λ _. RestoresAreRight trace.now history.now.replica) }
     ensures least { SettledAreSound trace.now history.now.replica
-        → IfErr result (λ why. IfFound why (IsLeast (IsRestoreFault trace.now history.now.replica))) }
+        → IfErr result (λ why. IfFound why (IsLeast (IsFaultIn StandsInRestores trace.now history.now.replica))) }
 {
     trace.recall_limits();
     if history.rollbacks() == 0 {
@@ -131,8 +131,9 @@ pub fn rollbacks(
     requires history { history.now ≡ section_history trace.now history.now.replica }
     requires sound { SettledAreSound trace.now history.now.replica }
     ensures right { IfOk result (λ _. RestoresAreRight trace.now history.now.replica) }
-    ensures none { IfOk result (λ _. HasNone (IsRestoreFault trace.now history.now.replica)) }
-    ensures least { IfErr result (λ why. IfFound why (IsLeast (IsRestoreFault trace.now history.now.replica))) }
+    ensures none { IfOk result (λ _. HasNone (IsFaultIn StandsInRestores trace.now history.now.replica)) }
+    ensures least { IfErr result (λ why. IfFound why
+        (IsLeast (IsFaultIn StandsInRestores trace.now history.now.replica))) }
 {
     history.recall_right();
     judge(alloc, trace, history)

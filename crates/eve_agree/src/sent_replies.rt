@@ -3,11 +3,11 @@
 ghost use Rattle.std.specs.Prelude.{◌≡◌, ◌≢◌, ◌≤◌, ◌↔◌, ◌-◌, IsTrue, None, Some, length, slice_get};
 ghost use Rattle.std.specs.Prelude.{IfSome, IfNone, IfOk, IfErr};
 ghost use Rattle.eve_frames.specs.Said.{attempt_said, sent_said};
-ghost use Rattle.eve_views.specs.Form.{IfFound, IsLeast, HasNone};
+ghost use Rattle.eve_views.specs.Form.{IfFound, IsLeast, HasNone, IsFaultOutside};
 ghost use Rattle.eve_views.specs.declared.fault.CheckFault.TheVariants.{Memory};
 ghost use Rattle.eve_views.specs.declared.fault.Code.TheVariants as code;
 ghost use Rattle.eve_history.specs.SectionHistory.{ExecutedAttempt, section_history, section_histories};
-ghost use Rattle.eve_agree.specs.SentReplies.{IsReplied, AllReplied, IsReplyFault};
+ghost use Rattle.eve_agree.specs.SentReplies.{IsReplied, AllReplied, StandsInReplies};
 ghost use Rattle.eve_agree.specs.Keeping.{AreOf};
 
 use crate::agreement::committed_attempt;
@@ -24,8 +24,8 @@ use eve_views::{CheckFault, Code, Fault, Trace};
 pub fn replies(trace: &Trace<'_>, histories: &[History<'_>]) -> Result<(), CheckFault>
     requires histories { histories.now ≡ section_histories trace.now }
     ensures replied { IfOk result (λ _. AllReplied trace.now) }
-    ensures none { IfOk result (λ _. HasNone (IsReplyFault trace.now)) }
-    ensures least { IfErr result (λ why. IfFound why (IsLeast (IsReplyFault trace.now))) }
+    ensures none { IfOk result (λ _. HasNone (IsFaultOutside StandsInReplies trace.now)) }
+    ensures least { IfErr result (λ why. IfFound why (IsLeast (IsFaultOutside StandsInReplies trace.now))) }
     ensures found { IfErr result (λ why. why ≢ Memory) }
 {
     trace.recall_limits();

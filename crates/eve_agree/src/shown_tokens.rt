@@ -4,10 +4,10 @@ ghost use Rattle.std.specs.Prelude.{◌≡◌, ◌≤◌, ◌-◌, ◌↔◌, Is
 ghost use Rattle.std.specs.List.{flat_map};
 ghost use Rattle.eve_smallbank.specs.Spelling.{reply_text};
 ghost use Rattle.eve_frames.specs.Said.{attempt_said};
-ghost use Rattle.eve_views.specs.Form.{IfFound, IsLeast, HasNone};
+ghost use Rattle.eve_views.specs.Form.{IfFound, IsLeast, HasNone, IsFaultIn};
 ghost use Rattle.eve_history.specs.SectionHistory.{section_history};
 ghost use Rattle.eve_chains.specs.Settling.{settling, HaveSameBalances};
-ghost use Rattle.eve_agree.specs.DueTokens.{TokensAreDue, IsTokenFault, IsDueIn, IsFirstWrong};
+ghost use Rattle.eve_agree.specs.DueTokens.{TokensAreDue, IsDueIn, IsFirstWrong, StandsInTokens};
 ghost use Rattle.eve_agree.specs.Judging.{IsAfter};
 ghost use Rattle.eve_agree.specs.ShownTokens.{IsDueReplica};
 ghost use Rattle.eve_agree.specs.Stretches.{AreOfSection};
@@ -182,8 +182,9 @@ pub fn tokens_beside(
     requires settled { settled.now ≡ settling trace.now history.now.replica }
     requires peer { IsDueReplica trace.now peer.history.now peer.settled.now }
     ensures due { IfOk result (λ _. TokensAreDue trace.now history.now.replica) }
-    ensures none { IfOk result (λ _. HasNone (IsTokenFault trace.now history.now.replica)) }
-    ensures least { IfErr result (λ why. IfFound why (IsLeast (IsTokenFault trace.now history.now.replica))) }
+    ensures none { IfOk result (λ _. HasNone (IsFaultIn StandsInTokens trace.now history.now.replica)) }
+    ensures least { IfErr result (λ why. IfFound why
+        (IsLeast (IsFaultIn StandsInTokens trace.now history.now.replica))) }
 {
     let wrong = first_beside(alloc, trace, history, settled, peer)?;
     answer(trace, history, settled, wrong)

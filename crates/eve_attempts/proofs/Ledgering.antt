@@ -14,9 +14,10 @@ use Rattle.eve_smallbank.specs.declared.entry.Entry.{Entry}
 use Rattle.eve_smallbank.specs.Access.{is_write, writes_row}
 use Rattle.eve_smallbank.specs.Chain.{Table, table_after}
 use Rattle.eve_smallbank.proofs.Members.{In, here, there, all_in, all_from_in, all_of_list_all, in_cons}
-use Rattle.eve_grammar.specs.Trace.{Restore, Rollback}
+use Rattle.eve_grammar.specs.Trace.{Rollback}
 use Rattle.eve_grammar.specs.declared.limits.TheConstants.{MOST_VERSIONS}
 use Rattle.eve_grammar.specs.Limits.{is_entry, is_restore, is_rising, is_rollback, is_number}
+use Rattle.eve_grammar.specs.declared.restore.Restore.{Restore}
 use Rattle.eve_attempts.specs.Ledgers.{Opened, Rows, Ledger, ledger_rows, table_of_rows, table_now, values_before}
 use Rattle.eve_attempts.specs.Ledgers.{writes_in}
 use Rattle.eve_attempts.specs.Ledgers.{open_writes, rows_committed, is_write_in, AreLaid, IsLedger}

@@ -12,9 +12,10 @@ use Rattle.std.proofs.lemmas.List.{get_or-set_other}
 use Rattle.std.proofs.lemmas.Grind.{get_or-set_at}
 use Rattle.eve_smallbank.specs.declared.entry.Entry.{Entry}
 use Rattle.eve_smallbank.specs.Access.{Executed, is_write, writes_row}
-use Rattle.eve_smallbank.specs.Chain.{Versioned, Table, left_by, Sees, IsChained, table_after, table_after_all}
+use Rattle.eve_smallbank.specs.Chain.{Table, left_by, Sees, IsChained, table_after, table_after_all}
 use Rattle.eve_smallbank.proofs.Chains.{Follows, chain_follows, follows_chain, table_after-append}
 use Rattle.eve_smallbank.proofs.Orders.{unwritten}
+use Rattle.eve_smallbank.specs.declared.versioned.Versioned.{Versioned}
 use Rattle.eve_grammar.specs.Trace.{Batch}
 use Rattle.eve_grammar.specs.Limits.{is_entry}
 use Rattle.eve_grammar.proofs.EntryLimits.{row_there}

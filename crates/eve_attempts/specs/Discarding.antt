@@ -4,8 +4,9 @@ use Rattle.std.specs.Prelude.{◌≡◌, ℕ, ◌+◌, ◌==◌, true, IsTrue, L
 use Rattle.std.specs.List.{AllByRecursion, list_any}
 use Rattle.eve_smallbank.specs.Access.{writes_row}
 use Rattle.eve_smallbank.specs.Chain.{Table, table_after}
-use Rattle.eve_grammar.specs.Trace.{Commit, Restore, Rollback}
+use Rattle.eve_grammar.specs.Trace.{Commit, Rollback}
 use Rattle.eve_grammar.specs.Limits.{is_rollback}
+use Rattle.eve_grammar.specs.declared.restore.Restore.{Restore}
 use Rattle.eve_attempts.specs.Ledgers.{Opened, Ledger, ledger_rows, table_now, open_writes, rows_committed}
 
 -- the first open attempt is committed, and its writes with it

@@ -3,7 +3,6 @@
 ghost use Rattle.std.specs.Prelude.{◌≡◌, ◌<◌, ◌≤◌, ◌++◌, [], IsTrue, IfOk, OnOk, length, map, vec_len, vec_capacity};
 ghost use Rattle.std.specs.List.{list_all, AllByRecursion};
 ghost use Rattle.std.specs.List.Sorted.{IsPermutation, IsNonDecreasing};
-ghost use Rattle.eve_grammar.specs.Bodies.{restore};
 ghost use Rattle.eve_attempts.specs.Ledgers.{table_of_rows, values_before, is_write_in, writes_in};
 ghost use Rattle.eve_attempts.specs.Discarding.{restore_in};
 ghost use Rattle.eve_attempts.specs.Restoring.{entry_rows, rising_from};
@@ -62,7 +61,7 @@ pub fn restore_all(rows: &Rows, numbers: &[u32], restores: &mut Vec<Restore>)
     requires none { restores.old.items ≡ [] }
     requires empty { vec_len restores.old ≡ 0 }
     requires room { length numbers.now ≤ vec_capacity restores.old }
-    ensures { map restore restores.new.items ≡ map (restore_in (table_of_rows rows.now)) (rising_from 0 numbers.now) }
+    ensures { restores.new.items ≡ map (restore_in (table_of_rows rows.now)) (rising_from 0 numbers.now) }
 {
     let mut least = 0;
     for number in numbers {

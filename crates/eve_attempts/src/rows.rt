@@ -4,7 +4,6 @@ ghost use Rattle.std.specs.Prelude.{◌≡◌, ◌<◌, IsTrue, IfOk, length, []
 ghost use Rattle.std.specs.Bool.{Decides};
 ghost use Rattle.std.specs.List.{list_all, AllByRecursion};
 ghost use Rattle.eve_smallbank.specs.Chain.{Sees, table_after};
-ghost use Rattle.eve_grammar.specs.Bodies.{restore};
 ghost use Rattle.eve_grammar.specs.Limits.{is_entry};
 ghost use Rattle.eve_attempts.specs.Ledgers.{rows_at_first, table_of_rows, values_before, is_write_in};
 ghost use Rattle.eve_attempts.specs.Discarding.{restore_in};
@@ -121,7 +120,7 @@ impl Rows {
     /// A row, as it is now.
     pub fn restore_of(&self, row: Row) -> Restore
         requires { row < length self.now.balances }
-        ensures { restore result ≡ restore_in (table_of_rows self.now) row }
+        ensures { result ≡ restore_in (table_of_rows self.now) row }
     {
         Restore {
             row,

@@ -28,9 +28,7 @@ use Rattle.eve_token.specs.Token.{flat_token}
 -- the trace, had the others done, voted and sent something else
 abbrev besides : Trace → List (List Step) → List (List Vote) → List Sent → Trace
 besides t sections verifiers sent = record {
-  quorum = t.quorum;
-  window = t.window;
-  workers = t.workers;
+  head = t.head;
   customers = t.customers;
   batches = t.batches;
   sections = sections;
@@ -40,15 +38,15 @@ besides t sections verifiers sent = record {
 
 -- ---- the phases, by the steps of a section
 
-abbrev AtStepOf : Trace → (ℕ → SectionState → Step → Type 0) → List (ℕ × Step) → Type 0
-AtStepOf t P steps = SomePlace steps (λ before step. IsTrue (are_right t start before)
-    × P step.0 (state_after start before) step.1)
+abbrev AtStepOf : Trace → ℕ → (SectionState → Step → Type 0) → List (ℕ × Step) → Type 0
+AtStepOf t at P steps = SomePlace steps (λ before step. IsTrue (are_right t start before)
+    × ((step.0 ≡ at) × P (state_after start before) step.1))
 
-abbrev AtAccessOf : Trace → (ℕ → Attempt → List Access → Access → Type 0) → List (ℕ × Step) → Type 0
-AtAccessOf t P steps = AtStepOf t (λ offset s step. OfAttempt step (λ a.
-    IsTrue (is_right_attempt t s a) × IsTrue (is_right_certificate t a)
-    × SomePlace (accesses_at offset a) (λ before x. IsTrue (are_right_accesses t a [] (accesses_of before))
-    × P x.0 a (accesses_of before) x.1))) steps
+abbrev AtAccessOf : Trace → ℕ → (Attempt → List Access → Access → Type 0) → List (ℕ × Step) → Type 0
+AtAccessOf t at P steps = SomePlace steps (λ before step. IsTrue (are_right t start before) × OfAttempt step.1 (λ a.
+    IsTrue (is_right_attempt t (state_after start before) a) × IsTrue (is_right_certificate t a)
+    × SomePlace (accesses_at step.0 a) (λ own x. IsTrue (are_right_accesses t a [] (accesses_of own))
+    × ((x.0 ≡ at) × P a (accesses_of own) x.1))))
 
 abbrev AtSettledOf : (Placed → Access → Type 0) → ℕ → List (ℕ × Step) → Type 0
 AtSettledOf P at steps = SomePlace (settled (state_after start steps))
@@ -59,19 +57,17 @@ module _ (t : Trace) (sections : List (List Step)) (verifiers : List (List Vote)
   structure_alone : (c : Code) (at : ℕ) → StandsInStructure c t e at
       → StandsInStructure c (besides t sections verifiers sent) e at
   structure_alone code.Attempt at =
-      subst (AtStepOf t (λ offset s step. (offset ≡ at) × OfAttempt step (λ a. IsFalse (is_right_attempt t s a)))) same
+      subst (AtStepOf t at (λ s step. OfAttempt step (λ a. IsFalse (is_right_attempt t s a)))) same
   structure_alone code.Certificate at =
-      subst (AtStepOf t (λ offset s step. (offset ≡ at) × OfAttempt step (λ a. IsFalse (is_right_certificate t a))))
-      same
+      subst (AtStepOf t at (λ s step. OfAttempt step (λ a. IsFalse (is_right_certificate t a)))) same
   structure_alone code.Access at =
-      subst (AtAccessOf t (λ offset a before x. (offset ≡ at) × IsFalse (is_right_access t a before x))) same
+      subst (AtAccessOf t at (λ a before x. IsFalse (is_right_access t a before x))) same
   structure_alone code.WorkerOrder at =
-      subst (AtAccessOf t (λ offset a before x. (offset ≡ at) × IsFalse (is_right_place before x))) same
+      subst (AtAccessOf t at (λ a before x. IsFalse (is_right_place before x))) same
   structure_alone code.Commit at =
-      subst (AtStepOf t (λ offset s step. (offset ≡ at) × OfCommit step (λ c. IsFalse (is_right_commit s c)))) same
+      subst (AtStepOf t at (λ s step. OfCommit step (λ c. IsFalse (is_right_commit s c)))) same
   structure_alone code.Rollback at =
-      subst (AtStepOf t (λ offset s step. (offset ≡ at) × OfRollback step (λ r. IsFalse (is_right_rollback t s r))))
-      same
+      subst (AtStepOf t at (λ s step. OfRollback step (λ r. IsFalse (is_right_rollback t s r)))) same
   structure_alone c at = λ stands. absurd stands
 
   records_alone : (c : Code) (at : ℕ) → StandsInRecords c t e at
@@ -132,9 +128,7 @@ module _ (t : Trace) (sections : List (List Step)) (verifiers : List (List Vote)
 -- the second is the first but for what the others did, voted and sent
 as_besides : (t u : Trace) (e : ℕ) → AgreeFor t u e → besides t u.sections u.verifiers u.sent ≡ u
 as_besides t u e agree i = record {
-  quorum = (agree.head i).quorum;
-  window = (agree.head i).window;
-  workers = (agree.head i).workers;
+  head = agree.head i;
   customers = agree.customers i;
   batches = agree.batches i;
   sections = u.sections;

@@ -1,27 +1,28 @@
 -- From what is found in a trace to the answer for its bytes.
-use Rattle.std.proofs.Common.{◌≡◌, ◌≤◌, ℕ, List, length, arith}
+use Rattle.std.proofs.Common.{◌≡◌, ◌≤◌, ℕ, List, length, arith, subst}
 use Rattle.eve_grammar.specs.Trace.{Trace}
-use Rattle.eve_grammar.specs.Limits.{Spells}
 use Rattle.eve_grammar.specs.Spelling.{length_of}
-use Rattle.eve_views.specs.Form.{IsFormFault, IfFound, IsLeast, HasNone}
+use Rattle.eve_grammar.specs.Following.{Spells}
+use Rattle.eve_views.specs.Form.{IfFound, IsLeast, HasNone, StandsInForm, IsFaultOutside}
 use Rattle.eve_views.specs.declared.fault.CheckFault.{CheckFault}
 use Rattle.eve_views.specs.declared.fault.CheckFault.TheVariants.{Found, Memory}
 use Rattle.eve_views.specs.declared.fault.Fault.{Fault}
-use Rattle.eve_history.specs.Faults.{IsOrderFault}
 use Rattle.eve_audit.specs.Audited.{IsAudited}
 use Rattle.eve_audit.specs.declared.verdict.Summary.{Summary}
 use Rattle.eve_audit.specs.declared.verdict.Verdict.TheVariants.{Yes, No}
-use Rattle.eve_audit.specs.Verdict.{IsSummary, IsTraceFault}
+use Rattle.eve_audit.specs.Verdict.{IsSummary, IsTraceFault, SpellsAudited}
 use Rattle.eve_audit.specs.Reports.{IsFirstOf}
-use Rattle.eve_audit.specs.Answer.{IsAnswer, IsRead}
+use Rattle.eve_audit.specs.Answer.{IsAnswer, IsRead, IsYesOfAudited, IfNo}
 use Rattle.eve_audit.proofs.Sections.{FatesAreAsItEnds}
 use Rattle.eve_audit.proofs.Verdicts.{faultless, found_in_form, trace_first}
 use Rattle.eve_audit.proofs.Within.{trace_fault_within, long_as}
 use Rattle.eve_audit.proofs.Naming.{named_in, named_in_none}
+use Rattle.eve_audit.specs.declared.verdict.Verdict.{Verdict}
+use Rattle.eve_history.specs.Faults.{StandsInOrders}
 
 module _ (bytes : List ℕ) (t : Trace) (read : IsRead bytes t) (once : (u : Trace) → Spells bytes u → u ≡ t) where
-  pub no_for : ((f : Fault) → IsOrderFault t f → f.offset ≤ length_of t) → ((e : ℕ) → FatesAreAsItEnds t e)
-      → (f : Fault) → IsFirstOf (IsTraceFault t) f → IsAnswer bytes (No f)
+  pub no_for : ((f : Fault) → IsFaultOutside StandsInOrders t f → f.offset ≤ length_of t)
+      → ((e : ℕ) → FatesAreAsItEnds t e) → (f : Fault) → IsFirstOf (IsTraceFault t) f → IsAnswer bytes (No f)
   no_for orders fates f found = record {
     verdict = trace_first bytes t read.spells once f read.none found;
     yes = tt;
@@ -33,13 +34,13 @@ module _ (bytes : List ℕ) (t : Trace) (read : IsRead bytes t) (once : (u : Tra
   pub yes_for : (s : Summary) → IsSummary t s → HasNone (IsTraceFault t) → IsAudited t → IsAnswer bytes (Yes s)
   yes_for s summary none audited = record {
     verdict = (t, read.spells, faultless bytes t read.spells once read.none none, summary);
-    yes = record { trace = t; spells = read.spells; audited = audited };
+    yes = (t, read.spells, audited);
     within = tt;
     replica = tt;
   }
 
 -- a fault of form
-pub form_for : (bytes : List ℕ) (why : CheckFault) → IfFound why (IsLeast (IsFormFault bytes))
+pub form_for : (bytes : List ℕ) (why : CheckFault) → IfFound why (IsLeast (IsFaultOutside StandsInForm bytes))
     → IfFound why (λ _. (t : Trace) → ¬ Spells bytes t) → IfFound why (λ f. f.offset ≤ length bytes)
     → IfFound why (λ f. IsAnswer bytes (No f))
 form_for bytes Memory least none within = tt
@@ -50,3 +51,11 @@ form_for bytes (Found f) least none within =
       within = within;
       replica = named_in_none bytes f least.is none;
     }
+
+-- ---- of a verdict that is known
+
+pub yes_from : (bytes : List ℕ) (v : Verdict) (s : Summary) → IsYesOfAudited bytes v → v ≡ Yes s → SpellsAudited bytes
+yes_from bytes v s said is = subst (IsYesOfAudited bytes) is said
+
+pub no_from : (v : Verdict) (P : Fault → Type 0) (f : Fault) → IfNo v P → v ≡ No f → P f
+no_from v P f holds is = subst (λ (w : Verdict). IfNo w P) is holds

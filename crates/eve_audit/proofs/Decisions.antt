@@ -3,12 +3,12 @@
 use Rattle.std.proofs.Common.{◌≡◌, ℕ, zero, suc, ◌+◌, ◌-◌, ◌==◌, true, List, [], ◌∷◌, ◌++◌, length, length-append}
 use Rattle.std.proofs.Common.{slice_get, Some, refl, sym, subst, ◌∙◌, zero-add, arith}
 use Rattle.std.specs.List.{AllByRecursion}
-use Rattle.std.specs.Cmp.Lexicographic.{same_text}
+use Rattle.std.specs.Cmp.Lexicographic.{same_text, pointwise}
 use Rattle.std.proofs.lemmas.Bool.{and_parts, eqb-true}
 use Rattle.std.proofs.lemmas.Option.{same_Some}
 use Rattle.eve_grammar.specs.Trace.{Commit, Rollback, Step, Attempts, Commits, RollsBack, Trace}
 use Rattle.eve_grammar.specs.Spelling.{steps_at}
-use Rattle.eve_history.specs.Section.{Placed, SectionState, start, committing, next, state_after, same_bytes}
+use Rattle.eve_history.specs.Section.{Placed, SectionState, start, committing, next, state_after}
 use Rattle.eve_history.specs.Section.{commits_first, is_right, are_right}
 use Rattle.eve_history.specs.SectionHistory.{history, committed_at, IsRightSection}
 use Rattle.eve_votes.specs.Votes.{IsDecided, IsRolledBack}
@@ -46,7 +46,7 @@ decided_committing : (t : Trace) (s : SectionState) (c : Commit) (pending : List
     → IsDecidedTo t s → IsDecidedTo t (committing s pending)
 decided_committing t s c [] number first by holds = holds
 decided_committing t s c (p ∷ ps) number first by holds =
-    let parts = and_parts (p.attempt.view == c.view) (same_bytes p.attempt.token c.token) first in
+    let parts = and_parts (p.attempt.view == c.view) (pointwise ◌==◌ p.attempt.token c.token) first in
     let view = eqb-true p.attempt.view c.view parts.0 in
     let token = same_text p.attempt.token c.token (sym parts.1) in
     record {

@@ -3,12 +3,12 @@ use Rattle.std.proofs.Common.{◌≡◌, ℕ, zero, suc, ◌+◌, ◌-◌, ◌<�
 use Rattle.std.proofs.lemmas.Bool.{cases_lt}
 use Rattle.eve_smallbank.specs.Access.{Executed, Fits}
 use Rattle.eve_grammar.specs.Trace.{Trace, head_of}
-use Rattle.eve_grammar.specs.Limits.{Spells}
 use Rattle.eve_grammar.specs.Spelling.{length_of}
-use Rattle.eve_views.specs.Form.{IsFormFault, IsLeast}
+use Rattle.eve_grammar.specs.Following.{Spells}
+use Rattle.eve_grammar.proofs.Spelled.{limits_of_spelled}
+use Rattle.eve_views.specs.Form.{IsLeast, StandsInForm, IsFaultOutside}
 use Rattle.eve_views.specs.declared.fault.CheckFault.TheVariants.{Found}
 use Rattle.eve_views.specs.declared.fault.Fault.{Fault}
-use Rattle.eve_history.specs.Faults.{IsOrderFault}
 use Rattle.eve_audit.specs.declared.verdict.Summary.{Summary}
 use Rattle.eve_audit.specs.declared.verdict.Verdict.{Verdict}
 use Rattle.eve_audit.specs.declared.verdict.Verdict.TheVariants.{Yes, No}
@@ -19,6 +19,7 @@ use Rattle.eve_audit.proofs.Sections.{FatesAreAsItEnds}
 use Rattle.eve_audit.proofs.Deciding.{Decided}
 use Rattle.eve_audit.proofs.Verdicts.{found_in_form, trace_first, faultless, some_replica}
 use Rattle.eve_audit.proofs.FirstOfAll.{first_in_trace}
+use Rattle.eve_history.specs.Faults.{StandsInOrders}
 
 -- ---- the summary
 
@@ -77,17 +78,17 @@ summary_of t some =
 
 module _ (fits : (names : List (List ℕ)) (x : Executed) → Decided (Fits names x)) (once : (bytes : List ℕ) (t u : Trace)
     → Spells bytes t → Spells bytes u → t ≡ u)
-    (orders : (t : Trace) (f : Fault) → IsOrderFault t f → f.offset ≤ length_of t)
+    (orders : (t : Trace) (f : Fault) → IsFaultOutside StandsInOrders t f → f.offset ≤ length_of t)
     (fates : (t : Trace) (e : ℕ) → FatesAreAsItEnds t e) where
   of_trace : (bytes : List ℕ) (t : Trace) → IsRead bytes t → (v : Verdict) × IsVerdict bytes v
-  of_trace bytes t read = elim (first_in_trace t (fates t) read.spells.limits fits (orders t)) [
+  of_trace bytes t read = elim (first_in_trace t (fates t) (limits_of_spelled bytes t read.spells) fits (orders t)) [
     | inl found ↦ (
       No found.0,
       trace_first bytes t read.spells (λ u other. once bytes u t other read.spells) found.0
           read.none found.1,
     )
     | inr none ↦
-        let summary = summary_of t (some_replica (head_of t) read.spells.limits.head) in (
+        let summary = summary_of t (some_replica (head_of t) (limits_of_spelled bytes t read.spells).head) in (
           Yes summary.0,
           (
             t,
@@ -100,8 +101,9 @@ module _ (fits : (names : List (List ℕ)) (x : Executed) → Decided (Fits name
   ]
 
   -- with what is found of form
-  pub some_verdict : (bytes : List ℕ) → ((f : Fault) × IsLeast (IsFormFault bytes) f) ⊎ ((t : Trace) × Spells bytes t)
-      → ((f : Fault) (t : Trace) → IsFormFault bytes f → ¬ Spells bytes t)
+  pub some_verdict : (bytes : List ℕ)
+      → ((f : Fault) × IsLeast (IsFaultOutside StandsInForm bytes) f) ⊎ ((t : Trace) × Spells bytes t)
+      → ((f : Fault) (t : Trace) → IsFaultOutside StandsInForm bytes f → ¬ Spells bytes t)
       → (v : Verdict) × IsVerdict bytes v
   some_verdict bytes (inl found) apart =
       (No found.0, found_in_form bytes (Found found.0) found.1 (λ t. apart found.0 t found.1.is))

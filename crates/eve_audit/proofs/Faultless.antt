@@ -2,17 +2,20 @@
 use Rattle.std.proofs.Common.{◌≡◌, ℕ, inl, inr, List, length}
 use Rattle.std.specs.List.{AllByRecursion}
 use Rattle.std.proofs.lemmas.Bool.{cases_lt}
+use Rattle.std.specs.Prelude.{AllPairs, ◌≢◌}
 use Rattle.eve_smallbank.specs.SmallBank.{Request}
 use Rattle.eve_smallbank.specs.Access.{Executed, Fits}
 use Rattle.eve_smallbank.specs.Chain.{Table, Sees}
 use Rattle.eve_smallbank.specs.Execution.{executed_on}
 use Rattle.eve_grammar.specs.Trace.{Trace}
-use Rattle.eve_grammar.specs.Limits.{Spells, HasLimits}
+use Rattle.eve_grammar.specs.Limits.{HasLimits}
+use Rattle.eve_grammar.specs.Following.{Spells}
+use Rattle.eve_grammar.proofs.Spelled.{limits_of_spelled}
 use Rattle.eve_views.specs.declared.fault.Code.TheVariants as code
 use Rattle.eve_history.specs.SectionHistory.{names_of, IsRightSection}
 use Rattle.eve_history.specs.Faults.{StandsInOrders}
 use Rattle.eve_chains.specs.Visible.{executed_by}
-use Rattle.eve_chains.specs.Committed.{batch_request_ids, AreDistinct}
+use Rattle.eve_chains.specs.Committed.{batch_request_ids}
 use Rattle.eve_chains.specs.Sound.{OfSettledAccesses, RecordsFit, EntriesSee, SettledAreSound}
 use Rattle.eve_chains.specs.Faults.{HasNoFault}
 use Rattle.eve_audit.specs.Accepted.{IsAccepted}
@@ -36,7 +39,8 @@ pub record Laws : Type 0 where
   pub fit : (names : List (List ℕ)) (table : Table) (request : Request) → Fits names (executed_on names table request)
   pub only : (names : List (List ℕ)) (table : Table) (x : Executed) → Fits names x
       → AllByRecursion (Sees table) x.entries → x ≡ executed_on names table x.request
-  pub apart : (t : Trace) → ((at : ℕ) → ¬ StandsInOrders code.SameRequest t at) → AreDistinct (batch_request_ids t)
+  pub apart : (t : Trace) → ((at : ℕ) → ¬ StandsInOrders code.SameRequest t at)
+      → AllPairs (λ a b. a ≢ b) (batch_request_ids t)
   pub see : (t : Trace) (e : ℕ) → HasNoFault t e → EntriesSee t e
   pub refuted : (t : Trace) (e : ℕ) → HasNoFault t e
       → OfSettledAccesses t e (λ p x. ¬ ¬ Fits (names_of t) (executed_by t p.attempt x))
@@ -88,10 +92,9 @@ pub yes_audited : Laws → ((t : Trace) → IsAccepted t → IsAudited t)
     → IsVerdict bytes (Yes s) → SpellsAudited bytes
 yes_audited laws audited once bytes s is =
     let t : Trace = is.0 in
-    let spells : Spells bytes t = is.1 in
-    record {
-      trace = t;
-      spells = spells;
-      audited = audited t (unfaulted_accepted laws t spells.limits
-          (faultless_trace bytes t (λ u other. once bytes u t other spells) spells is.2));
-    }
+    let spells : Spells bytes t = is.1 in (
+      t,
+      spells,
+      audited t (unfaulted_accepted laws t (limits_of_spelled bytes t spells)
+          (faultless_trace bytes t (λ u other. once bytes u t other spells) spells is.2)),
+    )

@@ -13,7 +13,7 @@ use Rattle.eve_views.specs.Code.{code_number, phase_of}
 use Rattle.eve_views.specs.declared.fault.Code.{Code}
 use Rattle.eve_views.specs.declared.fault.Code.TheVariants as code
 use Rattle.eve_views.specs.declared.fault.Fault.{Fault}
-use Rattle.eve_history.specs.Faults.{StandsInOrders, IsOrderFault, StandsInStructure}
+use Rattle.eve_history.specs.Faults.{StandsInOrders, StandsInStructure}
 use Rattle.eve_chains.specs.Faults.{StandsInRecords, StandsInChains}
 use Rattle.eve_agree.specs.Restores.{StandsInRestores}
 use Rattle.eve_agree.specs.DueTokens.{StandsInTokens}
@@ -24,7 +24,7 @@ use Rattle.eve_agree.specs.SentReplies.{StandsInReplies}
 use Rattle.eve_audit.specs.Verdict.{IsOwnFault, of_structure, of_records, of_chains, of_restores, of_tokens}
 use Rattle.eve_audit.specs.Verdict.{IsTraceFault, of_votes, of_majorities, of_agreement, of_replies, in_orders}
 use Rattle.eve_audit.specs.Verdict.{in_section, in_common}
-use Rattle.eve_views.specs.Form.{HasNone, Precedes}
+use Rattle.eve_views.specs.Form.{HasNone, Precedes, IsFaultOutside}
 use Rattle.eve_audit.specs.Reports.{IsFirstOf}
 use Rattle.eve_audit.proofs.Sections.{LiesIn, FatesAreAsItEnds}
 use Rattle.eve_audit.proofs.Unique.{code_with, with_its_number}
@@ -244,7 +244,7 @@ module _ (t : Trace) (c : Code) (at : ℕ) where
   fault_at (inr (inr (inr (inl s)))) =
       record {
         fault = inside s.0;
-        is = in_common (of_majorities (record { replica = s.0; stands = s.2; inside = refl }));
+        is = in_common (of_majorities (s.0, record { stands = s.2; inside = refl }));
         kind = refl;
         offset =
             refl;
@@ -252,7 +252,7 @@ module _ (t : Trace) (c : Code) (at : ℕ) where
   fault_at (inr (inr (inr (inr (inl s))))) =
       record {
         fault = inside s.0;
-        is = in_common (of_agreement (record { replica = s.0; stands = s.2; inside = refl }));
+        is = in_common (of_agreement (s.0, record { stands = s.2; inside = refl }));
         kind = refl;
         offset =
             refl;
@@ -292,22 +292,22 @@ module _ (t : Trace) (fates : (e : ℕ) → FatesAreAsItEnds t e) where
   stands_from f (in_common (of_votes is)) = inr (inr (inl is.stands))
   stands_from f (in_common (of_majorities is)) =
       inr (inr (inr (inl (
-        is.replica,
-        there t is.replica f.offset
-            (majority_lies t is.replica f.code f.offset is.stands),
-        is.stands,
+        is.0,
+        there t is.0 f.offset
+            (majority_lies t is.0 f.code f.offset is.1.stands),
+        is.1.stands,
       ))))
   stands_from f (in_common (of_agreement is)) =
       inr (inr (inr (inr (inl (
-        is.replica,
-        there t is.replica f.offset
-            (outcome_lies t is.replica (fates is.replica) f.code f.offset is.stands),
-        is.stands,
+        is.0,
+        there t is.0 f.offset
+            (outcome_lies t is.0 (fates is.0) f.code f.offset is.1.stands),
+        is.1.stands,
       )))))
   stands_from f (in_common (of_replies is)) = inr (inr (inr (inr (inr is.stands))))
 
   module _ (limits : HasLimits t) (fits : (names : List (List ℕ)) (x : Executed) → Decided (Fits names x))
-      (orders : (f : Fault) → IsOrderFault t f → f.offset ≤ length_of t) where
+      (orders : (f : Fault) → IsFaultOutside StandsInOrders t f → f.offset ≤ length_of t) where
     within : (c : Code) (at : ℕ) → StandsAt t c at → at ≤ length_of t
     within c at stands =
         let found = fault_at t c at stands in

@@ -5,8 +5,8 @@ use Rattle.std.proofs.lemmas.Bool.{cases_lt}
 use Rattle.eve_grammar.specs.Trace.{Trace}
 use Rattle.eve_views.specs.Form.{HasNone, Precedes}
 use Rattle.eve_views.specs.declared.fault.Fault.{Fault}
-use Rattle.eve_audit.specs.Verdict.{IsOwnFault, IsFaultBelow}
-use Rattle.eve_audit.specs.Reports.{IsFirstOf, IsFoundBelow, IsLeastBelow, last_of}
+use Rattle.eve_audit.specs.Verdict.{IsOwnFault}
+use Rattle.eve_audit.specs.Reports.{IsFirstOf, IsFoundBelow, IsLeastBelow, last_of, IsFaultBelow}
 use Rattle.eve_views.proofs.Firsts.{up_to-trans}
 use Rattle.eve_agree.proofs.Backing.{below_more}
 

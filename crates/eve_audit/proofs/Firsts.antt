@@ -2,21 +2,21 @@
 use Rattle.std.proofs.Common.{◌≡◌, ℕ, ◌<◌, ◌≤◌, inl, inr, length, sym, ◌∙◌, arith}
 use Rattle.eve_grammar.specs.Trace.{Trace}
 use Rattle.eve_views.specs.Code.{phase_of}
-use Rattle.eve_views.specs.Form.{IfFound, IsLeast, HasNone, Precedes}
+use Rattle.eve_views.specs.Form.{IfFound, IsLeast, HasNone, Precedes, IsFaultSomewhere, IsFaultOutside}
 use Rattle.eve_views.specs.declared.fault.CheckFault.{CheckFault}
 use Rattle.eve_views.specs.declared.fault.CheckFault.TheVariants.{Found, Memory}
 use Rattle.eve_views.specs.declared.fault.Fault.{Fault}
-use Rattle.eve_history.specs.Faults.{IsOrderFault}
-use Rattle.eve_votes.specs.Faults.{IsVoteFault}
-use Rattle.eve_agree.specs.Majority.{IsMajorityFault}
-use Rattle.eve_agree.specs.Agreement.{IsOutcomeFault}
-use Rattle.eve_agree.specs.SentReplies.{IsReplyFault}
 use Rattle.eve_audit.specs.Verdict.{IsOwnFault, of_structure, of_records, of_chains, of_restores, of_tokens}
-use Rattle.eve_audit.specs.Verdict.{IsFaultBelow, IsCommonFault, IsTraceFault, of_votes, of_majorities, of_agreement}
+use Rattle.eve_audit.specs.Verdict.{IsCommonFault, IsTraceFault, of_votes, of_majorities, of_agreement}
 use Rattle.eve_audit.specs.Verdict.{of_replies, in_orders, in_section, in_common}
-use Rattle.eve_audit.specs.Reports.{IsFirstOf}
+use Rattle.eve_audit.specs.Reports.{IsFirstOf, IsFaultBelow}
 use Rattle.eve_audit.proofs.Phases.{order_phase, structure_phase, record_phase, chain_phase, restore_phase, token_phase}
 use Rattle.eve_audit.proofs.Phases.{vote_phase, majority_phase, outcome_phase, reply_phase}
+use Rattle.eve_votes.specs.Faults.{StandsInVotes}
+use Rattle.eve_agree.specs.SentReplies.{StandsInReplies}
+use Rattle.eve_agree.specs.Agreement.{StandsInAgreement}
+use Rattle.eve_agree.specs.Majority.{StandsInMajorities}
+use Rattle.eve_history.specs.Faults.{StandsInOrders}
 
 -- a fact about what was found, from another about it
 pub found_weaker : (P Q : Fault → Type 0) (why : CheckFault) → ((f : Fault) → P f → Q f) → IfFound why P → IfFound why Q
@@ -46,7 +46,8 @@ module _ (t : Trace) where
   common_phase f (of_agreement is) = let p = outcome_phase t f is in omega arith
   common_phase f (of_replies is) = let p = reply_phase t f is in omega arith
 
-  pub outcome_first : (f : Fault) → HasNone (IsVoteFault t) → HasNone (IsMajorityFault t) → IsLeast (IsOutcomeFault t) f
+  pub outcome_first : (f : Fault) → HasNone (IsFaultOutside StandsInVotes t)
+      → HasNone (IsFaultSomewhere StandsInMajorities t) → IsLeast (IsFaultSomewhere StandsInAgreement t) f
       → IsFirstOf (IsCommonFault t) f
   outcome_first f votes majorities least = record { is = of_agreement least.is; first = by }
     where
@@ -59,8 +60,9 @@ module _ (t : Trace) where
       by g (of_agreement is) = inr (own ∙ sym (outcome_phase t g is), least.least g is)
       by g (of_replies is) = lower f g 10 11 own (reply_phase t g is) (omega arith)
 
-  pub reply_first : (f : Fault) → HasNone (IsVoteFault t) → HasNone (IsMajorityFault t) → HasNone (IsOutcomeFault t)
-      → IsLeast (IsReplyFault t) f → IsFirstOf (IsCommonFault t) f
+  pub reply_first : (f : Fault) → HasNone (IsFaultOutside StandsInVotes t)
+      → HasNone (IsFaultSomewhere StandsInMajorities t) → HasNone (IsFaultSomewhere StandsInAgreement t)
+      → IsLeast (IsFaultOutside StandsInReplies t) f → IsFirstOf (IsCommonFault t) f
   reply_first f votes majorities agreement least = record { is = of_replies least.is; first = by }
     where
       by : (g : Fault) → IsCommonFault t g → Precedes f g
@@ -69,8 +71,9 @@ module _ (t : Trace) where
       by g (of_agreement is) = absurd (agreement g is)
       by g (of_replies is) = inr (reply_phase t f least.is ∙ sym (reply_phase t g is), least.least g is)
 
-  pub none_common : HasNone (IsVoteFault t) → HasNone (IsMajorityFault t) → HasNone (IsOutcomeFault t)
-      → HasNone (IsReplyFault t) → HasNone (IsCommonFault t)
+  pub none_common : HasNone (IsFaultOutside StandsInVotes t) → HasNone (IsFaultSomewhere StandsInMajorities t)
+      → HasNone (IsFaultSomewhere StandsInAgreement t)
+      → HasNone (IsFaultOutside StandsInReplies t) → HasNone (IsCommonFault t)
   none_common votes majorities agreement replies = by
     where
       by : (g : Fault) → IsCommonFault t g → ⊥
@@ -89,7 +92,7 @@ module _ (t : Trace) where
   trace_phase f (in_section below) = omega (arith, (below_phase (length t.sections) f below).0)
   trace_phase f (in_common is) = omega (arith, common_phase f is)
 
-  pub order_first : (f : Fault) → IsLeast (IsOrderFault t) f → IsFirstOf (IsTraceFault t) f
+  pub order_first : (f : Fault) → IsLeast (IsFaultOutside StandsInOrders t) f → IsFirstOf (IsTraceFault t) f
   order_first f least = record { is = in_orders least.is; first = by }
     where
       by : (g : Fault) → IsTraceFault t g → Precedes f g
@@ -98,7 +101,8 @@ module _ (t : Trace) where
           inl (omega (arith, order_phase t f least.is, (below_phase (length t.sections) g below).0))
       by g (in_common is) = inl (omega (arith, order_phase t f least.is, common_phase g is))
 
-  pub section_first : (f : Fault) → HasNone (IsOrderFault t) → IsFirstOf (IsFaultBelow t (length t.sections)) f
+  pub section_first : (f : Fault) → HasNone (IsFaultOutside StandsInOrders t)
+      → IsFirstOf (IsFaultBelow t (length t.sections)) f
       → IsFirstOf (IsTraceFault t) f
   section_first f orders found = record { is = in_section found.is; first = by }
     where
@@ -107,7 +111,8 @@ module _ (t : Trace) where
       by g (in_section below) = found.first g below
       by g (in_common is) = inl (omega (arith, (below_phase (length t.sections) f found.is).1, common_phase g is))
 
-  pub common_first : (f : Fault) → HasNone (IsOrderFault t) → HasNone (IsFaultBelow t (length t.sections))
+  pub common_first : (f : Fault) → HasNone (IsFaultOutside StandsInOrders t)
+      → HasNone (IsFaultBelow t (length t.sections))
       → IsFirstOf (IsCommonFault t) f → IsFirstOf (IsTraceFault t) f
   common_first f orders sections found = record { is = in_common found.is; first = by }
     where
@@ -116,7 +121,7 @@ module _ (t : Trace) where
       by g (in_section below) = absurd (sections g below)
       by g (in_common is) = found.first g is
 
-  pub none_in_trace : HasNone (IsOrderFault t) → HasNone (IsFaultBelow t (length t.sections))
+  pub none_in_trace : HasNone (IsFaultOutside StandsInOrders t) → HasNone (IsFaultBelow t (length t.sections))
       → HasNone (IsCommonFault t) → HasNone (IsTraceFault t)
   none_in_trace orders sections common = by
     where

@@ -13,9 +13,9 @@ use Rattle.eve_chains.specs.Sound.{IsSoundAlong}
 use Rattle.eve_agree.specs.Tables.{all_restore_rightly}
 use Rattle.eve_agree.specs.DueTokens.{due_token}
 use Rattle.eve_views.specs.declared.fault.Fault.{Fault}
-use Rattle.eve_audit.specs.Verdict.{IsOwnFault, IsFaultBelow}
+use Rattle.eve_audit.specs.Verdict.{IsOwnFault}
 use Rattle.eve_views.specs.Form.{HasNone}
-use Rattle.eve_audit.specs.Reports.{IsFirstOf, IsSoundReplica, AreKept, IsJudgedBelow, IsFoundBelow}
+use Rattle.eve_audit.specs.Reports.{IsFirstOf, IsSoundReplica, AreKept, IsJudgedBelow, IsFoundBelow, IsFaultBelow}
 use Rattle.eve_agree.proofs.Backing.{below_more}
 use Rattle.eve_audit.proofs.FirstOwnFaults.{none_more, least_more, first_more, both_more}
 use Rattle.eve_views.specs.First.{first_of}

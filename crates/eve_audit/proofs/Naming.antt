@@ -4,11 +4,11 @@ use Rattle.std.specs.Prelude.{◌↔◌, IsTrue}
 use Rattle.std.proofs.lemmas.Bool.{and_parts, and_from, le-leb, lt-ltb, leb-true, ltb-true}
 use Rattle.std.proofs.lemmas.Option.{none-some}
 use Rattle.eve_grammar.specs.Trace.{Trace}
-use Rattle.eve_grammar.specs.Limits.{Spells}
 use Rattle.eve_grammar.specs.Spelling.{section_start}
-use Rattle.eve_views.specs.Form.{IsFormFault}
+use Rattle.eve_grammar.specs.Following.{Spells}
 use Rattle.eve_views.specs.Parts.{is_in_section}
 use Rattle.eve_views.specs.declared.fault.Fault.{Fault}
+use Rattle.eve_views.specs.Form.{StandsInForm, IsFaultOutside}
 use Rattle.eve_audit.specs.Verdict.{Stands, in_form, in_trace, IsOwnFault, of_structure, of_records, of_chains}
 use Rattle.eve_audit.specs.Verdict.{of_restores, of_tokens, IsCommonFault, IsTraceFault}
 use Rattle.eve_audit.specs.Where.{NamesItsSection}
@@ -62,9 +62,9 @@ module _ (t : Trace) (fates : (e : ℕ) → FatesAreAsItEnds t e) (f : Fault) wh
   common_names : IsCommonFault t f → Names t f
   common_names (of.of_votes is) = outside t f is.outside (vote_fault_outside t f.code f.offset is.stands)
   common_names (of.of_majorities is) =
-      inside t is.replica f is.inside (majority_lies t is.replica f.code f.offset is.stands)
+      inside t is.0 f is.1.inside (majority_lies t is.0 f.code f.offset is.1.stands)
   common_names (of.of_agreement is) =
-      inside t is.replica f is.inside (outcome_lies t is.replica (fates is.replica) f.code f.offset is.stands)
+      inside t is.0 f is.1.inside (outcome_lies t is.0 (fates is.0) f.code f.offset is.1.stands)
   common_names (of.of_replies is) = outside t f is.outside (reply_outside t f.code f.offset is.stands)
 
   trace_names : IsTraceFault t f → Names t f
@@ -83,7 +83,8 @@ named_in bytes t spells once fates f is = record {
 }
 
 -- of bytes that spell none
-pub named_in_none : (bytes : List ℕ) (f : Fault) → IsFormFault bytes f → ((t : Trace) → ¬ Spells bytes t)
+pub named_in_none : (bytes : List ℕ) (f : Fault) → IsFaultOutside StandsInForm bytes f
+    → ((t : Trace) → ¬ Spells bytes t)
     → NamesItsSection bytes f
 named_in_none bytes f is none = record { names = λ t spells. absurd (none t spells); outside = λ _. is.outside }
 
@@ -92,7 +93,8 @@ module _ (fates : (t : Trace) (e : ℕ) → FatesAreAsItEnds t e) (once : (bytes
   of_trace : (t : Trace) → Spells bytes t → IsTraceFault t f → NamesItsSection bytes f
   of_trace t spells is = named_in bytes t spells (λ u other. once bytes u t other spells) (fates t) f is
 
-  pub standing_named : ((g : Fault) (t : Trace) → IsFormFault bytes g → ¬ Spells bytes t) → Stands bytes f
+  pub standing_named : ((g : Fault) (t : Trace) → IsFaultOutside StandsInForm bytes g → ¬ Spells bytes t)
+      → Stands bytes f
       → NamesItsSection bytes f
   standing_named apart (in_form is) = named_in_none bytes f is (λ t. apart f t is)
   standing_named apart (in_trace t spells is) = of_trace t spells is

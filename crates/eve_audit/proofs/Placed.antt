@@ -3,13 +3,13 @@ use Rattle.std.proofs.Common.{◌≡◌, ℕ, List, [], ◌∷◌, ◌++◌, Non
 use Rattle.std.specs.Prelude.{IsTrue, IsFalse, ◌≢◌, Bool, true, false, ◌&&◌, ◌||◌, ◌==◌, nat_le}
 use Rattle.eve_smallbank.specs.Access.{Fits}
 use Rattle.eve_grammar.specs.Trace.{Access, Attempt, Step, Attempts, Commits, RollsBack, Trace}
-use Rattle.eve_grammar.specs.Limits.{Spells}
 use Rattle.eve_grammar.specs.Spelling.{steps_at, accesses_at}
 use Rattle.eve_views.specs.Code.{phase_of}
 use Rattle.eve_views.specs.declared.fault.Code.{Code}
 use Rattle.eve_views.specs.declared.fault.Code.TheVariants as code
 use Rattle.eve_views.specs.declared.fault.Fault.{Fault}
 use Rattle.eve_grammar.specs.Accesses.{is_right_place}
+use Rattle.eve_grammar.specs.Following.{Spells}
 use Rattle.eve_history.specs.Section.{Placed, SectionState, start, state_after, settled, is_right_attempt}
 use Rattle.eve_history.specs.Section.{is_right_certificate, is_right_access, is_right_commit, is_right_rollback}
 use Rattle.eve_history.specs.Section.{are_right_accesses}
@@ -31,12 +31,12 @@ use Rattle.eve_audit.proofs.Phases.{token_phase, vote_phase, majority_phase, out
 use Rattle.eve_audit.proofs.Where.{StepIn, at_place, steps_in, starts_in, step_in, access_in, committed_in, settled_in}
 
 module _ (t : Trace) (e : ℕ) where
-  at_step : (at : ℕ) (P : SectionState → Step → Type 0) → AtStep t e (λ offset s step. (offset ≡ at) × P s step)
+  at_step : (at : ℕ) (P : SectionState → Step → Type 0) → AtStep t e at P
       → LiesIn t e at
   at_step at P place = subst (LiesIn t e) place.holds.1.0 (step_in t e place.before place.item place.rest place.is)
 
   at_access : (at : ℕ) (P : Attempt → List Access → Access → Type 0)
-      → AtAccess t e (λ offset a before x. (offset ≡ at) × P a before x) → LiesIn t e at
+      → AtAccess t e at P → LiesIn t e at
   at_access at P place = by place.item.1 refl place.holds.1
     where
       within : StepIn t e place.item
@@ -146,10 +146,10 @@ module _ (laws : (t : Trace) (e : ℕ) → FatesAreAsItEnds t e) (bytes : List �
   trace_placed t spells (in_orders is) = outside is.outside (ap is_inside (order_phase t f is))
   trace_placed t spells (in_section below) = own_placed t below.0 spells below.2
   trace_placed t spells (in_common (of_votes is)) = outside is.outside (ap is_inside (vote_phase t f is))
-  trace_placed t spells (in_common (of_majorities is)) = inside t is.replica spells is.inside
-      (majority_lies t is.replica f.code f.offset is.stands) (ap is_inside (majority_phase t f is))
-  trace_placed t spells (in_common (of_agreement is)) = inside t is.replica spells is.inside
-      (outcome_lies t is.replica (laws t is.replica) f.code f.offset is.stands) (ap is_inside (outcome_phase t f is))
+  trace_placed t spells (in_common (of_majorities is)) = inside t is.0 spells is.1.inside
+      (majority_lies t is.0 f.code f.offset is.1.stands) (ap is_inside (majority_phase t f is))
+  trace_placed t spells (in_common (of_agreement is)) = inside t is.0 spells is.1.inside
+      (outcome_lies t is.0 (laws t is.0) f.code f.offset is.1.stands) (ap is_inside (outcome_phase t f is))
   trace_placed t spells (in_common (of_replies is)) = outside is.outside (ap is_inside (reply_phase t f is))
 
   pub placed : Stands bytes f → IsPlaced bytes f

@@ -1,9 +1,10 @@
 -- What a yes says follows from what the phases find.
 use Rattle.std.proofs.Common.{◌≡◌, ℕ, ◌-◌, length, slice_get, Some}
+use Rattle.std.specs.Prelude.{IsTrue, AllPairs, ◌≢◌}
 use Rattle.eve_smallbank.proofs.Members.{all_in}
 use Rattle.eve_grammar.specs.Trace.{Sent, Trace}
 use Rattle.eve_grammar.specs.Spelling.{steps_at}
-use Rattle.eve_grammar.specs.Certificate.{KeepsGroups}
+use Rattle.eve_grammar.specs.Certificate.{keeps_groups}
 use Rattle.eve_history.specs.Section.{Placed, batch_at}
 use Rattle.eve_history.specs.SectionHistory.{committed_at}
 use Rattle.eve_votes.specs.Votes.{IsDecided}
@@ -11,7 +12,7 @@ use Rattle.eve_votes.proofs.Deciding.{quorum_limits}
 use Rattle.eve_chains.proofs.Linked.{in_at, committed_number}
 use Rattle.eve_chains.specs.Visible.{execution, executions}
 use Rattle.eve_chains.specs.Committed.{opening_bank, bank_after, committed_to, Leads, IsSerialBetween}
-use Rattle.eve_chains.specs.Committed.{committed_request_ids, AreDistinct}
+use Rattle.eve_chains.specs.Committed.{committed_request_ids}
 use Rattle.eve_agree.specs.Tables.{IsRestored}
 use Rattle.eve_agree.specs.SentReplies.{IsReplied}
 use Rattle.eve_audit.specs.Accepted.{IsAccepted}
@@ -40,8 +41,8 @@ module _ (t : Trace) (accepted : IsAccepted t) where
       → IsSerialBetween (bank_after t e (n - 1)) (bank_after t e n) (execution t p.attempt))
       → ((e n : ℕ) → Leads (opening_bank t) (executions t (committed_to t e n)) (bank_after t e n))
       → ((e n : ℕ) (p : Placed) → committed_at t e n ≡ Some p
-      → KeepsGroups (batch_at t n).sizes (length (batch_at t n).requests) p.attempt.certificate)
-      → ((e : ℕ) → AreDistinct (committed_request_ids t e)) → ((e k : ℕ) → IsRestored t e k) → IsAudited t
+      → IsTrue (keeps_groups (batch_at t n).sizes (length (batch_at t n).requests) p.attempt.certificate))
+      → ((e : ℕ) → AllPairs (λ a b. a ≢ b) (committed_request_ids t e)) → ((e k : ℕ) → IsRestored t e k) → IsAudited t
   audited_with serial from_opening keeps_groups once restored = record {
     numbered = λ e n p at. committed_number t e n p (accepted.right e) at;
     serial = serial;

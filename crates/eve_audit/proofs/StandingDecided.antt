@@ -27,7 +27,7 @@ use Rattle.eve_agree.specs.Tables.{are_right_restores}
 use Rattle.eve_agree.specs.Restores.{StandsInRestores}
 use Rattle.eve_agree.specs.DueTokens.{due_token, StandsInTokens}
 use Rattle.eve_votes.specs.Votes.{is_vote_on, IsDecided, backers}
-use Rattle.eve_votes.specs.Faults.{HasTwoDecisions, IsFurtherAt, StandsInVotes}
+use Rattle.eve_votes.specs.Faults.{HasTwoDecisions, StandsInVotes, IsFurther}
 use Rattle.eve_votes.proofs.Casting.{none_behind}
 use Rattle.eve_votes.proofs.Counting.{decided_backs}
 use Rattle.eve_agree.specs.Majority.{StandsInMajorities}
@@ -123,7 +123,7 @@ module _ (t : Trace) where
       by (ForCommit token) is =
           decided_as (λ decided. (token, is, decided))
           (λ found. subst (λ (b : List ℕ). IsDecided t n w.view b) (same found.0 token (sym found.1 ∙ is)) found.2)
-          (enough t.quorum (backers t n w.view (ForCommit token)))
+          (enough t.head.quorum (backers t n w.view (ForCommit token)))
 
   -- two votes for commits in two views, both of them decided
   Clash : ℕ → Vote → Vote → Type 0
@@ -142,22 +142,14 @@ module _ (t : Trace) where
       let also = found.2.2 in
       let x = vote also.0 also.2.0 in
       let clash = also.2.2 in
-      record {
-        view = w.view;
-        other = x.view;
-        token = clash.1.0.0;
-        other_token = clash.1.1.0;
-        apart = clash.0;
-        decided = clash.1.0.2;
-        other_decided = clash.1.1.2;
-      }
+      (w.view, x.view, clash.1.0.0, clash.1.1.0, clash.0, clash.1.0.2, clash.1.1.2)
 
   -- a decided commit has a vote for it
   module _ (limits : HasLimits t) where
     IsOne : Vote → Type 0
     IsOne w = AtVote (λ x. x ≡ w)
 
-    all_ones : (v : ℕ) → v + t.quorum ≤ length t.verifiers → All IsOne (votes_of t v)
+    all_ones : (v : ℕ) → v + t.head.quorum ≤ length t.verifiers → All IsOne (votes_of t v)
     unfolding IsOne AtVote vote
     all_ones v early k d lt =
         let some = some_quorum t limits in
@@ -174,16 +166,16 @@ module _ (t : Trace) where
     clash_of : (n : ℕ) → HasTwoDecisions t n → AtVote (λ w. AtVote (Clash n w))
     unfolding Clash IsFor
     clash_of n two =
-        voted (λ w. AtVote (Clash n w)) n two.view two.token two.decided (λ w in_view commit.
-        voted (Clash n w) n two.other two.other_token two.other_decided (λ x in_other also. (
-          (λ same. two.apart (sym in_view ∙ same ∙ in_other)),
+        voted (λ w. AtVote (Clash n w)) n two.0 two.2 two.5 (λ w in_view commit.
+        voted (Clash n w) n two.1 two.3 two.6 (λ x in_other also. (
+          (λ same. two.4 (sym in_view ∙ same ∙ in_other)),
           (
-            (two.token, commit, subst (λ (v : ℕ). IsDecided t n v two.token) (sym in_view) two.decided),
+            (two.2, commit, subst (λ (v : ℕ). IsDecided t n v two.2) (sym in_view) two.5),
             (
-              two.other_token,
+              two.3,
               also,
-              subst (λ (v : ℕ). IsDecided t n v two.other_token)
-                  (sym in_other) two.other_decided,
+              subst (λ (v : ℕ). IsDecided t n v two.3)
+                  (sym in_other) two.6,
             ),
           ),
         )))
@@ -208,11 +200,12 @@ module _ (t : Trace) (at : ℕ) where
   votes_decided limits code.TwoVotes =
       decided_as (λ found. (found.0, found.2))
       (λ further. (further.0, there further.0 further.1 (cases_lt further.0 (length t.verifiers)), further.1))
-      (below_or_none (λ v. IsFurtherAt (votes_at t v) at)
+      (below_or_none (λ v. SomePlace (votes_at t v) (λ before w. (w.0 ≡ at) × IsFurther before w))
       (λ v. place_decided _ (λ before w. decided_both (numbers w.0 at)
       (decided_true (list_any (λ u. is_vote_on w.1.seq w.1.view u.1) before))) (votes_at t v)) (length t.verifiers))
     where
-      there : (v : ℕ) → IsFurtherAt (votes_at t v) at → (v < length t.verifiers) ⊎ (length t.verifiers ≤ v)
+      there : (v : ℕ) → SomePlace (votes_at t v) (λ before w. (w.0 ≡ at) × IsFurther before w)
+          → (v < length t.verifiers) ⊎ (length t.verifiers ≤ v)
           → v < length t.verifiers
       there v further (inl lt) = lt
       there v further (inr le) = absurd (none_behind t v at le further)
@@ -301,11 +294,12 @@ module _ (t : Trace) (at : ℕ) where
     pub majorities_decided : (c : Code) → Decided (StandsInMajorities c t e at)
     majorities_decided code.NoMajority =
         place_decided _ (λ _ step. decided_both (numbers step.0 at)
-        (of_commit step.1 _ (λ c. decided_not (enough t.quorum (backers t c.seq c.view (ForCommit c.token))))))
+        (of_commit step.1 _ (λ c. decided_not (enough t.head.quorum (backers t c.seq c.view (ForCommit c.token))))))
         (steps_at t e)
     majorities_decided code.RollbackNoMajority =
         place_decided _ (λ _ step. decided_both (numbers step.0 at)
-        (of_rollback step.1 _ (λ r. decided_not (enough t.quorum (backers t (r.to + 1) (r.view - 1) ForRollback)))))
+        (of_rollback step.1 _ (λ r. decided_not
+        (enough t.head.quorum (backers t (r.to + 1) (r.view - 1) ForRollback)))))
         (steps_at t e)
     majorities_decided c = inr (λ stands. absurd stands)
 

@@ -12,20 +12,20 @@ use Rattle.eve_history.specs.declared.wrong.Wrong.{Wrong}
 use Rattle.eve_history.specs.FirstWrong.{first_wrong, fault_of}
 use Rattle.eve_history.specs.Section.{Placed, SectionState, start, next, state_after, settled}
 use Rattle.eve_history.specs.SectionHistory.{history, names_of, IsRightSection}
-use Rattle.eve_history.specs.Faults.{IsStructureFault}
 use Rattle.eve_history.proofs.Structure.{state_after-append, right_steps, found_is_least}
+use Rattle.eve_history.specs.Faults.{StandsInStructure}
 use Rattle.eve_chains.specs.Visible.{executed_by}
 use Rattle.eve_chains.specs.Sound.{OfSettledAccesses, RecordsFit}
 use Rattle.eve_agree.specs.Tables.{are_right_restores, all_restore_rightly, RestoresAreRight}
-use Rattle.eve_agree.specs.Restores.{IsRestoreFault}
-use Rattle.eve_agree.specs.DueTokens.{due_token, TokensAreDue, IsTokenFault}
-use Rattle.eve_views.specs.Form.{HasNone}
+use Rattle.eve_agree.specs.DueTokens.{due_token, TokensAreDue, StandsInTokens}
+use Rattle.eve_agree.specs.Restores.{StandsInRestores}
+use Rattle.eve_views.specs.Form.{HasNone, IsFaultIn}
 use Rattle.eve_audit.proofs.Deciding.{Decided, stable, all_if_none, numbers, lists}
 
 module _ (t : Trace) (e : ℕ) where
   -- ---- structure
 
-  pub right_section : HasNone (IsStructureFault t e) → IsRightSection t e
+  pub right_section : HasNone (IsFaultIn StandsInStructure t e) → IsRightSection t e
   right_section none = by (first_wrong t start (steps_at t e)) refl
     where
       by : (o : Option Wrong) → first_wrong t start (steps_at t e) ≡ o → IsRightSection t e
@@ -57,7 +57,7 @@ module _ (t : Trace) (e : ℕ) where
       ≡ next (state_after start before) step
   state_push before step = state_after-append start before (step ∷ [])
 
-  module _ (none : HasNone (IsRestoreFault t e)) where
+  module _ (none : HasNone (IsFaultIn StandsInRestores t e)) where
     restores_along : (before rest : List (ℕ × Step)) → steps_at t e ≡ before ++ rest
         → IsTrue (all_restore_rightly t (state_after start before) rest)
     restores_along before [] is = refl
@@ -96,7 +96,7 @@ module _ (t : Trace) (e : ℕ) where
 
   -- ---- tokens
 
-  pub due_tokens : HasNone (IsTokenFault t e) → TokensAreDue t e
+  pub due_tokens : HasNone (IsFaultIn StandsInTokens t e) → TokensAreDue t e
   due_tokens none = all_if_none (λ p. p.attempt.token ≡ due_token t e p)
       (λ p. lists numbers p.attempt.token (due_token t e p)) (λ p. p.offset) (history t e).committed
       (λ p place. none (record { code = code.Token; offset = p.offset; replica = Some e })

@@ -1,12 +1,13 @@
 -- Where no phase finds a fault, all is as it must be, of all replicas together.
 use Rattle.std.proofs.Common.{◌≡◌, ℕ, ◌+◌, ◌-◌, ◌<◌, ◌≤◌, inl, inr, List, [], ◌∷◌, length, Option, Some, None}
-use Rattle.std.proofs.Common.{IfSome, slice_get, get_or, refl, sym, ap, subst, ◌∙◌, arith}
+use Rattle.std.proofs.Common.{IfSome, slice_get, get_or, refl, sym, ap, subst, ◌∙◌, arith, option_map, map}
 use Rattle.std.specs.List.{AllByRecursion, All, list_all}
 use Rattle.std.specs.Prelude.{IsTrue}
 use Rattle.std.proofs.lemmas.Bool.{cases_lt, cases_eq}
-use Rattle.std.proofs.lemmas.Option.{slice_get-get_or, slice_get_within, same_Some}
+use Rattle.std.proofs.lemmas.Option.{slice_get-get_or, slice_get_within, same_Some, slice_get-map}
+use Rattle.std.proofs.lemmas.List.{length-map}
 use Rattle.eve_grammar.specs.Trace.{ForRollback, ForCommit, Asked, Sent, Batch, Step, Attempts, Commits, RollsBack}
-use Rattle.eve_grammar.specs.Trace.{Trace}
+use Rattle.eve_grammar.specs.Trace.{Trace, request_id}
 use Rattle.eve_grammar.specs.Frames.{OfSent}
 use Rattle.eve_grammar.specs.Spelling.{frame_text, located, batches_at, sent_start, sent_at, steps_at, votes_of}
 use Rattle.eve_grammar.specs.Limits.{HasLimits, is_vote}
@@ -17,19 +18,19 @@ use Rattle.eve_history.specs.SectionHistory.{committed_at, IsRightSection}
 use Rattle.eve_chains.specs.Committed.{balances_to}
 use Rattle.eve_chains.proofs.Linked.{none≢some}
 use Rattle.eve_votes.specs.Votes.{IsDecided, backers}
-use Rattle.eve_votes.specs.Faults.{HasTwoDecisions, IsVoteFault, AreVotesSound}
+use Rattle.eve_votes.specs.Faults.{HasTwoDecisions, AreVotesSound, StandsInVotes}
 use Rattle.eve_grammar.proofs.Grouping.{all_at}
 use Rattle.eve_history.proofs.OrderLaws.{batch_count}
 use Rattle.eve_votes.proofs.Counting.{decided_backs, one_token}
 use Rattle.eve_votes.proofs.Deciding.{IsRight, right_vote, quorum_limits, decisions_stand}
 use Rattle.eve_votes.proofs.Tallying.{votes_once}
-use Rattle.eve_agree.specs.Majority.{IsBacked, AllAreBacked, IsMajorityFault}
+use Rattle.eve_agree.specs.Majority.{IsBacked, AllAreBacked, StandsInMajorities}
 use Rattle.eve_agree.specs.Unbacked.{IsUnbacked}
 use Rattle.eve_agree.proofs.Backing.{fault_from}
-use Rattle.eve_agree.specs.Agreement.{first_to_commit, HaveSameOutcome, ReplicasAgree, IsOutcomeFault}
+use Rattle.eve_agree.specs.Agreement.{first_to_commit, HaveSameOutcome, ReplicasAgree, StandsInAgreement}
 use Rattle.eve_agree.proofs.Agreeing.{differs, they_agree}
-use Rattle.eve_agree.specs.SentReplies.{IsReplied, AllReplied, IsReplyFault}
-use Rattle.eve_views.specs.Form.{HasNone}
+use Rattle.eve_agree.specs.SentReplies.{IsReplied, AllReplied, StandsInReplies}
+use Rattle.eve_views.specs.Form.{HasNone, IsFaultSomewhere, IsFaultOutside}
 use Rattle.eve_audit.proofs.Deciding.{Decided, decided_both, decided_as, all_or_place, all_if_none, below_or_none}
 use Rattle.eve_audit.proofs.Deciding.{numbers, integers}
 use Rattle.eve_audit.proofs.Deciding.{lists, options, replies}
@@ -37,10 +38,10 @@ use Rattle.eve_audit.proofs.Deciding.{lists, options, replies}
 -- ---- votes
 
 -- a quorum is one verifier or more
-pub some_quorum : (t : Trace) → HasLimits t → 1 ≤ t.quorum
+pub some_quorum : (t : Trace) → HasLimits t → 1 ≤ t.head.quorum
 some_quorum t limits = let quorum = quorum_limits t limits in omega (arith, quorum.1)
 
-votes_right : (t : Trace) → HasLimits t → (v : ℕ) → v + t.quorum ≤ length t.verifiers
+votes_right : (t : Trace) → HasLimits t → (v : ℕ) → v + t.head.quorum ≤ length t.verifiers
     → All (IsRight (length t.batches)) (votes_of t v)
 votes_right t limits v early k d lt =
     let some = some_quorum t limits in
@@ -53,7 +54,7 @@ votes_right t limits v early k d lt =
     (slice_get-get_or (votes_of t v) k d lt))
 
 module _ (t : Trace) (limits : HasLimits t) where
-  module _ (none : HasNone (IsVoteFault t)) where
+  module _ (none : HasNone (IsFaultOutside StandsInVotes t)) where
     one_view : (n view other : ℕ) (token other_token : List ℕ) → IsDecided t n view token
         → IsDecided t n other other_token → view ≡ other
     one_view n view other token other_token decided also = elim (cases_eq view other) [
@@ -66,15 +67,7 @@ module _ (t : Trace) (limits : HasLimits t) where
           let there : n - 1 < length (batches_at t) = omega (arith, low, high, batch_count t) in
           let b : ℕ × (ℕ × Batch) = get_or (batches_at t) (n - 1) (0, (0, no_batch)) in
           let two : HasTwoDecisions t n =
-          record {
-            view = view;
-            other = other;
-            token = token;
-            other_token = other_token;
-            apart = apart;
-            decided = decided;
-            other_decided = also;
-          } in
+          (view, other, token, other_token, apart, decided, also) in
           absurd (none (record { code = code.TwoDecisions; offset = b.0; replica = None })
           (record {
             stands = decisions_stand t n b.0 b.1 low
@@ -106,8 +99,8 @@ enough quorum votes = elim (cases_lt votes quorum) [
 module _ (t : Trace) where
   backed : (step : Step) → Decided (IsBacked t step)
   backed (Attempts a) = inl tt
-  backed (Commits c) = enough t.quorum (backers t c.seq c.view (ForCommit c.token))
-  backed (RollsBack r) = enough t.quorum (backers t (r.to + 1) (r.view - 1) ForRollback)
+  backed (Commits c) = enough t.head.quorum (backers t c.seq c.view (ForCommit c.token))
+  backed (RollsBack r) = enough t.head.quorum (backers t (r.to + 1) (r.view - 1) ForRollback)
 
   unbacked : (e at : ℕ) (step : Step) → ¬ IsBacked t step → (f : Fault) × IsUnbacked t e (at, step) f
   unbacked e at (Attempts a) wrong = absurd (wrong tt)
@@ -120,7 +113,7 @@ module _ (t : Trace) where
     record { unbacked = wrong; lacking = refl; offset = refl; inside = refl },
   )
 
-  pub all_backed : HasNone (IsMajorityFault t) → AllAreBacked t
+  pub all_backed : HasNone (IsFaultSomewhere StandsInMajorities t) → AllAreBacked t
   all_backed none e = elim (all_or_place (λ s. IsBacked t s.1) (λ s. backed s.1) (steps_at t e)) [
     | inl all ↦ all
     | inr place ↦
@@ -136,7 +129,7 @@ module _ (t : Trace) where
       decided_as (λ both. record { balances = both.0; replies = both.1 }) (λ h. (h.balances, h.replies))
       (decided_both (lists integers (balances_to t e n) (balances_to t f n)) (options (lists replies) _ _))
 
-  outcome_is : HasNone (IsOutcomeFault t) → (e n : ℕ) (p : Placed) → committed_at t e n ≡ Some p
+  outcome_is : HasNone (IsFaultSomewhere StandsInAgreement t) → (e n : ℕ) (p : Placed) → committed_at t e n ≡ Some p
       → IfSome (first_to_commit t n) (λ f. HaveSameOutcome t e f n)
   outcome_is none e n p at = by (first_to_commit t n) refl
     where
@@ -149,17 +142,14 @@ module _ (t : Trace) where
             (record { item = p; at = at; offset_is = refl; replies_are = refl }) is apart))
       ]
 
-  pub all_agree : ((e : ℕ) → IsRightSection t e) → HasNone (IsOutcomeFault t) → ReplicasAgree t
+  pub all_agree : ((e : ℕ) → IsRightSection t e) → HasNone (IsFaultSomewhere StandsInAgreement t) → ReplicasAgree t
   all_agree right none = they_agree t right (λ e n p at. inl (outcome_is none e n p at))
 
 -- ---- replies
 
 -- at this index of the batch stands the request, and of the attempt the reply
 record IsAnswered (t : Trace) (s : Sent) (p : Placed) (i : ℕ) : Type 0 where
-  asked : Asked
-  request : slice_get (batch_at t s.seq).requests i ≡ Some asked
-  client : asked.client ≡ s.client
-  number : asked.number ≡ s.number
+  request : option_map request_id (slice_get (batch_at t s.seq).requests i) ≡ Some (s.client, s.number)
   reply : slice_get p.attempt.replies i ≡ Some s.reply
 
 module _ (t : Trace) (s : Sent) where
@@ -167,15 +157,28 @@ module _ (t : Trace) (s : Sent) where
   answered p i = by (slice_get (batch_at t s.seq).requests i) refl
     where
       by : (o : Option Asked) → slice_get (batch_at t s.seq).requests i ≡ o → Decided (IsAnswered t s p i)
-      by None is = inr (λ a. none≢some a.asked (sym is ∙ a.request))
+      by None is = inr (λ a. none≢some (s.client, s.number) (sym (ap (option_map request_id) is) ∙ a.request))
       by (Some x) is =
-          decided_as (λ h. record { asked = x; request = is; client = h.0.0; number = h.0.1; reply = h.1 })
-          (λ a. let same : a.asked ≡ x = same_Some a.asked x (sym a.request ∙ is) in (
-            (ap (λ (y : Asked). y.client) (sym same) ∙ a.client, ap (λ (y : Asked). y.number) (sym same) ∙ a.number),
+          decided_as
+          (λ h. record {
+            request = ap (option_map request_id) is ∙ (λ j. Some (h.0.0 j, h.0.1 j));
+            reply = h.1;
+          })
+          (λ a. let same : request_id x ≡ (s.client, s.number) =
+          same_Some (request_id x) (s.client, s.number) (sym (ap (option_map request_id) is) ∙ a.request) in (
+            (ap (λ (y : ℕ × ℕ). y.0) same, ap (λ (y : ℕ × ℕ). y.1) same),
             a.reply,
           ))
           (decided_both (decided_both (numbers x.client s.client) (numbers x.number s.number))
           (options replies (slice_get p.attempt.replies i) (Some s.reply)))
+
+  index_within : (i : ℕ) → option_map request_id (slice_get (batch_at t s.seq).requests i) ≡ Some (s.client, s.number)
+      → i < length (batch_at t s.seq).requests
+  index_within i there =
+      let asked = (batch_at t s.seq).requests in
+      let below = slice_get_within (map request_id asked) i (s.client, s.number)
+      (slice_get-map request_id asked i ∙ there) in
+      omega (arith, below, length-map asked request_id)
 
   pub replied : Decided (IsReplied t s)
   replied = by (committed_at t s.replica s.seq) refl
@@ -186,24 +189,15 @@ module _ (t : Trace) (s : Sent) where
           decided_as (λ found. record {
             placed = p;
             index = found.0;
-            asked = found.2.asked;
             committed = is;
             request = found.2.request;
-            client = found.2.client;
-            number = found.2.number;
             reply = found.2.reply;
           })
           (λ r. (
             r.index,
-            slice_get_within (batch_at t s.seq).requests r.index r.asked r.request,
+            index_within r.index r.request,
             subst (λ (q : Placed). IsAnswered t s q r.index) (same_Some r.placed p (sym r.committed ∙ is))
-                (record {
-                  asked = r.asked;
-                  request = r.request;
-                  client = r.client;
-                  number = r.number;
-                  reply = r.reply;
-                }),
+                (record { request = r.request; reply = r.reply }),
           ))
           (below_or_none (IsAnswered t s p) (answered p) (length (batch_at t s.seq).requests))
 
@@ -217,7 +211,7 @@ module _ (t : Trace) where
   unfolding sent_at
   sent_all all = all_unlocated (IsReplied t) (λ s. frame_text (OfSent s)) (sent_start t) t.sent all
 
-  pub all_replied : HasNone (IsReplyFault t) → AllReplied t
+  pub all_replied : HasNone (IsFaultOutside StandsInReplies t) → AllReplied t
   all_replied none = sent_all
       (all_if_none (λ s. IsReplied t s.1) (λ s. replied t s.1) (λ s. s.0) (sent_at t)
       (λ s place. none (record { code = code.Reply; offset = s.0; replica = None })

@@ -2,10 +2,12 @@
 use Rattle.std.proofs.Common.{leb, leb-true, ◌≡◌, ℕ, ◌<◌, ◌≤◌, inl, inr, List, length, sym, subst, ◌∙◌, arith}
 use Rattle.std.specs.Prelude.{IsTrue, ◌&&◌}
 use Rattle.std.proofs.lemmas.Bool.{and_parts}
-use Rattle.eve_grammar.specs.Trace.{Trace, Head}
-use Rattle.eve_grammar.specs.Limits.{Spells, is_head}
+use Rattle.eve_grammar.specs.Trace.{Trace}
+use Rattle.eve_grammar.specs.Limits.{is_head}
+use Rattle.eve_grammar.specs.declared.head.Head.{Head}
+use Rattle.eve_grammar.specs.Following.{Spells}
 use Rattle.eve_views.specs.Code.{phase_of}
-use Rattle.eve_views.specs.Form.{IsFormFault, Precedes, IfFound, IsLeast, HasNone}
+use Rattle.eve_views.specs.Form.{Precedes, IfFound, IsLeast, HasNone, StandsInForm, IsFaultOutside}
 use Rattle.eve_views.specs.declared.fault.CheckFault.{CheckFault}
 use Rattle.eve_views.specs.declared.fault.CheckFault.TheVariants.{Found, Memory}
 use Rattle.eve_views.specs.declared.fault.Fault.{Fault}
@@ -28,7 +30,8 @@ first_of_all bytes f stands first = record {
 
 -- ---- bytes that are no trace
 
-form_first : (bytes : List ℕ) (f : Fault) → IsLeast (IsFormFault bytes) f → ((t : Trace) → ¬ Spells bytes t)
+form_first : (bytes : List ℕ) (f : Fault) → IsLeast (IsFaultOutside StandsInForm bytes) f
+    → ((t : Trace) → ¬ Spells bytes t)
     → IsFirst bytes f
 form_first bytes f least none = first_of_all bytes f (in_form least.is) by
   where
@@ -36,7 +39,7 @@ form_first bytes f least none = first_of_all bytes f (in_form least.is) by
     by g (in_form is) = inr (form_phase bytes f least.is ∙ sym (form_phase bytes g is), least.least g is)
     by g (in_trace t spells is) = absurd (none t spells)
 
-pub found_in_form : (bytes : List ℕ) (why : CheckFault) → IfFound why (IsLeast (IsFormFault bytes))
+pub found_in_form : (bytes : List ℕ) (why : CheckFault) → IfFound why (IsLeast (IsFaultOutside StandsInForm bytes))
     → IfFound why (λ _. (t : Trace) → ¬ Spells bytes t) → IfFound why (IsFirst bytes)
 found_in_form bytes Memory least none = tt
 found_in_form bytes (Found f) least none = form_first bytes f least none
@@ -49,15 +52,16 @@ module _ (bytes : List ℕ) (t : Trace) (spells : Spells bytes t) (once : (u : T
   stands_in_bytes f is = in_trace t spells is
 
   -- and all that stands in them, where none of form does
-  stands_in_trace : (f : Fault) → HasNone (IsFormFault bytes) → Stands bytes f → IsTraceFault t f
+  stands_in_trace : (f : Fault) → HasNone (IsFaultOutside StandsInForm bytes) → Stands bytes f → IsTraceFault t f
   stands_in_trace f formed (in_form is) = absurd (formed f is)
   stands_in_trace f formed (in_trace u other is) = subst (λ x. IsTraceFault x f) (once u other) is
 
-  pub trace_first : (f : Fault) → HasNone (IsFormFault bytes) → IsFirstOf (IsTraceFault t) f → IsFirst bytes f
+  pub trace_first : (f : Fault) → HasNone (IsFaultOutside StandsInForm bytes) → IsFirstOf (IsTraceFault t) f
+      → IsFirst bytes f
   trace_first f formed found = first_of_all bytes f (stands_in_bytes f found.is)
       (λ g stands. found.first g (stands_in_trace g formed stands))
 
-  pub faultless : HasNone (IsFormFault bytes) → HasNone (IsTraceFault t) → HasNone (Stands bytes)
+  pub faultless : HasNone (IsFaultOutside StandsInForm bytes) → HasNone (IsTraceFault t) → HasNone (Stands bytes)
   faultless formed none = λ f stands. none f (stands_in_trace f formed stands)
 
 -- ---- the summary

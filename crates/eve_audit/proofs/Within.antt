@@ -5,22 +5,21 @@ use Rattle.std.specs.List.{flat_map}
 use Rattle.std.proofs.lemmas.Bool.{cases_lt}
 use Rattle.std.proofs.lemmas.List.{get_or_past, length-append}
 use Rattle.std.proofs.lemmas.List.Folds.{flat_map-map}
-use Rattle.eve_grammar.specs.Trace.{Batch, Vote, Sent, Trace, head_of}
+use Rattle.eve_grammar.specs.Trace.{Batch, Vote, Sent, Trace}
 use Rattle.eve_grammar.specs.Frames.{Frame, OfCustomer, OfBatch, OfVerifier, OfVote, OfSent, End, section_frames}
 use Rattle.eve_grammar.specs.Frames.{verifier_frames, batches_of, sections_of, verifiers_of, frames_of}
 use Rattle.eve_grammar.specs.Spelling.{frame_text, frames_text, located, batch_text, section_text, votes_text}
 use Rattle.eve_grammar.specs.Spelling.{batches_start, verifier_start, sent_start, head_text, spelling, batches_at}
 use Rattle.eve_grammar.specs.Spelling.{votes_of, votes_at, sent_at, length_of}
-use Rattle.eve_grammar.specs.Limits.{Spells}
 use Rattle.eve_grammar.proofs.HeaderParts.{length-head_text}
+use Rattle.eve_grammar.specs.Following.{Spells}
 use Rattle.eve_views.proofs.Locating.{frames_text-flat_map, length-frames_text}
 use Rattle.eve_views.specs.declared.fault.Code.{Code}
 use Rattle.eve_views.specs.declared.fault.Code.TheVariants as code
 use Rattle.eve_views.specs.declared.fault.Fault.{Fault}
-use Rattle.eve_history.specs.Faults.{IsOrderFault}
 use Rattle.eve_votes.specs.Faults.{StandsInVotes}
 use Rattle.eve_agree.specs.SentReplies.{StandsInReplies}
-use Rattle.eve_views.specs.Form.{StandsInForm}
+use Rattle.eve_views.specs.Form.{StandsInForm, IsFaultOutside}
 use Rattle.eve_audit.specs.Verdict.{Stands, in_form, in_trace, IsOwnFault, of_structure, of_records, of_chains}
 use Rattle.eve_audit.specs.Verdict.{of_restores, of_tokens, IsTraceFault, of_votes, of_majorities, of_agreement}
 use Rattle.eve_audit.specs.Verdict.{of_replies, in_orders, in_section, in_common}
@@ -28,6 +27,7 @@ use Rattle.eve_audit.proofs.Sections.{LiesIn, FatesAreAsItEnds}
 use Rattle.eve_audit.proofs.Where.{located_within, front_more}
 use Rattle.eve_audit.proofs.Placed.{structure_lies, record_lies, chain_lies, restore_lies, token_lies, majority_lies}
 use Rattle.eve_audit.proofs.Placed.{outcome_lies}
+use Rattle.eve_history.specs.Faults.{StandsInOrders}
 
 -- the last reply sent ends within the trace
 sent_ends : (t : Trace) → sent_start t + length (flat_map (λ s. frame_text (OfSent s)) t.sent) ≤ length_of t
@@ -124,7 +124,8 @@ module _ (t : Trace) where
       (sent_within stands.before stands.item stands.rest stands.is)
   reply_fault_within c at stands = absurd stands
 
-  module _ (orders : (f : Fault) → IsOrderFault t f → f.offset ≤ length_of t) (fates : (e : ℕ) → FatesAreAsItEnds t e)
+  module _ (orders : (f : Fault) → IsFaultOutside StandsInOrders t f → f.offset ≤ length_of t)
+      (fates : (e : ℕ) → FatesAreAsItEnds t e)
     where
       own_fault_within : (e : ℕ) (f : Fault) → IsOwnFault t e f → f.offset ≤ length_of t
       own_fault_within e f (of_structure is) = section_within e f.offset (structure_lies t e f.code f.offset is.stands)
@@ -141,9 +142,9 @@ module _ (t : Trace) where
       trace_fault_within f (in_section below) = own_fault_within below.0 f below.2
       trace_fault_within f (in_common (of_votes is)) = vote_fault_within f.code f.offset is.stands
       trace_fault_within f (in_common (of_majorities is)) =
-          section_within is.replica f.offset (majority_lies t is.replica f.code f.offset is.stands)
+          section_within is.0 f.offset (majority_lies t is.0 f.code f.offset is.1.stands)
       trace_fault_within f (in_common (of_agreement is)) =
-          section_within is.replica f.offset (outcome_lies t is.replica (fates is.replica) f.code f.offset is.stands)
+          section_within is.0 f.offset (outcome_lies t is.0 (fates is.0) f.code f.offset is.1.stands)
       trace_fault_within f (in_common (of_replies is)) = reply_fault_within f.code f.offset is.stands
 
 -- bytes are as long as the trace that they spell
@@ -152,8 +153,8 @@ unfolding spelling length_of
 long_as bytes t is = ap length is.spelled
     ∙ omega (
       arith,
-      length-append (head_text (head_of t) (length_of t)) (frames_text (frames_of t)),
-      length-head_text (head_of t) (length_of t),
+      length-append (head_text t.head (length_of t)) (frames_text (frames_of t)),
+      length-head_text t.head (length_of t),
     )
 
 form_within : (bytes : List ℕ) (c : Code) (at : ℕ) → StandsInForm c bytes at → at ≤ length bytes
@@ -164,7 +165,7 @@ form_within bytes code.Frame at stands = stands.0.within
 form_within bytes code.Body at stands = stands.0.within
 form_within bytes c at stands = absurd stands
 
-module _ (orders : (t : Trace) (f : Fault) → IsOrderFault t f → f.offset ≤ length_of t)
+module _ (orders : (t : Trace) (f : Fault) → IsFaultOutside StandsInOrders t f → f.offset ≤ length_of t)
     (fates : (t : Trace) (e : ℕ) → FatesAreAsItEnds t e) where
   of_trace : (bytes : List ℕ) (f : Fault) (t : Trace) → Spells bytes t → IsTraceFault t f → f.offset ≤ length bytes
   of_trace bytes f t spells is = let within = trace_fault_within t (orders t) (fates t) f is in let long =

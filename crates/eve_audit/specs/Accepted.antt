@@ -1,9 +1,9 @@
 -- What the phases of an audit find where no fault stands. docs/MODEL.md, "The audit theorem".
-use Rattle.std.specs.Prelude.{ℕ}
+use Rattle.std.specs.Prelude.{ℕ, AllPairs, ◌≢◌}
 use Rattle.eve_grammar.specs.Trace.{Trace}
 use Rattle.eve_grammar.specs.Limits.{HasLimits}
 use Rattle.eve_history.specs.SectionHistory.{IsRightSection}
-use Rattle.eve_chains.specs.Committed.{batch_request_ids, AreDistinct}
+use Rattle.eve_chains.specs.Committed.{batch_request_ids}
 use Rattle.eve_chains.specs.Sound.{SettledAreSound}
 use Rattle.eve_agree.specs.Tables.{RestoresAreRight}
 use Rattle.eve_agree.specs.DueTokens.{TokensAreDue}
@@ -16,7 +16,7 @@ use Rattle.eve_agree.specs.SentReplies.{AllReplied}
 pub record IsAccepted (t : Trace) : Type 0 where
   pub limits : HasLimits t
   -- no two requests have one client and number
-  pub apart : AreDistinct (batch_request_ids t)
+  pub apart : AllPairs (λ a b. a ≢ b) (batch_request_ids t)
   -- of each replica: its steps, its records and chains, its rollbacks, its tokens
   pub right : (e : ℕ) → IsRightSection t e
   pub sound : (e : ℕ) → SettledAreSound t e

@@ -14,7 +14,7 @@ use Rattle.eve_agree.specs.Majority.{AllAreBacked}
 use Rattle.eve_agree.specs.Agreement.{ReplicasAgree}
 use Rattle.eve_agree.specs.SentReplies.{AllReplied}
 use Rattle.eve_audit.specs.declared.replicas.Report.{Report}
-use Rattle.eve_audit.specs.Verdict.{IsOwnFault, IsFaultBelow}
+use Rattle.eve_audit.specs.Verdict.{IsOwnFault}
 
 -- of some faults the one that precedes every other
 pub record IsFirstOf (S : Fault → Type 0) (f : Fault) : Type 0 where
@@ -36,6 +36,10 @@ pub record IsReportOf (t : Trace) (e : ℕ) (report : Report) : Type 0 where
   pub settled : report.settled ≡ settling t e
   pub sound : IsSoundReplica t e
   pub none : HasNone (IsOwnFault t e)
+
+-- a fault that a replica below n has of its own
+abbrev pub IsFaultBelow : Trace → ℕ → Fault → Type 0
+IsFaultBelow t n f = (e : ℕ) × (e < n) × IsOwnFault t e f
 
 -- the first of the faults that the replicas below n have of their own, if there is one
 abbrev pub IsFoundBelow : Trace → ℕ → Option Fault → Type 0

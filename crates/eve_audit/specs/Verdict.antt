@@ -1,52 +1,48 @@
 -- The verdict on bytes. docs/MODEL.md, "Verdict".
-use Rattle.std.specs.Prelude.{◌≡◌, ℕ, ◌<◌, ◌≤◌, List, length, ⊤}
+use Rattle.std.specs.Prelude.{◌≡◌, ℕ, ◌<◌, ◌≤◌, List, length}
 use Rattle.eve_grammar.specs.Trace.{Trace}
-use Rattle.eve_grammar.specs.Limits.{Spells}
+use Rattle.eve_grammar.specs.Following.{Spells}
 use Rattle.eve_views.specs.Code.{phase_of}
-use Rattle.eve_views.specs.Form.{IsFormFault, Precedes, HasNone}
+use Rattle.eve_views.specs.Form.{Precedes, StandsInForm, IsFaultOutside, IsFaultIn}
 use Rattle.eve_views.specs.declared.fault.Fault.{Fault}
-use Rattle.eve_history.specs.Faults.{IsOrderFault, IsStructureFault}
 use Rattle.eve_history.specs.SectionHistory.{history}
-use Rattle.eve_chains.specs.Faults.{IsRecordFault, IsChainFault}
-use Rattle.eve_agree.specs.Restores.{IsRestoreFault}
-use Rattle.eve_agree.specs.DueTokens.{IsTokenFault}
-use Rattle.eve_votes.specs.Faults.{IsVoteFault}
-use Rattle.eve_agree.specs.Majority.{IsMajorityFault}
-use Rattle.eve_agree.specs.Agreement.{IsOutcomeFault}
-use Rattle.eve_agree.specs.SentReplies.{IsReplyFault}
+use Rattle.eve_history.specs.Faults.{StandsInStructure, StandsInOrders}
 use Rattle.eve_audit.specs.Audited.{IsAudited}
 use Rattle.eve_audit.specs.declared.verdict.Summary.{Summary}
 use Rattle.eve_audit.specs.declared.verdict.Verdict.{Verdict}
 use Rattle.eve_audit.specs.declared.verdict.Verdict.TheVariants.{Yes, No}
+use Rattle.eve_chains.specs.Faults.{StandsInRecords, StandsInChains}
+use Rattle.eve_agree.specs.Restores.{StandsInRestores}
+use Rattle.eve_agree.specs.SentReplies.{StandsInReplies}
+use Rattle.eve_agree.specs.Majority.{StandsInMajorities}
+use Rattle.eve_agree.specs.Agreement.{StandsInAgreement}
+use Rattle.eve_agree.specs.DueTokens.{StandsInTokens}
+use Rattle.eve_votes.specs.Faults.{StandsInVotes}
 
 -- a fault of replica e's own, judged by the header, the customers, the batches and its section alone
 pub data IsOwnFault (t : Trace) (e : ℕ) (f : Fault) : Type 0 where
-  of_structure : IsStructureFault t e f → IsOwnFault t e f
-  of_records : IsRecordFault t e f → IsOwnFault t e f
-  of_chains : IsChainFault t e f → IsOwnFault t e f
-  of_restores : IsRestoreFault t e f → IsOwnFault t e f
-  of_tokens : IsTokenFault t e f → IsOwnFault t e f
-
--- a fault that a replica below n has of its own
-abbrev pub IsFaultBelow : Trace → ℕ → Fault → Type 0
-IsFaultBelow t n f = (e : ℕ) × (e < n) × IsOwnFault t e f
+  of_structure : IsFaultIn StandsInStructure t e f → IsOwnFault t e f
+  of_records : IsFaultIn StandsInRecords t e f → IsOwnFault t e f
+  of_chains : IsFaultIn StandsInChains t e f → IsOwnFault t e f
+  of_restores : IsFaultIn StandsInRestores t e f → IsOwnFault t e f
+  of_tokens : IsFaultIn StandsInTokens t e f → IsOwnFault t e f
 
 -- a fault that is judged only where no replica has one of its own
 pub data IsCommonFault (t : Trace) (f : Fault) : Type 0 where
-  of_votes : IsVoteFault t f → IsCommonFault t f
-  of_majorities : IsMajorityFault t f → IsCommonFault t f
-  of_agreement : IsOutcomeFault t f → IsCommonFault t f
-  of_replies : IsReplyFault t f → IsCommonFault t f
+  of_votes : IsFaultOutside StandsInVotes t f → IsCommonFault t f
+  of_majorities : (e : ℕ) × IsFaultIn StandsInMajorities t e f → IsCommonFault t f
+  of_agreement : (e : ℕ) × IsFaultIn StandsInAgreement t e f → IsCommonFault t f
+  of_replies : IsFaultOutside StandsInReplies t f → IsCommonFault t f
 
 -- a fault of any phase but that of form
 pub data IsTraceFault (t : Trace) (f : Fault) : Type 0 where
-  in_orders : IsOrderFault t f → IsTraceFault t f
-  in_section : IsFaultBelow t (length t.sections) f → IsTraceFault t f
+  in_orders : IsFaultOutside StandsInOrders t f → IsTraceFault t f
+  in_section : (e : ℕ) × (e < length t.sections) × IsOwnFault t e f → IsTraceFault t f
   in_common : IsCommonFault t f → IsTraceFault t f
 
 -- a fault stands: one of form in the bytes, any other in the trace that they spell
 pub data Stands (bytes : List ℕ) (f : Fault) : Type 0 where
-  in_form : IsFormFault bytes f → Stands bytes f
+  in_form : IsFaultOutside StandsInForm bytes f → Stands bytes f
   in_trace : (t : Trace) → Spells bytes t → IsTraceFault t f → Stands bytes f
 
 -- A fault of an earlier phase keeps another from being judged. In phases 3 to 7 a replica is judged by itself: where
@@ -73,21 +69,9 @@ pub record IsSummary (t : Trace) (s : Summary) : Type 0 where
 
 -- the first fault, or yes where the bytes are a trace and no fault stands
 abbrev pub IsVerdict : List ℕ → Verdict → Type 0
-IsVerdict bytes (Yes s) = (t : Trace) × Spells bytes t × HasNone (Stands bytes) × IsSummary t s
+IsVerdict bytes (Yes s) = (t : Trace) × Spells bytes t × ((f : Fault) → ¬ Stands bytes f) × IsSummary t s
 IsVerdict bytes (No f) = IsFirst bytes f
 
 -- the bytes are a trace that is audited
-pub record SpellsAudited (bytes : List ℕ) : Type 0 where
-  pub trace : Trace
-  pub spells : Spells bytes trace
-  pub audited : IsAudited trace
-
--- a yes is said of such bytes alone
-abbrev pub IsYesOfAudited : List ℕ → Verdict → Type 0
-IsYesOfAudited bytes (Yes s) = SpellsAudited bytes
-IsYesOfAudited bytes (No f) = ⊤
-
--- a fact about the fault that a no names
-abbrev pub IfNo : Verdict → (Fault → Type 0) → Type 0
-IfNo (Yes s) P = ⊤
-IfNo (No f) P = P f
+abbrev pub SpellsAudited : List ℕ → Type 0
+SpellsAudited bytes = (t : Trace) × Spells bytes t × IsAudited t

@@ -1,17 +1,19 @@
 //! The verdict on a trace, from what its phases find.
 
 ghost use Rattle.std.specs.Prelude.{◌≡◌, ◌≤◌, ℕ, List, IfOk, IfErr, All, length};
-ghost use Rattle.eve_views.specs.Form.{IfFound, HasNone};
-ghost use Rattle.eve_history.specs.Faults.{IsOrderFault};
+ghost use Rattle.eve_views.specs.Form.{IfFound, HasNone, IsFaultOutside};
 ghost use Rattle.eve_history.specs.SectionHistory.{names_of, section_histories};
+ghost use Rattle.eve_history.specs.Faults.{StandsInOrders};
 ghost use Rattle.eve_chains.specs.Settling.{settlings};
 ghost use Rattle.eve_audit.specs.Accepted.{IsAccepted};
 ghost use Rattle.eve_audit.specs.Answer.{IsAnswer, IsRead};
 ghost use Rattle.eve_audit.specs.Findings.{AreTrue};
-ghost use Rattle.eve_audit.specs.Verdict.{IsSummary, IsVerdict, IsYesOfAudited, IfNo, IsTraceFault, IsCommonFault};
+ghost use Rattle.eve_audit.specs.Verdict.{IsSummary, IsVerdict, IsTraceFault, IsCommonFault, SpellsAudited};
 ghost use Rattle.eve_audit.specs.Where.{NamesItsSection};
 ghost use Rattle.eve_audit.specs.Reports.{IsFirstOf, IsSoundTogether};
-ghost use Rattle.eve_audit.specs.declared.verdict.Verdict.TheVariants.{No};
+ghost use Rattle.eve_audit.specs.declared.verdict.Summary.{Summary as SummaryValue};
+ghost use Rattle.eve_audit.specs.declared.verdict.Verdict.TheVariants.{Yes, No};
+ghost use Rattle.eve_views.specs.declared.fault.Fault.{Fault};
 
 use crate::laws::accepted_traces_are_audited;
 use crate::replicas::judge_replicas;
@@ -50,7 +52,7 @@ fn open<'a, R: Threads + Sync>(
 ) -> Result<Opened<'a>, CheckFault>
     ensures read { IfOk result (λ opened. IsRead bytes.now opened.trace) }
     ensures names { IfOk result (λ opened. opened.names.items ≡ names_of opened.trace) }
-    ensures orders { IfOk result (λ opened. HasNone (IsOrderFault opened.trace)) }
+    ensures orders { IfOk result (λ opened. HasNone (IsFaultOutside StandsInOrders opened.trace)) }
     ensures fault { IfErr result (λ why. IfFound why (λ f. IsAnswer bytes.now (No f))) }
 {
     bytes_spell_one_trace();
@@ -96,7 +98,7 @@ fn judge_trace<'a, R: Threads + Sync>(
     slots: &mut [Slot<'a>],
 ) -> Result<Summary, CheckFault>
     requires names { names.now.items ≡ names_of trace.now }
-    requires orders { HasNone (IsOrderFault trace.now) }
+    requires orders { HasNone (IsFaultOutside StandsInOrders trace.now) }
     requires slots { All (AreTrue trace.now) slots.old }
     ensures summary { IfOk result (IsSummary trace.now) }
     ensures accepted { IfOk result (λ _. IsAccepted trace.now) }
@@ -129,7 +131,7 @@ fn verdict_on<'a, R: Threads + Sync>(
     slots: &mut [Slot<'a>],
 ) -> Result<Verdict, AuditFault>
     requires names { names.now.items ≡ names_of trace.now }
-    requires orders { HasNone (IsOrderFault trace.now) }
+    requires orders { HasNone (IsFaultOutside StandsInOrders trace.now) }
     requires slots { All (AreTrue trace.now) slots.old }
     ensures { IfOk result (λ verdict. (bytes : List ℕ) → IsRead bytes trace.now → IsAnswer bytes verdict) }
 {
@@ -159,9 +161,9 @@ pub fn audit_one<R: Threads + Sync>(
     random: RandomState,
 ) -> Result<Verdict, AuditFault>
     ensures verdict { IfOk result (IsVerdict bytes.now) }
-    ensures yes { IfOk result (IsYesOfAudited bytes.now) }
-    ensures within { IfOk result (λ v. IfNo v (λ f. f.offset ≤ length bytes.now)) }
-    ensures replica { IfOk result (λ v. IfNo v (NamesItsSection bytes.now)) }
+    ensures yes { IfOk result (λ v. (s : SummaryValue) → v ≡ Yes s → SpellsAudited bytes.now) }
+    ensures within { IfOk result (λ v. (f : Fault) → v ≡ No f → f.offset ≤ length bytes.now) }
+    ensures replica { IfOk result (λ v. (f : Fault) → v ≡ No f → NamesItsSection bytes.now f) }
 {
     match open(rt, alloc, bytes, random, 1) {
         Ok(opened) => verdict_on(rt, alloc, &opened.trace, &opened.names, &mut []),
@@ -191,9 +193,9 @@ pub fn audit<R: Threads + Wait + Sync, G: Gate>(
 ) -> Result<Verdict, AuditFault>
     requires { (1 ≤ workers) × (workers ≤ MOST_AUDIT_WORKERS) }
     ensures verdict { IfOk result (IsVerdict bytes.now) }
-    ensures yes { IfOk result (IsYesOfAudited bytes.now) }
-    ensures within { IfOk result (λ v. IfNo v (λ f. f.offset ≤ length bytes.now)) }
-    ensures replica { IfOk result (λ v. IfNo v (NamesItsSection bytes.now)) }
+    ensures yes { IfOk result (λ v. (s : SummaryValue) → v ≡ Yes s → SpellsAudited bytes.now) }
+    ensures within { IfOk result (λ v. (f : Fault) → v ≡ No f → f.offset ≤ length bytes.now) }
+    ensures replica { IfOk result (λ v. (f : Fault) → v ≡ No f → NamesItsSection bytes.now f) }
 {
     let opened = match open(rt, alloc, bytes, random, workers) {
         Ok(opened) => opened,

@@ -2,8 +2,8 @@
 
 ghost use Rattle.std.specs.Prelude.{◌≡◌, ◌≤◌, ℕ, List, length};
 ghost use Rattle.eve_grammar.specs.Trace.{Trace};
-ghost use Rattle.eve_grammar.specs.Limits.{Spells};
 ghost use Rattle.eve_grammar.specs.Places.{IsBytes};
+ghost use Rattle.eve_grammar.specs.Following.{Spells};
 ghost use Rattle.eve_views.specs.declared.fault.Fault.{Fault};
 ghost use Rattle.eve_audit.specs.Audited.{IsAudited};
 ghost use Rattle.eve_audit.specs.declared.verdict.Summary.{Summary};

@@ -1,14 +1,14 @@
 //! The audit of each replica by itself.
 
 ghost use Rattle.std.specs.Prelude.{◌≡◌, ◌++◌, ◌∷◌, [], ℕ, IfOk, IfErr, IfSome, OnOk, ◌<◌, ◌≤◌, ◌^◌, length, min, All};
-ghost use Rattle.eve_views.specs.Form.{IfFound, HasNone};
-ghost use Rattle.eve_history.specs.Faults.{IsStructureFault};
+ghost use Rattle.eve_views.specs.Form.{IfFound, HasNone, IsFaultIn};
 ghost use Rattle.eve_history.specs.SectionHistory.{names_of, section_history, section_histories};
+ghost use Rattle.eve_history.specs.Faults.{StandsInStructure};
 ghost use Rattle.eve_chains.specs.Settling.{settling, settlings};
 ghost use Rattle.eve_audit.specs.Findings.{AreTrue, IsAnswerOf};
 ghost use Rattle.eve_audit.specs.Peers.{IsSoundPeer};
-ghost use Rattle.eve_audit.specs.Verdict.{IsOwnFault, IsFaultBelow};
-ghost use Rattle.eve_audit.specs.Reports.{IsFirstOf, IsReportOf, IsSoundReplica, IsLeastBelow};
+ghost use Rattle.eve_audit.specs.Verdict.{IsOwnFault};
+ghost use Rattle.eve_audit.specs.Reports.{IsFirstOf, IsReportOf, IsSoundReplica, IsLeastBelow, IsFaultBelow};
 
 use crate::peers::most_committed;
 use crate::workers::Slot;
@@ -133,7 +133,7 @@ fn settle<'a, R: Threads + Sync>(
     peer: Option<Peer<'_, 'a>>,
 ) -> Result<Settled<'a>, CheckFault>
     requires history { history.now ≡ section_history trace.now history.now.replica }
-    requires none { HasNone (IsStructureFault trace.now history.now.replica) }
+    requires none { HasNone (IsFaultIn StandsInStructure trace.now history.now.replica) }
     requires names { names.now.items ≡ names_of trace.now }
     requires jobs { 1 ≤ jobs }
     requires peer { IsSoundPeer trace.now peer }

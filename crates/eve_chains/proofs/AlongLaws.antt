@@ -11,10 +11,11 @@ use Rattle.std.proofs.lemmas.List.Folds.{list_any-append}
 use Rattle.std.proofs.lemmas.Option.{same_Some}
 use Rattle.eve_smallbank.specs.declared.entry.Entry.{Entry}
 use Rattle.eve_smallbank.specs.Access.{Executed, writes_row, values_after}
-use Rattle.eve_smallbank.specs.Chain.{Versioned, Table, Sees, table_after, table_after_all}
+use Rattle.eve_smallbank.specs.Chain.{Table, Sees, table_after, table_after_all}
 use Rattle.eve_smallbank.proofs.Members.{all_in}
 use Rattle.eve_smallbank.proofs.Chains.{table_after-append}
 use Rattle.eve_smallbank.proofs.Orders.{unwritten}
+use Rattle.eve_smallbank.specs.declared.versioned.Versioned.{Versioned}
 use Rattle.eve_grammar.specs.Trace.{Access}
 use Rattle.eve_grammar.specs.Limits.{is_entry}
 use Rattle.eve_views.specs.Code.{code_number, phase_of}

@@ -1,7 +1,7 @@
 -- Where no fault of orders stands, no two requests of the batches have one client and number.
 use Rattle.std.proofs.Common.{◌≡◌, ℕ, ◌+◌, List, [], ◌∷◌, ◌++◌, map, length, Contains, refl, sym, subst, ap, ◌∙◌, inl}
 use Rattle.std.proofs.Common.{inr, ◌⊎◌, append_assoc, append-nil}
-use Rattle.std.specs.Prelude.{⊤}
+use Rattle.std.specs.Prelude.{⊤, AllPairs, ◌≢◌}
 use Rattle.std.specs.List.{flat_map, enumerate_from}
 use Rattle.std.proofs.lemmas.Grind.{flat_map-append}
 use Rattle.eve_grammar.specs.Trace.{Batch, Trace}
@@ -12,7 +12,7 @@ use Rattle.eve_views.specs.Form.{SomePlace}
 use Rattle.eve_history.specs.Faults.{request_ids_at, StandsInOrders}
 use Rattle.eve_grammar.specs.Trace.{RequestId, request_id}
 use Rattle.eve_smallbank.proofs.Members.{In, here, in_front, in_cons}
-use Rattle.eve_chains.specs.Committed.{batch_request_ids, AreDistinct}
+use Rattle.eve_chains.specs.Committed.{batch_request_ids}
 use Rattle.eve_chains.proofs.Distinct.{Distinct, in_right}
 use Rattle.eve_chains.proofs.Once.{place_in, distinct_pairs}
 
@@ -97,7 +97,7 @@ request_ids_numbered n (b ∷ bs) = ap (λ (l : List RequestId). map request_id 
     (request_ids_numbered (n + 1) bs)
 
 pub request_ids_apart : (t : Trace) → ((at : ℕ) → ¬ StandsInOrders code.SameRequest t at)
-    → AreDistinct (batch_request_ids t)
+    → AllPairs (λ a b. a ≢ b) (batch_request_ids t)
 unfolding batch_request_ids batches_at
 request_ids_apart t none =
     let whole : flat_map request_ids_at (batches_at t) ≡ flat_map (λ b. map request_id b.requests) t.batches =

@@ -18,7 +18,7 @@ use Rattle.eve_grammar.specs.Frames.{OfAttempt, without_accesses}
 use Rattle.eve_grammar.specs.Limits.{HasLimits}
 use Rattle.eve_grammar.specs.Spelling.{frame_text, batches_at, steps_at, accesses_at}
 use Rattle.eve_views.specs.Code.{code_number}
-use Rattle.eve_views.specs.Form.{IsUpTo, SomePlace, IsLeast}
+use Rattle.eve_views.specs.Form.{IsUpTo, SomePlace, IsLeast, IsFaultIn}
 use Rattle.eve_views.specs.declared.fault.Code.{Code}
 use Rattle.eve_views.specs.declared.fault.Code.TheVariants as code
 use Rattle.eve_views.specs.declared.fault.Fault.{Fault}
@@ -33,7 +33,7 @@ use Rattle.eve_history.proofs.Finding.{batch_is}
 use Rattle.eve_chains.specs.Records.{recorded}
 use Rattle.eve_chains.specs.Visible.{executed_by}
 use Rattle.eve_chains.specs.Sound.{RecordsFit}
-use Rattle.eve_chains.specs.Faults.{StandsInRecords, IsRecordFault}
+use Rattle.eve_chains.specs.Faults.{StandsInRecords}
 use Rattle.eve_chains.proofs.Distinct.{in_map, in_source, in_right, in_split}
 use Rattle.eve_chains.proofs.Walks.{right_one, complete_one}
 use Rattle.eve_chains.proofs.Faultless.{in_place, place_of}
@@ -282,7 +282,7 @@ module _ (t : Trace) (e : ℕ) (limits : HasLimits t) (right : IsRightSection t 
 
   -- where a record that is judged doesn't fit there is a fault
   fault_there : (at : ℕ) → SomePlace (judged_of t e) (λ _ z. (z.0 ≡ at) × ¬ Fits (names_of t) z.1)
-      → IsRecordFault t e (record_fault e at)
+      → IsFaultIn StandsInRecords t e (record_fault e at)
   fault_there at place =
       let j = judged_from place.item (in_place (judged_of t e) place) in
       let holds : (j.access.0 ≡ at) × ¬ Fits (names_of t) (executed_by t j.placed.attempt j.access.1) =
@@ -303,7 +303,7 @@ module _ (t : Trace) (e : ℕ) (limits : HasLimits t) (right : IsRightSection t 
     unfit : ¬ Fits (names_of t) record_is.1
     number : code_number code.Record ≤ code_number f.code
 
-  unfit_at : (f : Fault) → IsRecordFault t e f → UnfitAt f
+  unfit_at : (f : Fault) → IsFaultIn StandsInRecords t e f → UnfitAt f
   unfit_at f is = by f.code is.stands refl
     where
       by : (c : Code) → StandsInRecords c t e f.offset → f.code ≡ c → UnfitAt f
@@ -331,13 +331,13 @@ module _ (t : Trace) (e : ℕ) (limits : HasLimits t) (right : IsRightSection t 
       let o = located_in (p.offset + length (frame_text (OfAttempt p.attempt))) p.attempt.accesses j in
       all_in (λ (z : ℕ × Executed). Fits (names_of t) z.1) all (judged_there p i (o.0, x) o.1)))
 
-  pub no_fault : IsLeastUnfit (names_of t) (judged_of t e) None → (f : Fault) → ¬ IsRecordFault t e f
+  pub no_fault : IsLeastUnfit (names_of t) (judged_of t e) None → (f : Fault) → ¬ IsFaultIn StandsInRecords t e f
   no_fault all f is =
       let u = unfit_at f is in
       u.unfit (all_in (λ (z : ℕ × Executed). Fits (names_of t) z.1) all u.there_is)
 
   pub least_fault : (at : ℕ) → IsLeastUnfit (names_of t) (judged_of t e) (Some at)
-      → IsLeast (IsRecordFault t e) (record_fault e at)
+      → IsLeast (IsFaultIn StandsInRecords t e) (record_fault e at)
   least_fault at least = record {
     is = fault_there at least.0;
     least = λ g is.

@@ -1,19 +1,18 @@
 -- No request takes effect twice: the requests of all batches are distinct, and each committed batch comes once.
 use Rattle.std.proofs.Common.{◌≡◌, true, ℕ, zero, suc, ◌-◌, ◌≤◌, ◌<◌, List, [], ◌∷◌, ◌++◌, map, length, length-append}
 use Rattle.std.proofs.Common.{get_or, drop, drop-cons, Some, refl, sym, subst, ap, ◌∙◌, inl, inr, arith, AllPairs}
-use Rattle.std.specs.Prelude.{◌≢◌}
+use Rattle.std.specs.Prelude.{◌≢◌, IsTrue, AllPairs}
 use Rattle.std.proofs.lemmas.Bool.{and_parts}
 use Rattle.std.proofs.lemmas.List.{length-map}
 use Rattle.std.proofs.Math.ListN.{get_or-map}
 use Rattle.std.specs.List.{flat_map}
 use Rattle.eve_grammar.specs.Trace.{Asked, Batch, Attempt, Trace, no_request}
-use Rattle.eve_grammar.specs.Certificate.{is_permutation, keeps_groups, KeepsGroups}
+use Rattle.eve_grammar.specs.Certificate.{is_permutation, keeps_groups}
 use Rattle.eve_history.specs.Section.{Placed, no_batch, batch_at, request_count}
 use Rattle.eve_history.specs.SectionHistory.{history, committed_at, IsRightSection}
 use Rattle.eve_grammar.specs.Trace.{RequestId, request_id}
 use Rattle.eve_smallbank.proofs.Members.{In, here, there, in_front}
 use Rattle.eve_chains.specs.Committed.{attempts_of, request_ids_in, committed_request_ids, batch_request_ids}
-use Rattle.eve_chains.specs.Committed.{AreDistinct}
 use Rattle.eve_chains.proofs.Distinct.{Distinct, in_split, in_right, in_map, in_source, distinct_left}
 use Rattle.eve_chains.proofs.Distinct.{distinct_right, distinct_apart, distinct_append, distinct_map}
 use Rattle.eve_chains.proofs.Distinct.{distinct_permutation, below_permutation}
@@ -166,8 +165,8 @@ committed_distinct t before (p ∷ ps) linked d =
     (subst (λ n. In z (request_ids_from t n)) (one_longer before p.attempt)
     (committed_members t (before ++ p.attempt ∷ []) ps linked.1 z j)))
 
-pub once : (t : Trace) (e : ℕ) → IsRightSection t e → AreDistinct (batch_request_ids t)
-    → AreDistinct (committed_request_ids t e)
+pub once : (t : Trace) (e : ℕ) → IsRightSection t e → AllPairs (λ a b. a ≢ b) (batch_request_ids t)
+    → AllPairs (λ a b. a ≢ b) (committed_request_ids t e)
 unfolding batch_request_ids committed_request_ids
 once t e right distinct =
     distinct_pairs (flat_map (request_ids_in t) (attempts_of (history t e).committed))
@@ -177,11 +176,11 @@ once t e right distinct =
 -- ---- the order of a committed batch
 
 pub certificate_keeps_groups : (t : Trace) (e n : ℕ) (p : Placed) → IsRightSection t e → committed_at t e n ≡ Some p
-    → KeepsGroups (batch_at t n).sizes (length (batch_at t n).requests) p.attempt.certificate
+    → IsTrue (keeps_groups (batch_at t n).sizes (length (batch_at t n).requests) p.attempt.certificate)
 certificate_keeps_groups t e zero p right at = none≢some p at
 certificate_keeps_groups t e (suc n) p right at =
     let linked = linked_at t [] (history t e).committed n p (linked_history t e right) at in
-    subst (λ m. KeepsGroups (batch_at t m).sizes (length (batch_at t m).requests) p.attempt.certificate)
+    subst (λ m. IsTrue (keeps_groups (batch_at t m).sizes (length (batch_at t m).requests) p.attempt.certificate))
     (committed_number t e (suc n) p right at)
     (and_parts (keeps_groups (batch_at t p.attempt.seq).sizes (request_count t p.attempt) p.attempt.certificate) _
     linked.certificate).0

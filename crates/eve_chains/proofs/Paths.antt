@@ -155,10 +155,10 @@ module _ (t : Trace) where
         let due = and_parts (is_due t s a) (length a.certificate == request_count t a) own.0 in
         let one = and_parts (a.seq == s.last + 1 + length s.pending)
         (nat_le a.seq (length t.batches) &&
-        (nat_le a.seq (s.last + t.window) && ((a.view == s.view) && beq a.serial s.rolled_back))) due.0 in
+        (nat_le a.seq (s.last + t.head.window) && ((a.view == s.view) && beq a.serial s.rolled_back))) due.0 in
         let two = and_parts (nat_le a.seq (length t.batches))
-        (nat_le a.seq (s.last + t.window) && ((a.view == s.view) && beq a.serial s.rolled_back)) one.1 in
-        let three = and_parts (nat_le a.seq (s.last + t.window)) ((a.view == s.view) && beq a.serial s.rolled_back)
+        (nat_le a.seq (s.last + t.head.window) && ((a.view == s.view) && beq a.serial s.rolled_back)) one.1 in
+        let three = and_parts (nat_le a.seq (s.last + t.head.window)) ((a.view == s.view) && beq a.serial s.rolled_back)
         two.1 in
         let four = and_parts (a.view == s.view) (beq a.serial s.rolled_back) three.1 in
         eqb-true a.view s.view four.0

@@ -7,11 +7,12 @@ use Rattle.std.proofs.lemmas.Grind.{flat_map-append}
 use Rattle.std.specs.List.{AllByRecursion}
 use Rattle.std.proofs.lemmas.List.Elements.{filter-append}
 use Rattle.eve_smallbank.specs.declared.entry.Entry.{Entry}
-use Rattle.eve_smallbank.specs.Chain.{Versioned, Table, Sees, table_after}
+use Rattle.eve_smallbank.specs.Chain.{Table, Sees, table_after}
 use Rattle.eve_smallbank.proofs.Members.{In, all_in, all_from_in, in_middle}
 use Rattle.eve_smallbank.proofs.Unique.{AreDistinct, entries_are_rows}
 use Rattle.eve_smallbank.specs.Access.{Fits}
 use Rattle.eve_smallbank.proofs.Chains.{table_after-append}
+use Rattle.eve_smallbank.specs.declared.versioned.Versioned.{Versioned}
 use Rattle.eve_grammar.specs.Limits.{HasLimits}
 use Rattle.eve_grammar.specs.Trace.{Access, Trace}
 use Rattle.eve_views.specs.declared.fault.Code.{Code}

@@ -7,7 +7,8 @@ use Rattle.std.proofs.lemmas.List.{map-append}
 use Rattle.std.proofs.lemmas.List.Elements.{filter-append}
 use Rattle.eve_smallbank.specs.declared.entry.Entry.{Entry}
 use Rattle.eve_smallbank.specs.Access.{is_write, writes_row}
-use Rattle.eve_smallbank.specs.Chain.{Versioned, Table, after_own, left_by, table_after}
+use Rattle.eve_smallbank.specs.Chain.{Table, after_own, left_by, table_after}
+use Rattle.eve_smallbank.specs.declared.versioned.Versioned.{Versioned}
 use Rattle.eve_chains.specs.Rows.{Noted, Pair, met_by, next_pair, at_first, pair_after}
 use Rattle.eve_grammar.proofs.Lists.{all-append}
 

@@ -1,5 +1,5 @@
 -- The walk, step by step.
-use Rattle.eve_views.specs.Form.{IsLeast}
+use Rattle.eve_views.specs.Form.{IsLeast, IsFaultIn}
 use Rattle.std.proofs.Common.{◌≡◌, ℕ, suc, ◌+◌, ◌-◌, ◌<◌, ◌≤◌, ◌==◌, List, [], ◌∷◌, ◌++◌, map, length}
 use Rattle.std.proofs.Common.{length-append, Some, None, refl, sym, subst, ap, ◌∙◌, inl, inr, append_assoc, append-nil}
 use Rattle.std.proofs.Common.{arith, IsTrue, add-zero}
@@ -35,7 +35,6 @@ use Rattle.eve_chains.specs.Visible.{opening_table, executed_at, execution, exec
 use Rattle.eve_chains.specs.Committed.{attempts_of}
 use Rattle.eve_chains.specs.Tables.{table_of, undone}
 use Rattle.eve_chains.specs.Along.{entries_along, AreWithin, IsFirstAlong, AllSettledSee}
-use Rattle.eve_chains.specs.Faults.{IsChainFault}
 use Rattle.eve_chains.proofs.TableLaws.{at_opening, table_at_opening}
 use Rattle.eve_chains.proofs.Distinct.{in_split, in_right}
 use Rattle.eve_chains.proofs.AlongLaws.{undone_is_before}
@@ -51,6 +50,7 @@ use Rattle.eve_chains.proofs.AttemptRecords.{within_behind, within_own}
 use Rattle.eve_chains.proofs.Judging.{first_with, Advances, first_with_all}
 use Rattle.eve_chains.proofs.Nearest.{before_rest-append}
 use Rattle.eve_chains.proofs.Linked.{placed_push}
+use Rattle.eve_chains.specs.Faults.{StandsInChains}
 
 -- ---- settled attempts stay so
 
@@ -555,7 +555,7 @@ module _ (t : Trace) (h : SectionHistory) (limits : HasLimits t) (tells : h ≡ 
   ended w known = subst (λ (x : SectionState). IsFirstIn t e (settled x) w.first) known.leads known.first
 
   pub walked_wrong : (w : Walk) (f : Fault) → IsRightSection t e → HasWalked t e [] w → w.first ≡ Some f
-      → IsLeast (IsChainFault t e) f
+      → IsLeast (IsFaultIn StandsInChains t e) f
   walked_wrong w f right known some =
       let first = subst (IsFirstIn t e (settled (history t e))) some (ended w known) in
       record {

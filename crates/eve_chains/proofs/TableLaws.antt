@@ -11,7 +11,8 @@ use Rattle.std.proofs.lemmas.Bool.Decides.{Decides-int_eq}
 use Rattle.std.proofs.Math.ListN.{get_or-map}
 use Rattle.eve_smallbank.specs.declared.entry.Entry.{Entry}
 use Rattle.eve_smallbank.specs.Access.{writes_row}
-use Rattle.eve_smallbank.specs.Chain.{Versioned, Table, Sees}
+use Rattle.eve_smallbank.specs.Chain.{Table, Sees}
+use Rattle.eve_smallbank.specs.declared.versioned.Versioned.{Versioned}
 use Rattle.eve_views.specs.declared.fault.Code.{Code}
 use Rattle.eve_views.specs.declared.fault.Code.TheVariants as code
 use Rattle.eve_grammar.specs.Trace.{Customer, Trace, opening_rows}

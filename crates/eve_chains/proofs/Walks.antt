@@ -18,11 +18,11 @@ use Rattle.eve_views.specs.declared.fault.Code.TheVariants as code
 use Rattle.eve_views.specs.declared.fault.Fault.{Fault}
 use Rattle.eve_history.specs.Section.{Placed, settled, request_count}
 use Rattle.eve_history.specs.SectionHistory.{access_with, ordered, history, IsRightSection, names_of}
-use Rattle.eve_views.specs.Form.{SomePlace}
+use Rattle.eve_views.specs.Form.{SomePlace, IsFaultIn}
 use Rattle.eve_chains.specs.Visible.{opening_table, entries_with, executed_at, executed_by, execution, entries_before}
 use Rattle.eve_chains.specs.Visible.{before_index, table_along, visible_to}
 use Rattle.eve_chains.specs.Sound.{RecordsFit, IsSoundAlong, SettledAreSound}
-use Rattle.eve_chains.specs.Faults.{AtSettledAccess, StandsInChains, IsChainFault}
+use Rattle.eve_chains.specs.Faults.{AtSettledAccess, StandsInChains}
 use Rattle.eve_chains.specs.Along.{entries_along, SomeSeesAnother, IsWrongAlong, AllSee, IsWrongSomewhere}
 use Rattle.eve_chains.specs.Along.{AllSettledSee}
 use Rattle.eve_chains.proofs.Distinct.{Distinct, distinct_permutation}
@@ -186,7 +186,7 @@ module _ (t : Trace) (p : Placed) (right : IsRightAlone t p.attempt) where
 
   -- what is wrong along the records is a fault of chains
   pub wrong_along_stands : (e : ℕ) (f : Fault) → IsComplete p.attempt → In p (settled (history t e))
-      → IsWrongAlong e (table_along t p.path) (ordered p.offset p.attempt) f → IsChainFault t e f
+      → IsWrongAlong e (table_along t p.path) (ordered p.offset p.attempt) f → IsFaultIn StandsInChains t e f
   unfolding record_at
   wrong_along_stands e f complete i wrong =
       let place = wrong.stands in
@@ -244,7 +244,7 @@ pub complete_one : (t : Trace) (e : ℕ) (p : Placed) → HasLimits t → In p (
 complete_one t e p limits i = all_in (λ q. IsComplete q.attempt) (settled_complete t e limits) i
 
 pub chain_fault_along : (t : Trace) (e : ℕ) (f : Fault) → HasLimits t → IsRightSection t e → IsWrongSomewhere t e f
-    → IsChainFault t e f
+    → IsFaultIn StandsInChains t e f
 chain_fault_along t e f limits right place =
     let i = in_place (settled (history t e)) place in
     wrong_along_stands t place.item (right_one t e place.item right i) e f (complete_one t e place.item limits i) i
@@ -256,7 +256,8 @@ other_seen t e code.Version at stands = stands
 other_seen t e code.Value at stands = stands
 other_seen t e _ at stands = absurd stands
 
-pub chain_fault_somewhere : (t : Trace) (e : ℕ) (f : Fault) → HasLimits t → IsRightSection t e → IsChainFault t e f
+pub chain_fault_somewhere : (t : Trace) (e : ℕ) (f : Fault) → HasLimits t → IsRightSection t e
+    → IsFaultIn StandsInChains t e f
     → IsWrongSomewhere t e f
 chain_fault_somewhere t e f limits right fault =
     let place = other_seen t e f.code f.offset fault.stands in

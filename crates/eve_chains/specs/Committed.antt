@@ -67,7 +67,3 @@ committed_request_ids t e = flat_map (request_ids_in t) (attempts_of (history t 
 -- those of all batches
 unfoldable pub batch_request_ids : Trace → List RequestId
 batch_request_ids t = flat_map (λ b. map request_id b.requests) t.batches
-
--- no two are the same
-abbrev pub AreDistinct : List RequestId → Type 0
-AreDistinct request_ids = AllPairs (λ a b. a ≢ b) request_ids

@@ -6,7 +6,7 @@ use Rattle.eve_grammar.specs.Spelling.{accesses_at}
 use Rattle.eve_views.specs.declared.fault.Code.{Code}
 use Rattle.eve_views.specs.declared.fault.Code.TheVariants as code
 use Rattle.eve_views.specs.declared.fault.Fault.{Fault}
-use Rattle.eve_views.specs.Form.{SomePlace, IsLeast, HasNone}
+use Rattle.eve_views.specs.Form.{SomePlace, IsLeast, HasNone, IsFaultIn}
 use Rattle.eve_history.specs.Section.{Placed, settled}
 use Rattle.eve_history.specs.SectionHistory.{history, names_of}
 use Rattle.eve_chains.specs.Visible.{executed_by, visible_to}
@@ -23,11 +23,6 @@ abbrev pub StandsInRecords : Code → Trace → ℕ → ℕ → Type 0
 StandsInRecords code.Record t e at = AtSettledAccess t e at (λ p x. ¬ Fits (names_of t) (executed_by t p.attempt x))
 StandsInRecords _ t e at = ⊥
 
--- the fault is one of records in replica e's section
-pub record IsRecordFault (t : Trace) (e : ℕ) (f : Fault) : Type 0 where
-  pub stands : StandsInRecords f.code t e f.offset
-  pub inside : f.replica ≡ Some e
-
 -- ---- chains
 
 -- A fault of chains stands at this offset in replica e's section: an entry sees another version, or another
@@ -39,19 +34,14 @@ StandsInChains code.Value t e at =
     AtSettledAccess t e at (λ p x. SomePlace x.entries (λ _ y. y.seen ≢ (visible_to t p x.index y.row).value))
 StandsInChains _ t e at = ⊥
 
--- the fault is one of chains in replica e's section
-pub record IsChainFault (t : Trace) (e : ℕ) (f : Fault) : Type 0 where
-  pub stands : StandsInChains f.code t e f.offset
-  pub inside : f.replica ≡ Some e
-
 -- ---- both phases
 
 -- the first of the faults of records, or of those of chains where there are none of records
 abbrev pub IsLeastFault : Trace → ℕ → Fault → Type 0
-IsLeastFault t e f = IsLeast (IsRecordFault t e) f
-    ⊎ (((g : Fault) → ¬ IsRecordFault t e g) × IsLeast (IsChainFault t e) f)
+IsLeastFault t e f = IsLeast (IsFaultIn StandsInRecords t e) f
+    ⊎ (((g : Fault) → ¬ IsFaultIn StandsInRecords t e g) × IsLeast (IsFaultIn StandsInChains t e) f)
 
 -- no fault of records, and none of chains
 pub record HasNoFault (t : Trace) (e : ℕ) : Type 0 where
-  pub records : HasNone (IsRecordFault t e)
-  pub chains : HasNone (IsChainFault t e)
+  pub records : HasNone (IsFaultIn StandsInRecords t e)
+  pub chains : HasNone (IsFaultIn StandsInChains t e)

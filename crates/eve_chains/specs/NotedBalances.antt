@@ -2,7 +2,8 @@
 use Rattle.std.specs.Prelude.{◌≡◌, ℕ, suc, ◌+◌, ◌≤◌, ◌⊎◌, All, List, [], ◌∷◌, ◌++◌, length}
 use Rattle.std.specs.List.{AllByRecursion}
 use Rattle.eve_smallbank.specs.Access.{balance_of_row}
-use Rattle.eve_smallbank.specs.Chain.{Versioned, values_of}
+use Rattle.eve_smallbank.specs.Chain.{values_of}
+use Rattle.eve_smallbank.specs.declared.versioned.Versioned.{Versioned}
 use Rattle.eve_grammar.specs.Trace.{Step, Attempts, Commits, RollsBack}
 use Rattle.eve_chains.specs.Along.{AreWithin}
 use Rattle.eve_chains.specs.Tables.{table_of}

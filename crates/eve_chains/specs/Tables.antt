@@ -3,7 +3,8 @@ use Rattle.std.specs.Prelude.{◌≡◌, ◌≢◌, pos, if◌then◌else◌, Li
 use Rattle.std.specs.List.{AllByRecursion, list_any}
 use Rattle.eve_smallbank.specs.declared.entry.Entry.{Entry}
 use Rattle.eve_smallbank.specs.Access.{writes_row}
-use Rattle.eve_smallbank.specs.Chain.{Versioned, Table, Sees}
+use Rattle.eve_smallbank.specs.Chain.{Table, Sees}
+use Rattle.eve_smallbank.specs.declared.versioned.Versioned.{Versioned}
 use Rattle.eve_views.specs.declared.fault.Code.{Code}
 use Rattle.eve_views.specs.declared.fault.Code.TheVariants as code
 use Rattle.eve_views.specs.Form.{SomePlace}

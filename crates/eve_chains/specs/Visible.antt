@@ -5,7 +5,7 @@ use Rattle.eve_smallbank.specs.declared.request.Reply.TheVariants.{Done}
 use Rattle.eve_smallbank.specs.declared.entry.Entry.{Entry}
 use Rattle.eve_smallbank.specs.Access.{Executed}
 use Rattle.eve_smallbank.specs.Chain.{Table, visible_at, before_rest, table_after_all}
-use Rattle.eve_grammar.specs.Trace.{Access, Attempt, Trace, opening_rows}
+use Rattle.eve_grammar.specs.Trace.{Access, Attempt, Trace}
 use Rattle.eve_history.specs.Section.{Placed}
 use Rattle.eve_history.specs.SectionHistory.{asked_in}
 
@@ -13,7 +13,7 @@ use Rattle.eve_history.specs.SectionHistory.{asked_in}
 
 -- the opening balance of a row
 abbrev pub opening_of : Trace → ℕ → ℤ
-opening_of t row = slice_index_or (opening_rows t.customers) row (pos 0)
+opening_of t row = slice_index_or (flat_map (λ c. c.saving ∷ c.checking ∷ []) t.customers) row (pos 0)
 
 -- every row at version 0, with its opening balance
 abbrev pub opening_table : Trace → Table
@@ -28,11 +28,8 @@ entries_with (x ∷ xs) index = if x.index == index then x.entries else entries_
 
 -- the request with this index, with its reply and these entries
 abbrev pub executed_with : Trace → Attempt → ℕ → List Entry → Executed
-executed_with t a index entries = record {
-  request = (asked_in t a index).request;
-  reply = slice_index_or a.replies index Done;
-  entries = entries;
-}
+executed_with t a index entries =
+    record { request = (asked_in t a index).request; reply = slice_index_or a.replies index Done; entries = entries }
 
 -- the request with this index, as the attempt executed it
 abbrev pub executed_at : Trace → Attempt → ℕ → Executed

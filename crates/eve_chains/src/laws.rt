@@ -1,25 +1,26 @@
 //! Laws about the definitions. The bodies call lower laws at most: the contract is the law.
 
-ghost use Rattle.std.specs.Prelude.{ℕ, ◌≡◌, ◌-◌, suc, List, IsTrue, length, Some};
+ghost use Rattle.std.specs.Prelude.{ℕ, ◌≡◌, ◌-◌, suc, List, IsTrue, length, Some, AllPairs, ◌≢◌};
 ghost use Rattle.eve_grammar.specs.Trace.{Trace, Attempt};
 ghost use Rattle.eve_grammar.specs.Limits.{HasLimits};
 ghost use Rattle.eve_views.specs.declared.fault.Fault.{Fault};
+ghost use Rattle.eve_views.specs.Form.{IsFaultIn};
 ghost use Rattle.eve_history.specs.SectionHistory.{IsRightSection, ordered, committed_at, names_of};
 ghost use Rattle.eve_chains.specs.Visible.{opening_table, executed_by, executed_in, execution, executions, rows_after};
 ghost use Rattle.eve_chains.specs.Visible.{before_index, visible_to, entries_before, table_along};
 ghost use Rattle.eve_chains.specs.Sound.{SettledAreSound, RecordsFit, OfSettledAccesses, EntriesSee};
-ghost use Rattle.eve_chains.specs.Faults.{IsChainFault, HasNoFault};
+ghost use Rattle.eve_chains.specs.Faults.{HasNoFault, StandsInChains};
 ghost use Rattle.eve_chains.specs.Rows.{told_of, all_noted, of_row, IsWrongOnRow, EachSees};
 ghost use Rattle.eve_smallbank.specs.Access.{Fits, values_after};
 ghost use Rattle.eve_smallbank.specs.declared.entry.Entry.{Entry};
 ghost use Rattle.eve_smallbank.specs.Chain.{Table, table_after, visible_at, before_rest};
 ghost use Rattle.eve_smallbank.specs.Conflict.{IsReordering};
-ghost use Rattle.eve_grammar.specs.Certificate.{KeepsGroups, is_permutation};
+ghost use Rattle.eve_grammar.specs.Certificate.{is_permutation, keeps_groups};
 ghost use Rattle.eve_history.specs.Section.{Placed, batch_at, request_count};
 ghost use Rattle.eve_views.specs.declared.fault.Code.TheVariants as code;
 ghost use Rattle.eve_history.specs.Faults.{StandsInOrders};
 ghost use Rattle.eve_chains.specs.Committed.{committed_to, values_to, opening_bank, bank_after, Leads, IsSerialBetween};
-ghost use Rattle.eve_chains.specs.Committed.{committed_request_ids, batch_request_ids, AreDistinct};
+ghost use Rattle.eve_chains.specs.Committed.{committed_request_ids, batch_request_ids};
 ghost use Rattle.eve_chains.specs.Tables.{undone};
 ghost use Rattle.eve_chains.specs.Along.{entries_along, IsWrongSomewhere, AllSettledSee};
 ghost use Rattle.eve_chains.specs.Settling.{settling, values_in};
@@ -31,9 +32,10 @@ ghost use Rattle.eve_chains.specs.Settling.{settling, values_in};
 /// docs/MODEL.md, "What an entry must see".
 pub fn rows_are_judged_by_themselves()
     ensures stands { (t : Trace) (e row : ℕ) (f : Fault) → HasLimits t → IsRightSection t e → RecordsFit t e
-        → IsWrongOnRow e (opening_table t row) (of_row row (all_noted (told_of t e))) f → IsChainFault t e f }
+        → IsWrongOnRow e (opening_table t row) (of_row row (all_noted (told_of t e))) f
+        → IsFaultIn StandsInChains t e f }
     ensures found { (t : Trace) (e : ℕ) (f : Fault) → HasLimits t → IsRightSection t e → RecordsFit t e
-        → IsChainFault t e f
+        → IsFaultIn StandsInChains t e f
         → (row : ℕ) × IsWrongOnRow e (opening_table t row) (of_row row (all_noted (told_of t e))) f }
     ensures sound { (t : Trace) (e : ℕ) → HasLimits t → IsRightSection t e → RecordsFit t e
         → ((row : ℕ) → EachSees (opening_table t row) (of_row row (all_noted (told_of t e)))) → SettledAreSound t e }
@@ -64,16 +66,16 @@ pub fn each_order_of_the_indexes_is_a_reordering()
 /// The order in which a replica committed a batch keeps the batch's parallelBatches.
 pub fn committed_orders_keep_the_groups()
     ensures { (t : Trace) (e n : ℕ) (p : Placed) → IsRightSection t e → committed_at t e n ≡ Some p
-        → KeepsGroups (batch_at t n).sizes (length (batch_at t n).requests) p.attempt.certificate }
+        → IsTrue (keeps_groups (batch_at t n).sizes (length (batch_at t n).requests) p.attempt.certificate) }
 {}
 
 /// No request takes effect twice in a replica, where no two requests of the batches have one client and number:
 /// that is so where no fault of orders stands.
 pub fn requests_take_effect_once()
-    ensures once { (t : Trace) (e : ℕ) → IsRightSection t e → AreDistinct (batch_request_ids t)
-        → AreDistinct (committed_request_ids t e) }
+    ensures once { (t : Trace) (e : ℕ) → IsRightSection t e → AllPairs (λ a b. a ≢ b) (batch_request_ids t)
+        → AllPairs (λ a b. a ≢ b) (committed_request_ids t e) }
     ensures apart { (t : Trace) → ((at : ℕ) → ¬ StandsInOrders code.SameRequest t at)
-        → AreDistinct (batch_request_ids t) }
+        → AllPairs (λ a b. a ≢ b) (batch_request_ids t) }
 {}
 
 /// In a right section the settled attempts are sound exactly where each record fits its request and each entry
@@ -103,8 +105,8 @@ pub fn sound_sections_have_no_fault()
 /// left, is exactly the faults of chains; where nothing is found, and the records fit, the attempts are sound.
 pub fn chains_are_judged_along_the_records()
     ensures stands { (t : Trace) (e : ℕ) (f : Fault) → HasLimits t → IsRightSection t e → IsWrongSomewhere t e f
-        → IsChainFault t e f }
-    ensures found { (t : Trace) (e : ℕ) (f : Fault) → HasLimits t → IsRightSection t e → IsChainFault t e f
+        → IsFaultIn StandsInChains t e f }
+    ensures found { (t : Trace) (e : ℕ) (f : Fault) → HasLimits t → IsRightSection t e → IsFaultIn StandsInChains t e f
         → IsWrongSomewhere t e f }
     ensures sound { (t : Trace) (e : ℕ) → HasLimits t → IsRightSection t e → RecordsFit t e → AllSettledSee t e
         → SettledAreSound t e }

@@ -12,10 +12,8 @@ mod settled;
 mod stretch;
 mod table;
 mod unfit;
-mod versioned;
 mod walk;
 mod written;
 
 pub use checking::check;
 pub use settled::Settled;
-pub use versioned::Versioned;

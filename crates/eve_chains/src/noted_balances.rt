@@ -42,9 +42,9 @@ fn values_of(alloc: Global, trace: &Trace<'_>, table: &Table) -> Result<Balances
     let mut balances = Balances::new(alloc, 2 * count as usize)?;
     for i in 0..count {
         let saving = Row::saving(i);
-        balances.set(saving, table.see(saving).value());
+        balances.set(saving, table.see(saving).value);
         let checking = Row::checking(i);
-        balances.set(checking, table.see(checking).value());
+        balances.set(checking, table.see(checking).value);
     }
     Ok(balances)
 }

@@ -6,10 +6,9 @@ ghost use Rattle.eve_smallbank.specs.Chain.{Sees, table_after};
 ghost use Rattle.eve_grammar.specs.Limits.{is_entry};
 ghost use Rattle.eve_chains.specs.Tables.{table_of, undone, IsFirstMismatch};
 
-use crate::versioned::Versioned;
 use eve_accounts::{Balances, Row};
 use eve_frames::Entries;
-use eve_smallbank::{Entry, Kind, UpToThree};
+use eve_smallbank::{Entry, Kind, UpToThree, Versioned};
 use eve_views::Code;
 use std::alloc::{AllocError, Global};
 use std::marker::Model;
@@ -25,9 +24,9 @@ pub(crate) struct Table {
 
 impl Model for Table {
     ghost use Rattle.std.specs.Prelude.{List};
-    ghost use Rattle.eve_smallbank.specs.Chain as chain;
+    ghost use Rattle.eve_smallbank.specs.declared.versioned.Versioned as versioned;
 
-    ghost Value = { List chain.Versioned };
+    ghost Value = { List versioned.Versioned };
 
     ghost view = { λ t. t.rows.items };
 }
@@ -39,7 +38,10 @@ impl Table {
     {
         let mut rows = Vec::with_capacity(alloc, balances.len())?;
         for balance in balances.as_slice() {
-            rows.push_reserved(Versioned::new(0, *balance));
+            rows.push_reserved(Versioned {
+                version: 0,
+                value: *balance,
+            });
         }
         Ok(Table { rows })
     }
@@ -154,7 +156,7 @@ impl Table {
         ensures { IsTrue result ↔ Sees (table_of self.now) entry.now }
     {
         let row = self.see(entry.row);
-        entry.version == row.version() && entry.seen == row.value()
+        entry.version == row.version && entry.seen == row.value
     }
 
     fn wrong_in(&self, entries: &UpToThree<Entry>) -> Option<Code>
@@ -165,10 +167,10 @@ impl Table {
         for place in 0..entries.len() {
             let entry = entries.at(place);
             let row = self.see(entry.row);
-            if entry.version != row.version() {
+            if entry.version != row.version {
                 return Some(Code::Version);
             }
-            if entry.seen != row.value() {
+            if entry.seen != row.value {
                 wrong = Some(Code::Value);
             }
         }
@@ -195,10 +197,10 @@ impl Table {
         match entry.kind {
             Kind::Read => {}
             Kind::Write => {
-                self.rows[entry.row.number() as usize] = Versioned::new(
-                    entry.version + 1,
-                    entry.after,
-                );
+                self.rows[entry.row.number() as usize] = Versioned {
+                    version: entry.version + 1,
+                    value: entry.after,
+                };
             }
         }
     }

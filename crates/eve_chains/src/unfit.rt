@@ -4,16 +4,16 @@ ghost use Rattle.std.specs.Prelude.{◌≡◌, ◌≤◌, ◌<◌, ◌∷◌, []
 ghost use Rattle.std.specs.Prelude.{slice_get, slice_index_or};
 ghost use Rattle.eve_smallbank.specs.SmallBank.{plain};
 ghost use Rattle.eve_frames.specs.Said.{access_said, batch_said};
-ghost use Rattle.eve_views.specs.Form.{IfFound, IsLeast, HasNone};
+ghost use Rattle.eve_views.specs.Form.{IfFound, IsLeast, HasNone, IsFaultIn};
 ghost use Rattle.eve_history.specs.SectionHistory.{ExecutedAttempt, section_history, names_of, IsRightSection};
 ghost use Rattle.eve_chains.specs.Records.{recorded};
 ghost use Rattle.eve_chains.specs.Sound.{RecordsFit};
-ghost use Rattle.eve_chains.specs.Faults.{IsRecordFault};
 ghost use Rattle.eve_chains.specs.Unfit.{is_settled, recorded_of, HasRequests, IsLeastUnfit};
 ghost use Rattle.eve_chains.specs.Unfit.{CanBeJudged};
 ghost use Rattle.eve_chains.specs.Unfit.{IsLeastOfAttempt, lesser, lesser_found};
 ghost use Rattle.eve_chains.specs.Stretches.{IsWithin, IsFoundIn, IsFoundBetween, least_found};
 ghost use Rattle.eve_chains.specs.declared.stretch.Stretch.{Stretch as StretchValue};
+ghost use Rattle.eve_chains.specs.Faults.{StandsInRecords};
 
 use crate::fitting::fits;
 use crate::stretch::Stretch;
@@ -41,8 +41,9 @@ pub(crate) fn records(
     requires history { history.now ≡ section_history trace.now history.now.replica }
     requires found { IsFoundBetween (names_of trace.now) trace.now history.now 0 (length history.now.attempts) found }
     ensures fit { IfOk result (λ _. RecordsFit trace.now history.now.replica) }
-    ensures none { IfOk result (λ _. HasNone (IsRecordFault trace.now history.now.replica)) }
-    ensures least { IfErr result (λ why. IfFound why (IsLeast (IsRecordFault trace.now history.now.replica))) }
+    ensures none { IfOk result (λ _. HasNone (IsFaultIn StandsInRecords trace.now history.now.replica)) }
+    ensures least { IfErr result (λ why. IfFound why
+        (IsLeast (IsFaultIn StandsInRecords trace.now history.now.replica))) }
 {
     trace.recall_limits();
     history.recall_right();

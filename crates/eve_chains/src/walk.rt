@@ -4,15 +4,15 @@ ghost use Rattle.std.specs.Prelude.{◌≡◌, ℕ, List, ◌≤◌, ◌<◌, �
 ghost use Rattle.std.specs.Prelude.{if◌then◌else◌};
 ghost use Rattle.std.specs.List.{AllByRecursion};
 ghost use Rattle.eve_grammar.specs.Trace.{Step as StepValue, opening_rows};
-ghost use Rattle.eve_views.specs.Form.{IfFound, IsLeast};
+ghost use Rattle.eve_views.specs.Form.{IfFound, IsLeast, IsFaultIn};
 ghost use Rattle.eve_views.specs.StepKinds.{IsStep};
 ghost use Rattle.eve_history.specs.SectionHistory.{section_history, IsRightSection};
-ghost use Rattle.eve_chains.specs.Faults.{IsChainFault};
 ghost use Rattle.eve_chains.specs.Along.{AreWithin, AllSettledSee};
 ghost use Rattle.eve_chains.specs.Walking.{records_of, records_from, IsCommitted, AreTried, AreUndone, HasWalked};
 ghost use Rattle.eve_chains.specs.Walking.{parted};
 ghost use Rattle.eve_chains.specs.Settling.{settling};
 ghost use Rattle.eve_chains.specs.NotedBalances.{AreBalancesAfter, commits_among};
+ghost use Rattle.eve_chains.specs.Faults.{StandsInChains};
 
 use crate::along::{judge_along, undo_along, write_along};
 use crate::noted_balances::{BalancesAfter, NotedBalances};
@@ -162,7 +162,8 @@ pub fn chains(
     requires stretches { 1 ≤ stretches }
     ensures see { IfOk result (λ _. AllSettledSee trace.now history.now.replica) }
     ensures noted { IfOk result (λ noted. All (AreBalancesAfter (settling trace.now history.now.replica)) noted.items) }
-    ensures least { IfErr result (λ why. IfFound why (IsLeast (IsChainFault trace.now history.now.replica))) }
+    ensures least { IfErr result (λ why. IfFound why
+        (IsLeast (IsFaultIn StandsInChains trace.now history.now.replica))) }
 {
     trace.recall_limits();
     if history.replica() >= trace.section_count() {

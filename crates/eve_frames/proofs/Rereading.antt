@@ -4,7 +4,7 @@ use Rattle.std.proofs.Common.{Some, is_some, unwrap_or, refl, ap, arith}
 use Rattle.std.specs.Prelude.{IsTrue}
 use Rattle.std.specs.List.{list_all}
 use Rattle.std.proofs.lemmas.Bool.{ltb-true, lt-ltb, leb-true, le-leb, and_parts, and_from}
-use Rattle.eve_grammar.specs.Trace.{Customer, Batch, Attempt, Access, Commit, Restore, Rollback, Vote, Sent}
+use Rattle.eve_grammar.specs.Trace.{Customer, Batch, Attempt, Access, Commit, Rollback, Vote, Sent}
 use Rattle.eve_grammar.specs.Frames.{Frame, OfCustomer, OfBatch, OfAttempt, OfAccess, OfCommit, OfRollback, OfVote}
 use Rattle.eve_grammar.specs.Frames.{OfSent, without_accesses}
 use Rattle.eve_grammar.specs.Limits.{is_number, is_between, is_customer, is_batch, is_attempt, is_entry, is_access}
@@ -17,6 +17,7 @@ use Rattle.eve_grammar.proofs.BodyCodecs.{Exact-customer, Exact-batch, Exact-att
 use Rattle.eve_grammar.proofs.BodyCodecs.{Exact-rollback, Exact-vote, Exact-sent}
 use Rattle.eve_smallbank.specs.declared.entry.Entry.{Entry}
 use Rattle.eve_grammar.specs.declared.limits.TheConstants.{MOST_ROWS, MOST_REPLICAS, MOST_BATCHES}
+use Rattle.eve_grammar.specs.declared.restore.Restore.{Restore}
 use Rattle.eve_frames.specs.Views.{has_customer_body, has_batch_body}
 use Rattle.eve_frames.specs.Views.{has_attempt_body, has_access_body, has_commit_body, has_rollback_body, has_vote_body}
 use Rattle.eve_frames.specs.Views.{has_sent_body, customer_in, batch_in, attempt_in, access_in, commit_in, rollback_in}

@@ -2,10 +2,10 @@
 
 ghost use Rattle.std.specs.Prelude.{◌≡◌, IsTrue, List};
 ghost use Rattle.std.specs.Iterator.{YieldsFirstBy, item_count};
-ghost use Rattle.eve_grammar.specs.Trace.{Restore};
 ghost use Rattle.eve_grammar.specs.declared.limits.TheConstants.{MOST_ROWS};
 ghost use Rattle.eve_grammar.specs.Reading.{restore_at};
-ghost use Rattle.eve_grammar.specs.Bodies.{list_in, restore};
+ghost use Rattle.eve_grammar.specs.Bodies.{list_in};
+ghost use Rattle.eve_grammar.specs.declared.restore.Restore.{Restore};
 ghost use Rattle.eve_frames.specs.Items.{are_there};
 
 use eve_grammar::{MOST_ROWS, Restore, restore_at};
@@ -41,7 +41,7 @@ impl<'a> Restores<'a> {
 impl<'a> Iterator for Restores<'a> {
     type Item = Restore;
 
-    ghost next_gives = { YieldsFirstBy restore (λ rest. rest) };
+    ghost next_gives = { YieldsFirstBy (λ r. r) (λ rest. rest) };
 
     ghost remaining = { item_count (λ rest. rest) };
 

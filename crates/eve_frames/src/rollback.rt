@@ -2,7 +2,6 @@
 
 ghost use Rattle.std.specs.Prelude.{◌≡◌, ◌<◌, IsTrue, Some, length, slice_get};
 ghost use Rattle.eve_grammar.specs.Reading.{rollback_of};
-ghost use Rattle.eve_grammar.specs.Bodies.{restore};
 ghost use Rattle.eve_frames.specs.Views.{body_in, has_rollback_body, rollback_in};
 
 use crate::restores::Restores;
@@ -77,7 +76,7 @@ impl<'a> RollbackView<'a> {
     #[tactic(auto, using(crate::proofs::RollbackPlaces::rollback_laws))]
     pub fn restore(&self, i: usize) -> Restore
         requires { i < length (rollback_in self.now.bytes.now).restores }
-        ensures { slice_get (rollback_in self.now.bytes.now).restores i ≡ Some (restore result) }
+        ensures { slice_get (rollback_in self.now.bytes.now).restores i ≡ Some result }
     {
         let at = 17 + 20 * i;
         match restore_at(MOST_ROWS, &self.bytes[at..]) {

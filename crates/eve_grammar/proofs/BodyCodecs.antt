@@ -13,7 +13,7 @@ use Rattle.eve_accounts.specs.Names.{is_name}
 use Rattle.eve_smallbank.specs.Spelling.{money_text, reply_text}
 use Rattle.eve_smallbank.specs.declared.request.Reply.{Reply}
 use Rattle.eve_smallbank.specs.declared.entry.Entry.{Entry}
-use Rattle.eve_grammar.specs.Trace.{Customer, Asked, Batch, Access, Attempt, Commit, Restore, Rollback, Choice}
+use Rattle.eve_grammar.specs.Trace.{Customer, Asked, Batch, Access, Attempt, Commit, Rollback, Choice}
 use Rattle.eve_grammar.specs.Trace.{ForRollback, ForCommit, Vote, Sent}
 use Rattle.eve_grammar.specs.Frames.{OfCustomer, OfBatch, OfAttempt, OfAccess, OfCommit, OfRollback, OfVote, OfSent}
 use Rattle.eve_grammar.specs.Limits.{is_between, is_number, is_token, is_asked, is_reply, is_customer, is_batch}
@@ -32,6 +32,7 @@ use Rattle.eve_grammar.proofs.Codec.{are_many, are_many_of, whole_takes, whole_a
 use Rattle.eve_grammar.proofs.FieldCodecs.{Codec-number1, Codec-number2, Codec-number4, Codec-number8, are_bytes}
 use Rattle.eve_grammar.proofs.FieldCodecs.{Codec-token, Codec-balance, Codec-saving, Codec-name}
 use Rattle.eve_grammar.proofs.PartCodecs.{chosen, Codec-asked, Codec-reply, Codec-entry, Codec-restore}
+use Rattle.eve_grammar.specs.declared.restore.Restore.{Restore}
 
 -- a body is read exactly where it is the spelling of a value that fits
 pub record Exact {A : Type 0} (text : A → List ℕ) (test : A → Bool) (read : List ℕ → Option A) : Type 0 where

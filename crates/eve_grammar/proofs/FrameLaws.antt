@@ -7,9 +7,9 @@ use Rattle.std.proofs.lemmas.Bool.{ltb-true, lt-ltb, leb-true, eqb-true, and_par
 use Rattle.std.proofs.lemmas.List.{nil_from_length}
 use Rattle.std.proofs.lemmas.Option.{same_Some}
 use Rattle.byteorder.specs.Endian.{big_bytes}
-use Rattle.eve_grammar.specs.Trace.{Head, Trace, head_of}
+use Rattle.eve_grammar.specs.Trace.{Trace, head_of}
 use Rattle.eve_grammar.specs.Frames.{Frame, OfCustomer, OfBatch, OfReplica, OfAttempt, OfAccess, OfCommit, OfRollback}
-use Rattle.eve_grammar.specs.Frames.{OfVerifier, OfVote, OfSent, End, kind_of, Place, is_allowed}
+use Rattle.eve_grammar.specs.Frames.{OfVerifier, OfVote, OfSent, End, kind_of, is_allowed}
 use Rattle.eve_grammar.specs.Limits.{is_number, is_batch, is_head, row_count, is_body, FitsAt, HasLimits}
 use Rattle.eve_grammar.specs.Spelling.{body_text, head_text}
 use Rattle.eve_grammar.specs.Reading.{number_at, both, made, only, behind, customer_of, batch_of, number_of, attempt_of}
@@ -21,6 +21,8 @@ use Rattle.eve_grammar.proofs.FieldCodecs.{Codec-number1, Codec-number2, Codec-n
 use Rattle.eve_grammar.proofs.PartCodecs.{chosen}
 use Rattle.eve_grammar.proofs.BodyCodecs.{Exact, Exact-customer, Exact-batch, Exact-number, Exact-attempt, Exact-access}
 use Rattle.eve_grammar.proofs.BodyCodecs.{Exact-commit, Exact-rollback, Exact-vote, Exact-sent}
+use Rattle.eve_grammar.specs.declared.head.Head.{Head}
+use Rattle.eve_grammar.specs.declared.place.Place.{Place}
 
 -- ---- the header
 

@@ -2,11 +2,12 @@
 use Rattle.std.proofs.Common.{◌≡◌, ℕ, ◌+◌, List, [], ◌∷◌, ◌++◌, map, refl, sym, ap, ◌∙◌, append_assoc, append-nil}
 use Rattle.std.specs.List.{flat_map, enumerate_from}
 use Rattle.eve_grammar.specs.Trace.{Customer, Batch, Access, Attempt, Step, Attempts, Commits, RollsBack, Vote, Sent}
-use Rattle.eve_grammar.specs.Trace.{Trace, Head, head_of}
+use Rattle.eve_grammar.specs.Trace.{Trace}
 use Rattle.eve_grammar.specs.Frames.{Frame, OfCustomer, OfBatch, OfReplica, OfAttempt, OfAccess, OfCommit, OfRollback}
 use Rattle.eve_grammar.specs.Frames.{OfVerifier, OfVote, OfSent, End, without_accesses, step_frames, section_frames}
 use Rattle.eve_grammar.specs.Frames.{verifier_frames, frames_of}
 use Rattle.eve_grammar.specs.Gathering.{Gathered, gather, gathered, headed, trace_of, IsMadeOf}
+use Rattle.eve_grammar.specs.declared.head.Head.{Head}
 
 -- whole parts alone
 abbrev parts : List Customer → List Batch → List (List Step) → List (List Vote) → List Sent → Gathered
@@ -123,9 +124,9 @@ gathered-frames_of t =
     gathered-customers t.customers t.batches t.sections t.verifiers t.sent _ batches
 
 -- the frames of a trace make it up
-pub trace_of-frames_of : (t : Trace) → trace_of (head_of t) (frames_of t) ≡ t
+pub trace_of-frames_of : (t : Trace) → trace_of t.head (frames_of t) ≡ t
 unfolding trace_of
-trace_of-frames_of t = ap (headed (head_of t)) (gathered-frames_of t)
+trace_of-frames_of t = ap (headed t.head) (gathered-frames_of t)
 
 -- and so no two traces have one header and the same frames
 pub only_trace : (h : Head) (fs : List Frame) (t : Trace) → IsMadeOf h fs t → t ≡ trace_of h fs

@@ -5,9 +5,9 @@ use Rattle.std.specs.Prelude.{codes}
 use Rattle.std.proofs.lemmas.List.{drop_at, drop-drop, length-append}
 use Rattle.byteorder.specs.Endian.{big_bytes}
 use Rattle.byteorder.specs.Numbers.{length-bytes_high_first}
-use Rattle.eve_grammar.specs.Trace.{Head}
 use Rattle.eve_grammar.specs.Spelling.{head_text}
 use Rattle.eve_grammar.proofs.FrameLaws.{limits_text, head_text_parts}
+use Rattle.eve_grammar.specs.declared.head.Head.{Head}
 
 -- a header, and the bytes after it
 abbrev pub in_parts : Head → ℕ → List ℕ → List ℕ

@@ -4,9 +4,10 @@ use Rattle.std.specs.Prelude.{◌==◌, nat_lt}
 use Rattle.std.proofs.lemmas.Bool.{ne_eqb}
 use Rattle.eve_grammar.specs.declared.frame_kind.FrameKind.{FrameKind}
 use Rattle.eve_grammar.specs.declared.frame_kind.FrameKind.TheVariants as of
-use Rattle.eve_grammar.specs.Trace.{Head}
-use Rattle.eve_grammar.specs.Frames.{Place, is_allowed, is_allowed_in_sections, is_allowed_behind_sections}
+use Rattle.eve_grammar.specs.Frames.{is_allowed, is_allowed_in_sections, is_allowed_behind_sections}
 use Rattle.eve_grammar.specs.Kinds.{kind_byte, BeginsNone}
+use Rattle.eve_grammar.specs.declared.head.Head.{Head}
+use Rattle.eve_grammar.specs.declared.place.Place.{Place}
 
 -- it differs from the byte of each kind
 pub other_byte : (byte : ℕ) → BeginsNone byte → (kind : FrameKind) → (byte == kind_byte kind) ≡ false

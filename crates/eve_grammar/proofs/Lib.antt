@@ -6,6 +6,7 @@ pub mod FrameLaws
 pub mod Straight
 pub mod Again
 pub mod Scans
+pub mod Spelled
 pub mod Loops
 pub mod Passing
 pub mod Standing

@@ -2,9 +2,9 @@
 use Rattle.std.proofs.Common.{◌≡◌, ℕ, suc, ◌-◌, ◌+◌, ◌≤◌, ◌<◌, true, leb, List, Option, Some, None, refl, sym, ap, ◌∙◌}
 use Rattle.std.proofs.Common.{arith}
 use Rattle.std.proofs.lemmas.Bool.{le-leb}
-use Rattle.eve_grammar.specs.Trace.{Restore}
 use Rattle.eve_grammar.specs.Reading.{◌>>=◌, Reader, number_at, restore_at}
 use Rattle.eve_grammar.specs.Scanning.{total_at, rest_at, rising_at}
+use Rattle.eve_grammar.specs.declared.restore.Restore.{Restore}
 
 -- the sum with what came before
 abbrev pub plus : ℕ → Option (ℕ × List ℕ) → Option (ℕ × List ℕ)

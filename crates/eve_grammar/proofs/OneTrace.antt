@@ -6,11 +6,11 @@ use Rattle.std.proofs.lemmas.Bool.{lt-ltb}
 use Rattle.std.proofs.lemmas.List.{take_at, drop_at}
 use Rattle.std.proofs.lemmas.Option.{same_Some}
 use Rattle.byteorder.specs.Endian.{big_bytes}
-use Rattle.eve_grammar.specs.Trace.{Trace, Head, head_of}
-use Rattle.eve_grammar.specs.Frames.{Frame, kind_of, Place, start_place, next_place, frames_of}
+use Rattle.eve_grammar.specs.Trace.{Trace}
+use Rattle.eve_grammar.specs.Frames.{Frame, kind_of, start_place, next_place, frames_of}
 use Rattle.eve_grammar.specs.Spelling.{body_text, frame_text, frames_text, length_of, spelling}
-use Rattle.eve_grammar.specs.Limits.{is_head, FitsAt, Spells}
-use Rattle.eve_grammar.specs.Following.{Follow, after, AreAllFrames}
+use Rattle.eve_grammar.specs.Limits.{is_head, FitsAt}
+use Rattle.eve_grammar.specs.Following.{Follow, after, Spells}
 use Rattle.eve_grammar.specs.Reading.{number_at, body_of, header_of}
 use Rattle.eve_grammar.specs.Gathering.{trace_of}
 use Rattle.eve_grammar.proofs.FieldCodecs.{Codec-number4}
@@ -18,7 +18,9 @@ use Rattle.eve_grammar.proofs.FrameLaws.{limits_text, Exact-header, body_of-agai
 use Rattle.eve_grammar.proofs.HeaderParts.{in_parts, header_parts, length-limits_text, behind_magic, behind_total}
 use Rattle.eve_grammar.proofs.Standing.{not_ended}
 use Rattle.eve_grammar.proofs.Gatherings.{trace_of-frames_of}
-use Rattle.eve_grammar.proofs.Runs.{run_of_trace}
+use Rattle.eve_grammar.specs.declared.head.Head.{Head}
+use Rattle.eve_grammar.proofs.Spelled.{frames_end}
+use Rattle.eve_grammar.specs.declared.place.Place.{Place}
 
 -- ---- one frame
 
@@ -104,23 +106,21 @@ same_head h k n m rest more h_right k_right e =
 
 -- ---- the whole
 
-spelled_parts : (t : Trace) → spelling t ≡ in_parts (head_of t) (length_of t) (frames_text (frames_of t))
+spelled_parts : (t : Trace) → spelling t ≡ in_parts t.head (length_of t) (frames_text (frames_of t))
 unfolding spelling
-spelled_parts t = header_parts (head_of t) (length_of t) (frames_text (frames_of t))
+spelled_parts t = header_parts t.head (length_of t) (frames_text (frames_of t))
 
 pub one_trace : (bytes : List ℕ) (t u : Trace) → Spells bytes t → Spells bytes u → t ≡ u
 one_trace bytes t u one other =
     let e = sym (spelled_parts t) ∙ sym one.spelled ∙ other.spelled ∙ spelled_parts u in
-    let heads : head_of t ≡ head_of u = same_head (head_of t) (head_of u) (length_of t) (length_of u)
-    (frames_text (frames_of t)) (frames_text (frames_of u)) one.limits.head other.limits.head e in
+    let heads : t.head ≡ u.head = same_head t.head u.head (length_of t) (length_of u)
+    (frames_text (frames_of t)) (frames_text (frames_of u)) one.head other.head e in
     let texts : frames_text (frames_of t) ≡ frames_text (frames_of u) =
-    sym (behind_total (head_of t) (length_of t) (frames_text (frames_of t))) ∙ ap (drop 32) e
-    ∙ behind_total (head_of u) (length_of u) (frames_text (frames_of u)) in
-    let first : AreAllFrames (head_of t) (frames_of t) = run_of_trace t one.limits one.short in
-    let second : AreAllFrames (head_of t) (frames_of u) = subst (λ (h : Head). AreAllFrames h (frames_of u)) (sym heads)
-    (run_of_trace u other.limits other.short) in
-    let frames : frames_of t ≡ frames_of u = same_frames (head_of t) start_place (frames_of t)
-    (frames_of u) one.limits.head
-    first.follow second.follow first.ended second.ended texts in
-    sym (trace_of-frames_of t) ∙ ap (λ (h : Head). trace_of h (frames_of t)) heads ∙ ap (trace_of (head_of u)) frames
+    sym (behind_total t.head (length_of t) (frames_text (frames_of t))) ∙ ap (drop 32) e
+    ∙ behind_total u.head (length_of u) (frames_text (frames_of u)) in
+    let second : Follow t.head start_place (frames_of u) =
+    subst (λ (h : Head). Follow h start_place (frames_of u)) (sym heads) other.follow in
+    let frames : frames_of t ≡ frames_of u = same_frames t.head start_place (frames_of t)
+    (frames_of u) one.head one.follow second (frames_end t start_place) (frames_end u start_place) texts in
+    sym (trace_of-frames_of t) ∙ ap (λ (h : Head). trace_of h (frames_of t)) heads ∙ ap (trace_of u.head) frames
     ∙ trace_of-frames_of u

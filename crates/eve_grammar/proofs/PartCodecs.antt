@@ -1,7 +1,7 @@
 -- Public: other crates cite these lemmas. Requests, replies, entries and restores are codecs.
 use Rattle.std.proofs.Common.{◌≡◌, ℕ, ℤ, pos, ◌^◌, ◌≤◌, Bool, true, false, ◌&&◌, cond, ltb, leb, eqb, ◌⊎◌, List, ◌++◌}
 use Rattle.std.proofs.Common.{length, Some, refl, sym, ap, subst, ◌∙◌, arith, inl, inr}
-use Rattle.std.specs.Prelude.{IsTrue}
+use Rattle.std.specs.Prelude.{IsTrue, if◌then◌else◌}
 use Rattle.std.specs.Ordering.{int_eq}
 use Rattle.std.proofs.lemmas.Bool.Decides.{Decides-int_eq}
 use Rattle.std.proofs.lemmas.Bool.{ltb-true, lt-ltb, leb-true, eqb-true, eq-eqb, and_parts, and_from}
@@ -17,10 +17,11 @@ use Rattle.eve_smallbank.specs.declared.request.Reply.TheVariants.{Done, Total, 
 use Rattle.eve_smallbank.specs.declared.entry.Kind.{Kind}
 use Rattle.eve_smallbank.specs.declared.entry.Kind.TheVariants.{Read, Write}
 use Rattle.eve_smallbank.specs.declared.entry.Entry.{Entry}
-use Rattle.eve_grammar.specs.Trace.{Asked, Restore}
+use Rattle.eve_smallbank.specs.Access.{is_write}
+use Rattle.eve_grammar.specs.Trace.{Asked}
 use Rattle.eve_grammar.specs.declared.limits.TheConstants.{MOST_VERSIONS}
 use Rattle.eve_grammar.specs.Limits.{is_number, is_request, is_asked, is_reply, is_entry, is_restore}
-use Rattle.eve_grammar.specs.Spelling.{name_text, request_text, asked_text, kind_code, entry_text, restore_text}
+use Rattle.eve_grammar.specs.Spelling.{name_text, request_text, asked_text, entry_text, restore_text}
 use Rattle.eve_grammar.specs.Reading.{Reader, number_at, signed_at, both, made, made_if, only, name_at, move_at}
 use Rattle.eve_grammar.specs.Reading.{coded_at, request_at, asked_from, asked_at, plain_reply, reply_from, reply_at}
 use Rattle.eve_grammar.specs.Reading.{kind_from, entry_from, entry_fields_at, entry_at, restore_from, restore_fields_at}
@@ -29,6 +30,7 @@ use Rattle.eve_grammar.proofs.Codec.{IsBytes, bind_some, guard_some, Takes, Code
 use Rattle.eve_grammar.proofs.Codec.{Codec-made_if, Codec-led_by, Codec-both, Codec-only}
 use Rattle.eve_grammar.proofs.FieldCodecs.{Codec-number1, Codec-number4, Codec-number8, is_signed, Codec-signed}
 use Rattle.eve_grammar.proofs.FieldCodecs.{balance_signed, Codec-name, move_text, is_move, Codec-move}
+use Rattle.eve_grammar.specs.declared.restore.Restore.{Restore}
 
 pub chosen : {A : Type 0} (b : Bool) (x y z : A) → cond b x y ≡ z → ((b ≡ true) × (x ≡ z)) ⊎ ((b ≡ false) × (y ≡ z))
 chosen true x y z e = inl (refl, e)
@@ -255,6 +257,10 @@ Codec-reply =
     (Codec-both (big_bytes 1) (is_number 1) (number_at 1) money_text is_signed signed_at Codec-number1 Codec-signed))
 
 -- ---- entries
+
+-- a kind's byte
+abbrev kind_code : Kind → ℕ
+kind_code kind = if is_write kind then 1 else 0
 
 kind_back : (code : ℕ) (k : Kind) → IsTrue (is_number 1 code) → kind_from code ≡ Some k → (kind_code k ≡ code)
     × IsTrue true

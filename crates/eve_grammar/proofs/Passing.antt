@@ -6,7 +6,6 @@ use Rattle.std.proofs.lemmas.Bool.{le-leb, ltb-false, leb-true, and_parts, and_f
 use Rattle.std.proofs.lemmas.List.{length-drop}
 use Rattle.std.proofs.lemmas.Option.{same_Some}
 use Rattle.eve_smallbank.specs.declared.request.Reply.{Reply}
-use Rattle.eve_grammar.specs.Trace.{Restore}
 use Rattle.eve_grammar.specs.Limits.{is_between, is_rising}
 use Rattle.eve_grammar.specs.Reading.{◌>>=◌, Reader, number_at, both, many_at, reply_at, restore_at, are_sizes}
 use Rattle.eve_grammar.specs.Reading.{sizes_at}
@@ -17,6 +16,7 @@ use Rattle.eve_grammar.proofs.Scans.{rest_some, rest_none, many_length, many_num
 use Rattle.eve_grammar.proofs.Scans.{rising_is, counted}
 use Rattle.eve_grammar.proofs.Scans.{is_rising_from, rising_from_zero}
 use Rattle.eve_grammar.proofs.Loops.{rest_short}
+use Rattle.eve_grammar.specs.declared.restore.Restore.{Restore}
 
 -- ---- loops
 

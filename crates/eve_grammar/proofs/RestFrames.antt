@@ -5,15 +5,17 @@ use Rattle.std.specs.Prelude.{IsTrue, ◌==◌}
 use Rattle.std.specs.List.{flat_map, enumerate_from}
 use Rattle.std.proofs.lemmas.Bool.{both_ways, and_parts}
 use Rattle.std.proofs.lemmas.List.{nil_from_length}
-use Rattle.eve_grammar.specs.Trace.{Batch, Access, Attempt, Step, Commits, RollsBack, Vote, Sent, Head}
+use Rattle.eve_grammar.specs.Trace.{Batch, Access, Attempt, Step, Commits, RollsBack, Vote, Sent}
 use Rattle.eve_grammar.specs.Frames.{Frame, OfCustomer, OfBatch, OfReplica, OfAttempt, OfAccess, OfCommit, OfRollback}
 use Rattle.eve_grammar.specs.Frames.{OfVerifier, OfVote, OfSent, End, without_accesses, step_frames, section_frames}
-use Rattle.eve_grammar.specs.Frames.{verifier_frames, kind_of, Place, next_place, is_allowed}
+use Rattle.eve_grammar.specs.Frames.{verifier_frames, kind_of, next_place, is_allowed}
 use Rattle.eve_grammar.specs.Limits.{is_batch, is_attempt, is_body}
 use Rattle.eve_grammar.specs.Gathering.{Gathered, gather}
 use Rattle.eve_grammar.proofs.Standing.{of_batch, of_access, of_replica, of_attempt, of_commit, of_rollback}
 use Rattle.eve_grammar.proofs.Standing.{of_verifier, of_vote, of_sent, IsBehind, IsSettled}
 use Rattle.eve_grammar.proofs.RestParts.{IsCounted, HasAllReplicas, all_replicas, IsOwned}
+use Rattle.eve_grammar.specs.declared.head.Head.{Head}
+use Rattle.eve_grammar.specs.declared.place.Place.{Place}
 
 -- the frames from a place on that say what is gathered
 abbrev pub frames_from : Place → Gathered → List Frame

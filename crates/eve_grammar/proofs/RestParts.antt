@@ -4,14 +4,16 @@ use Rattle.std.proofs.Common.{◌≡◌, ℕ, zero, suc, ◌+◌, ◌-◌, ◌<�
 use Rattle.std.specs.Prelude.{IsTrue, ◌==◌}
 use Rattle.std.specs.List.{list_all}
 use Rattle.std.proofs.lemmas.Bool.{both_ways, and_parts, and_from}
-use Rattle.eve_grammar.specs.Trace.{Access, Attempt, Step, Attempts, Commits, RollsBack, Head}
+use Rattle.eve_grammar.specs.Trace.{Access, Attempt, Step, Attempts, Commits, RollsBack}
 use Rattle.eve_grammar.specs.Frames.{Frame, OfCustomer, OfBatch, OfReplica, OfAttempt, OfAccess, OfCommit, OfRollback}
-use Rattle.eve_grammar.specs.Frames.{OfVerifier, OfVote, OfSent, End, kind_of, Place, next_place, is_allowed}
+use Rattle.eve_grammar.specs.Frames.{OfVerifier, OfVote, OfSent, End, kind_of, next_place, is_allowed}
 use Rattle.eve_grammar.specs.Limits.{is_customer, is_batch, is_access, is_attempt, is_step, is_vote, is_sent, row_count}
 use Rattle.eve_grammar.specs.Limits.{is_body}
 use Rattle.eve_grammar.specs.Gathering.{Gathered, gather}
 use Rattle.eve_grammar.proofs.Standing.{InSection, of_customer, of_batch, of_replica, of_attempt, of_access, of_commit}
 use Rattle.eve_grammar.proofs.Standing.{of_rollback, of_verifier, of_vote}
+use Rattle.eve_grammar.specs.declared.head.Head.{Head}
+use Rattle.eve_grammar.specs.declared.place.Place.{Place}
 
 -- ---- as many as are still to come
 

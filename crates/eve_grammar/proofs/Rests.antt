@@ -4,8 +4,8 @@ use Rattle.std.specs.Prelude.{IsTrue}
 use Rattle.std.specs.List.{list_all}
 use Rattle.std.proofs.lemmas.Bool.{both_ways}
 use Rattle.std.proofs.lemmas.List.{nil_from_length}
-use Rattle.eve_grammar.specs.Trace.{Head, head_of}
-use Rattle.eve_grammar.specs.Frames.{Frame, End, frames_of, kind_of, Place, start_place, next_place, is_allowed}
+use Rattle.eve_grammar.specs.Trace.{head_of}
+use Rattle.eve_grammar.specs.Frames.{Frame, End, frames_of, kind_of, start_place, next_place, is_allowed}
 use Rattle.eve_grammar.specs.Limits.{is_head, is_step, is_vote, is_sent, row_count, HasLimits, FitsAt}
 use Rattle.eve_grammar.specs.Following.{Follow, after, AreAllFrames}
 use Rattle.eve_grammar.specs.Gathering.{Gathered, gather, gathered, trace_of}
@@ -14,6 +14,8 @@ use Rattle.eve_grammar.proofs.Runs.{some_verifier}
 use Rattle.eve_grammar.proofs.RestParts.{IsCounted, counted_more, HasAllReplicas, all_replicas_more, IsOwned}
 use Rattle.eve_grammar.proofs.RestParts.{owned_more, IsWithin, within_more}
 use Rattle.eve_grammar.proofs.RestFrames.{frames_from, frames_more}
+use Rattle.eve_grammar.specs.declared.head.Head.{Head}
+use Rattle.eve_grammar.specs.declared.place.Place.{Place}
 
 -- ---- from a place to the end
 
@@ -108,6 +110,7 @@ limits_of-trace_of h fs head run =
     let w = (rest_of_run h fs head run).within in
     let same = sym (head_of-trace_of h fs head run) in
     record {
+      counts = same;
       head = subst (λ (k : Head). IsTrue (is_head k)) same head;
       customers = w.0;
       batches = w.1;

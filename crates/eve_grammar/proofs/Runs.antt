@@ -6,15 +6,17 @@ use Rattle.std.specs.Prelude.{IsTrue, nat_le, nat_lt, ◌==◌}
 use Rattle.std.specs.List.{flat_map, enumerate_from, list_all}
 use Rattle.std.proofs.lemmas.Bool.{and_parts, and_from, or_left, or_right, leb-true}
 use Rattle.eve_grammar.specs.Trace.{Customer, Batch, Access, Attempt, Step, Attempts, Commits, RollsBack, Vote, Sent}
-use Rattle.eve_grammar.specs.Trace.{Trace, Head, head_of}
+use Rattle.eve_grammar.specs.Trace.{Trace, head_of}
 use Rattle.eve_grammar.specs.Frames.{Frame, OfCustomer, OfBatch, OfAccess, OfVote, OfSent, End, step_frames}
-use Rattle.eve_grammar.specs.Frames.{section_frames, verifier_frames, frames_of, kind_of, Place, start_place}
+use Rattle.eve_grammar.specs.Frames.{section_frames, verifier_frames, frames_of, kind_of, start_place}
 use Rattle.eve_grammar.specs.Frames.{next_place}
 use Rattle.eve_grammar.specs.Frames.{is_allowed_in_sections, is_allowed_behind_sections, is_allowed}
 use Rattle.eve_grammar.specs.Spelling.{frame_text, frames_text, length_of}
 use Rattle.eve_grammar.specs.Limits.{is_between, is_head, is_customer, is_batch, is_access, is_attempt, is_step}
 use Rattle.eve_grammar.specs.Limits.{is_vote, is_sent, row_count, HasLimits, is_body}
 use Rattle.eve_grammar.specs.Following.{Follow, after, AreAllFrames}
+use Rattle.eve_grammar.specs.declared.head.Head.{Head}
+use Rattle.eve_grammar.specs.declared.place.Place.{Place}
 
 -- frames that stand in order up to the end, but for their lengths
 Runs : Head → Place → List Frame → Type 0

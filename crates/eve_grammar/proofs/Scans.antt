@@ -8,11 +8,11 @@ use Rattle.std.proofs.lemmas.List.{length-append, length-drop, drop-drop}
 use Rattle.std.proofs.lemmas.List.Sums.{sum_by-cons}
 use Rattle.std.proofs.lemmas.Option.{same_Some}
 use Rattle.byteorder.specs.Endian.{big_number}
-use Rattle.eve_grammar.specs.Trace.{Restore}
 use Rattle.eve_grammar.specs.Limits.{is_rising}
 use Rattle.eve_grammar.specs.Reading.{◌>>=◌, Reader, number_at, many_at, restore_at}
 use Rattle.eve_grammar.specs.Scanning.{total_at, rest_at, rising_at}
 use Rattle.eve_grammar.proofs.Codec.{bind_some}
+use Rattle.eve_grammar.specs.declared.restore.Restore.{Restore}
 
 -- ---- this many of a field
 

@@ -10,7 +10,6 @@ use Rattle.eve_smallbank.specs.Access.{is_write}
 use Rattle.eve_smallbank.specs.declared.request.Reply.{Reply}
 use Rattle.eve_smallbank.specs.declared.entry.Kind.{Kind}
 use Rattle.eve_smallbank.specs.declared.entry.Entry.{Entry}
-use Rattle.eve_grammar.specs.Trace.{Restore, Head}
 use Rattle.eve_grammar.specs.Limits.{is_entry, is_head}
 use Rattle.eve_grammar.specs.Spelling.{entry_text, restore_text}
 use Rattle.eve_grammar.specs.Reading.{Reader, ◌>>=◌, number_at, signed_at, both, behind, made, made_if, only, head_from}
@@ -20,6 +19,8 @@ use Rattle.eve_grammar.proofs.Codec.{IsBytes, Codec}
 use Rattle.eve_grammar.proofs.FrameLaws.{Exact-header}
 use Rattle.eve_grammar.proofs.PartCodecs.{reply_length, Codec-reply, is_written, entry_length, Codec-entry_fields}
 use Rattle.eve_grammar.proofs.PartCodecs.{is_restored, restore_length, Codec-restore_fields}
+use Rattle.eve_grammar.specs.declared.head.Head.{Head}
+use Rattle.eve_grammar.specs.declared.restore.Restore.{Restore}
 
 -- what is shorter than each of its spellings is not read
 pub too_short : {A : Type 0} (n : ℕ) (ta : A → List ℕ) (fa : A → Bool) (ra : Reader A) → Codec ta fa ra

@@ -2,11 +2,9 @@
 use Rattle.std.specs.Prelude.{ℕ, List, [], Option, Some, None}
 use Rattle.eve_smallbank.specs.SmallBank.{plain}
 use Rattle.eve_grammar.specs.declared.request.Asked as code
-use Rattle.eve_grammar.specs.declared.head.Head as header
-use Rattle.eve_grammar.specs.declared.restore.Restore as Restored
 use Rattle.eve_grammar.specs.declared.vote.Choice as chosen
 use Rattle.eve_grammar.specs.declared.vote.Choice.TheVariants as of
-use Rattle.eve_grammar.specs.Trace.{Asked, Restore, Choice, ForRollback, ForCommit, Head}
+use Rattle.eve_grammar.specs.Trace.{Asked, Choice, ForRollback, ForCommit}
 use Rattle.eve_grammar.specs.Reading.{Reader, many_at}
 
 -- the values of a reading, none where it failed
@@ -22,24 +20,7 @@ list_in one n bytes = values (many_at one n bytes)
 abbrev pub borrowed_asked : code.Asked → Asked
 borrowed_asked a = record { client = a.client; number = a.number; request = plain a.request }
 
--- the numbers of a header
-abbrev pub limits : header.Head → Head
-limits h =
-    record {
-      replicas = h.replicas;
-      verifiers = h.verifiers;
-      quorum = h.quorum;
-      window = h.window;
-      workers = h.workers;
-      customers = h.customers;
-      batches = h.batches;
-    }
-
 -- what was voted for
 abbrev pub borrowed_choice : chosen.Choice → Choice
 borrowed_choice of.ForRollback = ForRollback
 borrowed_choice (of.ForCommit token) = ForCommit token.now
-
--- a row as it is committed
-abbrev pub restore : Restored.Restore → Restore
-restore r = record { row = r.row; version = r.version; value = r.value }

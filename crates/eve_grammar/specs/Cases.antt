@@ -12,9 +12,7 @@ customer_ann = record { name = codes "ann"; saving = pos 0; checking = pos 0 }
 -- one of each, and no batch
 abbrev pub empty_run : Trace
 empty_run = record {
-  quorum = 1;
-  window = 1;
-  workers = 1;
+  head = record { replicas = 1; verifiers = 1; quorum = 1; window = 1; workers = 1; customers = 1; batches = 0 };
   customers = customer_ann ∷ [];
   batches = [];
   sections = [] ∷ [];
@@ -38,9 +36,7 @@ token =
 -- a batch that deposits 500, executed, committed and voted for
 abbrev pub deposit_committed : Trace
 deposit_committed = record {
-  quorum = 1;
-  window = 1;
-  workers = 1;
+  head = record { replicas = 1; verifiers = 1; quorum = 1; window = 1; workers = 1; customers = 1; batches = 1 };
   customers = customer_ann ∷ [];
   batches = record {
     sizes = 1 ∷ [];

@@ -32,10 +32,6 @@ is_grouped sizes (i ∷ order) =
 abbrev pub keeps_groups : List ℕ → ℕ → List ℕ → Bool
 keeps_groups sizes r order = is_permutation r order && is_grouped sizes order
 
--- the same as a statement
-abbrev pub KeepsGroups : List ℕ → ℕ → List ℕ → Type 0
-KeepsGroups sizes r order = IsTrue (keeps_groups sizes r order)
-
 -- the numbers from n on, one after another
 abbrev pub counts_from : ℕ → List ℕ → Bool
 counts_from n [] = true

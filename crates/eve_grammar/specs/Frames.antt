@@ -3,7 +3,9 @@ use Rattle.std.specs.Prelude.{ℕ, ◌+◌, ◌-◌, nat_lt, ◌==◌, Bool, tru
 use Rattle.std.specs.Prelude.{◌∷◌, ◌++◌, map, length}
 use Rattle.std.specs.List.{flat_map, enumerate_from}
 use Rattle.eve_grammar.specs.Trace.{Customer, Batch, Access, Attempt, Commit, Rollback, Step, Attempts, Commits}
-use Rattle.eve_grammar.specs.Trace.{RollsBack, Vote, Sent, Trace, Head}
+use Rattle.eve_grammar.specs.Trace.{RollsBack, Vote, Sent, Trace}
+use Rattle.eve_grammar.specs.declared.head.Head.{Head}
+use Rattle.eve_grammar.specs.declared.place.Place.{Place}
 
 -- A frame with what it says. Batches, replicas and verifiers say their own number; an attempt's frame
 -- says nothing of its accesses, which have frames of their own after it.
@@ -26,7 +28,7 @@ without_accesses a = record a { accesses = [] }
 
 -- an attempt's own frame, then those of its accesses
 abbrev pub attempt_frames : Attempt → List Frame
-attempt_frames a = OfAttempt (without_accesses a) ∷ map OfAccess a.accesses
+attempt_frames a = OfAttempt (record a { accesses = [] }) ∷ map OfAccess a.accesses
 
 -- the frames of a step: one, but for an attempt
 abbrev pub step_frames : Step → List Frame
@@ -76,28 +78,10 @@ kind_of (OfVote v) = 33
 kind_of (OfSent s) = 48
 kind_of End = 127
 
--- How far the frames have come: how many of each have come, how many access frames the last attempt
--- still has to have, and whether a reply sent, or the end, has come.
-pub record Place : Type 0 where
-  pub customers : ℕ
-  pub batches : ℕ
-  pub replicas : ℕ
-  pub accesses : ℕ
-  pub verifiers : ℕ
-  pub sending : Bool
-  pub ended : Bool
-
 -- before the first frame
 abbrev pub start_place : Place
-start_place = record {
-  customers = 0;
-  batches = 0;
-  replicas = 0;
-  accesses = 0;
-  verifiers = 0;
-  sending = false;
-  ended = false;
-}
+start_place =
+    record { customers = 0; batches = 0; replicas = 0; accesses = 0; verifiers = 0; sending = false; ended = false }
 
 -- after a frame; commits, rollbacks and votes count nothing
 abbrev pub next_place : Place → Frame → Place

@@ -1,9 +1,9 @@
 -- The trace that frames make up. docs/MODEL.md, "Trace".
 use Rattle.std.specs.Prelude.{◌≡◌, List, [], ◌∷◌}
 use Rattle.eve_grammar.specs.Trace.{Customer, Batch, Access, Step, Attempts, Commits, RollsBack, Vote, Sent, Trace}
-use Rattle.eve_grammar.specs.Trace.{Head, head_of}
 use Rattle.eve_grammar.specs.Frames.{Frame, OfCustomer, OfBatch, OfReplica, OfAttempt, OfAccess, OfCommit, OfRollback}
 use Rattle.eve_grammar.specs.Frames.{OfVerifier, OfVote, OfSent, End, frames_of}
+use Rattle.eve_grammar.specs.declared.head.Head.{Head}
 
 -- What frames say: whole parts of a trace, and what belongs to a frame that stands before them,
 -- accesses to an attempt, steps to a replica, votes to a verifier.
@@ -49,12 +49,10 @@ abbrev pub gathered : List Frame → Gathered
 gathered [] = nothing
 gathered (f ∷ fs) = gather f (gathered fs)
 
--- the whole parts, with the numbers that the header alone says
+-- the header and the whole parts
 abbrev pub headed : Head → Gathered → Trace
 headed h g = record {
-  quorum = h.quorum;
-  window = h.window;
-  workers = h.workers;
+  head = h;
   customers = g.customers;
   batches = g.batches;
   sections = g.sections;
@@ -68,5 +66,5 @@ trace_of h fs = headed h (gathered fs)
 
 -- the trace has this header and these frames
 pub record IsMadeOf (h : Head) (fs : List Frame) (t : Trace) : Type 0 where
-  pub head : head_of t ≡ h
+  pub head : t.head ≡ h
   pub frames : frames_of t ≡ fs

@@ -1,11 +1,11 @@
 -- Which traces there are: the limits of the format and the conditions of its fields.
 -- docs/MODEL.md, "Trace" and "Limits"; docs/TRACE.md, "Header", "Frames", "Parts".
-use Rattle.std.specs.Prelude.{◌≡◌, ℕ, pos, negsuc, ◌+◌, ◌-◌, ◌*◌, ◌^◌, ◌≤◌, ◌<◌, nat_le, nat_lt, ◌==◌, Bool, true, ◌&&◌}
-use Rattle.std.specs.Prelude.{◌||◌, IsTrue, List, [], ◌∷◌, length, sum}
+use Rattle.std.specs.Prelude.{ℕ, pos, negsuc, ◌+◌, ◌-◌, ◌*◌, ◌^◌, ◌<◌, nat_le, nat_lt, ◌==◌, Bool, true, ◌&&◌}
+use Rattle.std.specs.Prelude.{◌||◌, IsTrue, List, [], ◌∷◌, length, sum, ◌≡◌}
 use Rattle.std.specs.List.{list_all}
 use Rattle.std.specs.Ordering.{int_eq}
 use Rattle.std.specs.Int.RustNames.{int_le}
-use Rattle.eve_accounts.specs.Money.{is_balance, is_saving, is_amount}
+use Rattle.eve_accounts.specs.Money.{is_balance, is_amount}
 use Rattle.eve_accounts.specs.Names.{is_name}
 use Rattle.eve_smallbank.specs.SmallBank.{Request, Balance, DepositChecking, TransactSaving, Amalgamate, WriteCheck}
 use Rattle.eve_smallbank.specs.Access.{is_write}
@@ -14,13 +14,16 @@ use Rattle.eve_smallbank.specs.declared.request.Reply.TheVariants.{Total}
 use Rattle.eve_smallbank.specs.declared.entry.Entry.{Entry}
 use Rattle.eve_grammar.specs.declared.limits.TheConstants.{MOST_REPLICAS, MOST_VERIFIERS, MOST_WINDOW, MOST_WORKERS}
 use Rattle.eve_grammar.specs.declared.limits.TheConstants.{MOST_CUSTOMERS, MOST_BATCHES, MOST_REQUESTS, MOST_ENTRIES}
-use Rattle.eve_grammar.specs.declared.limits.TheConstants.{MOST_VERSIONS, MOST_BYTES}
-use Rattle.eve_grammar.specs.Trace.{Customer, Asked, Batch, Access, Attempt, Commit, Restore, Rollback, Step, Attempts}
-use Rattle.eve_grammar.specs.Trace.{Commits, RollsBack, Choice, ForRollback, ForCommit, Vote, Sent, Trace, Head}
+use Rattle.eve_grammar.specs.declared.limits.TheConstants.{MOST_VERSIONS}
+use Rattle.eve_grammar.specs.Trace.{Customer, Asked, Batch, Access, Attempt, Commit, Rollback, Step, Attempts}
+use Rattle.eve_grammar.specs.Trace.{Commits, RollsBack, Choice, ForRollback, ForCommit, Vote, Sent, Trace}
 use Rattle.eve_grammar.specs.Trace.{head_of}
 use Rattle.eve_grammar.specs.Frames.{Frame, OfCustomer, OfBatch, OfReplica, OfAttempt, OfAccess, OfCommit, OfRollback}
-use Rattle.eve_grammar.specs.Frames.{OfVerifier, OfVote, OfSent, End, kind_of, Place, is_allowed}
-use Rattle.eve_grammar.specs.Spelling.{body_text, length_of, spelling}
+use Rattle.eve_grammar.specs.Frames.{OfVerifier, OfVote, OfSent, End, kind_of, is_allowed}
+use Rattle.eve_grammar.specs.Spelling.{body_text}
+use Rattle.eve_grammar.specs.declared.head.Head.{Head}
+use Rattle.eve_grammar.specs.declared.restore.Restore.{Restore}
+use Rattle.eve_grammar.specs.declared.place.Place.{Place}
 
 -- from the one to the other, both with them
 abbrev pub is_between : ℕ → ℕ → ℕ → Bool
@@ -57,7 +60,7 @@ is_reply _ = true
 
 -- a name, and balances of which the saving isn't below 0
 abbrev pub is_customer : Customer → Bool
-is_customer c = is_name c.name && (is_saving c.saving && is_balance c.checking)
+is_customer c = is_name c.name && ((is_balance c.saving && int_le (pos 0) c.saving) && is_balance c.checking)
 
 -- one parallelBatch or more, none empty, and no more requests than a batch may have
 abbrev pub is_batch : Batch → Bool
@@ -146,18 +149,13 @@ row_count h = 2 * h.customers
 
 -- all limits but that on the length
 pub record HasLimits (t : Trace) : Type 0 where
+  pub counts : t.head ≡ head_of t
   pub head : IsTrue (is_head (head_of t))
   pub customers : IsTrue (list_all is_customer t.customers)
   pub batches : IsTrue (list_all is_batch t.batches)
   pub sections : IsTrue (list_all (list_all (is_step (row_count (head_of t)))) t.sections)
   pub votes : IsTrue (list_all (list_all (is_vote (length t.batches))) t.verifiers)
   pub sent : IsTrue (list_all (is_sent (length t.sections) (length t.batches)) t.sent)
-
--- the bytes are the trace, within the limits
-pub record Spells (bytes : List ℕ) (t : Trace) : Type 0 where
-  pub limits : HasLimits t
-  pub short : length_of t ≤ MOST_BYTES
-  pub spelled : bytes ≡ spelling t
 
 -- ---- frame by frame
 
@@ -167,9 +165,9 @@ is_body h p (OfCustomer c) = is_customer c
 is_body h p (OfBatch number b) = (number == p.batches + 1) && is_batch b
 is_body h p (OfReplica number) = number == p.replicas
 is_body h p (OfAttempt a) = is_attempt a && (length a.accesses == 0)
-is_body h p (OfAccess x) = is_access (row_count h) x
+is_body h p (OfAccess x) = is_access (2 * h.customers) x
 is_body h p (OfCommit c) = is_commit c
-is_body h p (OfRollback r) = is_rollback (row_count h) r
+is_body h p (OfRollback r) = is_rollback (2 * h.customers) r
 is_body h p (OfVerifier number) = number == p.verifiers
 is_body h p (OfVote v) = is_vote h.batches v
 is_body h p (OfSent s) = is_sent h.replicas h.batches s

@@ -14,12 +14,15 @@ use Rattle.eve_smallbank.specs.declared.request.Reply.TheVariants.{Done, Total, 
 use Rattle.eve_smallbank.specs.declared.entry.Kind.{Kind}
 use Rattle.eve_smallbank.specs.declared.entry.Kind.TheVariants.{Read, Write}
 use Rattle.eve_smallbank.specs.declared.entry.Entry.{Entry}
-use Rattle.eve_grammar.specs.Trace.{Customer, Asked, Batch, Access, Attempt, Commit, Restore, Rollback, Choice}
-use Rattle.eve_grammar.specs.Trace.{ForRollback, ForCommit, Vote, Sent, Head}
+use Rattle.eve_grammar.specs.Trace.{Customer, Asked, Batch, Access, Attempt, Commit, Rollback, Choice}
+use Rattle.eve_grammar.specs.Trace.{ForRollback, ForCommit, Vote, Sent}
 use Rattle.eve_grammar.specs.Frames.{Frame, OfCustomer, OfBatch, OfReplica, OfAttempt, OfAccess, OfCommit, OfRollback}
-use Rattle.eve_grammar.specs.Frames.{OfVerifier, OfVote, OfSent, End, Place}
+use Rattle.eve_grammar.specs.Frames.{OfVerifier, OfVote, OfSent, End}
 use Rattle.eve_grammar.specs.declared.limits.TheConstants.{MOST_REQUESTS, MOST_ENTRIES}
 use Rattle.eve_grammar.specs.Limits.{is_between, is_entry, is_restore, is_rising, is_head, row_count}
+use Rattle.eve_grammar.specs.declared.head.Head.{Head}
+use Rattle.eve_grammar.specs.declared.restore.Restore.{Restore}
+use Rattle.eve_grammar.specs.declared.place.Place.{Place}
 
 -- ---- how readers are put together
 

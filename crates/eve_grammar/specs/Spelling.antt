@@ -6,14 +6,15 @@ use Rattle.std.specs.List.{flat_map}
 use Rattle.byteorder.specs.Endian.{big_bytes}
 use Rattle.eve_smallbank.specs.SmallBank.{Request, Balance, DepositChecking, TransactSaving, Amalgamate, WriteCheck}
 use Rattle.eve_smallbank.specs.Spelling.{money_text, reply_text}
-use Rattle.eve_smallbank.specs.declared.entry.Kind.{Kind}
-use Rattle.eve_smallbank.specs.declared.entry.Kind.TheVariants.{Read, Write}
 use Rattle.eve_smallbank.specs.declared.entry.Entry.{Entry}
-use Rattle.eve_grammar.specs.Trace.{Customer, Asked, Batch, Access, Attempt, Restore, Step, Choice, ForRollback}
-use Rattle.eve_grammar.specs.Trace.{ForCommit, Vote, Sent, Trace, Head, head_of}
+use Rattle.eve_smallbank.specs.Access.{is_write}
+use Rattle.eve_grammar.specs.Trace.{Customer, Asked, Batch, Access, Attempt, Step, Choice, ForRollback}
+use Rattle.eve_grammar.specs.Trace.{ForCommit, Vote, Sent, Trace}
 use Rattle.eve_grammar.specs.Frames.{Frame, OfCustomer, OfBatch, OfReplica, OfAttempt, OfAccess, OfCommit, OfRollback}
 use Rattle.eve_grammar.specs.Frames.{OfVerifier, OfVote, OfSent, End, kind_of, step_frames, section_frames}
 use Rattle.eve_grammar.specs.Frames.{verifier_frames, batches_of, sections_of, verifiers_of, frames_of}
+use Rattle.eve_grammar.specs.declared.head.Head.{Head}
+use Rattle.eve_grammar.specs.declared.restore.Restore.{Restore}
 
 -- ---- parts of frames
 
@@ -33,15 +34,10 @@ request_text (WriteCheck name amount) = 5 ∷ (name_text name ++ money_text amou
 abbrev pub asked_text : Asked → List ℕ
 asked_text a = big_bytes 4 a.client ++ (big_bytes 8 a.number ++ request_text a.request)
 
--- the number of a kind
-abbrev pub kind_code : Kind → ℕ
-kind_code Read = 0
-kind_code Write = 1
-
 -- 29 bytes
 abbrev pub entry_text : Entry → List ℕ
 entry_text e =
-    big_bytes 4 e.row ++ (big_bytes 1 (kind_code e.kind) ++ (big_bytes 8 e.version
+    big_bytes 4 e.row ++ (big_bytes 1 (if is_write e.kind then 1 else 0) ++ (big_bytes 8 e.version
     ++ (money_text e.seen ++ money_text e.after)))
 
 -- 20 bytes
@@ -103,7 +99,7 @@ length_of t = 32 + length (frames_text (frames_of t))
 
 -- the header, then the frames
 unfoldable pub spelling : Trace → List ℕ
-spelling t = head_text (head_of t) (length_of t) ++ frames_text (frames_of t)
+spelling t = head_text t.head (length_of t) ++ frames_text (frames_of t)
 
 -- ---- where the parts stand
 
@@ -191,4 +187,5 @@ votes_at t v =
 
 -- each reply sent
 unfoldable pub sent_at : Trace → List (ℕ × Sent)
-sent_at t = located (λ s. frame_text (OfSent s)) (sent_start t) t.sent
+sent_at t =
+    located (λ s. frame_text (OfSent s)) (verifiers_start t + length (flat_map votes_text (verifiers_of t))) t.sent

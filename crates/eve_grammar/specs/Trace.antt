@@ -1,11 +1,12 @@
--- A trace, as its parts in the grammar's order. What the grammar counts is the length of a list here,
--- and what it numbers is the place in a list.
+-- A trace: its header, and its parts in the grammar's order. What the grammar numbers is the place in a list here.
 -- docs/MODEL.md, "Trace".
 use Rattle.std.specs.Prelude.{ℕ, ℤ, Bool, List, [], ◌∷◌, length, slice_index_or}
 use Rattle.std.specs.List.{flat_map}
 use Rattle.eve_smallbank.specs.SmallBank.{Request, Balance}
 use Rattle.eve_smallbank.specs.declared.request.Reply.{Reply}
 use Rattle.eve_smallbank.specs.declared.entry.Entry.{Entry}
+use Rattle.eve_grammar.specs.declared.head.Head.{Head}
+use Rattle.eve_grammar.specs.declared.restore.Restore.{Restore}
 
 -- a customer's name and opening balances
 pub record Customer : Type 0 where
@@ -66,12 +67,6 @@ pub record Commit : Type 0 where
   pub view : ℕ
   pub token : List ℕ
 
--- a row's version and value as they are committed
-pub record Restore : Type 0 where
-  pub row : ℕ
-  pub version : ℕ
-  pub value : ℤ
-
 -- the replica goes back to this number and on in the next view
 pub record Rollback : Type 0 where
   pub to : ℕ
@@ -105,33 +100,19 @@ pub record Sent : Type 0 where
 
 -- sections go by replica, votes by verifier
 pub record Trace : Type 0 where
-  pub quorum : ℕ
-  pub window : ℕ
-  pub workers : ℕ
+  pub head : Head
   pub customers : List Customer
   pub batches : List Batch
   pub sections : List (List Step)
   pub verifiers : List (List Vote)
   pub sent : List Sent
 
--- the numbers in the header
-pub record Head : Type 0 where
-  pub replicas : ℕ
-  pub verifiers : ℕ
-  pub quorum : ℕ
-  pub window : ℕ
-  pub workers : ℕ
-  pub customers : ℕ
-  pub batches : ℕ
-
--- a trace's header
+-- The header that counts these parts. Where bytes spell the trace, it is its own.
 abbrev pub head_of : Trace → Head
-head_of t = record {
-  replicas = length t.sections;
-  verifiers = length t.verifiers;
-  quorum = t.quorum;
-  window = t.window;
-  workers = t.workers;
-  customers = length t.customers;
-  batches = length t.batches;
-}
+head_of t =
+    record t.head {
+      replicas = length t.sections;
+      verifiers = length t.verifiers;
+      customers = length t.customers;
+      batches = length t.batches;
+    }

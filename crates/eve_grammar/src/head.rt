@@ -3,7 +3,6 @@
 ghost use Rattle.std.specs.Prelude.{◌≡◌};
 ghost use Rattle.eve_grammar.specs.Limits.{is_head};
 ghost use Rattle.eve_grammar.specs.Reading.{Gives, header_of};
-ghost use Rattle.eve_grammar.specs.Bodies.{limits};
 
 use crate::limits::{
     MOST_BATCHES, MOST_CUSTOMERS, MOST_REPLICAS, MOST_VERIFIERS, MOST_WINDOW, MOST_WORKERS,
@@ -34,7 +33,7 @@ pub struct Head {
 impl Head {
     /// Whether the numbers lie in their ranges.
     pub fn is_right(&self) -> bool
-        ensures { result ≡ is_head (limits self.now) }
+        ensures { result ≡ is_head self.now }
     {
         1 <= self.replicas
             && self.replicas <= MOST_REPLICAS
@@ -56,7 +55,7 @@ impl Head {
     ///
     /// docs/TRACE.md, "Header". The six bytes before them and the length after them are not looked at here.
     pub fn read(bytes: &[u8]) -> Option<Head>
-        ensures { Gives limits result (header_of bytes.now) }
+        ensures { Gives (λ h. h) result (header_of bytes.now) }
     {
         if bytes.len() != 18 || u16_in(bytes, 0) != 1 || u24_in(bytes, 7) != 0 {
             return None;

@@ -1,13 +1,14 @@
 //! Laws about the definitions. Each body is empty: the contract is the law.
 
 ghost use Rattle.std.specs.Prelude.{◌≡◌, ◌≤◌, ℕ, IsTrue, List};
-ghost use Rattle.eve_grammar.specs.Trace.{Trace, Head, head_of};
+ghost use Rattle.eve_grammar.specs.Trace.{Trace, head_of};
 ghost use Rattle.eve_grammar.specs.Frames.{Frame, frames_of};
-ghost use Rattle.eve_grammar.specs.Spelling.{length_of};
-ghost use Rattle.eve_grammar.specs.Limits.{HasLimits, is_head, Spells};
-ghost use Rattle.eve_grammar.specs.Following.{AreAllFrames};
+ghost use Rattle.eve_grammar.specs.Spelling.{length_of, spelling};
+ghost use Rattle.eve_grammar.specs.Limits.{HasLimits, is_head};
+ghost use Rattle.eve_grammar.specs.Following.{AreAllFrames, Spells};
 ghost use Rattle.eve_grammar.specs.Gathering.{trace_of, IsMadeOf};
 ghost use Rattle.eve_grammar.specs.Cases.{empty_run, empty_run_bytes, deposit_committed, deposit_committed_bytes};
+ghost use Rattle.eve_grammar.specs.declared.head.Head.{Head};
 
 use crate::limits::MOST_BYTES;
 
@@ -29,7 +30,7 @@ pub fn small_traces_are_spelled()
 
 /// A trace is what its header and its frames make up, so no two traces share both.
 pub fn frames_make_up_their_trace()
-    ensures { (t : Trace) → trace_of (head_of t) (frames_of t) ≡ t }
+    ensures { (t : Trace) → trace_of t.head (frames_of t) ≡ t }
 {}
 
 /// Frames that run from the first to the end, under a header within its limits, are those of
@@ -39,6 +40,13 @@ pub fn each_run_is_one_trace()
         → IsMadeOf h fs (trace_of h fs) }
     ensures limits { (h : Head) (fs : List Frame) → IsTrue (is_head h) → AreAllFrames h fs → HasLimits (trace_of h fs) }
     ensures only { (h : Head) (fs : List Frame) (t : Trace) → IsMadeOf h fs t → t ≡ trace_of h fs }
+{}
+
+/// The parts of a trace that bytes spell lie within their limits, and such parts, of at most `MOST_BYTES` bytes, are
+/// spelled by their spelling.
+pub fn spelled_parts_are_within_limits()
+    ensures within { (bytes : List ℕ) (t : Trace) → Spells bytes t → HasLimits t }
+    ensures spelled { (t : Trace) → HasLimits t → length_of t ≤ MOST_BYTES → Spells (spelling t) t }
 {}
 
 /// The frames of a trace within its limits, of at most `MOST_BYTES` bytes, run from the first to the end.

@@ -15,6 +15,7 @@ mod frame_kind;
 mod head;
 pub mod laws;
 mod limits;
+mod place;
 mod places;
 mod reply;
 mod request;
@@ -39,6 +40,7 @@ pub use limits::{
     MOST_NAMES, MOST_REPLICAS, MOST_REQUESTS, MOST_ROWS, MOST_VERIFIERS, MOST_VERSIONS,
     MOST_WINDOW, MOST_WORKERS,
 };
+pub use place::Place;
 pub use reply::reply_at;
 pub use request::Asked;
 pub use restore::{Restore, restore_at};

@@ -2,7 +2,6 @@
 
 ghost use Rattle.std.specs.Prelude.{◌≤◌};
 ghost use Rattle.eve_grammar.specs.Reading.{Gives, restore_at};
-ghost use Rattle.eve_grammar.specs.Bodies.{restore};
 
 use crate::entry::row_of;
 use crate::limits::{MOST_NAMED_ROWS, MOST_VERSIONS};
@@ -25,7 +24,7 @@ pub struct Restore {
 /// docs/TRACE.md, "Parts": a version of at most `MOST_VERSIONS`.
 pub fn restore_at(rows: u32, bytes: &[u8]) -> Option<(Restore, &[u8])>
     requires { rows ≤ MOST_NAMED_ROWS }
-    ensures { Gives (λ x. (restore x.0, x.1.now)) result (restore_at rows bytes.now) }
+    ensures { Gives (λ x. (x.0, x.1.now)) result (restore_at rows bytes.now) }
 {
     if bytes.len() < 20 {
         return None;

@@ -9,7 +9,8 @@ use Rattle.std.proofs.lemmas.List.Concat.{flat_map-append}
 use Rattle.eve_grammar.specs.Trace.{Access, Attempt, Step, Attempts, Commits, RollsBack, Trace}
 use Rattle.eve_grammar.specs.Frames.{without_accesses}
 use Rattle.eve_grammar.specs.Spelling.{accesses_at, spelling, steps_at}
-use Rattle.eve_grammar.specs.Limits.{Spells}
+use Rattle.eve_grammar.specs.Following.{Spells}
+use Rattle.eve_grammar.proofs.Spelled.{limits_of_spelled}
 use Rattle.eve_frames.specs.Views.{attempt_in}
 use Rattle.eve_frames.specs.declared.attempt.AttemptView.{AttemptView}
 use Rattle.eve_views.specs.StepKinds.{IsStep}
@@ -39,7 +40,7 @@ pub ahead_start : (t : Trace) (e : ℕ) (n : Notes) (bytes records : List ℕ) �
     → IsKeptAhead t e (steps_at t e) 0 n
 ahead_start t e n bytes records spelled same ordered all none nothing_back is = record {
   come = subst (HasCome t e (steps_at t e)) (sym is)
-      (come_start_with t e (map (seen bytes) records) spelled.limits);
+      (come_start_with t e (map (seen bytes) records) (limits_of_spelled bytes t spelled));
   notes = record {
     spelled = subst (λ (b : List ℕ). Spells b t) (sym same) spelled;
     framed = record {

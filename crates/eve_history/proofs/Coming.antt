@@ -1,5 +1,5 @@
 -- Public: other crates cite these lemmas. The steps of a section, one after another.
-use Rattle.eve_views.specs.Form.{IsLeast}
+use Rattle.eve_views.specs.Form.{IsLeast, IsFaultIn}
 use Rattle.std.proofs.Common.{◌≡◌, ℕ, zero, suc, ◌+◌, ◌-◌, ◌<◌, ◌≤◌, ◌==◌, Bool, true, false, List, [], ◌∷◌, ◌++◌, map}
 use Rattle.std.proofs.Common.{length, take, drop, replicate, Option, Some, None, IsTrue, refl, sym, ap, subst, ◌∙◌}
 use Rattle.std.proofs.Common.{append_assoc, arith}
@@ -22,13 +22,13 @@ use Rattle.eve_history.specs.Section.{commits_first, is_right_commit, are_right}
 use Rattle.eve_history.specs.Fates.{fate_in, fates_from}
 use Rattle.eve_history.specs.SectionHistory.{ExecutedAttempt, executed_attempt, placed_at, ordered, attempts_among}
 use Rattle.eve_history.specs.SectionHistory.{rollbacks_among, access_with, section_history}
-use Rattle.eve_history.specs.Faults.{IsStructureFault}
 use Rattle.eve_history.specs.FirstWrong.{wrong_step, first_wrong, first_wrong_of, fault_of}
 use Rattle.eve_history.specs.Coming.{KeptAttempt, KeptSection, open_count, kept_executed_attempt, executed_attempts}
 use Rattle.eve_history.specs.Coming.{kept_at_first, executed_attempt_at, section_history_of, StandsAt}
 use Rattle.eve_history.specs.Coming.{AreSettled, open_fates, HasCome}
 use Rattle.eve_history.proofs.Structure.{state_after-append, are_right-push, right_step, steps_on, found_is_least}
 use Rattle.eve_history.proofs.Structure.{none_stands}
+use Rattle.eve_history.specs.Faults.{StandsInStructure}
 
 -- ---- before the first step
 
@@ -92,7 +92,8 @@ rollbacks_among-push ((at, RollsBack r) ∷ xs) x = ap (λ (ys : List (ℕ × Ro
 -- a step at which something is wrong
 pub come_wrong : (t : Trace) (e : ℕ) (step : ℕ × Step) (rest : List (ℕ × Step)) (k : KeptSection) (w : Wrong)
     (come : HasCome t e (step ∷ rest) k)
-    → wrong_step t (state_after start come.front) step ≡ Some w → IsLeast (IsStructureFault t e) (fault_of e w)
+    → wrong_step t (state_after start come.front) step ≡ Some w
+    → IsLeast (IsFaultIn StandsInStructure t e) (fault_of e w)
 come_wrong t e step rest k w come wrong =
     found_is_least t e w
     (ap (first_wrong t start) come.split ∙ steps_on t start come.front (step ∷ rest) come.right
@@ -569,7 +570,7 @@ module _ (t : Trace) (e : ℕ) (k : KeptSection) (come : HasCome t e [] k) where
   pub come_right : are_right t start (steps_at t e) ≡ true
   come_right = ap (are_right t start) all_came ∙ come.right
 
-  pub come_faultless : (f : Fault) → IsStructureFault t e f → ⊥
+  pub come_faultless : (f : Fault) → IsFaultIn StandsInStructure t e f → ⊥
   come_faultless f is =
       none_stands t e f (ap (first_wrong t start) come.split ∙ steps_on t start come.front [] come.right) is
 

@@ -7,6 +7,7 @@ use Rattle.std.proofs.lemmas.Bool.{cases_Bool, or_cases, eqb-true, eq-eqb, ne_eq
 use Rattle.std.proofs.lemmas.Bool.{false≢true}
 use Rattle.std.proofs.lemmas.List.{length-take-le, length-drop}
 use Rattle.std.proofs.lemmas.Option.{same_Some, get_or_from_slice_get}
+use Rattle.std.specs.Cmp.Lexicographic.{pointwise}
 use Rattle.eve_grammar.specs.Trace.{Access, Attempt, Batch, Commit, Trace}
 use Rattle.eve_grammar.specs.Frames.{batches_of, without_accesses}
 use Rattle.eve_grammar.specs.Spelling.{batch_text, batches_start, batches_at}
@@ -14,7 +15,7 @@ use Rattle.eve_grammar.specs.Limits.{is_batch, HasLimits}
 use Rattle.eve_views.specs.declared.fault.Code.TheVariants as code
 use Rattle.eve_history.specs.declared.access_marks.AccessMarks.{AccessMarks}
 use Rattle.eve_grammar.specs.Certificate.{is_certificate}
-use Rattle.eve_history.specs.Section.{Placed, SectionState, no_batch, batch_at, is_due, same_bytes, commits_first}
+use Rattle.eve_history.specs.Section.{Placed, SectionState, no_batch, batch_at, is_due, commits_first}
 use Rattle.eve_history.specs.Section.{request_count, is_right_certificate, is_right_commit}
 use Rattle.eve_history.specs.SectionHistory.{access_with}
 use Rattle.eve_history.specs.Faults.{accesses_of}
@@ -90,12 +91,12 @@ abbrev without : Placed → Attempt
 without p = without_accesses p.attempt
 
 first_pending : (pending : List Placed) (f : Attempt) (rest : List Attempt) (c : Commit) → map without pending
-    ≡ f ∷ rest → commits_first pending c ≡ ((f.view == c.view) && same_bytes f.token c.token)
+    ≡ f ∷ rest → commits_first pending c ≡ ((f.view == c.view) && pointwise ◌==◌ f.token c.token)
 first_pending [] f rest c e = absurd (none f rest e)
   where
     none : (f : Attempt) (rest : List Attempt) → ◌≡◌ {A = List Attempt} [] (f ∷ rest) → ⊥
     none f rest e = cc
-first_pending (p ∷ ps) f rest c e = ap (λ (g : Attempt). (g.view == c.view) && same_bytes g.token c.token)
+first_pending (p ∷ ps) f rest c e = ap (λ (g : Attempt). (g.view == c.view) && pointwise ◌==◌ g.token c.token)
     (same (without p) (map without ps) f rest e)
   where
     same : (x : Attempt) (xs : List Attempt) (y : Attempt) (ys : List Attempt)
@@ -105,12 +106,12 @@ first_pending (p ∷ ps) f rest c e = ap (λ (g : Attempt). (g.view == c.view) &
 pub commit_is : (s : SectionState) (k : KeptSection) (f : KeptAttempt) (c : Commit) → StandsAt s k
     → slice_get k.attempts (length k.fates) ≡ Some f
     → is_right_commit s c ≡ ((c.seq == k.last + 1) &&
-    ((f.attempt.view == c.view) && same_bytes f.attempt.token c.token))
+    ((f.attempt.view == c.view) && pointwise ◌==◌ f.attempt.token c.token))
 commit_is s k f c stands at =
     let open_is = stands.pending ∙ drop_here (map (λ (a : KeptAttempt). a.attempt) k.attempts)
     (length k.fates) f.attempt (get_mapped (λ (a : KeptAttempt). a.attempt) k.attempts (length k.fates) f at) in
     ap (λ (b : Bool). (c.seq == s.last + 1) && b) (first_pending s.pending f.attempt _ c open_is)
-    ∙ ap (λ (n : ℕ). (c.seq == n + 1) && ((f.attempt.view == c.view) && same_bytes f.attempt.token c.token))
+    ∙ ap (λ (n : ℕ). (c.seq == n + 1) && ((f.attempt.view == c.view) && pointwise ◌==◌ f.attempt.token c.token))
     (sym stands.last)
 
 -- ---- an access record by its index

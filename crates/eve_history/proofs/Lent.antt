@@ -45,12 +45,12 @@ bytes_at t at text stands =
 all_frames_stand : (t : Trace) → StandsIn (spelling t) 32 (frames_text (frames_of t))
 unfolding spelling
 all_frames_stand t =
-    let head = head_text (head_of t) (length_of t) in
+    let head = head_text t.head (length_of t) in
     record {
       front = head;
       behind = [];
       is = ap (λ (b : List ℕ). head ++ b) (sym (append-nil (frames_text (frames_of t))));
-      offset = length-head_text (head_of t) (length_of t);
+      offset = length-head_text t.head (length_of t);
     }
 
 pub frames_stand : (t : Trace) (k : ℕ) (x : ℕ × Frame) → slice_get (frames_at t) k ≡ Some x

@@ -15,11 +15,10 @@ use Rattle.eve_views.specs.declared.fault.Code.{Code}
 use Rattle.eve_views.specs.declared.fault.Code.TheVariants as code
 use Rattle.eve_views.specs.declared.fault.Fault.{Fault}
 use Rattle.eve_views.specs.Code.{code_number}
-use Rattle.eve_views.specs.Form.{IsUpTo, SomePlace, IsLeast}
+use Rattle.eve_views.specs.Form.{IsUpTo, SomePlace, IsLeast, IsFaultOutside}
 use Rattle.eve_history.specs.SectionHistory.{names_of}
-use Rattle.eve_history.specs.Faults.{name_in, request_ids_at, IsNamedAgain, IsAskedAgain, StandsInOrders}
+use Rattle.eve_history.specs.Faults.{name_in, request_ids_at, IsAskedAgain, StandsInOrders}
 use Rattle.eve_grammar.specs.Trace.{RequestId}
-use Rattle.eve_history.specs.Faults.{IsOrderFault}
 use Rattle.eve_history.specs.Notes.{IsRepeated, HasDistinctNames, HasDistinctRequests}
 use Rattle.eve_grammar.proofs.Grouping.{all_at}
 use Rattle.eve_grammar.proofs.Lists.{take_one_more}
@@ -36,6 +35,10 @@ up_to f g le number = elim (cases_lt f.offset g.offset) [
 ]
 
 -- ---- customers
+
+-- an earlier customer has the name
+abbrev pub IsNamedAgain : List (ℕ × Customer) → ℕ × Customer → Type 0
+IsNamedAgain before c = Contains (map name_in before) (name_in c)
 
 -- so many customers have come, and no name twice
 pub record Naming (t : Trace) (i : ℕ) (names : NameList) : Type 0 where
@@ -120,7 +123,7 @@ fault c at = record { code = c; offset = at; replica = None }
 
 pub named_again : (t : Trace) (i : ℕ) (names : NameList) (c : ℕ × Customer) → Naming t i names
     → slice_get (customers_at t) i ≡ Some c → Contains names.items (name_in c)
-    → IsLeast (IsOrderFault t) (fault code.SameName c.0)
+    → IsLeast (IsFaultOutside StandsInOrders t) (fault code.SameName c.0)
 named_again t i names c naming at again = record {
   is = record { stands = here; outside = refl };
   least = λ g other. by g.code g refl other.stands;
@@ -194,7 +197,7 @@ asking_apart t i noted asking le = λ at again.
 
 pub asked_again : (t : Trace) (i : ℕ) (noted : List RequestId) (b : ℕ × (ℕ × Batch)) → HasDistinctNames t
     → Asking t i noted → slice_get (batches_at t) i ≡ Some b → IsRepeated noted (request_ids_at b)
-    → IsLeast (IsOrderFault t) (fault code.SameRequest b.0)
+    → IsLeast (IsFaultOutside StandsInOrders t) (fault code.SameRequest b.0)
 asked_again t i noted b distinct asking at again = record {
   is = record {
     stands = record {
@@ -221,7 +224,8 @@ asked_again t i noted b distinct asking at again = record {
 
 -- ---- neither
 
-pub none_twice : (t : Trace) → HasDistinctNames t → HasDistinctRequests t → (f : Fault) → ¬ IsOrderFault t f
+pub none_twice : (t : Trace) → HasDistinctNames t → HasDistinctRequests t → (f : Fault)
+    → ¬ IsFaultOutside StandsInOrders t f
 none_twice t names requests f is = by f.code is.stands
   where
     by : (c : Code) → ¬ StandsInOrders c t f.offset

@@ -20,10 +20,11 @@ use Rattle.eve_views.specs.declared.fault.Fault.{Fault}
 use Rattle.eve_grammar.specs.Accesses.{is_right_place}
 use Rattle.eve_history.specs.Section.{SectionState, start, state_after, is_right_attempt, is_right_certificate}
 use Rattle.eve_history.specs.Section.{is_right_access, is_right_commit, is_right_rollback, are_right_accesses}
-use Rattle.eve_views.specs.Form.{SomePlace}
+use Rattle.eve_history.specs.Section.{are_right}
+use Rattle.eve_views.specs.Form.{SomePlace, IsFaultOutside, IsFaultIn}
 use Rattle.eve_views.proofs.Locating.{section_is}
 use Rattle.eve_history.specs.Faults.{accesses_of, OfAttempt, OfCommit, OfRollback, AtStep, AtAccess, StandsInStructure}
-use Rattle.eve_history.specs.Faults.{IsStructureFault, IsAskedAgain, StandsInOrders, IsOrderFault}
+use Rattle.eve_history.specs.Faults.{IsAskedAgain, StandsInOrders}
 use Rattle.eve_history.proofs.Places.{located_within, weaker_place}
 use Rattle.eve_history.proofs.OrderLaws.{customers_within}
 
@@ -52,7 +53,7 @@ batch_within : (t : Trace) (at : ℕ) → StandsInOrders code.SameRequest t at �
 unfolding batches_at
 batch_within t at again = located_within IsAskedAgain batch_text (batches_start t) at (batches_of t) again
 
-pub order_fault_within : (t : Trace) (f : Fault) → IsOrderFault t f → f.offset ≤ length_of t
+pub order_fault_within : (t : Trace) (f : Fault) → IsFaultOutside StandsInOrders t f → f.offset ≤ length_of t
 order_fault_within t f is = by f.code is.stands
   where
     by : (c : Code) → StandsInOrders c t f.offset → f.offset ≤ length_of t
@@ -152,7 +153,7 @@ module _ (t : Trace) (e : ℕ) where
           → more ≡ s + last → front + (own + steps) ≤ s → 32 + a + b + front + own + steps ≤ 32 + whole
       longer a b s whole behind more last front own steps p q r le = omega arith
 
-  step_within : (P : ℕ → SectionState → Step → Type 0) → (place : AtStep t e P)
+  step_within : (P : List (ℕ × Step) → ℕ × Step → Type 0) → (place : SomePlace (steps_at t e) P)
       → place.item.0 + length (step_text place.item.1) ≤ length_of t
   unfolding steps_at
   step_within P place = elim (cases_lt e (length t.sections)) [
@@ -171,10 +172,11 @@ module _ (t : Trace) (e : ℕ) where
       none [] e = cc
       none (z ∷ b) e = cc
 
-  at_step_within : (at : ℕ) (P : SectionState → Step → Type 0) → AtStep t e (λ offset s step. (offset ≡ at) × P s step)
+  at_step_within : (at : ℕ) (P : SectionState → Step → Type 0) → AtStep t e at P
       → at ≤ length_of t
   at_step_within at P place =
-      let one = step_within (λ offset s step. (offset ≡ at) × P s step) place in
+      let one = step_within (λ before step. IsTrue (are_right t start before)
+      × ((step.0 ≡ at) × P (state_after start before) step.1)) place in
       let is : place.item.0 ≡ at = place.holds.1.0 in
       omega arith
 
@@ -192,7 +194,7 @@ module _ (t : Trace) (e : ℕ) where
       omega arith
 
   at_access_within : (at : ℕ) (P : Attempt → List Access → Access → Type 0)
-      → AtAccess t e (λ offset a before x. (offset ≡ at) × P a before x) → at ≤ length_of t
+      → AtAccess t e at P → at ≤ length_of t
   at_access_within at P place = by place.item.1 refl place.holds.1
     where
       bounded : (o m n at len : ℕ) → o + m ≤ len → m ≡ n → at ≤ o + n → at ≤ len
@@ -206,10 +208,10 @@ module _ (t : Trace) (e : ℕ) where
           → at ≤ length_of t
       by (Attempts a) is h =
           bounded place.item.0 (length (step_text place.item.1)) (length (step_text (Attempts a))) at (length_of t)
-          (step_within (λ offset s step. OfAttempt step (λ a.
-          IsTrue (is_right_attempt t s a) × IsTrue (is_right_certificate t a)
-          × SomePlace (accesses_at offset a) (λ before x. IsTrue (are_right_accesses t a [] (accesses_of before))
-          × ((x.0 ≡ at) × P a (accesses_of before) x.1)))) place) (ap (λ (s : Step). length (step_text s)) is)
+          (step_within (λ before step. IsTrue (are_right t start before) × OfAttempt step.1 (λ a.
+          IsTrue (is_right_attempt t (state_after start before) a) × IsTrue (is_right_certificate t a)
+          × SomePlace (accesses_at step.0 a) (λ own x. IsTrue (are_right_accesses t a [] (accesses_of own))
+          × ((x.0 ≡ at) × P a (accesses_of own) x.1)))) place) (ap (λ (s : Step). length (step_text s)) is)
           (access_within place.item.0 at a (λ b x. P a (accesses_of b) x.1)
           (weaker_place (λ b x. IsTrue (are_right_accesses t a [] (accesses_of b))
           × ((x.0 ≡ at) × P a (accesses_of b) x.1)) (λ b x. (x.0 ≡ at) × P a (accesses_of b) x.1)
@@ -217,7 +219,8 @@ module _ (t : Trace) (e : ℕ) where
       by (Commits c) is h = absurd h
       by (RollsBack r) is h = absurd h
 
-pub structure_fault_within : (t : Trace) (e : ℕ) (f : Fault) → IsStructureFault t e f → f.offset ≤ length_of t
+pub structure_fault_within : (t : Trace) (e : ℕ) (f : Fault) → IsFaultIn StandsInStructure t e f
+    → f.offset ≤ length_of t
 structure_fault_within t e f is = by f.code is.stands
   where
     by : (c : Code) → StandsInStructure c t e f.offset → f.offset ≤ length_of t

@@ -17,6 +17,7 @@ use Rattle.eve_grammar.specs.Frames.{without_accesses}
 use Rattle.eve_grammar.specs.Spelling.{accesses_at, spelling, steps_at}
 use Rattle.eve_grammar.specs.Limits.{is_step, row_count}
 use Rattle.eve_grammar.proofs.Lists.{all-push, all-append}
+use Rattle.eve_grammar.proofs.Spelled.{limits_of_spelled}
 use Rattle.eve_frames.specs.Views.{attempt_in}
 use Rattle.eve_frames.specs.declared.attempt.AttemptView.{AttemptView}
 use Rattle.eve_views.specs.StepKinds.{IsStep}
@@ -63,7 +64,7 @@ module _ (t : Trace) (m : MetAttempt) (met : IsMet t m) where
   its_step =
       let test : ℕ × Step → Bool = λ x. is_step (row_count (head_of t)) x.1 in
       let all : list_all test (met.before ++ (place, Attempts own) ∷ met.rest) ≡ true =
-      ap (list_all test) (sym met.split) ∙ steps_fit t met.replica met.spelled.limits in
+      ap (list_all test) (sym met.split) ∙ steps_fit t met.replica (limits_of_spelled (spelling t) t met.spelled) in
       let behind = and_parts (list_all test met.before) (list_all test ((place, Attempts own) ∷ met.rest))
       (sym (list_all-append test met.before ((place, Attempts own) ∷ met.rest)) ∙ all) in
       (and_parts (is_step (row_count (head_of t)) (Attempts own)) (list_all test met.rest) behind.1).0

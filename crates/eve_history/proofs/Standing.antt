@@ -13,7 +13,7 @@ use Rattle.eve_grammar.specs.Frames.{Frame, OfReplica, OfAttempt, OfAccess, OfRo
 use Rattle.eve_grammar.specs.Frames.{without_accesses}
 use Rattle.eve_grammar.specs.Spelling.{body_text, frame_text, frames_text, head_text, length_of, spelling, located}
 use Rattle.eve_grammar.specs.Spelling.{step_text, section_start, steps_of, steps_at, accesses_at}
-use Rattle.eve_grammar.specs.Limits.{is_step, is_attempt, is_access, row_count, Spells}
+use Rattle.eve_grammar.specs.Limits.{is_step, is_attempt, is_access, row_count}
 use Rattle.eve_grammar.proofs.HeaderParts.{length-head_text}
 use Rattle.eve_views.specs.Fronts.{before_section}
 use Rattle.eve_views.proofs.Bytes.{number_again}
@@ -32,6 +32,8 @@ use Rattle.eve_history.specs.Faults.{accesses_of}
 use Rattle.eve_history.specs.Coming.{KeptSection, HasCome, ComesNext, seen}
 use Rattle.eve_grammar.proofs.Grouping.{all_at}
 use Rattle.eve_grammar.proofs.Lists.{same_first, same_others, no_item}
+use Rattle.eve_grammar.specs.Following.{Spells}
+use Rattle.eve_grammar.proofs.Spelled.{limits_of_spelled}
 
 -- a text stands at this place of another
 pub record StandsIn (bytes : List ℕ) (at : ℕ) (text : List ℕ) : Type 0 where
@@ -64,9 +66,9 @@ spelled_short bytes t spelled =
     omega (
       arith,
       ap length spelled.spelled,
-      length-append (head_text (head_of t) (length_of t))
+      length-append (head_text t.head (length_of t))
           (frames_text (frames_of t)),
-      length-head_text (head_of t) (length_of t),
+      length-head_text t.head (length_of t),
     )
 
 -- a trace's first byte is an E, so that no frame of a lower kind begins there
@@ -148,7 +150,7 @@ pub part_stands : (t : Trace) (before part next : List Frame) (first : Frame) (a
     → StandsIn (spelling t) (at + length (frame_text first)) text
 unfolding spelling
 part_stands t before part next first at text cut begins said =
-    let head = head_text (head_of t) (length_of t) in
+    let head = head_text t.head (length_of t) in
     let own = frame_text first in
     let all : frames_text (frames_of t) ≡ frames_text before ++ (own ++ (text ++ frames_text cut.rest)) =
     ap frames_text cut.whole ∙ flat_map-append frame_text before (first ∷ (part ++ cut.rest))
@@ -164,7 +166,7 @@ part_stands t before part next first at text cut begins said =
         arith,
         length-append head (frames_text before ++ own),
         length-append (frames_text before) own,
-        length-head_text (head_of t) (length_of t),
+        length-head_text t.head (length_of t),
         begins,
       );
     }
@@ -234,7 +236,9 @@ next_stands bytes t e rest k at step spelled come =
     (step_stands t e come.front (at, step) rest come.split)
 
 few_rows : (bytes : List ℕ) (t : Trace) → Spells bytes t → row_count (head_of t) ≤ MOST_ROWS
-few_rows bytes t spelled = let small = (small_head (head_of t) spelled.limits.head).customers in omega (arith, small)
+few_rows bytes t spelled =
+    let small = (small_head (head_of t) (limits_of_spelled bytes t spelled).head).customers in
+    omega (arith, small)
 
 -- an attempt is found again by the byte at which its frame begins
 pub attempt_there : (bytes : List ℕ) (t : Trace) (e : ℕ) (rest : List (ℕ × Step)) (k : KeptSection) (at : ℕ)

@@ -16,9 +16,8 @@ use Rattle.eve_grammar.specs.Accesses.{is_right_place}
 use Rattle.eve_history.specs.Section.{SectionState, start, next, state_after, is_right_attempt, is_right_certificate}
 use Rattle.eve_history.specs.Section.{is_right_access, is_right_commit, is_right_rollback, are_right_accesses, is_right}
 use Rattle.eve_history.specs.Section.{request_count, worker_count, are_right}
-use Rattle.eve_views.specs.Form.{SomePlace, IsLeast}
-use Rattle.eve_history.specs.Faults.{OfAttempt, OfCommit, OfRollback, accesses_of, AtStep, AtAccess, StandsInStructure}
-use Rattle.eve_history.specs.Faults.{IsStructureFault}
+use Rattle.eve_views.specs.Form.{SomePlace, IsLeast, IsFaultIn}
+use Rattle.eve_history.specs.Faults.{OfAttempt, OfCommit, OfRollback, accesses_of, StandsInStructure}
 use Rattle.eve_history.specs.declared.wrong.Wrong.{Wrong}
 use Rattle.eve_history.specs.FirstWrong.{found_or, first_wrong_of, wrong_access, wrong_records, wrong_attempt}
 use Rattle.eve_history.specs.FirstWrong.{wrong_commit}
@@ -187,8 +186,21 @@ abbrev FoundAt : Trace → (ℕ → SectionState → Step → Type 0) → Code �
 FoundAt t P c at = (offset : ℕ) (s : SectionState) (step : Step) → P offset s step
     → IsFound (wrong_step t s (offset, step)) c at
 
+-- of a step before which all are right: its offset, where the section has come to, and the step
+abbrev OfSomeStep : Trace → ℕ → (ℕ → SectionState → Step → Type 0) → Type 0
+OfSomeStep t e P = SomePlace (steps_at t e) (λ before step. IsTrue (are_right t start before)
+    × P step.0 (state_after start before) step.1)
+
+-- of an access record where all frames before it are right: its offset, the attempt, the records before it, and the
+-- record
+abbrev OfSomeAccess : Trace → ℕ → (ℕ → Attempt → List Access → Access → Type 0) → Type 0
+OfSomeAccess t e P = OfSomeStep t e (λ offset s step. OfAttempt step (λ a.
+    IsTrue (is_right_attempt t s a) × IsTrue (is_right_certificate t a)
+    × SomePlace (accesses_at offset a) (λ before x. IsTrue (are_right_accesses t a [] (accesses_of before))
+    × P x.0 a (accesses_of before) x.1)))
+
 found_at_step : (t : Trace) (e : ℕ) (c : Code) (at : ℕ) (P : ℕ → SectionState → Step → Type 0) → FoundAt t P c at
-    → AtStep t e P → IsFound (first_wrong t start (steps_at t e)) c at
+    → OfSomeStep t e P → IsFound (first_wrong t start (steps_at t e)) c at
 found_at_step t e c at P here place =
     let own = here place.item.0 (state_after start place.before) place.item.1 place.holds.1 in
     record {
@@ -279,7 +291,7 @@ found_place t at a from before x h =
 found_at_access : (t : Trace) (e : ℕ) (c : Code) (at : ℕ) (P : ℕ → Attempt → List Access → Access → Type 0)
     → ((a : Attempt) (from : ℕ) (before : List Access) (x : Access) → P from a before x → (d : Code)
     × (wrong_record t a before x ≡ Some d) × (from ≡ at) × (code_number d ≤ code_number c))
-    → AtAccess t e P → IsFound (first_wrong t start (steps_at t e)) c at
+    → OfSomeAccess t e P → IsFound (first_wrong t start (steps_at t e)) c at
 found_at_access t e c at P here place = found_at_step t e c at _ by place
   where
     by : FoundAt t (λ offset s step. OfAttempt step
@@ -305,7 +317,7 @@ stands_in_records : (t : Trace) (e : ℕ) (s : SectionState) (offset : ℕ) (a :
     → ((P : ℕ → Attempt → List Access → Access → Type 0)
     → SomePlace (accesses_at offset a) (λ before x. IsTrue (are_right_accesses t a [] (accesses_of before))
     × P x.0 a (accesses_of before) x.1)
-    → AtAccess t e P)
+    → OfSomeAccess t e P)
     → (front back : List (ℕ × Access)) → accesses_at offset a ≡ front ++ back
     → are_right_accesses t a [] (accesses_of front) ≡ true
     → wrong_records t a (accesses_of front) back ≡ Some w → StandsInStructure w.code t e w.offset
@@ -413,7 +425,7 @@ stands_behind t e front (step ∷ back) w is rights h =
 
 -- what is found is the least
 pub found_is_least : (t : Trace) (e : ℕ) (w : Wrong) → first_wrong t start (steps_at t e) ≡ Some w
-    → IsLeast (IsStructureFault t e) (fault_of e w)
+    → IsLeast (IsFaultIn StandsInStructure t e) (fault_of e w)
 found_is_least t e w h = record {
   is = record { stands = stands_behind t e [] (steps_at t e) w refl refl h; inside = refl };
   least = λ g other.
@@ -427,7 +439,8 @@ found_is_least t e w h = record {
 }
 
 -- where nothing is found none stands
-pub none_stands : (t : Trace) (e : ℕ) (f : Fault) → first_wrong t start (steps_at t e) ≡ None → IsStructureFault t e f
+pub none_stands : (t : Trace) (e : ℕ) (f : Fault) → first_wrong t start (steps_at t e) ≡ None
+    → IsFaultIn StandsInStructure t e f
     → ⊥
 none_stands t e f h is = let found = found_of_fault t e f.code f.offset is.stands in
     no_wrong found.wrong (sym h ∙ found.is)

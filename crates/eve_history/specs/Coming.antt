@@ -5,7 +5,8 @@ use Rattle.std.specs.List.{AllByRecursion, list_all}
 use Rattle.eve_grammar.specs.Trace.{Access, Attempt, Rollback, Step, Attempts, Trace, head_of}
 use Rattle.eve_grammar.specs.Frames.{without_accesses}
 use Rattle.eve_grammar.specs.Spelling.{steps_at, accesses_at}
-use Rattle.eve_grammar.specs.Limits.{is_step, row_count, Spells}
+use Rattle.eve_grammar.specs.Limits.{is_step, row_count}
+use Rattle.eve_grammar.specs.Following.{Spells}
 use Rattle.eve_frames.specs.Views.{attempt_in, access_in, rollback_in}
 use Rattle.eve_history.specs.declared.fate.Fate.{Fate}
 use Rattle.eve_history.specs.declared.fate.Fate.TheVariants.{Open}

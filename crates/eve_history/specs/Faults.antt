@@ -22,10 +22,6 @@ name_in c = c.1.name
 abbrev pub request_ids_at : ℕ × (ℕ × Batch) → List RequestId
 request_ids_at b = map request_id b.1.1.requests
 
--- an earlier customer has the name
-abbrev pub IsNamedAgain : List (ℕ × Customer) → ℕ × Customer → Type 0
-IsNamedAgain before c = Contains (map name_in before) (name_in c)
-
 -- one of the batch's requests occurs earlier, in the batch or before it
 abbrev pub IsAskedAgain : List (ℕ × (ℕ × Batch)) → ℕ × (ℕ × Batch) → Type 0
 IsAskedAgain before b = SomePlace (request_ids_at b)
@@ -33,14 +29,10 @@ IsAskedAgain before b = SomePlace (request_ids_at b)
 
 -- a fault of orders stands at this offset
 abbrev pub StandsInOrders : Code → Trace → ℕ → Type 0
-StandsInOrders code.SameName t at = SomePlace (customers_at t) (λ before c. (c.0 ≡ at) × IsNamedAgain before c)
+StandsInOrders code.SameName t at =
+    SomePlace (customers_at t) (λ before c. (c.0 ≡ at) × Contains (map (λ d. d.1.name) before) c.1.name)
 StandsInOrders code.SameRequest t at = SomePlace (batches_at t) (λ before b. (b.0 ≡ at) × IsAskedAgain before b)
 StandsInOrders _ t at = ⊥
-
--- the fault is one of orders; it lies outside the sections
-pub record IsOrderFault (t : Trace) (f : Fault) : Type 0 where
-  pub stands : StandsInOrders f.code t f.offset
-  pub outside : f.replica ≡ None
 
 -- ---- structure
 
@@ -56,40 +48,31 @@ abbrev pub OfRollback : Step → (Rollback → Type 0) → Type 0
 OfRollback (RollsBack r) P = P r
 OfRollback _ P = ⊥
 
--- of a step of replica e before which all steps are right: its offset, where the section has come to, and the step
-abbrev pub AtStep : Trace → ℕ → (ℕ → SectionState → Step → Type 0) → Type 0
-AtStep t e P = SomePlace (steps_at t e) (λ before step. IsTrue (are_right t start before)
-    × P step.0 (state_after start before) step.1)
+-- of a step of replica e at this offset, before which all steps are right: where the section has come to, and the step
+abbrev pub AtStep : Trace → ℕ → ℕ → (SectionState → Step → Type 0) → Type 0
+AtStep t e at P = SomePlace (steps_at t e) (λ before step. IsTrue (are_right t start before)
+    × ((step.0 ≡ at) × P (state_after start before) step.1))
 
 abbrev pub accesses_of : List (ℕ × Access) → List Access
 accesses_of xs = map (λ x. x.1) xs
 
--- of an access record of an attempt of replica e, where all frames of the section before it are right: its
--- offset, the attempt, the records of the attempt before it, and the record
-abbrev pub AtAccess : Trace → ℕ → (ℕ → Attempt → List Access → Access → Type 0) → Type 0
-AtAccess t e P = AtStep t e (λ offset s step. OfAttempt step (λ a.
-    IsTrue (is_right_attempt t s a) × IsTrue (is_right_certificate t a)
-    × SomePlace (accesses_at offset a) (λ before x. IsTrue (are_right_accesses t a [] (accesses_of before))
-    × P x.0 a (accesses_of before) x.1)))
+-- of an access record at this offset, of an attempt of replica e, where all frames of the section before it are right:
+-- the attempt, the records of the attempt before it, and the record
+abbrev pub AtAccess : Trace → ℕ → ℕ → (Attempt → List Access → Access → Type 0) → Type 0
+AtAccess t e at P = SomePlace (steps_at t e) (λ before step. IsTrue (are_right t start before) × OfAttempt step.1 (λ a.
+    IsTrue (is_right_attempt t (state_after start before) a) × IsTrue (is_right_certificate t a)
+    × SomePlace (accesses_at step.0 a) (λ own x. IsTrue (are_right_accesses t a [] (accesses_of own))
+    × ((x.0 ≡ at) × P a (accesses_of own) x.1))))
 
 -- A fault of structure stands at this offset in replica e's section. It is judged where all frames of the
 -- section before it are right, so that only the first wrong frame counts, with all that is wrong with it.
 abbrev pub StandsInStructure : Code → Trace → ℕ → ℕ → Type 0
-StandsInStructure code.Attempt t e at =
-    AtStep t e (λ offset s step. (offset ≡ at) × OfAttempt step (λ a. IsFalse (is_right_attempt t s a)))
+StandsInStructure code.Attempt t e at = AtStep t e at (λ s step. OfAttempt step (λ a. IsFalse (is_right_attempt t s a)))
 StandsInStructure code.Certificate t e at =
-    AtStep t e (λ offset s step. (offset ≡ at) × OfAttempt step (λ a. IsFalse (is_right_certificate t a)))
-StandsInStructure code.Access t e at =
-    AtAccess t e (λ offset a before x. (offset ≡ at) × IsFalse (is_right_access t a before x))
-StandsInStructure code.WorkerOrder t e at =
-    AtAccess t e (λ offset a before x. (offset ≡ at) × IsFalse (is_right_place before x))
-StandsInStructure code.Commit t e at =
-    AtStep t e (λ offset s step. (offset ≡ at) × OfCommit step (λ c. IsFalse (is_right_commit s c)))
+    AtStep t e at (λ s step. OfAttempt step (λ a. IsFalse (is_right_certificate t a)))
+StandsInStructure code.Access t e at = AtAccess t e at (λ a before x. IsFalse (is_right_access t a before x))
+StandsInStructure code.WorkerOrder t e at = AtAccess t e at (λ a before x. IsFalse (is_right_place before x))
+StandsInStructure code.Commit t e at = AtStep t e at (λ s step. OfCommit step (λ c. IsFalse (is_right_commit s c)))
 StandsInStructure code.Rollback t e at =
-    AtStep t e (λ offset s step. (offset ≡ at) × OfRollback step (λ r. IsFalse (is_right_rollback t s r)))
+    AtStep t e at (λ s step. OfRollback step (λ r. IsFalse (is_right_rollback t s r)))
 StandsInStructure _ t e at = ⊥
-
--- the fault is one of structure in replica e's section
-pub record IsStructureFault (t : Trace) (e : ℕ) (f : Fault) : Type 0 where
-  pub stands : StandsInStructure f.code t e f.offset
-  pub inside : f.replica ≡ Some e

@@ -1,12 +1,13 @@
 -- A replica's section, step by step: where it has come to, and which step is right there.
 -- docs/MODEL.md, "Section state, fate".
 use Rattle.std.specs.Prelude.{ℕ, ◌+◌, ◌-◌, nat_lt, nat_le, ◌==◌, Bool, true, false, ◌&&◌, if◌then◌else◌, List, [], ◌∷◌}
-use Rattle.std.specs.Prelude.{◌++◌, map, length, slice_index_or}
+use Rattle.std.specs.Prelude.{◌++◌, map, length, slice_index_or, fold, not}
 use Rattle.std.specs.Bool.{beq}
 use Rattle.std.specs.Cmp.Lexicographic.{pointwise}
+use Rattle.std.specs.List.{list_any}
 use Rattle.eve_grammar.specs.Trace.{Batch, Access, Attempt, Commit, Rollback, Step, Attempts, Commits, RollsBack, Trace}
 use Rattle.eve_grammar.specs.Certificate.{is_certificate}
-use Rattle.eve_grammar.specs.Accesses.{is_new_access, is_right_place}
+use Rattle.eve_grammar.specs.Accesses.{is_right_place}
 
 -- an attempt with its frame's offset, and with those on its path: the ones before it that no rollback before it
 -- discarded
@@ -47,8 +48,7 @@ next s (at, RollsBack r) =
     record s { view = r.view; pending = []; discarded = s.discarded ++ s.pending; rolled_back = true }
 
 abbrev pub state_after : SectionState → List (ℕ × Step) → SectionState
-state_after s [] = s
-state_after s (step ∷ steps) = state_after (next s step) steps
+state_after s steps = fold next s steps
 
 -- committed or discarded
 abbrev pub settled : SectionState → List Placed
@@ -61,7 +61,7 @@ no_batch = record { sizes = []; requests = [] }
 
 -- batches are numbered from 1
 abbrev pub batch_at : Trace → ℕ → Batch
-batch_at t seq = slice_index_or t.batches (seq - 1) no_batch
+batch_at t seq = slice_index_or t.batches (seq - 1) (record { sizes = []; requests = [] })
 
 -- how many requests the attempt's batch has
 abbrev pub request_count : Trace → Attempt → ℕ
@@ -70,8 +70,8 @@ request_count t a = length (batch_at t a.seq).requests
 -- its number, view and mode are those that are due
 abbrev pub is_due : Trace → SectionState → Attempt → Bool
 is_due t s a =
-    (a.seq == s.last + 1 + length s.pending) && (nat_le a.seq (length t.batches) && (nat_le a.seq (s.last + t.window)
-    && ((a.view == s.view) && beq a.serial s.rolled_back)))
+    (a.seq == s.last + 1 + length s.pending) && (nat_le a.seq (length t.batches)
+    && (nat_le a.seq (s.last + t.head.window) && ((a.view == s.view) && beq a.serial s.rolled_back)))
 
 -- and it has as many indexes as its batch has requests
 abbrev pub is_right_attempt : Trace → SectionState → Attempt → Bool
@@ -83,19 +83,18 @@ is_right_certificate t a = is_certificate (batch_at t a.seq).sizes (request_coun
 
 -- how many workers an attempt may have
 abbrev pub worker_count : Trace → Attempt → ℕ
-worker_count t a = if a.serial then 1 else t.workers
+worker_count t a = if a.serial then 1 else t.head.workers
 
 -- the worker is there, and the index is one of the batch that no access before it has
 abbrev pub is_right_access : Trace → Attempt → List Access → Access → Bool
-is_right_access t a before x = is_new_access (worker_count t a) (request_count t a) before x
-
-abbrev pub same_bytes : List ℕ → List ℕ → Bool
-same_bytes = pointwise ◌==◌
+is_right_access t a before x =
+    nat_lt x.worker (worker_count t a) && (nat_lt x.index (request_count t a)
+    && not (list_any (λ y. y.index == x.index) before))
 
 -- the commit is of the first open attempt
 abbrev pub commits_first : List Placed → Commit → Bool
 commits_first [] c = false
-commits_first (p ∷ ps) c = (p.attempt.view == c.view) && same_bytes p.attempt.token c.token
+commits_first (p ∷ ps) c = (p.attempt.view == c.view) && pointwise ◌==◌ p.attempt.token c.token
 
 -- the commit is of the next number, and of the first open attempt
 abbrev pub is_right_commit : SectionState → Commit → Bool

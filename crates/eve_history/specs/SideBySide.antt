@@ -5,7 +5,7 @@ use Rattle.std.specs.List.{AllByRecursion, flat_map}
 use Rattle.eve_grammar.specs.Trace.{Attempt, Step, Attempts, Trace}
 use Rattle.eve_grammar.specs.Frames.{without_accesses}
 use Rattle.eve_grammar.specs.Spelling.{accesses_at, spelling, steps_at}
-use Rattle.eve_grammar.specs.Limits.{Spells}
+use Rattle.eve_grammar.specs.Following.{Spells}
 use Rattle.eve_frames.specs.Said.{attempt_said}
 use Rattle.eve_history.specs.declared.notes.Notes.{Notes}
 use Rattle.eve_history.specs.declared.side_by_side.MetAttempt.{MetAttempt}

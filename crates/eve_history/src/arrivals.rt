@@ -1,14 +1,14 @@
 //! Customers and requests, in the order in which they came.
 
 ghost use Rattle.std.specs.Prelude.{◌≡◌, ◌++◌, ◌∷◌, [], List, Contains, IfOk, IfErr, IsTrue, map};
-ghost use Rattle.eve_views.specs.Form.{IfFound, IsLeast, HasNone};
+ghost use Rattle.eve_views.specs.Form.{IfFound, IsLeast, HasNone, IsFaultOutside};
 ghost use Rattle.eve_views.specs.declared.fault.Fault.{Fault};
 ghost use Rattle.eve_views.specs.declared.fault.CheckFault.TheVariants.{Found, Memory};
 ghost use Rattle.eve_history.specs.SectionHistory.{names_of};
-ghost use Rattle.eve_history.specs.Faults.{IsOrderFault};
 ghost use Rattle.eve_grammar.specs.Trace.{RequestId, request_id};
 ghost use Rattle.eve_history.specs.Rising.{greatest_of, AreReached, HaveRisen};
 ghost use Rattle.eve_history.specs.Notes.{requests_said, HasDistinctNames, HasDistinctRequests};
+ghost use Rattle.eve_history.specs.Faults.{StandsInOrders};
 
 use crate::greatest::Greatest;
 use crate::repeats::first_repeat;
@@ -39,7 +39,7 @@ fn names_in_order<'a>(
 ) -> Result<Names<'a>, CheckFault>
     ensures names { IfOk result (λ names. names.items ≡ names_of trace.now) }
     ensures apart { IfOk result (λ _. HasDistinctNames trace.now) }
-    ensures fault { IfErr result (λ e. IfFound e (IsLeast (IsOrderFault trace.now))) }
+    ensures fault { IfErr result (λ e. IfFound e (IsLeast (IsFaultOutside StandsInOrders trace.now))) }
 {
     trace.recall_limits();
     let count = trace.head().customers;
@@ -112,7 +112,7 @@ fn numbers_rise(alloc: Global, trace: &Trace<'_>, random: RandomState) -> Result
 fn requests_apart(alloc: Global, trace: &Trace<'_>, random: RandomState) -> Result<(), CheckFault>
     requires { HasDistinctNames trace.now }
     ensures apart { IfOk result (λ _. HasDistinctRequests trace.now) }
-    ensures fault { IfErr result (λ e. IfFound e (IsLeast (IsOrderFault trace.now))) }
+    ensures fault { IfErr result (λ e. IfFound e (IsLeast (IsFaultOutside StandsInOrders trace.now))) }
 {
     if numbers_rise(alloc, trace, random)? {
         return Ok(());
@@ -136,8 +136,8 @@ pub fn orders<'a>(
     random: RandomState,
 ) -> Result<Names<'a>, CheckFault>
     ensures names { IfOk result (λ names. names.items ≡ names_of trace.now) }
-    ensures none { IfOk result (λ _. HasNone (IsOrderFault trace.now)) }
-    ensures least { IfErr result (λ e. IfFound e (IsLeast (IsOrderFault trace.now))) }
+    ensures none { IfOk result (λ _. HasNone (IsFaultOutside StandsInOrders trace.now)) }
+    ensures least { IfErr result (λ e. IfFound e (IsLeast (IsFaultOutside StandsInOrders trace.now))) }
 {
     let names = names_in_order(alloc, trace, random)?;
     requests_apart(alloc, trace, random)?;
@@ -154,7 +154,7 @@ fn requests_apart_side_by_side<R: Threads + Sync>(
 ) -> Result<(), CheckFault>
     requires { HasDistinctNames trace.now }
     ensures apart { IfOk result (λ _. HasDistinctRequests trace.now) }
-    ensures fault { IfErr result (λ e. IfFound e (IsLeast (IsOrderFault trace.now))) }
+    ensures fault { IfErr result (λ e. IfFound e (IsLeast (IsFaultOutside StandsInOrders trace.now))) }
 {
     if stretches_rise(rt, alloc, trace, jobs)? {
         return Ok(());
@@ -174,8 +174,8 @@ pub fn orders_side_by_side<'a, R: Threads + Sync>(
     jobs: u8,
 ) -> Result<Names<'a>, CheckFault>
     ensures names { IfOk result (λ names. names.items ≡ names_of trace.now) }
-    ensures none { IfOk result (λ _. HasNone (IsOrderFault trace.now)) }
-    ensures least { IfErr result (λ e. IfFound e (IsLeast (IsOrderFault trace.now))) }
+    ensures none { IfOk result (λ _. HasNone (IsFaultOutside StandsInOrders trace.now)) }
+    ensures least { IfErr result (λ e. IfFound e (IsLeast (IsFaultOutside StandsInOrders trace.now))) }
 {
     let names = names_in_order(alloc, trace, random)?;
     requests_apart_side_by_side(rt, alloc, trace, random, jobs)?;

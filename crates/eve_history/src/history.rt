@@ -7,14 +7,14 @@ ghost use Rattle.eve_grammar.specs.Frames.{OfAttempt, OfAccess, OfRollback};
 ghost use Rattle.eve_grammar.specs.Spelling.{frame_text};
 ghost use Rattle.eve_grammar.specs.Spelling.{steps_at};
 ghost use Rattle.eve_frames.specs.Said.{access_said, attempt_said, rollback_said};
-ghost use Rattle.eve_views.specs.Form.{IfFound, IsLeast, HasNone};
+ghost use Rattle.eve_views.specs.Form.{IfFound, IsLeast, HasNone, IsFaultIn};
 ghost use Rattle.eve_views.specs.Lent.{HasBytesAt};
 ghost use Rattle.eve_views.specs.StepKinds.{IsStep};
 ghost use Rattle.eve_history.specs.SectionHistory.{ExecutedAttempt, section_history, section_histories, IsRightSection};
 ghost use Rattle.eve_history.specs.SectionHistory.{attempts_among};
-ghost use Rattle.eve_history.specs.Faults.{IsStructureFault};
 ghost use Rattle.eve_history.specs.Coming.{kept_section, section_history_of, HasCome, AreNotesOf, IsWholeSection};
 ghost use Rattle.eve_history.specs.SideBySide.{AreOrdered, IsKeptAhead};
+ghost use Rattle.eve_history.specs.Faults.{StandsInStructure};
 
 use crate::fate::Fate;
 use crate::frame::{access_at, attempt_at, rollback_at};
@@ -79,7 +79,7 @@ fn take<'a>(
     ensures wrong { IfErr result
         (λ x. IfFound x (λ f. (rest : List (ℕ × StepValue)) (next : ℕ × StepValue)
         → HasCome trace.now e (next ∷ rest) (kept_section notes.old) → IsStep step.entry next
-        → IsLeast (IsStructureFault trace.now e) f)) }
+        → IsLeast (IsFaultIn StandsInStructure trace.now e) f)) }
 {
     match step {
         Step::Attempt(attempt, accesses) => notes.take_attempt(trace, e, &attempt, &accesses),
@@ -151,7 +151,7 @@ impl<'a> History<'a> {
             history ≡ section_history trace.now e)) }
         ensures replica { IfOk result (λ found. IfSome found (λ history. history.replica ≡ e)) }
         ensures right { IfOk result (λ found. IfSome found (λ _. IsRightSection trace.now e)) }
-        ensures none { IfOk result (λ found. IfSome found (λ _. HasNone (IsStructureFault trace.now e))) }
+        ensures none { IfOk result (λ found. IfSome found (λ _. HasNone (IsFaultIn StandsInStructure trace.now e))) }
     {
         trace.recall_limits();
         let mut notes = Notes::with_records(alloc, trace.bytes(), records);
@@ -184,8 +184,8 @@ impl<'a> History<'a> {
         ensures section_history { IfOk result (λ history. history ≡ section_history trace.now e) }
         ensures replica { IfOk result (λ history. history.replica ≡ e) }
         ensures right { IfOk result (λ _. IsRightSection trace.now e) }
-        ensures none { IfOk result (λ _. HasNone (IsStructureFault trace.now e)) }
-        ensures least { IfErr result (λ x. IfFound x (IsLeast (IsStructureFault trace.now e))) }
+        ensures none { IfOk result (λ _. HasNone (IsFaultIn StandsInStructure trace.now e)) }
+        ensures least { IfErr result (λ x. IfFound x (IsLeast (IsFaultIn StandsInStructure trace.now e))) }
     {
         if 1 < jobs {
             if let Some(records) = order_all(rt, alloc, trace, e, jobs)? {
@@ -207,8 +207,8 @@ impl<'a> History<'a> {
         ensures section_history { IfOk result (λ history. history ≡ section_history trace.now e) }
         ensures replica { IfOk result (λ history. history.replica ≡ e) }
         ensures right { IfOk result (λ _. IsRightSection trace.now e) }
-        ensures none { IfOk result (λ _. HasNone (IsStructureFault trace.now e)) }
-        ensures least { IfErr result (λ x. IfFound x (IsLeast (IsStructureFault trace.now e))) }
+        ensures none { IfOk result (λ _. HasNone (IsFaultIn StandsInStructure trace.now e)) }
+        ensures least { IfErr result (λ x. IfFound x (IsLeast (IsFaultIn StandsInStructure trace.now e))) }
     {
         trace.recall_limits();
         let mut notes = Notes::new(alloc, trace.bytes());

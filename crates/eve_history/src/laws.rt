@@ -10,9 +10,10 @@ ghost use Rattle.eve_grammar.specs.Spelling.{length_of, frame_text, step_text, f
 ghost use Rattle.eve_grammar.specs.Spelling.{votes_at};
 ghost use Rattle.eve_views.specs.Lent.{HasBytesAt};
 ghost use Rattle.eve_views.specs.declared.fault.Fault.{Fault};
+ghost use Rattle.eve_views.specs.Form.{IsFaultOutside, IsFaultIn};
 ghost use Rattle.eve_history.specs.Section.{Placed};
-ghost use Rattle.eve_history.specs.Faults.{IsOrderFault, IsStructureFault};
 ghost use Rattle.eve_history.specs.Fates.{fates_from};
+ghost use Rattle.eve_history.specs.Faults.{StandsInOrders, StandsInStructure};
 
 /// The attempts that a section has committed in the end, and those that it has discarded, are the ones with that fate,
 /// in the order of their frames.
@@ -36,8 +37,8 @@ pub fn committed_attempts_are_the_sections()
 
 /// Faults of orders and of structure stand within the trace.
 pub fn faults_lie_within()
-    ensures orders { (t : Trace) (f : Fault) → IsOrderFault t f → f.offset ≤ length_of t }
-    ensures structure { (t : Trace) (e : ℕ) (f : Fault) → IsStructureFault t e f → f.offset ≤ length_of t }
+    ensures orders { (t : Trace) (f : Fault) → IsFaultOutside StandsInOrders t f → f.offset ≤ length_of t }
+    ensures structure { (t : Trace) (e : ℕ) (f : Fault) → IsFaultIn StandsInStructure t e f → f.offset ≤ length_of t }
 {}
 
 /// Each frame of a trace stands in its bytes at its offset. So does each step of a section, its frames one after

@@ -4,22 +4,22 @@ ghost use Rattle.std.specs.Prelude.{◌≡◌, ◌≤◌, ◌<◌, ◌++◌, ◌
 ghost use Rattle.std.specs.Prelude.{◌==◌, ◌&&◌, ◌+◌, false, map, length, slice_index, Some};
 ghost use Rattle.std.specs.Prelude.{IfSome};
 ghost use Rattle.std.specs.List.{AllByRecursion};
+ghost use Rattle.std.specs.Cmp.Lexicographic.{pointwise};
 ghost use Rattle.eve_grammar.specs.Trace.{Trace as TraceValue, Attempt, Step as StepValue, Attempts, Commits};
 ghost use Rattle.eve_grammar.specs.Trace.{RollsBack, head_of};
 ghost use Rattle.eve_grammar.specs.Frames.{without_accesses};
-ghost use Rattle.eve_grammar.specs.Bodies.{limits};
 ghost use Rattle.eve_grammar.specs.Spelling.{accesses_at};
 ghost use Rattle.eve_frames.specs.Said.{attempt_said, commit_said, rollback_said};
-ghost use Rattle.eve_views.specs.Form.{IfFound, IsLeast};
+ghost use Rattle.eve_views.specs.Form.{IfFound, IsLeast, IsFaultIn};
 ghost use Rattle.eve_views.specs.declared.fault.CheckFault.TheVariants.{Found};
-ghost use Rattle.eve_history.specs.Section.{SectionState, is_due, is_right_commit, is_right_rollback, same_bytes};
+ghost use Rattle.eve_history.specs.Section.{SectionState, is_due, is_right_commit, is_right_rollback};
 ghost use Rattle.eve_history.specs.Section.{worker_count};
-ghost use Rattle.eve_history.specs.Faults.{IsStructureFault};
 ghost use Rattle.eve_history.specs.FirstWrong.{wrong_attempt, wrong_step, fault_of};
 ghost use Rattle.eve_history.specs.Marking.{AreMarked};
 ghost use Rattle.eve_history.specs.Coming.{kept_section, StandsAt, HasCome, ComesNext, AreFramed, AreNotesOf};
 ghost use Rattle.eve_history.specs.Coming.{kept_at_first, seen};
 ghost use Rattle.eve_history.specs.SideBySide.{IsKeptAhead};
+ghost use Rattle.eve_history.specs.Faults.{StandsInStructure};
 
 use crate::access_marks::AccessMarks;
 use crate::certificate::{read_order, wrong_certificate};
@@ -76,7 +76,7 @@ fn fault_in(e: u8, wrong: Wrong) -> CheckFault
 
 /// Whether the commit has the attempt's view and token.
 fn is_of(commit: &CommitView<'_>, attempt: &AttemptView<'_>) -> bool
-    ensures { result ≡ (((attempt_said attempt.now).view == (commit_said commit.now).view) && same_bytes
+    ensures { result ≡ (((attempt_said attempt.now).view == (commit_said commit.now).view) && pointwise ◌==◌
         (attempt_said attempt.now).token (commit_said commit.now).token) }
 {
     attempt.view() == commit.view() && attempt.token() == commit.token()
@@ -148,7 +148,7 @@ impl<'a> Notes<'a> {
     fn is_due(&self, head: &Head, attempt: &AttemptView<'_>) -> bool
         requires { length (kept_section self.now).fates ≤ length (kept_section self.now).attempts }
         ensures due { (t : TraceValue) (s : SectionState) → StandsAt s (kept_section self.now)
-            → limits head.now ≡ head_of t
+            → head.now ≡ head_of t
             → result ≡ is_due t s (attempt_said attempt.now) }
         ensures from_one { IsTrue result → 1 ≤ (attempt_said attempt.now).seq }
         ensures there { IsTrue result → (attempt_said attempt.now).seq ≤ head.now.batches }
@@ -200,7 +200,7 @@ impl<'a> Notes<'a> {
 
     /// Whether the rollback is to the last committed number, of a batch that is still to come, and in the next view.
     fn rolls_back(&self, head: &Head, rollback: &RollbackView<'_>) -> bool
-        ensures { (t : TraceValue) (s : SectionState) → StandsAt s (kept_section self.now) → limits head.now ≡ head_of t
+        ensures { (t : TraceValue) (s : SectionState) → StandsAt s (kept_section self.now) → head.now ≡ head_of t
             → result ≡ is_right_rollback t s (rollback_said rollback.now) }
     {
         rollback.to() == self.last
@@ -259,7 +259,7 @@ impl<'a> Notes<'a> {
             (λ x. IfFound x (λ f. (rest : List (ℕ × StepValue)) (b : Attempt)
             → ComesNext trace.now e rest b (kept_section self.old) attempt.now.offset (attempt_said attempt.now)
             accesses.now
-            → IsLeast (IsStructureFault trace.now e) f)) }
+            → IsLeast (IsFaultIn StandsInStructure trace.now e) f)) }
     {
         let mut indexes = [0; MOST_REQUESTS];
         read_order(attempt, &mut indexes);
@@ -316,7 +316,7 @@ impl<'a> Notes<'a> {
         ensures wrong { IfErr result
             (λ x. IfFound x (λ f. (t : TraceValue) (rest : List (ℕ × StepValue))
             → HasCome t e ((commit.now.offset, Commits (commit_said commit.now)) ∷ rest) (kept_section self.old)
-            → IsLeast (IsStructureFault t e) f)) }
+            → IsLeast (IsFaultIn StandsInStructure t e) f)) }
     {
         if !self.is_right_commit(commit) {
             return Err(fault_in(
@@ -357,7 +357,7 @@ impl<'a> Notes<'a> {
             (λ x. IfFound x (λ f. (rest : List (ℕ × StepValue))
             → HasCome trace.now e ((rollback.now.offset, RollsBack (rollback_said rollback.now)) ∷ rest)
             (kept_section self.old)
-            → IsLeast (IsStructureFault trace.now e) f)) }
+            → IsLeast (IsFaultIn StandsInStructure trace.now e) f)) }
     {
         if !self.rolls_back(&trace.head(), rollback) {
             return Err(fault_in(

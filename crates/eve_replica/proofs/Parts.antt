@@ -6,8 +6,9 @@ use Rattle.std.proofs.lemmas.List.{length-map}
 use Rattle.std.proofs.lemmas.List.Elements.{All-head, All-tail}
 use Rattle.std.specs.List.{list_all}
 use Rattle.std.specs.declared.alloc.Global.{Global}
-use Rattle.eve_grammar.specs.Trace.{Head, Step, Vote, head_of}
+use Rattle.eve_grammar.specs.Trace.{Step, Vote, head_of}
 use Rattle.eve_grammar.specs.Limits.{is_head, is_customer, is_batch, is_step, is_vote, is_sent}
+use Rattle.eve_grammar.specs.declared.head.Head.{Head}
 use Rattle.eve_write.specs.declared.vote.VoteData.{VoteData}
 use Rattle.eve_write.specs.declared.parts.Parts.{Parts}
 use Rattle.eve_write.specs.Data.{customer, batch, section, vote, votes, trace}
@@ -94,6 +95,7 @@ spelled p h plan mixed at led servers given head right named customers batches m
     ap (λ (n : ℕ). 2 * n) named ∙ ap (λ (x : Head). 2 * x.customers) (sym head) in
     record {
       limits = record {
+        counts = refl;
         head = subst (λ x. IsTrue (is_head x)) (sym head) right;
         customers = customers;
         batches = subst (λ bs. IsTrue (list_all is_batch bs)) (sym batches) (batches_fit plan.names mixed mix);

@@ -7,7 +7,7 @@ use Rattle.std.proofs.lemmas.List.Elements.{All-head, All-tail, All-cons, All-ni
 use Rattle.std.proofs.lemmas.List.Sums.{sum_by-cons}
 use Rattle.std.specs.List.{count_by}
 use Rattle.std.specs.declared.alloc.Global.{Global}
-use Rattle.eve_grammar.specs.Trace.{Batch, Step, Vote, ForCommit, head_of, opening_rows}
+use Rattle.eve_grammar.specs.Trace.{Batch, Step, Vote, ForCommit, opening_rows}
 use Rattle.eve_grammar.specs.declared.head.Head as header
 use Rattle.eve_write.specs.declared.parts.Parts.{Parts}
 use Rattle.eve_write.specs.declared.vote.VoteData.{VoteData}
@@ -173,7 +173,7 @@ all_gave P led holds (votes ∷ verifiers) all =
 -- its verifiers gave the votes that led its replicas.
 pub run_of : (w : Workload) (mixer : Mixer) (p : Parts) (plan : RunPlan) (at : Standing) (led : List Vote)
     (servers : List Server) → plan ≡ run_plan w mixer
-    → head_of (trace p) ≡ head_asked w → (trace p).customers ≡ w.customers → (trace p).batches ≡ batches_cut w mixer
+    → (trace p).head ≡ head_asked w → (trace p).customers ≡ w.customers → (trace p).batches ≡ batches_cut w mixer
     → map section p.sections.items ≡ map (λ s. section s.steps) servers → All (Serves plan at led) servers
     → at.committed ≡ length plan.batches → at.view ≤ 2 * length plan.batches → length servers < 2 * live_in servers
     → All (λ votes. votes ≡ led) (trace p).verifiers

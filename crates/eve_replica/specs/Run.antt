@@ -1,7 +1,7 @@
 -- What a run of a workload gives. docs/MODEL.md, "A run".
 use Rattle.std.specs.Prelude.{◌≡◌, ◌≢◌, ℕ, ◌*◌, ◌<◌, ◌≤◌, ◌==◌, Bool, List, map, length, ◌++◌, [], All}
 use Rattle.std.specs.List.{count_by}
-use Rattle.eve_grammar.specs.Trace.{Batch, Step, Vote, Trace, head_of, opening_rows}
+use Rattle.eve_grammar.specs.Trace.{Batch, Step, Vote, Trace, opening_rows}
 use Rattle.eve_write.specs.declared.parts.Parts.{Parts}
 use Rattle.eve_write.specs.Data.{trace}
 use Rattle.eve_write.specs.Writable.{HasSpelling}
@@ -52,7 +52,7 @@ pub record IsDecidedBy (batches : ℕ) (steps : List Step) (votes : List Vote) :
 -- batches; what they rolled back wasn't decided; each verifier gave the votes on which they took their steps; and each
 -- replica sent the replies of what it committed.
 pub record IsTraceOf (w : Workload) (mixer : Mixer) (t : Trace) : Type 0 where
-  pub head : head_of t ≡ head_asked w
+  pub head : t.head ≡ head_asked w
   pub customers : t.customers ≡ w.customers
   pub batches : t.batches ≡ batches_cut w mixer
   pub sections : All (IsSectionOf (run_plan w mixer)) t.sections

@@ -22,7 +22,7 @@ use Rattle.eve_smallbank.specs.declared.rows.Touched.TheVariants as touched
 use Rattle.eve_smallbank.specs.SmallBank.{Request, does}
 use Rattle.eve_smallbank.specs.Access.{RowKinds, is_write, balance_of_row, bank_of, rows_of, as_reads, noted_rows}
 use Rattle.eve_smallbank.specs.Access.{written_rows}
-use Rattle.eve_smallbank.specs.Access.{values_after, AreSeen, Fits}
+use Rattle.eve_smallbank.specs.Access.{values_after, Fits}
 use Rattle.eve_smallbank.specs.Touch.{touched_of, rows_in}
 use Rattle.eve_smallbank.specs.Decide.{entries_from, executed_from}
 use Rattle.eve_smallbank.specs.FromValues.{balances_after}
@@ -142,7 +142,7 @@ after_entries balances (r ∷ rows) (v ∷ versions) (z ∷ values) (effect ∷ 
     (one_written balances r effect within.0)
 
 are_seen : (w : ℕ → ℤ) (rows : RowKinds) (versions : List ℕ) (effects : List Effect)
-    → AreSeen w (entries_from rows versions (map (λ r. w r.0) rows) effects)
+    → AllByRecursion (λ (e : Entry). e.seen ≡ w e.row) (entries_from rows versions (map (λ r. w r.0) rows) effects)
 are_seen w [] versions effects = tt
 are_seen w (r ∷ rows) [] effects = tt
 are_seen w (r ∷ rows) (v ∷ versions) [] = tt
@@ -163,8 +163,9 @@ applied names request reached rows balances seen decision t is n shown each fits
     let entries : List Entry = entries_from rows (zeros seen) seen decision.effects in
     let fits_here : Fits names (executed_from request rows (zeros seen) seen decision)
     = subst (λ (r : Touched). Fits names (executed_from request (rows_in r) (zeros seen) seen decision)) is fits in
-    let sees : AreSeen (balance_of_row balances) entries
-    = subst (λ (zs : List ℤ). AreSeen (balance_of_row balances) (entries_from rows (zeros seen) zs decision.effects))
+    let sees : AllByRecursion (λ (e : Entry). e.seen ≡ balance_of_row balances e.row) entries
+    = subst (λ (zs : List ℤ). AllByRecursion (λ (e : Entry). e.seen ≡ balance_of_row balances e.row)
+    (entries_from rows (zeros seen) zs decision.effects))
     (sym shown) (are_seen (balance_of_row balances) rows (zeros seen) decision.effects) in
     fits_here.effect (balance_of_row balances) sees
     ∙ ap (λ (w : ℕ → ℤ). (bank_of names w, decision.reply))

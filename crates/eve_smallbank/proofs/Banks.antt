@@ -1,15 +1,25 @@
 -- A bank as the values of its rows.
 use Rattle.std.proofs.Common.{◌≡◌, ℕ, ℤ, ◌+◌, ◌≤◌, ◌==◌, ◌⊎◌, Bool, true, false, cond, List, [], ◌∷◌, Option, Some}
-use Rattle.std.proofs.Common.{None, option_map, refl, sym, ap, ◌∙◌, inl, inr, arith}
+use Rattle.std.proofs.Common.{None, option_map, refl, sym, ap, ◌∙◌, inl, inr, arith, pos}
 use Rattle.std.proofs.lemmas.Bool.{cases_Bool, eq-eqb, ne_eqb, cond-true, cond-false, false≢true}
 use Rattle.std.specs.Cmp.Lexicographic.{nat_list_cmp_total}
 use Rattle.std.specs.FinMap.{get, insert, get-empty, get-insert, same_map, IsAntisymmetric, nat_cmp-IsAntisymmetric}
 use Rattle.std.specs.FinMap.{slice_cmp-IsAntisymmetric}
-use Rattle.eve_accounts.specs.Names.{name_cmp, same_name, customer_named_from, customer_named}
+use Rattle.std.specs.List.{position_from}
+use Rattle.std.specs.Prelude.{unwrap_or}
+use Rattle.eve_accounts.specs.Names.{name_cmp, same_name, customer_named}
 use Rattle.eve_accounts.specs.Rows.{saving_row, checking_row}
 use Rattle.eve_accounts.proofs.NameLemmas.{same_name-true, same_name-itself}
 use Rattle.eve_smallbank.specs.SmallBank.{Account}
-use Rattle.eve_smallbank.specs.Access.{account_at, bank_from, bank_of}
+use Rattle.eve_smallbank.specs.Access.{account_at, bank_from, bank_of, RowKinds}
+
+-- an account with nothing in it
+abbrev pub empty_account : Account
+empty_account = record { saving = pos 0; checking = pos 0 }
+
+-- the rows of a customer, none where there is none
+abbrev pub rows_for : Option ℕ → (ℕ → RowKinds) → RowKinds
+rows_for customer rows = unwrap_or (option_map rows customer) []
 
 -- ---- names
 
@@ -19,16 +29,16 @@ names_exact = slice_cmp-IsAntisymmetric nat_cmp-IsAntisymmetric
 -- what a bank has under a name
 get-bank_from : (customer : ℕ) (names : List (List ℕ)) (values : ℕ → ℤ) (name : List ℕ)
     → get (bank_from customer names values) name ≡ option_map (account_at values)
-    (customer_named_from customer names name)
+    (position_from (same_name name) customer names)
 get-bank_from customer [] values name = get-empty name_cmp name
 get-bank_from customer (first ∷ names) values name =
     get-insert nat_list_cmp_total (bank_from (customer + 1) names values) first (account_at values customer) name
     ∙ by (same_name name first) (get-bank_from (customer + 1) names values name)
   where
     by : (b : Bool) → get (bank_from (customer + 1) names values) name
-        ≡ option_map (account_at values) (customer_named_from (customer + 1) names name)
+        ≡ option_map (account_at values) (position_from (same_name name) (customer + 1) names)
         → cond b (Some (account_at values customer)) (get (bank_from (customer + 1) names values) name)
-        ≡ option_map (account_at values) (cond b (Some customer) (customer_named_from (customer + 1) names name))
+        ≡ option_map (account_at values) (cond b (Some customer) (position_from (same_name name) (customer + 1) names))
     by true rest = refl
     by false rest = rest
 
@@ -80,13 +90,14 @@ chosen true m n o e = inl (refl, same m n e)
     same a b h = cc
 chosen false m n o e = inr (refl, e)
 
-pub from_below : (c n : ℕ) (names : List (List ℕ)) (name : List ℕ) → customer_named_from c names name ≡ Some n → c ≤ n
+pub from_below : (c n : ℕ) (names : List (List ℕ)) (name : List ℕ) → position_from (same_name name) c names ≡ Some n
+    → c ≤ n
 from_below c n [] name e = absurd (none n e)
   where
     none : (n : ℕ) → ◌≡◌ {A = Option ℕ} None (Some n) → ⊥
     none n h = cc
 from_below c n (first ∷ names) name e =
-    elim (chosen (same_name name first) c n (customer_named_from (c + 1) names name) e) [
+    elim (chosen (same_name name first) c n (position_from (same_name name) (c + 1) names) e) [
       | inl h ↦ at_most h.1
       | inr h ↦ lower (from_below (c + 1) n names name h.1)
     ]
@@ -98,20 +109,20 @@ from_below c n (first ∷ names) name e =
     lower h = omega arith
 
 -- a number belongs to one name
-one_name : (c n : ℕ) (names : List (List ℕ)) (a b : List ℕ) → customer_named_from c names a ≡ Some n
-    → customer_named_from c names b
+one_name : (c n : ℕ) (names : List (List ℕ)) (a b : List ℕ) → position_from (same_name a) c names ≡ Some n
+    → position_from (same_name b) c names
     ≡ Some n → a ≡ b
 one_name c n [] a b h k = absurd (none n h)
   where
     none : (n : ℕ) → ◌≡◌ {A = Option ℕ} None (Some n) → ⊥
     none n e = cc
 one_name c n (first ∷ names) a b h k =
-    elim (chosen (same_name a first) c n (customer_named_from (c + 1) names a) h) [
-      | inl p ↦ elim (chosen (same_name b first) c n (customer_named_from (c + 1) names b) k) [
+    elim (chosen (same_name a first) c n (position_from (same_name a) (c + 1) names) h) [
+      | inl p ↦ elim (chosen (same_name b first) c n (position_from (same_name b) (c + 1) names) k) [
         | inl q ↦ same_name-true a first p.0 ∙ sym (same_name-true b first q.0)
         | inr q ↦ absurd (above p.1 (from_below (c + 1) n names b q.1))
       ]
-      | inr p ↦ elim (chosen (same_name b first) c n (customer_named_from (c + 1) names b) k) [
+      | inr p ↦ elim (chosen (same_name b first) c n (position_from (same_name b) (c + 1) names) k) [
         | inl q ↦ absurd (above q.1 (from_below (c + 1) n names a p.1))
         | inr q ↦ one_name (c + 1) n names a b p.1 q.1
       ]

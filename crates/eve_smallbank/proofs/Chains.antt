@@ -7,9 +7,10 @@ use Rattle.std.specs.List.{AllByRecursion}
 use Rattle.eve_smallbank.specs.declared.entry.Entry.{Entry}
 use Rattle.eve_smallbank.specs.declared.request.Reply.{Reply}
 use Rattle.eve_smallbank.specs.SmallBank.{Bank, Request, does, run}
-use Rattle.eve_smallbank.specs.Access.{Executed, writes_row, Fits, AreSeen, bank_of, values_after}
-use Rattle.eve_smallbank.specs.Chain.{Versioned, Table, left_by, visible_at, before_next, before_rest, Sees, IsChained}
+use Rattle.eve_smallbank.specs.Access.{Executed, writes_row, Fits, bank_of, values_after}
+use Rattle.eve_smallbank.specs.Chain.{Table, left_by, visible_at, before_next, before_rest, Sees, IsChained}
 use Rattle.eve_smallbank.specs.Chain.{IsRowChained, table_after, table_after_all, values_of}
+use Rattle.eve_smallbank.specs.declared.versioned.Versioned.{Versioned}
 
 -- each entry sees the table as the requests before leave it
 abbrev pub Follows : Table → List Executed → Type 0
@@ -104,7 +105,8 @@ values_of-table_after table (e ∷ es) =
     values_of-table_after (λ row. cond (writes_row row e) (left_by e) (table row)) es
     ∙ ap (λ (values : ℕ → ℤ). values_after values es) (fun_ext (λ row. value_if (writes_row row e) e (table row)))
 
-pub seen_values : (table : Table) (es : List Entry) → AllByRecursion (Sees table) es → AreSeen (values_of table) es
+pub seen_values : (table : Table) (es : List Entry) → AllByRecursion (Sees table) es
+    → AllByRecursion (λ (e : Entry). e.seen ≡ values_of table e.row) es
 seen_values table [] sees = tt
 seen_values table (e ∷ es) sees = (sees.0.value, seen_values table es sees.1)
 

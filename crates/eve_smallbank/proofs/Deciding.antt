@@ -13,13 +13,14 @@ use Rattle.eve_smallbank.specs.declared.request.Abort.TheVariants.{Insufficient,
 use Rattle.eve_smallbank.specs.declared.request.Reply.{Reply}
 use Rattle.eve_smallbank.specs.declared.request.Reply.TheVariants.{Done, Total, Aborted}
 use Rattle.eve_smallbank.specs.SmallBank.{Account, Bank, Request, Balance, DepositChecking, TransactSaving, Amalgamate}
-use Rattle.eve_smallbank.specs.SmallBank.{WriteCheck, aborted, empty_account, check_cost, does}
-use Rattle.eve_smallbank.specs.Access.{RowKinds, account_at, bank_of, rows_of, noted_rows, for_customer}
+use Rattle.eve_smallbank.specs.SmallBank.{WriteCheck, aborted, check_cost, does}
+use Rattle.eve_smallbank.specs.Access.{RowKinds, account_at, bank_of, rows_of, noted_rows}
 use Rattle.eve_smallbank.specs.Chain.{Table, values_of}
 use Rattle.eve_smallbank.specs.Execution.{value_in, entry_on, executed_on}
 use Rattle.eve_smallbank.specs.Decide.{effect_in, decision_in}
 use Rattle.eve_smallbank.specs.FromValues.{only_read, written, abort_after, done_within, decided_from}
-use Rattle.eve_smallbank.proofs.Banks.{put_account, put_account-own, put_account-other, insert-bank_of}
+use Rattle.eve_smallbank.proofs.Banks.{put_account, put_account-own, put_account-other, insert-bank_of, rows_for}
+use Rattle.eve_smallbank.proofs.Banks.{empty_account}
 use Rattle.eve_smallbank.proofs.Fitting as fitting
 
 -- ---- the account of a changed customer
@@ -94,7 +95,7 @@ module _ (names : List (List ℕ)) (table : Table) where
       (bank_of names (values_of table), Total (value (saving_row c) +ℤ value (checking_row c)))
       ((saving_row c, Read) ∷ (checking_row c, Read) ∷ [])
       (fitting.balanced names table name (values_of table) (Some c) e)
-      (ap (λ (o : Option ℕ). for_customer o (λ d. (saving_row d, Read) ∷ (checking_row d, Read) ∷ [])) e)))
+      (ap (λ (o : Option ℕ). rows_for o (λ d. (saving_row d, Read) ∷ (checking_row d, Read) ∷ [])) e)))
 
   pub deposited : (name : List ℕ) (amount : ℤ) (c : ℕ) → customer_named names name ≡ Some c → int_lt amount (pos 0)
       ≡ false
@@ -107,7 +108,7 @@ module _ (names : List (List ℕ)) (table : Table) where
       (insert (bank_of names (values_of table)) name account) after (written after ∷ [])
       (fitting.deposited names table name amount (values_of table) (Some c) e
       ∙ cond-false (int_lt amount (pos 0)) _ _ good)
-      (ap (λ (o : Option ℕ). for_customer o (λ d. (checking_row d, Write) ∷ [])) e)
+      (ap (λ (o : Option ℕ). rows_for o (λ d. (checking_row d, Write) ∷ [])) e)
       (ap (λ (z : ℤ). written z ∷ []) (value_checking-insert names (values_of table) name c account e)))
 
   pub transacted : (name : List ℕ) (amount : ℤ) (c : ℕ) → customer_named names name ≡ Some c
@@ -117,7 +118,7 @@ module _ (names : List (List ℕ)) (table : Table) where
       let after : ℤ = value (saving_row c) +ℤ amount in
       let account : Account = record { saving = after; checking = value (checking_row c) } in
       let is : rows_of names (TransactSaving name amount) ≡ (saving_row c, Write) ∷ [] =
-      ap (λ (o : Option ℕ). for_customer o (λ d. (saving_row d, Write) ∷ [])) e in
+      ap (λ (o : Option ℕ). rows_for o (λ d. (saving_row d, Write) ∷ [])) e in
       elim (cases_Bool (int_lt after (pos 0))) [
         | inl low ↦ ap Some (cond-true (int_lt after (pos 0)) _ _ low
             ∙ sym (by_outcome (TransactSaving name amount) (bank_of names (values_of table), Aborted Insufficient)
@@ -144,7 +145,7 @@ module _ (names : List (List ℕ)) (table : Table) where
       (only_read (value (saving_row c)) ∷ written after ∷ [])
       (fitting.checked names table name amount (values_of table) (Some c) e
       ∙ cond-false (int_lt amount (pos 0)) _ _ good)
-      (ap (λ (o : Option ℕ). for_customer o (λ d. (saving_row d, Read) ∷ (checking_row d, Write) ∷ [])) e)
+      (ap (λ (o : Option ℕ). rows_for o (λ d. (saving_row d, Read) ∷ (checking_row d, Write) ∷ [])) e)
       (ap (λ (z : ℤ). only_read (value (saving_row c)) ∷ written z ∷ [])
       (value_checking-insert names (values_of table) name c account e)))
 

@@ -5,10 +5,10 @@ use Rattle.std.proofs.Common.{ap, ap₂, ◌∙◌, inl, inr, ◌⊎◌, ◌≤�
 use mathlib.Core.Path.{fun_ext}
 use Rattle.std.proofs.lemmas.Bool.{cases_Bool, cases_eq, eqb-true, eq-eqb, ne_eqb, or_from, or_parts, cond-true}
 use Rattle.std.proofs.lemmas.Bool.{cond-false, false≢true}
-use Rattle.std.specs.List.{AllByRecursion, list_any}
+use Rattle.std.specs.List.{AllByRecursion, list_any, position_from}
 use Rattle.std.specs.FinMap.{get, insert}
 use Rattle.eve_accounts.specs.Money.{is_balance}
-use Rattle.eve_accounts.specs.Names.{same_name, customer_named_from, customer_named}
+use Rattle.eve_accounts.specs.Names.{same_name, customer_named}
 use Rattle.eve_accounts.specs.Rows.{saving_row, checking_row}
 use Rattle.eve_smallbank.specs.declared.entry.Entry.{Entry}
 use Rattle.eve_smallbank.specs.declared.entry.Kind.{Kind}
@@ -18,27 +18,28 @@ use Rattle.eve_smallbank.specs.declared.request.Reply.{Reply}
 use Rattle.eve_smallbank.specs.declared.request.Reply.TheVariants.{Done, Total, Aborted}
 use Rattle.eve_smallbank.specs.SmallBank.{Account, Bank, Request, Balance, DepositChecking, TransactSaving, Amalgamate}
 use Rattle.eve_smallbank.specs.SmallBank.{WriteCheck, aborted, with_account, updated, deposit_checking, transact_saving}
-use Rattle.eve_smallbank.specs.SmallBank.{empty_account, moved, amalgamate, check_cost, write_check, does}
-use Rattle.eve_smallbank.specs.Access.{RowKinds, account_at, bank_of, for_customer, amalgamated_rows, rows_of}
+use Rattle.eve_smallbank.specs.SmallBank.{moved, amalgamate, check_cost, write_check, does}
+use Rattle.eve_smallbank.specs.Access.{RowKinds, account_at, bank_of, amalgamated_rows, rows_of}
 use Rattle.eve_smallbank.specs.Access.{noted_rows}
-use Rattle.eve_smallbank.specs.Access.{values_after, AreSeen, IsKeptIfRead, Fits}
+use Rattle.eve_smallbank.specs.Access.{values_after, Fits}
 use Rattle.eve_smallbank.specs.Chain.{Table, values_of}
 use Rattle.eve_smallbank.specs.Execution.{account_value, value_in, entry_on, executed_on}
 use Rattle.eve_smallbank.proofs.Members.{In, here, there}
 use Rattle.eve_accounts.proofs.NameLemmas.{same_name-true}
 use Rattle.eve_smallbank.proofs.Banks.{put_account, put_account-own, put_account-row, put_account-other}
-use Rattle.eve_smallbank.proofs.Banks.{chosen, from_below, get-bank_of, insert-bank_of}
+use Rattle.eve_smallbank.proofs.Banks.{chosen, from_below, get-bank_of, insert-bank_of, rows_for, empty_account}
 
 -- ---- the value of a row in a bank
 
-name_at : (c n i : ℕ) (names : List (List ℕ)) (name : List ℕ) → customer_named_from c names name ≡ Some n → n ≡ c + i
+name_at : (c n i : ℕ) (names : List (List ℕ)) (name : List ℕ) → position_from (same_name name) c names ≡ Some n
+    → n ≡ c + i
     → get_or names i [] ≡ name
 name_at c n i [] name e f = absurd (none n e)
   where
     none : (n : ℕ) → ◌≡◌ {A = Option ℕ} None (Some n) → ⊥
     none n h = cc
 name_at c n zero (first ∷ names) name e f =
-    elim (chosen (same_name name first) c n (customer_named_from (c + 1) names name) e) [
+    elim (chosen (same_name name first) c n (position_from (same_name name) (c + 1) names) e) [
       | inl h ↦ sym (same_name-true name first h.0)
       | inr h ↦ absurd (above n c f (from_below (c + 1) n names name h.1))
     ]
@@ -46,7 +47,7 @@ name_at c n zero (first ∷ names) name e f =
     above : (m k : ℕ) → m ≡ k + 0 → k + 1 ≤ m → ⊥
     above m k a b = omega arith
 name_at c n (suc i) (first ∷ names) name e f =
-    elim (chosen (same_name name first) c n (customer_named_from (c + 1) names name) e) [
+    elim (chosen (same_name name first) c n (position_from (same_name name) (c + 1) names) e) [
       | inl h ↦ absurd (apart n c i h.1 f)
       | inr h ↦ name_at (c + 1) n i names name h.1 (shifted n c i f)
     ]
@@ -139,7 +140,7 @@ kinds_of names table bank [] = refl
 kinds_of names table bank (r ∷ rows) = ap (λ (others : RowKinds). r ∷ others) (kinds_of names table bank rows)
 
 kept_read : (names : List (List ℕ)) (table : Table) (bank : Bank) (row : ℕ) (kind : Kind)
-    → IsKeptIfRead (entry_on names table bank (row, kind))
+    → kind ≡ Read → (entry_on names table bank (row, kind)).after ≡ (entry_on names table bank (row, kind)).seen
 kept_read names table bank row Read = λ is. refl
 kept_read names table bank row Write = λ is. absurd (unlike is)
   where
@@ -147,7 +148,7 @@ kept_read names table bank row Write = λ is. absurd (unlike is)
     unlike e = cc
 
 kept_reads : (names : List (List ℕ)) (table : Table) (bank : Bank) (rows : RowKinds)
-    → AllByRecursion IsKeptIfRead (map (entry_on names table bank) rows)
+    → AllByRecursion (λ (e : Entry). e.kind ≡ Read → e.after ≡ e.seen) (map (entry_on names table bank) rows)
 kept_reads names table bank [] = tt
 kept_reads names table bank (r ∷ rows) = (kept_read names table bank r.0 r.1, kept_reads names table bank rows)
 
@@ -158,7 +159,8 @@ module _ (names : List (List ℕ)) (table : Table) where
   -- what the request does in other banks that have the values seen
   abbrev DoesSo : Request → Bank × Reply → RowKinds → Type 0
   DoesSo request outcome rows =
-      (values : ℕ → ℤ) → AreSeen values (entries_for outcome rows) → does (bank_of names values) request
+      (values : ℕ → ℤ) → AllByRecursion (λ (e : Entry). e.seen ≡ values e.row) (entries_for outcome rows)
+      → does (bank_of names values) request
       ≡ (bank_of names (values_after values (entries_for outcome rows)), outcome.1)
 
   by_outcome : (request : Request) (outcome : Bank × Reply) (rows : RowKinds)
@@ -196,9 +198,12 @@ module _ (names : List (List ℕ)) (table : Table) where
       ≡ updated (bank_of names values)
       (insert (bank_of names values) name (record { saving = values (saving_row c); checking = new values }))
       (new values))
-      (stable : (bank : Bank) (values : ℕ → ℤ) → AreSeen values (entries_for (bank, Done) rows) → new (values_of table)
+      (stable : (bank : Bank) (values : ℕ → ℤ)
+      → AllByRecursion (λ (e : Entry). e.seen ≡ values e.row) (entries_for (bank, Done) rows)
+      → new (values_of table)
       ≡ new values)
-      (stable_out : (bank : Bank) (values : ℕ → ℤ) → AreSeen values (entries_for (bank, Aborted OutOfRange) rows)
+      (stable_out : (bank : Bank) (values : ℕ → ℤ)
+      → AllByRecursion (λ (e : Entry). e.seen ≡ values e.row) (entries_for (bank, Aborted OutOfRange) rows)
       → new (values_of table) ≡ new values)
       (writes : (bank : Bank) (values : ℕ → ℤ) → values_after values (entries_for (bank, Done) rows)
       ≡ (λ row. cond (checking_row c == row) (value_in names bank (checking_row c)) (values row)))
@@ -257,11 +262,11 @@ module _ (names : List (List ℕ)) (table : Table) where
       → Fits names (executed_on names table (DepositChecking name amount))
   fits_deposit name amount None e =
       missing (DepositChecking name amount) (λ values. deposited name amount values None e)
-      (ap (λ (o : Option ℕ). for_customer o (λ c. (checking_row c, Write) ∷ [])) e)
+      (ap (λ (o : Option ℕ). rows_for o (λ c. (checking_row c, Write) ∷ [])) e)
   fits_deposit name amount (Some c) e =
       let rows : RowKinds = (checking_row c, Write) ∷ [] in
       let is : rows_of names (DepositChecking name amount) ≡ rows =
-      ap (λ (o : Option ℕ). for_customer o (λ d. (checking_row d, Write) ∷ [])) e in
+      ap (λ (o : Option ℕ). rows_for o (λ d. (checking_row d, Write) ∷ [])) e in
       elim (cases_Bool (int_lt amount (pos 0))) [
         | inl bad ↦ refused_amount (DepositChecking name amount) rows (λ values. deposited name amount values (Some c) e
             ∙ cond-true (int_lt amount (pos 0)) _ _ bad) is
@@ -284,11 +289,11 @@ module _ (names : List (List ℕ)) (table : Table) where
       → Fits names (executed_on names table (WriteCheck name amount))
   fits_check name amount None e =
       missing (WriteCheck name amount) (λ values. checked name amount values None e)
-      (ap (λ (o : Option ℕ). for_customer o (λ c. (saving_row c, Read) ∷ (checking_row c, Write) ∷ [])) e)
+      (ap (λ (o : Option ℕ). rows_for o (λ c. (saving_row c, Read) ∷ (checking_row c, Write) ∷ [])) e)
   fits_check name amount (Some c) e =
       let rows : RowKinds = (saving_row c, Read) ∷ (checking_row c, Write) ∷ [] in
       let is : rows_of names (WriteCheck name amount) ≡ rows =
-      ap (λ (o : Option ℕ). for_customer o (λ d. (saving_row d, Read) ∷ (checking_row d, Write) ∷ [])) e in
+      ap (λ (o : Option ℕ). rows_for o (λ d. (saving_row d, Read) ∷ (checking_row d, Write) ∷ [])) e in
       let paid : ℤ → ℤ → ℤ = λ s k. k -ℤ check_cost (record { saving = s; checking = k }) amount in
       elim (cases_Bool (int_lt amount (pos 0))) [
         | inl bad ↦ refused_amount (WriteCheck name amount) rows (λ values. checked name amount values (Some c) e
@@ -312,13 +317,13 @@ module _ (names : List (List ℕ)) (table : Table) where
       → Fits names (executed_on names table (Balance name))
   fits_balance name None e =
       missing (Balance name) (λ values. balanced name values None e)
-      (ap (λ (o : Option ℕ). for_customer o (λ c. (saving_row c, Read) ∷ (checking_row c, Read) ∷ [])) e)
+      (ap (λ (o : Option ℕ). rows_for o (λ c. (saving_row c, Read) ∷ (checking_row c, Read) ∷ [])) e)
   fits_balance name (Some c) e =
       by_outcome (Balance name)
       (bank_of names (values_of table), Total (values_of table (saving_row c) +ℤ values_of table (checking_row c)))
       ((saving_row c, Read) ∷ (checking_row c, Read) ∷ [])
       (balanced name (values_of table) (Some c) e)
-      (ap (λ (o : Option ℕ). for_customer o (λ d. (saving_row d, Read) ∷ (checking_row d, Read) ∷ [])) e)
+      (ap (λ (o : Option ℕ). rows_for o (λ d. (saving_row d, Read) ∷ (checking_row d, Read) ∷ [])) e)
       (λ values seen. balanced name values (Some c) e ∙ ap (λ (z : ℤ). (bank_of names values, Total z))
       (sym (ap₂ ◌+ℤ◌ seen.0 seen.1.0)))
 
@@ -349,7 +354,7 @@ module _ (names : List (List ℕ)) (table : Table) where
         ∙ ap (λ (a : Account). a.saving) (put_account-own (values_of table) c (saving_after (values_of table)))
 
     transact_rows : rows_of names (TransactSaving name amount) ≡ (saving_row c, Write) ∷ []
-    transact_rows = ap (λ (o : Option ℕ). for_customer o (λ d. (saving_row d, Write) ∷ [])) e
+    transact_rows = ap (λ (o : Option ℕ). rows_for o (λ d. (saving_row d, Write) ∷ [])) e
 
     fits_saved : (low fits : Bool) → int_lt (saved (values_of table (saving_row c))) (pos 0) ≡ low
         → is_balance (saved (values_of table (saving_row c))) ≡ fits
@@ -392,7 +397,7 @@ module _ (names : List (List ℕ)) (table : Table) where
       → Fits names (executed_on names table (TransactSaving name amount))
   fits_transact name amount None e =
       missing (TransactSaving name amount) (λ values. transacted name amount values None e)
-      (ap (λ (o : Option ℕ). for_customer o (λ c. (saving_row c, Write) ∷ [])) e)
+      (ap (λ (o : Option ℕ). rows_for o (λ c. (saving_row c, Write) ∷ [])) e)
   fits_transact name amount (Some c) e =
       fits_saved name amount c e (int_lt (values_of table (saving_row c) +ℤ amount) (pos 0))
       (is_balance (values_of table (saving_row c) +ℤ amount)) refl refl
@@ -497,10 +502,13 @@ module _ (names : List (List ℕ)) (table : Table) where
           ∙ value_checking names (result_of (values_of table)) d to f
 
       module _ (rows : List ℕ) (is : rows_of names (Amalgamate from to) ≡ as_writes rows)
-          (stable : (bank : Bank) (values : ℕ → ℤ) → AreSeen values (entries_for (bank, Done) (as_writes rows))
+          (stable : (bank : Bank) (values : ℕ → ℤ)
+          → AllByRecursion (λ (e : Entry). e.seen ≡ values e.row) (entries_for (bank, Done) (as_writes rows))
           → new_checking (values_of table) ≡ new_checking values)
           (stable_out : (bank : Bank) (values : ℕ → ℤ)
-          → AreSeen values (entries_for (bank, Aborted OutOfRange) (as_writes rows)) → new_checking (values_of table)
+          → AllByRecursion (λ (e : Entry). e.seen ≡ values e.row)
+          (entries_for (bank, Aborted OutOfRange) (as_writes rows))
+          → new_checking (values_of table)
           ≡ new_checking values)
           (reads : (bank : Bank) (values : ℕ → ℤ)
           → values_after values (entries_for (bank, Aborted OutOfRange) (as_writes rows)) ≡ values)
@@ -533,8 +541,8 @@ module _ (names : List (List ℕ)) (table : Table) where
 
       pub both_rows : rows_of names (Amalgamate from to) ≡ amalgamated_rows c d
       both_rows =
-          ap (λ (o : Option ℕ). for_customer o (λ m. for_customer (customer_named names to) (amalgamated_rows m))) e
-          ∙ ap (λ (o : Option ℕ). for_customer o (amalgamated_rows c)) f
+          ap (λ (o : Option ℕ). rows_for o (λ m. rows_for (customer_named names to) (amalgamated_rows m))) e
+          ∙ ap (λ (o : Option ℕ). rows_for o (amalgamated_rows c)) f
 
       apart_from : (row : ℕ) (r : ℕ) → (r == row) ≡ false → ¬ (row ≡ r)
       apart_from row r h same = absurd (false≢true (sym h ∙ eq-eqb r row (sym same)))
@@ -637,11 +645,11 @@ module _ (names : List (List ℕ)) (table : Table) where
       → Fits names (executed_on names table (Amalgamate from to))
   fits_amalgamate from to None p e f =
       missing (Amalgamate from to) (no_sender from to e)
-      (ap (λ (o : Option ℕ). for_customer o (λ m. for_customer (customer_named names to) (amalgamated_rows m))) e)
+      (ap (λ (o : Option ℕ). rows_for o (λ m. rows_for (customer_named names to) (amalgamated_rows m))) e)
   fits_amalgamate from to (Some c) None e f =
       missing (Amalgamate from to) (no_receiver from to c e f)
-      (ap (λ (o : Option ℕ). for_customer o (λ m. for_customer (customer_named names to) (amalgamated_rows m))) e
-      ∙ ap (λ (o : Option ℕ). for_customer o (amalgamated_rows c)) f)
+      (ap (λ (o : Option ℕ). rows_for o (λ m. rows_for (customer_named names to) (amalgamated_rows m))) e
+      ∙ ap (λ (o : Option ℕ). rows_for o (amalgamated_rows c)) f)
   fits_amalgamate from to (Some c) (Some d) e f =
       elim (cases_Bool (c == d)) [
         | inl same ↦ fits_itself from to c d e f same

@@ -8,11 +8,12 @@ use Rattle.std.proofs.lemmas.Bool.{or_right, or_parts, ne_eqb, eq-eqb, eqb-true,
 use Rattle.std.specs.List.{AllByRecursion, list_any}
 use Rattle.eve_smallbank.specs.declared.entry.Entry.{Entry}
 use Rattle.eve_smallbank.specs.Access.{Executed, is_write, writes_row}
-use Rattle.eve_smallbank.specs.Chain.{Versioned, Table, left_by, Sees, table_after, table_after_all}
+use Rattle.eve_smallbank.specs.Chain.{Table, left_by, Sees, table_after, table_after_all}
 use Rattle.eve_smallbank.specs.Conflict.{entry_precedes, precedes, AgreesWithConflicts, IsReordering}
 use Rattle.eve_smallbank.proofs.Members.{In, here, there, all_in, all_from_in, list_any-none, none_of_list_any}
 use Rattle.eve_smallbank.proofs.Members.{in_front, in_middle, in_before}
 use Rattle.eve_smallbank.proofs.Chains.{Follows}
+use Rattle.eve_smallbank.specs.declared.versioned.Versioned.{Versioned}
 
 -- ---- versions only rise
 

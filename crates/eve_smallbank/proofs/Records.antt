@@ -20,9 +20,9 @@ use Rattle.eve_smallbank.specs.declared.rows.Touched.{Touched}
 use Rattle.eve_smallbank.specs.declared.rows.Touched.TheVariants as touched
 use Rattle.eve_smallbank.specs.SmallBank.{Bank, Request, Balance, DepositChecking, TransactSaving, Amalgamate}
 use Rattle.eve_smallbank.specs.SmallBank.{WriteCheck, check_cost, does}
-use Rattle.eve_smallbank.specs.Access.{Executed, RowKinds, bank_of, amalgamated_rows, rows_of, noted_rows, for_customer}
+use Rattle.eve_smallbank.specs.Access.{Executed, RowKinds, bank_of, amalgamated_rows, rows_of, noted_rows}
 use Rattle.eve_smallbank.specs.Access.{Fits}
-use Rattle.eve_smallbank.specs.Chain.{Versioned, Table, Sees, values_of}
+use Rattle.eve_smallbank.specs.Chain.{Table, Sees, values_of}
 use Rattle.eve_smallbank.specs.Execution.{entry_on, executed_on}
 use Rattle.eve_smallbank.specs.Touch.{knows_names, has_bad_amount, touched_of, rows_in}
 use Rattle.eve_smallbank.specs.Decide.{effect_in, decision_in, entries_from, executed_from, IsExact}
@@ -31,6 +31,8 @@ use Rattle.eve_smallbank.proofs.Fitting as fitting
 use Rattle.eve_smallbank.proofs.Fitting.{always_fits}
 use Rattle.eve_smallbank.proofs.Unique.{AreDistinct, numbers, numbers-as_reads, numbers-pairs, request_rows}
 use Rattle.eve_smallbank.proofs.Unique.{entries_are_rows, made_of_table}
+use Rattle.eve_smallbank.specs.declared.versioned.Versioned.{Versioned}
+use Rattle.eve_smallbank.proofs.Banks.{rows_for}
 use Rattle.eve_smallbank.proofs.Deciding as deciding
 
 -- ---- which requests are refused
@@ -85,7 +87,7 @@ module _ (names : List (List ℕ)) (table : Table) where
 
   of_one : (name : List ℕ) (o : Option ℕ) (request : Request) (rows : RowKinds) (of : ℕ → RowKinds)
       → customer_named names name ≡ o
-      → is_some o && true ≡ true → for_customer o of ≡ rows
+      → is_some o && true ≡ true → rows_for o of ≡ rows
       → ((c : ℕ) → customer_named names name ≡ Some c → IsDecided request (of c)) → IsDecided request rows
   of_one name None request rows of e k is h = absurd (false≢true k)
   of_one name (Some c) request rows of e k is h = subst (IsDecided request) is (h c e)
@@ -93,7 +95,7 @@ module _ (names : List (List ℕ)) (table : Table) where
   of_two : (from to : List ℕ) (o p : Option ℕ) (rows : RowKinds) → customer_named names from ≡ o
       → customer_named names to ≡ p
       → is_some o && (is_some p && true) ≡ true
-      → for_customer o (λ c. for_customer p (amalgamated_rows c)) ≡ rows → IsDecided (Amalgamate from to) rows
+      → rows_for o (λ c. rows_for p (amalgamated_rows c)) ≡ rows → IsDecided (Amalgamate from to) rows
   of_two from to None p rows e f k is = absurd (false≢true k)
   of_two from to (Some c) None rows e f k is = absurd (false≢true k)
   of_two from to (Some c) (Some d) rows e f k is = subst (IsDecided (Amalgamate from to)) is (by (c == d) refl)

@@ -2,9 +2,9 @@
 use Rattle.std.proofs.Common.{◌≡◌, ℕ, ℤ, ◌+◌, ◌*◌, ◌==◌, false, cond, List, [], ◌∷◌, map, length, ◌<◌, Option, Some}
 use Rattle.std.proofs.Common.{None, refl, sym, subst, ap, ap₂, ◌∙◌, inl, inr, arith}
 use Rattle.std.specs.Prelude.{⊤}
-use Rattle.std.specs.List.{AllByRecursion}
+use Rattle.std.specs.List.{AllByRecursion, position_from}
 use Rattle.std.proofs.lemmas.Bool.{cases_Bool, eq-eqb, ne_eqb, and_right, and_from, cond-true, cond-false, false≢true}
-use Rattle.eve_accounts.specs.Names.{same_name, customer_named_from, customer_named}
+use Rattle.eve_accounts.specs.Names.{same_name, customer_named}
 use Rattle.eve_accounts.specs.Rows.{saving_row, checking_row}
 use Rattle.eve_smallbank.specs.declared.entry.Entry.{Entry}
 use Rattle.eve_smallbank.specs.declared.entry.Kind.{Kind}
@@ -14,12 +14,12 @@ use Rattle.eve_smallbank.specs.declared.request.Reply.{Reply}
 use Rattle.eve_smallbank.specs.declared.request.Reply.TheVariants.{Done, Total, Aborted}
 use Rattle.eve_smallbank.specs.SmallBank.{Bank, Request, Balance, DepositChecking, TransactSaving, Amalgamate}
 use Rattle.eve_smallbank.specs.SmallBank.{WriteCheck}
-use Rattle.eve_smallbank.specs.Access.{Executed, RowKinds, is_write, writes_row, bank_of, for_customer}
+use Rattle.eve_smallbank.specs.Access.{Executed, RowKinds, is_write, writes_row, bank_of}
 use Rattle.eve_smallbank.specs.Access.{amalgamated_rows}
-use Rattle.eve_smallbank.specs.Access.{rows_of, as_reads, noted_rows, values_after, IsKeptIfRead, Fits}
+use Rattle.eve_smallbank.specs.Access.{rows_of, as_reads, noted_rows, values_after, Fits}
 use Rattle.eve_smallbank.specs.Chain.{Table, Sees, values_of}
 use Rattle.eve_smallbank.specs.Execution.{value_in, value_left, entry_on, executed_on}
-use Rattle.eve_smallbank.proofs.Banks.{chosen}
+use Rattle.eve_smallbank.proofs.Banks.{chosen, rows_for}
 use Rattle.eve_smallbank.proofs.Chains.{seen_values}
 use Rattle.eve_smallbank.proofs.Fitting.{value_saving, value_checking}
 
@@ -59,14 +59,14 @@ noted_are_rows names (Aborted Insufficient) rows are = subst (AreRows names) (sy
 noted_are_rows names (Aborted OutOfRange) rows are = subst (AreRows names) (sym (numbers-as_reads rows)) are
 
 -- a customer's number is below the number of names
-from_above : (c n : ℕ) (names : List (List ℕ)) (name : List ℕ) → customer_named_from c names name ≡ Some n
+from_above : (c n : ℕ) (names : List (List ℕ)) (name : List ℕ) → position_from (same_name name) c names ≡ Some n
     → n < c + length names
 from_above c n [] name e = absurd (none n e)
   where
     none : (n : ℕ) → ◌≡◌ {A = Option ℕ} None (Some n) → ⊥
     none n h = cc
 from_above c n (first ∷ names) name e =
-    elim (chosen (same_name name first) c n (customer_named_from (c + 1) names name) e) [
+    elim (chosen (same_name name first) c n (position_from (same_name name) (c + 1) names) e) [
       | inl h ↦ (let same = h.1 in omega arith)
       | inr h ↦ (let rest = from_above (c + 1) n names name h.1 in omega arith)
     ]
@@ -141,7 +141,7 @@ module _ (names : List (List ℕ)) where
   -- rows of a customer, if there is one
   of_customer : (name : List ℕ) (o : Option ℕ) (rows : ℕ → RowKinds) → customer_named names name ≡ o
       → ((c : ℕ) → customer_named names name ≡ Some c → AreRows names (numbers (rows c)))
-      → AreRows names (numbers (for_customer o rows))
+      → AreRows names (numbers (rows_for o rows))
   of_customer name None rows e h = no_rows names
   of_customer name (Some c) rows e h = h c e
 
@@ -186,7 +186,8 @@ same_entry : (e f : Entry) → e.row ≡ f.row → e.kind ≡ f.kind → e.versi
 same_entry e f a b c d g = λ i. record { row = a i; kind = b i; version = c i; seen = d i; after = g i }
 
 -- an entry of a customer's row is what a bank with its after value makes of the row
-made_entry : (names : List (List ℕ)) (table : Table) (w : ℕ → ℤ) (e : Entry) → IsOwned names e.row → IsKeptIfRead e
+made_entry : (names : List (List ℕ)) (table : Table) (w : ℕ → ℤ) (e : Entry) → IsOwned names e.row
+    → (e.kind ≡ Read → e.after ≡ e.seen)
     → Sees table e → (e.kind ≡ Write → w e.row ≡ e.after)
     → e ≡ entry_on names table (bank_of names w) (e.row, e.kind)
 made_entry names table w e owned kept sees after = same_entry e (entry_on names table (bank_of names w) (e.row, e.kind))
@@ -197,7 +198,8 @@ made_entry names table w e owned kept sees after = same_entry e (entry_on names 
     by_kind Write is = owned w ∙ after is
 
 made_entries : (names : List (List ℕ)) (table : Table) (w : ℕ → ℤ) (es : List Entry)
-    → AllByRecursion (IsOwned names) (map (λ e. e.row) es) → AllByRecursion IsKeptIfRead es
+    → AllByRecursion (IsOwned names) (map (λ e. e.row) es)
+    → AllByRecursion (λ (e : Entry). e.kind ≡ Read → e.after ≡ e.seen) es
     → AllByRecursion (Sees table) es → AllByRecursion (λ e. e.kind ≡ Write → w e.row ≡ e.after) es
     → es ≡ map (entry_on names table (bank_of names w)) (map (λ e. (e.row, e.kind)) es)
 made_entries names table w [] owned kept sees after = refl

@@ -5,9 +5,10 @@ use Rattle.std.proofs.lemmas.Bool.{cases_Bool, eq-eqb, eqb-true, cond-true, cond
 use Rattle.std.specs.List.{AllByRecursion}
 use Rattle.eve_smallbank.specs.declared.entry.Entry.{Entry}
 use Rattle.eve_smallbank.specs.Access.{Executed, is_write, writes_row}
-use Rattle.eve_smallbank.specs.Chain.{Versioned, Table, left_by, visible_at, before_next, Sees, IsRowChained, after_own}
+use Rattle.eve_smallbank.specs.Chain.{Table, left_by, visible_at, before_next, Sees, IsRowChained, after_own}
 use Rattle.eve_smallbank.specs.Chain.{IsWalk, own_entries, row_entries, HasOneEach, table_after}
 use Rattle.eve_smallbank.proofs.Chains.{visible_at-before_next}
+use Rattle.eve_smallbank.specs.declared.versioned.Versioned.{Versioned}
 
 -- what the row has after its own entries
 abbrev walked : Versioned → List Entry → Versioned

@@ -1,7 +1,7 @@
 -- What a request reads and writes, row by row, and what fits it.
 -- docs/MODEL.md, "Bank", "Entries", "A record fits its request".
 use Rattle.std.specs.Prelude.{◌≡◌, ℕ, ℤ, pos, ◌+◌, ◌==◌, Bool, true, false, ◌&&◌, if◌then◌else◌, List, [], ◌∷◌, map}
-use Rattle.std.specs.Prelude.{filter, slice_index_or, Option, Some, None}
+use Rattle.std.specs.Prelude.{filter, slice_index_or, Option, fold, unwrap_or, option_map}
 use Rattle.std.specs.List.{AllByRecursion}
 use Rattle.std.specs.FinMap.{empty, insert}
 use Rattle.eve_accounts.specs.Names.{customer_named}
@@ -53,9 +53,8 @@ abbrev pub RowKinds : Type 0
 RowKinds = List (ℕ × Kind)
 
 -- the rows of the customer of a name, none where no customer has it
-abbrev pub for_customer : Option ℕ → (ℕ → RowKinds) → RowKinds
-for_customer None rows = []
-for_customer (Some customer) rows = rows customer
+abbrev pub for_customer : List (List ℕ) → List ℕ → (ℕ → RowKinds) → RowKinds
+for_customer names name rows = unwrap_or (option_map rows (customer_named names name)) []
 
 -- both rows of the one and the checking row of the other, each once
 abbrev pub amalgamated_rows : ℕ → ℕ → RowKinds
@@ -65,15 +64,12 @@ amalgamated_rows from to =
 
 -- the rows that a request touches where it isn't aborted
 abbrev pub rows_of : List (List ℕ) → Request → RowKinds
-rows_of names (Balance name) =
-    for_customer (customer_named names name) (λ c. (saving_row c, Read) ∷ (checking_row c, Read) ∷ [])
-rows_of names (DepositChecking name amount) = for_customer (customer_named names name)
-    (λ c. (checking_row c, Write) ∷ [])
-rows_of names (TransactSaving name amount) = for_customer (customer_named names name) (λ c. (saving_row c, Write) ∷ [])
-rows_of names (Amalgamate from to) =
-    for_customer (customer_named names from) (λ c. for_customer (customer_named names to) (amalgamated_rows c))
+rows_of names (Balance name) = for_customer names name (λ c. (saving_row c, Read) ∷ (checking_row c, Read) ∷ [])
+rows_of names (DepositChecking name amount) = for_customer names name (λ c. (checking_row c, Write) ∷ [])
+rows_of names (TransactSaving name amount) = for_customer names name (λ c. (saving_row c, Write) ∷ [])
+rows_of names (Amalgamate from to) = for_customer names from (λ c. for_customer names to (amalgamated_rows c))
 rows_of names (WriteCheck name amount) =
-    for_customer (customer_named names name) (λ c. (saving_row c, Read) ∷ (checking_row c, Write) ∷ [])
+    for_customer names name (λ c. (saving_row c, Read) ∷ (checking_row c, Write) ∷ [])
 
 -- the same rows, all as reads
 abbrev pub as_reads : RowKinds → RowKinds
@@ -90,23 +86,14 @@ noted_rows _ rows = rows
 
 -- values of rows, after the writes among these entries
 abbrev pub values_after : (ℕ → ℤ) → List Entry → ℕ → ℤ
-values_after values [] = values
-values_after values (e ∷ es) = values_after (λ row. if writes_row row e then e.after else values row) es
-
--- each entry saw the value that its row has
-abbrev pub AreSeen : (ℕ → ℤ) → List Entry → Type 0
-AreSeen values es = AllByRecursion (λ e. e.seen ≡ values e.row) es
-
--- a read leaves what it saw
-abbrev pub IsKeptIfRead : Entry → Type 0
-IsKeptIfRead e = e.kind ≡ Read → e.after ≡ e.seen
+values_after values es = fold (λ now e row. if writes_row row e then e.after else now row) values es
 
 -- The rows and kinds are the request's, and a read leaves what it saw. In every bank of these names that
 -- has the values seen, the request gives the reply and the values after, and changes nothing else.
 pub record Fits (names : List (List ℕ)) (x : Executed) : Type 0 where
   pub rows : map (λ e. (e.row, e.kind)) x.entries ≡ noted_rows x.reply (rows_of names x.request)
-  pub reads : AllByRecursion IsKeptIfRead x.entries
-  pub effect : (values : ℕ → ℤ) → AreSeen values x.entries
+  pub reads : AllByRecursion (λ e. e.kind ≡ Read → e.after ≡ e.seen) x.entries
+  pub effect : (values : ℕ → ℤ) → AllByRecursion (λ e. e.seen ≡ values e.row) x.entries
       → does (bank_of names values) x.request ≡ (bank_of names (values_after values x.entries), x.reply)
 
 -- ---- the balances of all customers as a list

@@ -1,13 +1,9 @@
 -- What an entry must see: the chain of writes of its row. docs/MODEL.md, "Visible version, chained".
-use Rattle.std.specs.Prelude.{◌≡◌, ℕ, ℤ, ◌+◌, if◌then◌else◌, List, [], ◌∷◌, ⊤, ◌≤◌, ◌==◌, filter, length}
+use Rattle.std.specs.Prelude.{◌≡◌, ℕ, ℤ, ◌+◌, if◌then◌else◌, List, [], ◌∷◌, ⊤, ◌≤◌, ◌==◌, filter, length, fold}
 use Rattle.std.specs.List.{AllByRecursion, flat_map}
 use Rattle.eve_smallbank.specs.declared.entry.Entry.{Entry}
 use Rattle.eve_smallbank.specs.Access.{Executed, is_write, writes_row}
-
--- what a row has
-pub record Versioned : Type 0 where
-  pub version : ℕ
-  pub value : ℤ
+use Rattle.eve_smallbank.specs.declared.versioned.Versioned.{Versioned}
 
 -- what each row has
 abbrev pub Table : Type 0
@@ -79,13 +75,11 @@ HasOneEach row xs = AllByRecursion (λ x. length (own_entries row x) ≤ 1) xs
 
 -- a table after the writes among these entries
 abbrev pub table_after : Table → List Entry → Table
-table_after table [] = table
-table_after table (e ∷ es) = table_after (λ row. if writes_row row e then left_by e else table row) es
+table_after table es = fold (λ now e row. if writes_row row e then left_by e else now row) table es
 
 -- after those of executed requests, one after another
 abbrev pub table_after_all : Table → List Executed → Table
-table_after_all table [] = table
-table_after_all table (x ∷ xs) = table_after_all (table_after table x.entries) xs
+table_after_all table xs = fold (λ now x. table_after now x.entries) table xs
 
 -- the values alone
 abbrev pub values_of : Table → ℕ → ℤ

@@ -53,31 +53,24 @@ with_account bank (Some account) act = act account
 -- the amount comes to the checking balance
 abbrev pub deposit_checking : Bank → List ℕ → ℤ → Account → Bank × Reply
 deposit_checking bank name amount a =
-    let checking : ℤ = a.checking +ℤ amount in
     if int_lt amount (pos 0) then aborted bank BadAmount
-    else updated bank (insert bank name (record a { checking = checking })) checking
+    else updated bank (insert bank name (record a { checking = a.checking +ℤ amount })) (a.checking +ℤ amount)
 
 -- the amount comes to the saving balance, which stays at 0 or more
 abbrev pub transact_saving : Bank → List ℕ → ℤ → Account → Bank × Reply
 transact_saving bank name amount a =
-    let saving : ℤ = a.saving +ℤ amount in
-    if int_lt saving (pos 0) then aborted bank Insufficient
-    else updated bank (insert bank name (record a { saving = saving })) saving
-
--- an account with nothing in it
-abbrev pub empty_account : Account
-empty_account = record { saving = pos 0; checking = pos 0 }
+    if int_lt (a.saving +ℤ amount) (pos 0) then aborted bank Insufficient
+    else updated bank (insert bank name (record a { saving = a.saving +ℤ amount })) (a.saving +ℤ amount)
 
 -- the sum goes to the checking balance; emptied is the bank without it, bank the one before
 abbrev pub moved : Bank → Bank → List ℕ → ℤ → Account → Bank × Reply
 moved bank emptied to sum a =
-    let checking : ℤ = a.checking +ℤ sum in
-    updated bank (insert emptied to (record a { checking = checking })) checking
+    updated bank (insert emptied to (record a { checking = a.checking +ℤ sum })) (a.checking +ℤ sum)
 
 -- all of this account goes to the checking balance of the other, which may be the same
 abbrev pub amalgamate : Bank → List ℕ → List ℕ → Account → Bank × Reply
 amalgamate bank from to a =
-    let emptied : Bank = insert bank from empty_account in
+    let emptied : Bank = insert bank from (record { saving = pos 0; checking = pos 0 }) in
     with_account bank (get emptied to) (moved bank emptied to (a.saving +ℤ a.checking))
 
 -- the amount, and the penalty where the account has less than the amount

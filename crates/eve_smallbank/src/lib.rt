@@ -13,6 +13,7 @@ mod request;
 mod rows;
 mod spelling;
 mod touch;
+mod versioned;
 
 pub use apply_request::apply;
 pub use decision::{Decision, Effect, decide};
@@ -24,3 +25,4 @@ pub use request::{Abort, Reply, Request};
 pub use rows::Touched;
 pub use spelling::reply_bytes;
 pub use touch::touched;
+pub use versioned::Versioned;

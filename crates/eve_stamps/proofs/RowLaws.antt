@@ -8,7 +8,8 @@ use Rattle.std.proofs.lemmas.Option.{none-some}
 use Rattle.eve_smallbank.specs.declared.entry.Kind.TheVariants.{Read, Write}
 use Rattle.eve_smallbank.specs.declared.entry.Entry.{Entry}
 use Rattle.eve_smallbank.specs.Access.{is_write}
-use Rattle.eve_smallbank.specs.Chain.{Versioned, Table, left_by, table_after}
+use Rattle.eve_smallbank.specs.Chain.{Table, left_by, table_after}
+use Rattle.eve_smallbank.specs.declared.versioned.Versioned.{Versioned}
 use Rattle.eve_grammar.proofs.Codec.{some_is}
 use Rattle.eve_grammar.proofs.Lists.{all-slice_get}
 use Rattle.eve_stamps.specs.Stripes.{HeldRow, lies_in, table_in, row_in, rows_in_table, RowsRise}

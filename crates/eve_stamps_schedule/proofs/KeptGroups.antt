@@ -3,7 +3,8 @@ use Rattle.std.proofs.Common.{◌≡◌, ℕ, zero, suc, ◌+◌, ◌<◌, ◌�
 use Rattle.std.proofs.Common.{◌∷◌, count_by, refl, sym, ◌∙◌, inl, inr, arith}
 use Rattle.std.specs.List.{AllByRecursion, list_all}
 use Rattle.std.proofs.lemmas.Bool.{cases_Bool, and_from, eq-eqb, lt-ltb, le-leb, cond-true, cond-false}
-use Rattle.eve_grammar.specs.Certificate.{occurrences, all_below, is_permutation, group_of, is_grouped, KeepsGroups}
+use Rattle.std.specs.Prelude.{IsTrue}
+use Rattle.eve_grammar.specs.Certificate.{occurrences, all_below, is_permutation, group_of, is_grouped, keeps_groups}
 use Rattle.eve_stamps_schedule.specs.Before.{EachBefore}
 use Rattle.eve_stamps_schedule.proofs.Inserting.{count_cons}
 use Rattle.eve_stamps_schedule.proofs.Holding.{flag}
@@ -53,7 +54,7 @@ grouped sizes (x ∷ xs) each = and_from (list_all (λ j. nat_le (group_of sizes
 
 pub keeps : (sizes : List ℕ) (r : ℕ) (order : List ℕ) → ((i : ℕ) → count_by (λ j. j == i) order ≡ flag (nat_lt i r))
     → EachBefore (λ i j. group_of sizes i ≤ group_of sizes j) order
-    → KeepsGroups sizes r order
+    → IsTrue (keeps_groups sizes r order)
 keeps sizes r order once each =
     and_from (is_permutation r order) (is_grouped sizes order)
     (and_from (list_all (λ i. nat_lt i r) order) (all_below r (λ i. occurrences i order == 1))

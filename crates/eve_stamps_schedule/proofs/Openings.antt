@@ -10,7 +10,8 @@ use Rattle.std.proofs.lemmas.List.Folds.{list_any-append}
 use Rattle.std.proofs.lemmas.List.FromFn.{get_or-map-range_with_len, length-map-range_with_len}
 use Rattle.eve_smallbank.specs.Access.{balance_of_row}
 use Rattle.eve_smallbank.specs.SmallBank.{Request}
-use Rattle.eve_smallbank.specs.Chain.{Versioned, Table}
+use Rattle.eve_smallbank.specs.Chain.{Table}
+use Rattle.eve_smallbank.specs.declared.versioned.Versioned.{Versioned}
 use Rattle.eve_stamps.specs.Applied.{Applied}
 use Rattle.eve_stamps.specs.Stripes.{HeldRow, Stripe, lies_in, table_in, has_row, committed, rows_now, is_above}
 use Rattle.eve_stamps.specs.declared.limits.TheConstants.{STRIPES}

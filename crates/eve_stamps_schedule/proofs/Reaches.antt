@@ -3,6 +3,7 @@ use Rattle.std.proofs.Common.{◌≡◌, ℕ, pos, ◌+◌, ◌*◌, ◌<◌, Bo
 use Rattle.std.proofs.Common.{Option, Some, None, is_some, subst, ap, ◌∙◌, arith}
 use Rattle.std.specs.List.{AllByRecursion}
 use Rattle.std.proofs.lemmas.Bool.{and_parts, false≢true}
+use Rattle.std.specs.Prelude.{unwrap_or, option_map}
 use Rattle.eve_accounts.specs.Names.{customer_named}
 use Rattle.eve_smallbank.specs.declared.entry.Entry.{Entry}
 use Rattle.eve_smallbank.specs.declared.entry.Kind.{Kind}
@@ -10,7 +11,7 @@ use Rattle.eve_smallbank.specs.declared.entry.Kind.TheVariants.{Write}
 use Rattle.eve_smallbank.specs.declared.rows.Touched.TheVariants as touched
 use Rattle.eve_smallbank.specs.SmallBank.{Request, Balance, DepositChecking, TransactSaving, Amalgamate, WriteCheck}
 use Rattle.eve_smallbank.specs.SmallBank.{does}
-use Rattle.eve_smallbank.specs.Access.{RowKinds, Executed, bank_of, rows_of, noted_rows, for_customer, amalgamated_rows}
+use Rattle.eve_smallbank.specs.Access.{RowKinds, Executed, bank_of, rows_of, noted_rows, amalgamated_rows}
 use Rattle.eve_smallbank.specs.Chain.{Table, Sees, values_of}
 use Rattle.eve_smallbank.specs.Touch.{knows_names, touched_of, rows_in}
 use Rattle.eve_smallbank.specs.Execution.{executed_on}
@@ -78,7 +79,7 @@ executed_alike names t u request same =
 -- ---- it touches a row, where it isn't refused
 
 some_rows : (o : Option ℕ) (f : ℕ → RowKinds) → is_some o ≡ true → ((c : ℕ) → 0 < length (f c))
-    → 0 < length (for_customer o f)
+    → 0 < length (unwrap_or (option_map f o) [])
 some_rows None f known some = absurd (false≢true known)
 some_rows (Some c) f known some = some c
 

@@ -12,7 +12,7 @@ use Rattle.eve_smallbank.proofs.Members.{In, here, there, all_in, list_any-none,
 use Rattle.eve_smallbank.proofs.Chains.{Follows, chain_follows, run_along}
 use Rattle.eve_smallbank.proofs.Fitting.{always_fits}
 use Rattle.eve_smallbank.proofs.Orders.{StandsAbove, stands_above_head, later_precedes_not, reordered}
-use Rattle.eve_grammar.specs.Certificate.{group_of, KeepsGroups}
+use Rattle.eve_grammar.specs.Certificate.{group_of, keeps_groups}
 use Rattle.eve_stamps.specs.Applied.{Applied}
 use Rattle.eve_stamps_schedule.specs.declared.stage.Stage.{Stage}
 use Rattle.eve_stamps_schedule.specs.declared.stage.Stage.TheVariants as at
@@ -195,7 +195,7 @@ all_noted w (suc n) h =
     ∙ ap (λ ys. noted_below w n ++ ys) (append-nil (w.noted n))
 
 groups_kept : (p : Plan) (w : World) → IsKept p w → is_done p w ≡ true
-    → KeepsGroups p.sizes (length p.requests) (order_of w)
+    → IsTrue (keeps_groups p.sizes (length p.requests) (order_of w))
 groups_kept p w kept done =
     let all : noted_count w.noted p.workers ≡ length p.requests = eqb-true (noted_count w.noted p.workers)
     (length p.requests) done in

@@ -4,12 +4,12 @@ use Rattle.std.specs.List.{AllByRecursion}
 use Rattle.eve_smallbank.specs.SmallBank.{run}
 use Rattle.eve_smallbank.specs.Access.{Executed, bank_of, Fits}
 use Rattle.eve_smallbank.specs.Chain.{values_of, IsChained}
-use Rattle.eve_grammar.specs.Certificate.{KeepsGroups}
 use Rattle.eve_stamps.specs.Applied.{Applied}
 use Rattle.eve_stamps_schedule.specs.declared.event.Event.{Event}
 use Rattle.eve_stamps_schedule.specs.Before.{EachBefore}
 use Rattle.eve_stamps_schedule.specs.World.{Plan, World, first_world, executed_record, noted_count, noted_below}
 use Rattle.eve_stamps_schedule.specs.Events.{are_allowed, world_after}
+use Rattle.eve_grammar.specs.Certificate.{keeps_groups}
 
 -- the world comes of events of which each was allowed
 pub record IsReachedWorld (p : Plan) (w : World) : Type 0 where
@@ -46,4 +46,4 @@ is_done p w = noted_count w.noted p.workers == length p.requests
 -- Every request is noted: the noted records are the applied ones, and the order keeps the parallelBatches.
 pub record IsComplete (p : Plan) (w : World) : Type 0 where
   pub noted : IsPermutation (noted_below w p.workers) w.applied
-  pub groups : KeepsGroups p.sizes (length p.requests) (order_of w)
+  pub groups : IsTrue (keeps_groups p.sizes (length p.requests) (order_of w))

@@ -5,12 +5,13 @@ use Rattle.std.specs.Prelude.{IfSome, IsFalse, Option, nat_le}
 use Rattle.std.proofs.lemmas.Bool.{cases_lt, lt-leb}
 use Rattle.std.proofs.lemmas.List.{length-take, take_all}
 use Rattle.eve_audit.proofs.Firsts.{trace_phase}
-use Rattle.eve_audit.specs.Verdict.{IsFirst, IsJudged, IsVerdict, IsYesOfAudited, SpellsAudited, Stands, in_form}
+use Rattle.eve_audit.specs.Verdict.{IsFirst, IsJudged, IsVerdict, SpellsAudited, Stands, in_form}
 use Rattle.eve_audit.specs.Verdict.{in_trace}
 use Rattle.eve_audit.specs.declared.verdict.Verdict.{Verdict}
 use Rattle.eve_audit.specs.declared.verdict.Verdict.TheVariants.{No, Yes}
+use Rattle.eve_audit.specs.declared.verdict.Summary.{Summary}
 use Rattle.eve_views.specs.Code.{code_number, phase_of}
-use Rattle.eve_views.specs.Form.{IsFormFault, IsUpTo, StandsInForm, is_sized, IsLeast, Precedes}
+use Rattle.eve_views.specs.Form.{IsUpTo, StandsInForm, is_sized, IsLeast, Precedes, IsFaultOutside}
 use Rattle.eve_views.specs.declared.fault.Code.{Code}
 use Rattle.eve_views.specs.declared.fault.Code.TheVariants as code
 use Rattle.eve_views.specs.declared.fault.Fault.{Fault}
@@ -45,7 +46,7 @@ too_long bytes long =
 abbrev length_fault : Fault
 length_fault = record { code = code.Length; offset = 0; replica = None }
 
-length_stands : (bytes : List ℕ) → 2 ^ 30 < length bytes → IsFormFault bytes length_fault
+length_stands : (bytes : List ℕ) → 2 ^ 30 < length bytes → IsFaultOutside StandsInForm bytes length_fault
 length_stands bytes long = record { stands = (refl, too_long bytes long); outside = refl }
 
 at_front : (f : Fault) → IsUpTo f length_fault → (f.offset ≡ 0) × (code_number f.code ≤ 1)
@@ -58,8 +59,9 @@ first_of_all f g front low =
     elim (cases_lt f.offset g.offset) [ inl before ↦ inl before | inr reached ↦ inr (omega arith, omega arith) ]
 
 -- bytes that are too long have one first fault, whatever they are
-same_fault : (xs ys : List ℕ) (f : Fault) → 2 ^ 30 < length xs → 2 ^ 30 < length ys → IsLeast (IsFormFault xs) f
-    → IsLeast (IsFormFault ys) f
+same_fault : (xs ys : List ℕ) (f : Fault) → 2 ^ 30 < length xs → 2 ^ 30 < length ys
+    → IsLeast (IsFaultOutside StandsInForm xs) f
+    → IsLeast (IsFaultOutside StandsInForm ys) f
 same_fault xs ys f long longer least =
     let front = at_front f (least.least length_fault (length_stands xs long)) in
     let is_its = is_length f.code front.1 in
@@ -152,9 +154,10 @@ same_verdict xs ys (Yes s) long longer is = absurd (is.2 length_fault (in_form (
 same_verdict xs ys (No f) long longer is = same_first xs ys f long longer is
 
 -- of which no verdict is yes
-no_yes : (xs ys : List ℕ) (v : Verdict) → 2 ^ 30 < length xs → IsVerdict xs v → IsYesOfAudited ys v
-no_yes xs ys (Yes s) long is = absurd (is.2 length_fault (in_form (length_stands xs long)))
-no_yes xs ys (No f) long is = tt
+no_yes : (xs ys : List ℕ) (v : Verdict) → 2 ^ 30 < length xs → IsVerdict xs v → (s : Summary) → v ≡ Yes s
+    → SpellsAudited ys
+no_yes xs ys v long is s told =
+    let none = subst (IsVerdict xs) told is in absurd (none.2 length_fault (in_form (length_stands xs long)))
 
 -- the verdict on a number of bytes that no trace has is the verdict on all of them
 pub Audits-cut : (limit : ℕ) (bytes text : List ℕ) (status : ℕ) → 2 ^ 30 ≤ limit
@@ -209,8 +212,9 @@ pub audited_of : (known : Option (List ℕ)) (old new : Option (List ℕ)) (stat
 audited_of None old new status all is = tt
 audited_of (Some bytes) old new status all is = by all.said.verdict (sym all.said.ends ∙ is) all.said.yes
   where
-    by : (v : Verdict) → status_of_verdict v ≡ 0 → IsYesOfAudited bytes v → SpellsAudited bytes
-    by (Yes s) e said = said
+    by : (v : Verdict) → status_of_verdict v ≡ 0 → ((s : Summary) → v ≡ Yes s → SpellsAudited bytes)
+        → SpellsAudited bytes
+    by (Yes s) e said = said s refl
     by (No f) e said = absurd (omega (arith, e))
 
 -- ---- what is left by a fault

@@ -2,3 +2,4 @@ mod Cutting
 mod SentLines
 mod WholeInput
 pub mod Leaving
+pub mod Running

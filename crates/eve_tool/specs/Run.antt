@@ -2,7 +2,8 @@
 use Rattle.std.specs.Prelude.{◌≡◌, ℕ, ◌<◌, ◌≤◌, List, length, ◌⊎◌, ⊤}
 use Rattle.eve_grammar.specs.Trace.{Trace}
 use Rattle.eve_grammar.specs.Spelling.{length_of}
-use Rattle.eve_grammar.specs.Limits.{HasLimits, Spells}
+use Rattle.eve_grammar.specs.Limits.{HasLimits}
+use Rattle.eve_grammar.specs.Following.{Spells}
 use Rattle.eve_workload.specs.declared.mixer.Mixer.{Mixer}
 use Rattle.eve_workload.specs.Workload.{Workload, IsWorkload}
 use Rattle.eve_workload.specs.Lines.{workload_text}

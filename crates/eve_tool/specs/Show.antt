@@ -5,8 +5,8 @@ use Rattle.eve_frames.specs.Kinds.{kind_name}
 use Rattle.eve_grammar.specs.Trace.{Trace}
 use Rattle.eve_grammar.specs.Frames.{Frame, kind_of, frames_of}
 use Rattle.eve_grammar.specs.Spelling.{body_text, frame_text, located}
-use Rattle.eve_grammar.specs.Limits.{Spells}
-use Rattle.eve_views.specs.Form.{IsFormFault, IsLeast}
+use Rattle.eve_grammar.specs.Following.{Spells}
+use Rattle.eve_views.specs.Form.{IsLeast, StandsInForm, IsFaultOutside}
 use Rattle.eve_views.specs.declared.fault.Fault.{Fault}
 use Rattle.eve_tool.specs.Lines.{fault_line, frame_line}
 
@@ -30,7 +30,7 @@ pub record ShowsTrace (bytes text : List ℕ) : Type 0 where
 -- the bytes are no trace, and the text is the line of their first fault
 pub record ShowsFault (bytes text : List ℕ) : Type 0 where
   pub fault : Fault
-  pub least : IsLeast (IsFormFault bytes) fault
+  pub least : IsLeast (IsFaultOutside StandsInForm bytes) fault
   pub line : text ≡ fault_line fault
 
 -- the text is what `show` says of the bytes, and the number is the exit status

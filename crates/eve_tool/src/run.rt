@@ -62,6 +62,7 @@ fn parts_of<R: RandomSource + Threads + Wait + Sync>(
 }
 
 // Runs the workload of these bytes and sends the trace, of at most so many bytes, and answers the exit status.
+#[tactic(auto, using(crate::proofs::Running::runs_of, crate::proofs::Running::failed_run))]
 fn run_bytes<R: RandomSource + Threads + Wait + Sync, O: Sink>(
     rt: &R,
     alloc: Global,

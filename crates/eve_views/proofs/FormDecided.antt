@@ -4,14 +4,15 @@ use Rattle.std.proofs.Common.{Option, Some, None, List, [], ◌∷◌, ◌++◌,
 use Rattle.std.specs.Prelude.{IsTrue}
 use Rattle.std.proofs.lemmas.Bool.{cases_Bool, false≢true}
 use Rattle.std.proofs.lemmas.List.{append-nil, length-append}
-use Rattle.eve_grammar.specs.Trace.{Head, Trace, head_of}
-use Rattle.eve_grammar.specs.Frames.{Frame, Place, start_place}
-use Rattle.eve_grammar.specs.Following.{AreAllFrames}
-use Rattle.eve_grammar.specs.Limits.{Spells}
+use Rattle.eve_grammar.specs.Trace.{Trace}
+use Rattle.eve_grammar.specs.Frames.{Frame, start_place}
+use Rattle.eve_grammar.specs.Following.{AreAllFrames, Spells}
 use Rattle.eve_grammar.specs.Reading.{header_of}
 use Rattle.eve_grammar.specs.Spelling.{frame_text, frames_text}
 use Rattle.eve_grammar.proofs.Codec.{IsBytes}
-use Rattle.eve_views.specs.Form.{is_sized, has_magic, said_by, SaysHead, IsFormFault, IsLeast}
+use Rattle.eve_grammar.specs.declared.head.Head.{Head}
+use Rattle.eve_grammar.specs.declared.place.Place.{Place}
+use Rattle.eve_views.specs.Form.{is_sized, has_magic, said_by, SaysHead, IsLeast, StandsInForm, IsFaultOutside}
 use Rattle.eve_views.specs.Header.{IsHeader}
 use Rattle.eve_views.specs.Walk.{frame_at}
 use Rattle.eve_views.specs.Indexing.{kept}
@@ -37,7 +38,7 @@ record IsEnded (h : Head) (bytes : List ℕ) : Type 0 where
 -- a fault of form stands
 record IsStopped (bytes : List ℕ) : Type 0 where
   fault : Fault
-  stands : IsFormFault bytes fault
+  stands : IsFaultOutside StandsInForm bytes fault
 
 module _ (h : Head) (bytes : List ℕ) (says : SaysHead bytes h) (fits : IsBytes bytes) where
   -- no frame is left
@@ -84,7 +85,7 @@ module _ (h : Head) (bytes : List ℕ) (says : SaysHead bytes h) (fits : IsBytes
 
 -- the first fault of form, or the trace that is spelled
 abbrev Found : List ℕ → Type 0
-Found bytes = ((f : Fault) × IsLeast (IsFormFault bytes) f) ⊎ ((t : Trace) × Spells bytes t)
+Found bytes = ((f : Fault) × IsLeast (IsFaultOutside StandsInForm bytes) f) ⊎ ((t : Trace) × Spells bytes t)
 
 module _ (bytes : List ℕ) (fits : IsBytes bytes) where
   with_header : (h : Head) → IsHeader bytes h → Found bytes
@@ -123,7 +124,7 @@ module _ (bytes : List ℕ) (fits : IsBytes bytes) where
       by sized magic (Some h) is = with_header h (record { sized = sized; magic = magic; said = is })
 
 -- where a fault of form stands nothing is spelled
-pub nothing_spelled : (bytes : List ℕ) (f : Fault) → IsBytes bytes → IsFormFault bytes f → (t : Trace)
+pub nothing_spelled : (bytes : List ℕ) (f : Fault) → IsBytes bytes → IsFaultOutside StandsInForm bytes f → (t : Trace)
     → ¬ Spells bytes t
 nothing_spelled bytes f fits is t spelled =
-    (refused_behind bytes (head_of t) f (header_again_of bytes t spelled).0 fits is).none t spelled
+    (refused_behind bytes t.head f (header_again_of bytes t spelled).0 fits is).none t spelled

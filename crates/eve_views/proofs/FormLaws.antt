@@ -2,19 +2,20 @@
 use Rattle.std.proofs.Common.{◌≡◌, ℕ, suc, ◌<◌, ◌≤◌, true, List, length, drop, Option, Some, None, Ok, Err, refl, sym}
 use Rattle.std.proofs.Common.{ap, subst, ◌∙◌, arith, inl, inr, ◌⊎◌}
 use Rattle.std.proofs.lemmas.List.{length-drop}
-use Rattle.eve_grammar.specs.Trace.{Trace, Head, head_of}
+use Rattle.eve_grammar.specs.Trace.{Trace}
 use Rattle.eve_grammar.specs.Frames.{Frame, start_place, frames_of}
-use Rattle.eve_grammar.specs.Limits.{Spells}
 use Rattle.eve_grammar.specs.Spelling.{frames_text}
 use Rattle.eve_grammar.specs.Reading.{header_of}
 use Rattle.eve_views.specs.declared.fault.Code.{Code}
 use Rattle.eve_views.specs.declared.fault.Code.TheVariants as code
 use Rattle.eve_views.specs.declared.fault.Fault.{Fault}
 use Rattle.eve_views.specs.Code.{code_number}
-use Rattle.eve_views.specs.Form.{is_sized, has_magic, said_by, IsReached, place_at, StandsInForm, IsFormFault, IsLeast}
+use Rattle.eve_views.specs.Form.{is_sized, has_magic, said_by, IsReached, StandsInForm, IsLeast, IsFaultOutside}
 use Rattle.eve_views.specs.Header.{IsHeader, StopsAtHeader}
 use Rattle.eve_views.specs.Walk.{Walked, walk}
 use Rattle.eve_grammar.proofs.Codec.{IsBytes, IsBytes-drop}
+use Rattle.eve_grammar.specs.declared.head.Head.{Head}
+use Rattle.eve_grammar.specs.Following.{Spells, after}
 use Rattle.eve_views.proofs.FrameLaws.{StandsHere, true_false}
 use Rattle.eve_views.proofs.WalkLaws.{stopped, StandsBehind, walk_fault, walk_again, front_short}
 use Rattle.eve_views.proofs.Reaching.{split_at}
@@ -79,14 +80,14 @@ first_at_header c d bytes at s t = absurd s
 none_at_header : (c : Code) (bytes : List ℕ) (t : Trace) → StopsAtHeader bytes c → Spells bytes t → ⊥
 none_at_header code.Length bytes t s spells = true_false (is_sized bytes) (header_again_of bytes t spells).0.sized s
 none_at_header code.Magic bytes t s spells = true_false (has_magic bytes) (header_again_of bytes t spells).0.magic s.1
-none_at_header code.Head bytes t s spells = some_none (header_of (said_by bytes)) (head_of t)
+none_at_header code.Head bytes t s spells = some_none (header_of (said_by bytes)) t.head
     (header_again_of bytes t spells).0.said s.2
 none_at_header c bytes t s spells = s
 
 -- ---- a fault of the frames
 
 behind_frames : (c : Code) (bytes : List ℕ) (at : ℕ) (h : Head) (r : IsReached bytes at) → r.head ≡ h
-    → StandsHere c r.head (place_at r) (drop at bytes)
+    → StandsHere c r.head (after start_place r.front) (drop at bytes)
     → StandsBehind c h (drop 32 bytes) (drop at bytes) × (at ≤ length bytes)
 behind_frames c bytes at h r same s = (
   subst (λ (g : Head). StandsBehind c g (drop 32 bytes) (drop at bytes)) same
@@ -148,11 +149,11 @@ none_behind : (c : Code) (bytes : List ℕ) (at : ℕ) (h : Head) (t : Trace) �
     → StandsInForm c bytes at → Spells bytes t → ⊥
 none_behind c bytes at h t is fits s spells =
     let a = header_again_of bytes t spells in
-    let same : head_of t ≡ h = same_some (header_of (said_by bytes)) (head_of t) h a.0.said is.said in
+    let same : t.head ≡ h = same_some (header_of (said_by bytes)) t.head h a.0.said is.said in
     let frames = spells_frames bytes t spells in
-    let again : walk (suc (length (drop 32 bytes))) (head_of t) start_place (drop 32 bytes)
-    ≡ Ok (frames_of t) = ap (λ (b : List ℕ). walk (suc (length b)) (head_of t) start_place b) a.1
-    ∙ walk_again (frames_of t) (suc (length (frames_text (frames_of t)))) (head_of t) start_place frames.limits
+    let again : walk (suc (length (drop 32 bytes))) t.head start_place (drop 32 bytes)
+    ≡ Ok (frames_of t) = ap (λ (b : List ℕ). walk (suc (length b)) t.head start_place b) a.1
+    ∙ walk_again (frames_of t) (suc (length (frames_text (frames_of t)))) t.head start_place frames.limits
     frames.run.follow frames.run.ended (omega (arith, front_short (frames_of t))) in
     stop_ok c (drop at bytes) (walk (suc (length (drop 32 bytes))) h start_place (drop 32 bytes)) (frames_of t)
     (stops_at c bytes at h s is fits)
@@ -162,7 +163,7 @@ none_behind c bytes at h t is fits s spells =
 
 -- the fault is the first, nothing is spelled, and it lies within the bytes
 pub record IsRefused (bytes : List ℕ) (f : Fault) : Type 0 where
-  pub least : IsLeast (IsFormFault bytes) f
+  pub least : IsLeast (IsFaultOutside StandsInForm bytes) f
   pub none : (t : Trace) → Spells bytes t → ⊥
   pub within : f.offset ≤ length bytes
 
@@ -179,7 +180,8 @@ refused_at_header c bytes s = record {
   within = omega arith;
 }
 
-pub refused_behind : (bytes : List ℕ) (h : Head) (f : Fault) → IsHeader bytes h → IsBytes bytes → IsFormFault bytes f
+pub refused_behind : (bytes : List ℕ) (h : Head) (f : Fault) → IsHeader bytes h → IsBytes bytes
+    → IsFaultOutside StandsInForm bytes f
     → IsRefused bytes f
 refused_behind bytes h f is fits s = record {
   least = record {

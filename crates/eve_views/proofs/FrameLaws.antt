@@ -7,8 +7,7 @@ use Rattle.std.proofs.lemmas.Bool.{le-leb, leb-true, and_parts, and_from}
 use Rattle.std.proofs.lemmas.List.{take_at, drop_at, take-append-drop, length-append, length-take, length-drop}
 use Rattle.byteorder.specs.Endian.{big_bytes, big_number}
 use Rattle.byteorder.specs.Numbers.{length-bytes_high_first}
-use Rattle.eve_grammar.specs.Trace.{Head}
-use Rattle.eve_grammar.specs.Frames.{Frame, Place, kind_of, is_allowed}
+use Rattle.eve_grammar.specs.Frames.{Frame, kind_of, is_allowed}
 use Rattle.eve_grammar.specs.Spelling.{body_text, frame_text}
 use Rattle.eve_grammar.specs.Limits.{is_head, FitsAt}
 use Rattle.eve_grammar.specs.Reading.{body_of}
@@ -18,6 +17,8 @@ use Rattle.eve_views.specs.Form.{is_framed, HasNoFrame, HasWrongBody}
 use Rattle.eve_views.specs.Walk.{with_rest, inside, frame_at}
 use Rattle.eve_grammar.proofs.Codec.{IsBytes, IsBytes-drop, IsBytes-take}
 use Rattle.eve_grammar.proofs.FrameLaws.{body_of-takes, body_of-again}
+use Rattle.eve_grammar.specs.declared.head.Head.{Head}
+use Rattle.eve_grammar.specs.declared.place.Place.{Place}
 use Rattle.eve_views.proofs.Bytes.{number_back, number_short, number_again, number_behind}
 
 pub true_false : {A : Type 0} (b : Bool) → b ≡ true → b ≡ false → A

@@ -9,9 +9,8 @@ use Rattle.std.proofs.lemmas.List.{take_at, take-append-drop, append-nil, length
 use Rattle.std.proofs.lemmas.List.{drop-drop}
 use Rattle.byteorder.specs.Endian.{big_bytes, big_number}
 use Rattle.byteorder.specs.Numbers.{big_number-reads_back, big_from-take}
-use Rattle.eve_grammar.specs.Trace.{Trace, Head, head_of}
+use Rattle.eve_grammar.specs.Trace.{Trace}
 use Rattle.eve_grammar.specs.Frames.{frames_of}
-use Rattle.eve_grammar.specs.Limits.{Spells}
 use Rattle.eve_grammar.specs.Spelling.{frames_text, head_text}
 use Rattle.eve_grammar.specs.Reading.{header_of}
 use Rattle.eve_views.specs.Form.{is_sized, has_magic, said_by, SaysHead}
@@ -20,6 +19,8 @@ use Rattle.eve_grammar.proofs.Codec.{IsBytes, IsBytes-drop, IsBytes-take}
 use Rattle.eve_grammar.proofs.FrameLaws.{limits_text, Exact-header}
 use Rattle.eve_grammar.proofs.HeaderParts.{in_parts, header_parts, length-limits_text, length-head_text, behind_magic}
 use Rattle.eve_grammar.proofs.HeaderParts.{behind_limits, behind_total}
+use Rattle.eve_grammar.specs.declared.head.Head.{Head}
+use Rattle.eve_grammar.specs.Following.{Spells}
 use Rattle.eve_views.proofs.WholeTraces.{spells_frames}
 
 -- ---- its parts
@@ -94,11 +95,11 @@ header_spelled bytes h rest fits is e =
     ∙ ap (λ (b : List ℕ). codes "EVESBK" ++ b) middle ∙ sym (header_parts h (length bytes) rest)
 
 -- what is spelled has that header
-pub header_again_of : (bytes : List ℕ) (t : Trace) → Spells bytes t → IsHeader bytes (head_of t)
+pub header_again_of : (bytes : List ℕ) (t : Trace) → Spells bytes t → IsHeader bytes t.head
     × (drop 32 bytes ≡ frames_text (frames_of t))
 header_again_of bytes t spells =
     let s = spells_frames bytes t spells in
-    let h = head_of t in
+    let h = t.head in
     let n = length bytes in
     let fs = frames_text (frames_of t) in
     let is : bytes ≡ in_parts h n fs = s.spelled ∙ header_parts h n fs in

@@ -5,7 +5,7 @@ use Rattle.std.specs.Prelude.{slice_get, IsTrue, ◌&&◌}
 use Rattle.std.specs.List.{flat_map, list_all, enumerate_from}
 use Rattle.std.proofs.lemmas.List.{length-append, length-map, length-take-le, take-append-drop}
 use Rattle.std.proofs.lemmas.List.FromFn.{length-enumerate_from}
-use Rattle.eve_grammar.specs.Trace.{Head, Batch, Access, Vote, Trace, head_of}
+use Rattle.eve_grammar.specs.Trace.{Batch, Access, Vote, Trace, head_of}
 use Rattle.eve_grammar.specs.Frames.{Frame, OfCustomer, OfBatch, OfAccess, OfVote, OfSent, End, section_frames}
 use Rattle.eve_grammar.specs.Frames.{verifier_frames, batches_of, sections_of, verifiers_of, frames_of}
 use Rattle.eve_grammar.specs.Spelling.{frame_text, frames_text, spelling, located, customers_at, batches_at, sent_at}
@@ -19,6 +19,8 @@ use Rattle.eve_grammar.specs.declared.limits.TheConstants.{MOST_ROWS, MOST_BATCH
 use Rattle.eve_frames.specs.Views.{has_customer_body, customer_in, vote_in, access_in, Says}
 use Rattle.eve_frames.proofs.Rereading.{customer_again, batch_again, sent_again, vote_again, access_again}
 use Rattle.eve_grammar.proofs.FrameLaws.{small_head, few_batches}
+use Rattle.eve_grammar.specs.declared.head.Head.{Head}
+use Rattle.eve_grammar.proofs.Spelled.{limits_of_spelled}
 use Rattle.eve_views.specs.declared.walk.Index.{Index}
 use Rattle.eve_views.specs.Held.{IsHeldTrace}
 use Rattle.eve_views.specs.Lent.{HasBytesAt}
@@ -290,8 +292,11 @@ batches_within t n k lt number =
           (flat_map verifier_frames (verifiers_of t) ++ (map OfSent t.sent ++ End ∷ []))),
     )
 
-few_replicas : (t : Trace) → HasLimits t → length t.sections ≤ 8
+pub few_replicas : (t : Trace) → HasLimits t → length t.sections ≤ 8
 few_replicas t limits = (small_head (head_of t) limits.head).replicas
+
+pub few_verifiers : (t : Trace) → HasLimits t → length t.verifiers ≤ 16
+few_verifiers t limits = (small_head (head_of t) limits.head).verifiers
 
 pub customer_lent : (t : Trace) (i offset : ℕ) (bytes : List ℕ) → HasLimits t → i < length t.customers
     → IsFrameAt (frames_of t) i bytes → offset ≡ byte_of (frames_of t) i
@@ -307,7 +312,7 @@ pub batch_held : (bytes : List ℕ) (h : Head) (index : Index) (t u : Trace) (n 
 batch_held bytes h index t u n same held from_one =
     let own = subst (IsHeldTrace bytes h index) same held in
     let many : length u.customers ≡ h.customers = ap (λ (k : Head). k.customers) own.head in
-    (own.spells.limits, omega (arith, many, from_one))
+    (limits_of_spelled bytes u own.spells, omega (arith, many, from_one))
 
 pub batch_lent : (t : Trace) (n k offset : ℕ) (bytes : List ℕ) → HasLimits t → k < length t.batches
     → n ≡ length t.customers + k → IsFrameAt (frames_of t) n bytes → offset ≡ byte_of (frames_of t) n

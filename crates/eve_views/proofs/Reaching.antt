@@ -5,8 +5,7 @@ use Rattle.std.specs.Prelude.{IsTrue, slice_index}
 use Rattle.std.proofs.lemmas.List.{length-append, length-drop, length-take, append-nil, drop_at, take_at}
 use Rattle.std.proofs.lemmas.List.{take-append-drop, take_rest, nil_from_length}
 use Rattle.byteorder.specs.Endian.{big_number}
-use Rattle.eve_grammar.specs.Trace.{Head}
-use Rattle.eve_grammar.specs.Frames.{Frame, Place, start_place, next_place, kind_of, is_allowed}
+use Rattle.eve_grammar.specs.Frames.{Frame, start_place, next_place, kind_of, is_allowed}
 use Rattle.eve_grammar.specs.Spelling.{frame_text, frames_text}
 use Rattle.eve_grammar.specs.Limits.{is_head, FitsAt}
 use Rattle.eve_grammar.specs.Following.{after, AreAllFrames}
@@ -18,6 +17,8 @@ use Rattle.eve_views.specs.Places.{accesses_in, place_after}
 use Rattle.eve_views.specs.Walk.{frame_at}
 use Rattle.eve_views.specs.Indexing.{kept, AreStarts}
 use Rattle.eve_grammar.proofs.Codec.{IsBytes, IsBytes-drop}
+use Rattle.eve_grammar.specs.declared.head.Head.{Head}
+use Rattle.eve_grammar.specs.declared.place.Place.{Place}
 use Rattle.eve_views.proofs.FrameLaws.{FrameOf, frame_takes, frame_fault, StandsHere}
 use Rattle.eve_views.proofs.WalkLaws.{follow_more, after_more, text_more, front_short}
 use Rattle.eve_views.specs.declared.starts.Starts.{Starts}

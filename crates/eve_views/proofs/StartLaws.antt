@@ -6,13 +6,14 @@ use Rattle.std.specs.Prelude.{slice_get}
 use Rattle.std.proofs.lemmas.Bool.{cases_lt, eqb-true}
 use Rattle.std.proofs.lemmas.Bool.Decides.{nat_tests}
 use Rattle.std.proofs.lemmas.List.{length-append, length-set}
-use Rattle.eve_grammar.specs.Trace.{Head}
 use Rattle.eve_grammar.specs.Frames.{Frame, OfCustomer, OfBatch, OfReplica, OfAttempt, OfAccess, OfCommit, OfRollback}
-use Rattle.eve_grammar.specs.Frames.{OfVerifier, OfVote, OfSent, End, Place, start_place, next_place, kind_of}
+use Rattle.eve_grammar.specs.Frames.{OfVerifier, OfVote, OfSent, End, start_place, next_place, kind_of}
 use Rattle.eve_grammar.specs.Frames.{is_allowed}
 use Rattle.eve_grammar.specs.Limits.{FitsAt}
 use Rattle.eve_grammar.proofs.Lists.{get_in_front}
 use Rattle.eve_grammar.proofs.Standing.{not_ended}
+use Rattle.eve_grammar.specs.declared.head.Head.{Head}
+use Rattle.eve_grammar.specs.declared.place.Place.{Place}
 use Rattle.eve_views.specs.declared.starts.Starts.{Starts}
 use Rattle.eve_views.specs.Starting.{no_starts, noted}
 use Rattle.eve_views.specs.Indexing.{is_last, frames_before_sent, AreStarts}

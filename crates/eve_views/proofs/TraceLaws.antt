@@ -3,15 +3,14 @@ use Rattle.std.proofs.Common.{◌≡◌, ℕ, zero, suc, ◌+◌, ◌-◌, ◌<�
 use Rattle.std.proofs.Common.{Some, refl, sym, ap, subst, ◌∙◌, append_assoc, add-one, arith}
 use Rattle.std.specs.Prelude.{slice_get}
 use Rattle.std.proofs.lemmas.List.{length-append, take_all, take_at, drop_at}
-use Rattle.eve_grammar.specs.Trace.{Trace, Head, head_of}
+use Rattle.eve_grammar.specs.Trace.{Trace, head_of}
 use Rattle.eve_grammar.specs.Frames.{Frame, frames_of}
-use Rattle.eve_grammar.specs.Limits.{Spells}
 use Rattle.eve_grammar.specs.Gathering.{trace_of}
 use Rattle.eve_grammar.specs.Spelling.{frame_text, frames_text, head_text}
 use Rattle.eve_views.specs.declared.fault.CheckFault.{CheckFault}
 use Rattle.eve_views.specs.declared.fault.CheckFault.TheVariants.{Found, Memory}
 use Rattle.eve_views.specs.declared.walk.Index.{Index}
-use Rattle.eve_views.specs.Form.{IsFormFault, IfFound, IsLeast}
+use Rattle.eve_views.specs.Form.{IfFound, IsLeast, StandsInForm, IsFaultOutside}
 use Rattle.eve_views.specs.Header.{IsHeader}
 use Rattle.eve_views.specs.Walk.{frames_in}
 use Rattle.eve_views.specs.Indexing.{AreStarts, IsIndex, offsets_of}
@@ -22,6 +21,8 @@ use Rattle.eve_views.proofs.WalkLaws.{run_read}
 use Rattle.eve_views.proofs.HeaderLaws.{says_head, header_spelled, Sized-from}
 use Rattle.eve_grammar.proofs.HeaderParts.{length-head_text}
 use Rattle.eve_grammar.proofs.Rests.{head_of-trace_of, frames_of-trace_of}
+use Rattle.eve_grammar.specs.declared.head.Head.{Head}
+use Rattle.eve_grammar.specs.Following.{Spells}
 use Rattle.eve_views.proofs.WholeTraces.{SpellsFrames, spells_trace, spells_frames}
 use Rattle.eve_views.proofs.FormLaws.{refused_behind}
 
@@ -53,12 +54,12 @@ held_of bytes h i fits is found =
 -- ---- a fault
 
 pub found_least : (bytes : List ℕ) (h : Head) (e : CheckFault) → IsBytes bytes → IsHeader bytes h
-    → IfFound e (IsFormFault bytes) → IfFound e (IsLeast (IsFormFault bytes))
+    → IfFound e (IsFaultOutside StandsInForm bytes) → IfFound e (IsLeast (IsFaultOutside StandsInForm bytes))
 found_least bytes h Memory fits is s = tt
 found_least bytes h (Found f) fits is s = (refused_behind bytes h f is fits s).least
 
 pub found_none : (bytes : List ℕ) (h : Head) (e : CheckFault) → IsBytes bytes → IsHeader bytes h
-    → IfFound e (IsFormFault bytes) → IfFound e (λ _. (t : Trace) → ¬ Spells bytes t)
+    → IfFound e (IsFaultOutside StandsInForm bytes) → IfFound e (λ _. (t : Trace) → ¬ Spells bytes t)
 found_none bytes h Memory fits is s = tt
 found_none bytes h (Found f) fits is s = (refused_behind bytes h f is fits s).none
 
@@ -109,8 +110,8 @@ end_at bytes t i spells le =
     omega (
       arith,
       ap length s.spelled,
-      length-append (head_text (head_of t) (length bytes)) (frames_text (frames_of t)),
-      length-head_text (head_of t) (length bytes),
+      length-append (head_text t.head (length bytes)) (frames_text (frames_of t)),
+      length-head_text t.head (length bytes),
       ap (λ (fs : List Frame). length (frames_text fs)) all,
     )
 
@@ -133,14 +134,14 @@ part_is bytes t i from to spells lt at_from at_to =
     let fs = frames_of t in
     let r = frame_of fs i lt in
     let a = r.1.1 in
-    let head = head_text (head_of t) (length bytes) in
+    let head = head_text t.head (length bytes) in
     let front = frames_text (take i fs) in
     let next : to ≡ from + length (frame_text r.0) = at_to ∙ ap (λ (k : ℕ). 32 + length (frames_text (take k fs)))
     (add-one i) ∙ omega (arith, a.next, at_from) in
     let whole : bytes ≡ (head ++ front) ++ (frame_text r.0 ++ r.1.0) = s.spelled
     ∙ ap (λ (b : List ℕ). head ++ b) a.before ∙ sym (append_assoc head front (frame_text r.0 ++ r.1.0)) in
     let before : length (head ++ front) ≡ from =
-    omega (arith, length-append head front, length-head_text (head_of t) (length bytes), at_from) in
+    omega (arith, length-append head front, length-head_text t.head (length bytes), at_from) in
     let long : length bytes ≡ from + (length (frame_text r.0) + length r.1.0) =
     omega (
       arith,

@@ -7,11 +7,13 @@ use Rattle.std.proofs.lemmas.Bool.{eq-eqb}
 use Rattle.std.proofs.lemmas.List.{take_rest, take-append-drop, take_at}
 use Rattle.std.proofs.lemmas.List.Elements.{All-cons, All-head, All-tail, All-append}
 use Rattle.byteorder.specs.Endian.{big_number}
-use Rattle.eve_grammar.specs.Trace.{Head, Batch, Attempt, Access}
-use Rattle.eve_grammar.specs.Frames.{OfBatch, OfAttempt, OfAccess, Place, is_allowed}
+use Rattle.eve_grammar.specs.Trace.{Batch, Attempt, Access}
+use Rattle.eve_grammar.specs.Frames.{OfBatch, OfAttempt, OfAccess, is_allowed}
 use Rattle.eve_grammar.specs.Limits.{is_head, row_count}
 use Rattle.eve_grammar.specs.Reading.{◌>>=◌, batch_of, attempt_of, access_of, body_of}
 use Rattle.eve_grammar.proofs.Codec.{IsBytes}
+use Rattle.eve_grammar.specs.declared.head.Head.{Head}
+use Rattle.eve_grammar.specs.declared.place.Place.{Place}
 use Rattle.eve_frames.proofs.BatchPlaces.{batch_at}
 use Rattle.eve_frames.proofs.AttemptPlaces.{attempt_at}
 use Rattle.eve_views.specs.declared.starts.Starts.{Starts}

@@ -5,8 +5,7 @@ use Rattle.std.specs.Prelude.{IsTrue, slice_index}
 use Rattle.std.proofs.lemmas.Bool.{eqb-true}
 use Rattle.std.proofs.lemmas.List.{length-append, append-nil, nil_from_length}
 use Rattle.std.proofs.lemmas.List.Concat.{flat_map-append}
-use Rattle.eve_grammar.specs.Trace.{Head}
-use Rattle.eve_grammar.specs.Frames.{Frame, Place, start_place, next_place, kind_of}
+use Rattle.eve_grammar.specs.Frames.{Frame, start_place, next_place, kind_of}
 use Rattle.eve_grammar.specs.Spelling.{frame_text, frames_text}
 use Rattle.eve_grammar.specs.Limits.{is_head, FitsAt}
 use Rattle.eve_grammar.specs.Following.{Follow, after, AreAllFrames}
@@ -17,6 +16,8 @@ use Rattle.eve_grammar.proofs.Codec.{IsBytes}
 use Rattle.eve_views.proofs.Bytes.{IsBytes-behind}
 use Rattle.eve_views.proofs.FrameLaws.{StandsHere, frame_again, frame_stands, Framed-from, true_false}
 use Rattle.eve_grammar.proofs.Standing.{not_ended}
+use Rattle.eve_grammar.specs.declared.head.Head.{Head}
+use Rattle.eve_grammar.specs.declared.place.Place.{Place}
 
 abbrev pub with_front : List Frame → Walked → Walked
 with_front [] r = r

@@ -1,15 +1,17 @@
 -- Public: other crates cite these lemmas. Heads with frames, and the traces that they make up.
 use Rattle.std.proofs.Common.{◌≡◌, ℕ, ◌+◌, ◌^◌, ◌≤◌, List, ◌++◌, length, refl, sym, ap, ◌∙◌, arith, length-append}
+use Rattle.std.proofs.Common.{subst}
 use Rattle.std.specs.Prelude.{IsTrue}
-use Rattle.eve_grammar.specs.Trace.{Trace, Head, head_of}
-use Rattle.eve_grammar.specs.Frames.{Frame, frames_of}
+use Rattle.eve_grammar.specs.Trace.{Trace}
+use Rattle.eve_grammar.specs.Frames.{Frame, frames_of, start_place}
 use Rattle.eve_grammar.specs.Spelling.{frames_text, head_text, length_of, spelling}
-use Rattle.eve_grammar.specs.Limits.{is_head, Spells}
-use Rattle.eve_grammar.specs.Following.{AreAllFrames}
+use Rattle.eve_grammar.specs.Limits.{is_head}
+use Rattle.eve_grammar.specs.Following.{AreAllFrames, Spells, Follow}
 use Rattle.eve_grammar.specs.Gathering.{trace_of}
-use Rattle.eve_grammar.proofs.Rests.{head_of-trace_of, frames_of-trace_of, limits_of-trace_of}
-use Rattle.eve_grammar.proofs.Runs.{run_of_trace}
+use Rattle.eve_grammar.proofs.Rests.{frames_of-trace_of}
 use Rattle.eve_grammar.proofs.HeaderParts.{length-head_text}
+use Rattle.eve_grammar.specs.declared.head.Head.{Head}
+use Rattle.eve_grammar.proofs.Spelled.{frames_end}
 
 -- a head and frames, as bytes of this length
 abbrev text_of : Head → List Frame → ℕ → List ℕ
@@ -18,7 +20,7 @@ text_of h fs total = head_text h total ++ frames_text fs
 length-text_of : (h : Head) (fs : List Frame) (total : ℕ) → length (text_of h fs total) ≡ 32 + length (frames_text fs)
 length-text_of h fs total = omega (arith, length-append (head_text h total) (frames_text fs), length-head_text h total)
 
-spelling_of : (t : Trace) → spelling t ≡ text_of (head_of t) (frames_of t) (length_of t)
+spelling_of : (t : Trace) → spelling t ≡ text_of t.head (frames_of t) (length_of t)
 unfolding spelling
 spelling_of t = refl
 
@@ -36,9 +38,9 @@ pub record SpellsFrames (bytes : List ℕ) (h : Head) (fs : List Frame) : Type 0
 -- such bytes spell the trace that these make up
 pub spells_trace : (bytes : List ℕ) (h : Head) (fs : List Frame) → SpellsFrames bytes h fs
     → Spells bytes (trace_of h fs)
+unfolding trace_of
 spells_trace bytes h fs is =
     let t : Trace = trace_of h fs in
-    let head : head_of t ≡ h = head_of-trace_of h fs is.limits is.run in
     let frames : frames_of t ≡ fs = frames_of-trace_of h fs is.limits is.run in
     let long : length bytes ≡ 32 + length (frames_text fs) = ap length is.spelled
     ∙ length-text_of h fs (length bytes) in
@@ -46,23 +48,23 @@ spells_trace bytes h fs is =
     ∙ ap (λ (gs : List Frame). 32 + length (frames_text gs)) frames ∙ sym long in
     let short : length_of t ≤ 2 ^ 30 = (let few = is.short in omega (arith, total, few)) in
     record {
-      limits = limits_of-trace_of h fs is.limits is.run;
+      head = is.limits;
+      follow = subst (Follow h start_place) (sym frames) is.run.follow;
       short = short;
       spelled = is.spelled ∙ ap (text_of h fs) (sym total)
-          ∙ ap (λ (gs : List Frame). text_of h gs (length_of t)) (sym frames)
-          ∙ ap (λ (g : Head). text_of g (frames_of t) (length_of t)) (sym head) ∙ sym (spelling_of t);
+          ∙ ap (λ (gs : List Frame). text_of h gs (length_of t)) (sym frames) ∙ sym (spelling_of t);
     }
 
 -- bytes that spell a trace spell its head and its frames
-pub spells_frames : (bytes : List ℕ) (t : Trace) → Spells bytes t → SpellsFrames bytes (head_of t) (frames_of t)
+pub spells_frames : (bytes : List ℕ) (t : Trace) → Spells bytes t → SpellsFrames bytes t.head (frames_of t)
 spells_frames bytes t is =
-    let text : bytes ≡ text_of (head_of t) (frames_of t) (length_of t) = is.spelled ∙ spelling_of t in
-    let long : length bytes ≡ length_of t = ap length text ∙ length-text_of (head_of t) (frames_of t) (length_of t)
+    let text : bytes ≡ text_of t.head (frames_of t) (length_of t) = is.spelled ∙ spelling_of t in
+    let long : length bytes ≡ length_of t = ap length text ∙ length-text_of t.head (frames_of t) (length_of t)
     ∙ sym (length_of-frames t) in
     let short : length bytes ≤ 2 ^ 30 = (let few = is.short in omega (arith, long, few)) in
     record {
-      limits = is.limits.head;
-      run = run_of_trace t is.limits is.short;
+      limits = is.head;
+      run = record { follow = is.follow; ended = frames_end t start_place };
       short = short;
-      spelled = text ∙ ap (text_of (head_of t) (frames_of t)) (sym long);
+      spelled = text ∙ ap (text_of t.head (frames_of t)) (sym long);
     }

@@ -1,16 +1,18 @@
 -- The faults of form: what is wrong with bytes that are no trace, and where it stands.
 -- docs/MODEL.md, "Faults"; docs/TRACE.md, "Faults of form".
 use Rattle.std.specs.Prelude.{◌≡◌, ◌≢◌, ℕ, ◌+◌, ◌≤◌, ◌<◌, nat_le, Bool, ◌&&◌, IsTrue, IsFalse, ◌==◌, nat_eq, List}
-use Rattle.std.specs.Prelude.{[], ◌∷◌, ◌++◌, length, take, drop, slice_index, None, codes, ◌⊎◌}
+use Rattle.std.specs.Prelude.{[], ◌∷◌, ◌++◌, length, take, drop, slice_index, Some, None, codes, ◌⊎◌}
 use Rattle.std.specs.List.{starts_with}
 use Rattle.byteorder.specs.Endian.{big_number}
-use Rattle.eve_grammar.specs.Trace.{Head}
-use Rattle.eve_grammar.specs.Frames.{Frame, Place, start_place, is_allowed}
+use Rattle.eve_grammar.specs.Frames.{Frame, start_place, is_allowed}
 use Rattle.eve_grammar.specs.Spelling.{frame_text, frames_text, head_text}
 use Rattle.eve_grammar.specs.declared.limits.TheConstants.{MOST_BYTES}
 use Rattle.eve_grammar.specs.Limits.{is_head, FitsAt}
 use Rattle.eve_views.specs.Code.{code_number, phase_of}
 use Rattle.eve_grammar.specs.Following.{Follow, after}
+use Rattle.eve_grammar.specs.declared.head.Head.{Head}
+use Rattle.eve_grammar.specs.Trace.{Trace}
+use Rattle.eve_grammar.specs.declared.place.Place.{Place}
 use Rattle.eve_views.specs.declared.fault.Code.{Code}
 use Rattle.eve_views.specs.declared.fault.Code.TheVariants as code
 use Rattle.eve_views.specs.declared.fault.Fault.{Fault}
@@ -76,16 +78,27 @@ pub record HasWrongBody (h : Head) (p : Place) (bytes : List ℕ) : Type 0 where
 -- a fault of form stands at this offset
 abbrev pub StandsInForm : Code → List ℕ → ℕ → Type 0
 StandsInForm code.Length bytes at = (at ≡ 0) × IsFalse (is_sized bytes)
-StandsInForm code.Magic bytes at = (at ≡ 0) × IsFalse (has_magic bytes)
+StandsInForm code.Magic bytes at = (at ≡ 0) × IsFalse (starts_with nat_eq bytes (codes "EVESBK"))
 StandsInForm code.Head bytes at = (at ≡ 0) × ((h : Head) → ¬ SaysHead bytes h)
 StandsInForm code.Frame bytes at = (r : IsReached bytes at) × HasNoFrame r.head (place_at r) (drop at bytes)
 StandsInForm code.Body bytes at = (r : IsReached bytes at) × HasWrongBody r.head (place_at r) (drop at bytes)
 StandsInForm _ bytes at = ⊥
 
--- the fault is one of form; it names no replica
-pub record IsFormFault (bytes : List ℕ) (f : Fault) : Type 0 where
-  pub stands : StandsInForm f.code bytes f.offset
+-- ---- faults of any phase
+
+-- the fault stands as the phase's definition says, in bytes or in a trace, and names no replica
+pub record IsFaultOutside {A : Type 0} (StandsAt : Code → A → ℕ → Type 0) (x : A) (f : Fault) : Type 0 where
+  pub stands : StandsAt f.code x f.offset
   pub outside : f.replica ≡ None
+
+-- it stands in the section of replica e, and names it
+pub record IsFaultIn (StandsAt : Code → Trace → ℕ → ℕ → Type 0) (t : Trace) (e : ℕ) (f : Fault) : Type 0 where
+  pub stands : StandsAt f.code t e f.offset
+  pub inside : f.replica ≡ Some e
+
+-- it stands in the section of some replica, and names it
+abbrev pub IsFaultSomewhere : (Code → Trace → ℕ → ℕ → Type 0) → Trace → Fault → Type 0
+IsFaultSomewhere StandsAt t f = (e : ℕ) × IsFaultIn StandsAt t e f
 
 -- at some place of the list the fact holds, of what stands before and of what stands there
 pub record SomePlace {A : Type 0} (xs : List A) (P : List A → A → Type 0) : Type 0 where

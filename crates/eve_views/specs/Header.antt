@@ -1,7 +1,7 @@
 -- What is found in a header. docs/TRACE.md, "Header" and "Faults of form".
 use Rattle.std.specs.Prelude.{◌≡◌, IsTrue, IsFalse, ℕ, List, Some, None}
-use Rattle.eve_grammar.specs.Trace.{Head}
 use Rattle.eve_grammar.specs.Reading.{header_of}
+use Rattle.eve_grammar.specs.declared.head.Head.{Head}
 use Rattle.eve_views.specs.Form.{is_sized, has_magic, said_by}
 use Rattle.eve_views.specs.declared.fault.Code.{Code}
 use Rattle.eve_views.specs.declared.fault.Code.TheVariants as code

@@ -1,10 +1,10 @@
 -- What a trace that was read holds.
 use Rattle.std.specs.Prelude.{◌≡◌, ℕ, List, drop}
-use Rattle.eve_grammar.specs.Trace.{Trace, Head, head_of}
+use Rattle.eve_grammar.specs.Trace.{Trace, head_of}
 use Rattle.eve_grammar.specs.Frames.{frames_of}
-use Rattle.eve_grammar.specs.Limits.{Spells}
-use Rattle.eve_grammar.specs.Bodies.{limits}
 use Rattle.eve_grammar.specs.Gathering.{trace_of}
+use Rattle.eve_grammar.specs.declared.head.Head.{Head}
+use Rattle.eve_grammar.specs.Following.{Spells}
 use Rattle.eve_views.specs.Walk.{frames_in}
 use Rattle.eve_views.specs.Indexing.{AreStarts, offsets_of}
 use Rattle.eve_views.specs.declared.walk.Index.{Index}
@@ -23,8 +23,8 @@ pub record IsHeldTrace (bytes : List ℕ) (h : Head) (i : Index) (t : Trace) : T
 
 -- the trace that its bytes spell
 abbrev pub trace_held : Inside → Trace
-trace_held x = trace_in (limits x.head) x.bytes.now
+trace_held x = trace_in x.head x.bytes.now
 
 -- its bytes, its head and its index are those of that trace
 abbrev pub IsTrace : Inside → Type 0
-IsTrace x = IsHeldTrace x.bytes.now (limits x.head) x.index (trace_held x)
+IsTrace x = IsHeldTrace x.bytes.now x.head x.index (trace_held x)

@@ -2,11 +2,11 @@
 use Rattle.std.specs.Prelude.{◌≡◌, ◌<◌, ℕ, ◌+◌, Bool, ◌||◌, ◌==◌, if◌then◌else◌, List, [], ◌∷◌, drop, slice_index}
 use Rattle.std.specs.Prelude.{length, slice_get, Some, Result, Ok, Err}
 use Rattle.byteorder.specs.Endian.{big_number}
-use Rattle.eve_grammar.specs.Trace.{Head}
 use Rattle.eve_grammar.specs.Frames.{Frame, OfReplica, OfVerifier, kind_of}
 use Rattle.eve_grammar.specs.Kinds.{kind_byte}
 use Rattle.eve_grammar.specs.Spelling.{frame_text, frames_text}
 use Rattle.eve_grammar.specs.Following.{AreAllFrames}
+use Rattle.eve_grammar.specs.declared.head.Head.{Head}
 use Rattle.eve_views.specs.Places.{accesses_in}
 use Rattle.eve_views.specs.declared.fault.Code.{Code}
 use Rattle.eve_views.specs.declared.starts.Starts.{Starts}

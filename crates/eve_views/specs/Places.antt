@@ -1,20 +1,7 @@
--- The code's places, as values.
+-- The place after a frame of which the kind is known.
 use Rattle.std.specs.Prelude.{ℕ, ◌+◌, ◌-◌, true, ◌==◌, if◌then◌else◌, length}
-use Rattle.eve_grammar.specs.Frames.{Frame, OfAttempt, Place}
-use Rattle.eve_views.specs.declared.place.Place as code
-
--- the place that the counters say
-abbrev pub place : code.Place → Place
-place p =
-    record {
-      customers = p.customers;
-      batches = p.batches;
-      replicas = p.replicas;
-      accesses = p.accesses;
-      verifiers = p.verifiers;
-      sending = p.sending;
-      ended = p.ended;
-    }
+use Rattle.eve_grammar.specs.Frames.{Frame, OfAttempt}
+use Rattle.eve_grammar.specs.declared.place.Place.{Place}
 
 -- how many access frames have to follow the frame
 abbrev pub accesses_in : Frame → ℕ

@@ -3,12 +3,11 @@
 use Rattle.std.specs.Prelude.{◌≡◌, ℕ, ◌+◌, ◌≤◌, ◌<◌, Bool, true, ◌==◌, if◌then◌else◌, List, ◌++◌, length, take, drop}
 use Rattle.std.specs.Prelude.{slice_index, Ok, is_some, All, IsTrue}
 use Rattle.byteorder.specs.Endian.{big_number}
-use Rattle.eve_grammar.specs.Trace.{Head}
-use Rattle.eve_grammar.specs.Frames.{Place, is_allowed}
-use Rattle.eve_grammar.specs.Bodies.{limits}
+use Rattle.eve_grammar.specs.Frames.{is_allowed}
 use Rattle.eve_grammar.specs.Limits.{row_count}
 use Rattle.eve_grammar.specs.Reading.{batch_of, attempt_of, access_of}
-use Rattle.eve_views.specs.Places.{place}
+use Rattle.eve_grammar.specs.declared.head.Head.{Head}
+use Rattle.eve_grammar.specs.declared.place.Place.{Place}
 use Rattle.eve_views.specs.Walk.{frame_at}
 use Rattle.eve_views.specs.Indexing.{KeptFrame, kept}
 use Rattle.eve_views.specs.Walking.{Walking}
@@ -45,11 +44,11 @@ access_kept len = record { kind = 18; len = len; accesses = 0 }
 
 -- the walk came so far, if only the bodies are right of the frames that it found, where these weren't judged
 pub record IsWalkedUnjudged (h : Head) (bytes : List ℕ) (w : Progress) : Type 0 where
-  pub head : limits w.reached.head ≡ h
+  pub head : w.reached.head ≡ h
   pub within : w.at ≤ length bytes
   pub few : length w.offsets.items + 32 ≤ w.at
   pub walking : AreRightFrames (row_count h) bytes w.offsets.items
-      → Walking h bytes w.at (place w.reached) w.offsets.items w.starts
+      → Walking h bytes w.at w.reached.place w.offsets.items w.starts
 
 -- the one walk goes on with the other: the frames that it had found stand in front
 pub record WalksOn (before after : Progress) : Type 0 where

@@ -2,7 +2,7 @@
 use Rattle.std.specs.Prelude.{ℕ, ◌==◌, ◌||◌, ◌&&◌, not, if◌then◌else◌, replicate}
 use Rattle.std.proofs.Math.ListN.{set}
 use Rattle.eve_grammar.specs.declared.limits.TheConstants.{MOST_REPLICAS, MOST_VERIFIERS}
-use Rattle.eve_grammar.specs.Frames.{Place}
+use Rattle.eve_grammar.specs.declared.place.Place.{Place}
 use Rattle.eve_views.specs.declared.starts.Starts.{Starts}
 
 -- before any frame

@@ -1,10 +1,11 @@
 -- How far a walk over the frames of a trace has come. docs/TRACE.md, "Order of frames".
 use Rattle.std.specs.Prelude.{◌≡◌, ℕ, ◌+◌, ◌<◌, ◌≤◌, Bool, true, false, ◌||◌, List, ◌++◌, length, take, slice_index}
 use Rattle.std.specs.Prelude.{slice_get, Some}
-use Rattle.eve_grammar.specs.Trace.{Head}
-use Rattle.eve_grammar.specs.Frames.{Frame, OfReplica, OfVerifier, Place, start_place}
+use Rattle.eve_grammar.specs.Frames.{Frame, OfReplica, OfVerifier, start_place}
 use Rattle.eve_grammar.specs.Spelling.{frames_text}
 use Rattle.eve_grammar.specs.Following.{Follow, after}
+use Rattle.eve_grammar.specs.declared.head.Head.{Head}
+use Rattle.eve_grammar.specs.declared.place.Place.{Place}
 use Rattle.eve_views.specs.Indexing.{offsets_of, frames_before_sent}
 use Rattle.eve_views.specs.declared.starts.Starts.{Starts}
 

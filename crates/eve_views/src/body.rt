@@ -2,13 +2,12 @@
 
 ghost use Rattle.std.specs.Prelude.{◌≡◌, ◌≢◌, ◌≤◌, is_some};
 ghost use Rattle.std.specs.Option.{option_map};
-ghost use Rattle.eve_grammar.specs.Bodies.{limits};
 ghost use Rattle.eve_grammar.specs.Kinds.{kind_byte};
 ghost use Rattle.eve_grammar.specs.Reading.{body_of};
 ghost use Rattle.eve_grammar.specs.declared.frame_kind.FrameKind.TheVariants.{Attempt};
-ghost use Rattle.eve_views.specs.Places.{place, accesses_in};
+ghost use Rattle.eve_views.specs.Places.{accesses_in};
 
-use crate::place::Place;
+use crate::reached::Reached;
 use eve_grammar::{
     FrameKind, MOST_NAMES, batch_number, certificate_len, is_access_body, is_commit_body,
     is_customer_body, is_rollback_body, is_sent_body, is_vote_body, number_of,
@@ -16,23 +15,23 @@ use eve_grammar::{
 
 /// Whether the body is right for a frame of this kind, other than an attempt, that stands here.
 #[tactic(auto, unfolding(eve_grammar::specs::Reading::body_of))]
-fn is_body(at: &Place, kind: FrameKind, body: &[u8]) -> bool
+fn is_body(at: &Reached, kind: FrameKind, body: &[u8]) -> bool
     requires kind { kind ≢ Attempt }
     requires customers { at.now.head.customers ≤ MOST_NAMES }
-    ensures { result ≡ is_some (body_of (limits at.now.head) (place at.now) (kind_byte kind) body.now) }
+    ensures { result ≡ is_some (body_of at.now.head at.now.place (kind_byte kind) body.now) }
 {
     let rows = 2 * at.head.customers;
     match kind {
         FrameKind::Customer => is_customer_body(body),
         FrameKind::Batch => match batch_number(body) {
-            Some(number) => number.checked_sub(1) == Some(at.batches),
+            Some(number) => number.checked_sub(1) == Some(at.place.batches),
             None => false,
         },
-        FrameKind::Replica => number_of(body) == Some(at.replicas),
+        FrameKind::Replica => number_of(body) == Some(at.place.replicas),
         FrameKind::Access => is_access_body(rows, body),
         FrameKind::Commit => is_commit_body(body),
         FrameKind::Rollback => is_rollback_body(rows, body),
-        FrameKind::Verifier => number_of(body) == Some(at.verifiers),
+        FrameKind::Verifier => number_of(body) == Some(at.place.verifiers),
         FrameKind::Vote => is_vote_body(at.head.batches, body),
         FrameKind::Sent => is_sent_body(at.head.replicas, at.head.batches, body),
         FrameKind::End => body.is_empty(),
@@ -42,9 +41,9 @@ fn is_body(at: &Place, kind: FrameKind, body: &[u8]) -> bool
 
 /// How many access frames have to follow a frame of this kind that stands here; `None` where its body is wrong.
 #[tactic(auto, unfolding(eve_grammar::specs::Reading::body_of))]
-pub fn accesses_behind(at: &Place, kind: FrameKind, body: &[u8]) -> Option<usize>
+pub fn accesses_behind(at: &Reached, kind: FrameKind, body: &[u8]) -> Option<usize>
     requires customers { at.now.head.customers ≤ MOST_NAMES }
-    ensures { result ≡ option_map accesses_in (body_of (limits at.now.head) (place at.now) (kind_byte kind) body.now) }
+    ensures { result ≡ option_map accesses_in (body_of at.now.head at.now.place (kind_byte kind) body.now) }
 {
     match kind {
         FrameKind::Attempt => match certificate_len(body) {

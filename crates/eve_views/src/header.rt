@@ -1,7 +1,6 @@
 //! The header of a trace.
 
 ghost use Rattle.std.specs.Prelude.{◌≡◌, IfOk, IfErr};
-ghost use Rattle.eve_grammar.specs.Bodies.{limits};
 ghost use Rattle.eve_views.specs.Form.{is_sized, has_magic};
 ghost use Rattle.eve_views.specs.Header.{IsHeader, StopsAtHeader};
 
@@ -29,7 +28,7 @@ fn has_magic(bytes: &[u8]) -> bool
 ///
 /// docs/TRACE.md, "Header".
 pub fn head_of(bytes: &[u8]) -> Result<Head, Code>
-    ensures head { IfOk result (λ h. IsHeader bytes.now (limits h)) }
+    ensures head { IfOk result (λ h. IsHeader bytes.now h) }
     ensures fault { IfErr result (StopsAtHeader bytes.now) }
 {
     if !is_sized(bytes) {

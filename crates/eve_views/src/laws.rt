@@ -2,9 +2,9 @@
 
 ghost use Rattle.std.specs.Prelude.{◌⊎◌, ℕ, List};
 ghost use Rattle.eve_grammar.specs.Trace.{Trace};
-ghost use Rattle.eve_grammar.specs.Limits.{Spells};
 ghost use Rattle.eve_grammar.specs.Places.{IsBytes};
-ghost use Rattle.eve_views.specs.Form.{IsFormFault, IsLeast};
+ghost use Rattle.eve_grammar.specs.Following.{Spells};
+ghost use Rattle.eve_views.specs.Form.{IsLeast, StandsInForm, IsFaultOutside};
 ghost use Rattle.eve_views.specs.declared.fault.Fault.{Fault};
 
 /// Bytes have a first fault of form, or they spell a trace, and never both.
@@ -12,7 +12,7 @@ ghost use Rattle.eve_views.specs.declared.fault.Fault.{Fault};
 /// docs/MODEL.md, "Faults".
 pub fn form_is_decided()
     ensures decided { (bytes : List ℕ) → IsBytes bytes
-        → ((f : Fault) × IsLeast (IsFormFault bytes) f) ⊎ ((t : Trace) × Spells bytes t) }
-    ensures apart { (bytes : List ℕ) (f : Fault) (t : Trace) → IsBytes bytes → IsFormFault bytes f
+        → ((f : Fault) × IsLeast (IsFaultOutside StandsInForm bytes) f) ⊎ ((t : Trace) × Spells bytes t) }
+    ensures apart { (bytes : List ℕ) (f : Fault) (t : Trace) → IsBytes bytes → IsFaultOutside StandsInForm bytes f
         → ¬ Spells bytes t }
 {}

@@ -3,18 +3,17 @@
 ghost use Rattle.std.specs.Prelude.{◌≡◌, ℕ, ◌≤◌, ◌<◌, length, List, IsTrue, IfOk, IfSome, Some, drop};
 ghost use Rattle.std.specs.Option.{option_map};
 ghost use Rattle.byteorder.specs.Endian.{big_number};
-ghost use Rattle.eve_grammar.specs.Bodies.{limits};
 ghost use Rattle.eve_grammar.specs.Kinds.{kind_byte};
 ghost use Rattle.eve_grammar.specs.Limits.{row_count};
 ghost use Rattle.eve_grammar.specs.Reading.{body_of};
 ghost use Rattle.eve_views.specs.Form.{SaysHead};
-ghost use Rattle.eve_views.specs.Places.{place, accesses_in};
+ghost use Rattle.eve_views.specs.Places.{accesses_in};
 ghost use Rattle.eve_views.specs.Indexing.{kept_in, IsIndex};
 ghost use Rattle.eve_views.specs.SideBySide.{is_right_body, AreRightFrames, IsFramedUnjudged};
 ghost use Rattle.eve_views.specs.SideBySide.{access_kept, IsWalkedUnjudged, WalksOn};
 
 use crate::body::accesses_behind;
-use crate::place::Place;
+use crate::reached::Reached;
 use crate::starts::Starts;
 use crate::walk::{Framed, Index, kind_and_body};
 use byteorder::{BigEndian, ByteOrder};
@@ -29,7 +28,7 @@ pub struct Progress {
     /// Those of them that begin parts.
     pub starts: Starts,
     /// The place behind them.
-    pub reached: Place,
+    pub reached: Reached,
     /// The byte behind them.
     pub at: usize,
 }
@@ -56,16 +55,16 @@ fn says_number(body: &[u8], number: u32) -> bool
 /// How many access frames have to follow a frame of this kind that stands here, if its body is right. Of a batch, an
 /// attempt and an access record nothing else of the body is judged; `None` where what is judged is wrong.
 #[inline(always)]
-fn accesses_unjudged(at: &Place, kind: FrameKind, body: &[u8]) -> Option<usize>
+fn accesses_unjudged(at: &Reached, kind: FrameKind, body: &[u8]) -> Option<usize>
     requires { at.now.head.customers ≤ MOST_NAMES }
-    ensures { IfSome result (λ n. IsTrue (is_right_body (row_count (limits at.now.head)) (kind_byte kind) body.now)
-        → Some n ≡ option_map accesses_in (body_of (limits at.now.head) (place at.now) (kind_byte kind) body.now)) }
+    ensures { IfSome result (λ n. IsTrue (is_right_body (row_count at.now.head) (kind_byte kind) body.now)
+        → Some n ≡ option_map accesses_in (body_of at.now.head at.now.place (kind_byte kind) body.now)) }
 {
     match kind {
         FrameKind::Access => Some(0),
         FrameKind::Attempt => accesses_said(body),
         FrameKind::Batch => {
-            if at.batches < u32::MAX && says_number(body, at.batches + 1) {
+            if at.place.batches < u32::MAX && says_number(body, at.place.batches + 1) {
                 Some(0)
             } else {
                 None
@@ -78,9 +77,9 @@ fn accesses_unjudged(at: &Place, kind: FrameKind, body: &[u8]) -> Option<usize>
 /// The frame at the front of the bytes, where nothing is wrong with it but for the body of a batch, an attempt or an
 /// access record, which isn't judged.
 #[inline(always)]
-fn frame_unjudged(at: &Place, bytes: &[u8]) -> Option<Framed>
+fn frame_unjudged(at: &Reached, bytes: &[u8]) -> Option<Framed>
     requires { at.now.head.customers ≤ MOST_NAMES }
-    ensures { IfSome result (λ f. IsFramedUnjudged (limits at.now.head) (place at.now) bytes.now (kept_in f)) }
+    ensures { IfSome result (λ f. IsFramedUnjudged at.now.head at.now.place bytes.now (kept_in f)) }
 {
     let (kind, body) = kind_and_body(bytes)?;
     if !at.allows(kind) {
@@ -97,8 +96,8 @@ fn frame_unjudged(at: &Place, bytes: &[u8]) -> Option<Framed>
 /// The length of the access frame at the front of the bytes, where one may stand there and lies there as a whole. Its
 /// body isn't judged.
 #[inline(always)]
-fn access_unjudged(at: &Place, bytes: &[u8]) -> Option<usize>
-    ensures { IfSome result (λ len. IsFramedUnjudged (limits at.now.head) (place at.now) bytes.now (access_kept len)) }
+fn access_unjudged(at: &Reached, bytes: &[u8]) -> Option<usize>
+    ensures { IfSome result (λ len. IsFramedUnjudged at.now.head at.now.place bytes.now (access_kept len)) }
 {
     let (kind, body) = kind_and_body(bytes)?;
     match kind {
@@ -110,12 +109,12 @@ fn access_unjudged(at: &Place, bytes: &[u8]) -> Option<usize>
 impl Progress {
     /// Before the first frame.
     pub fn start(alloc: Global, head: Head) -> Progress
-        ensures { (bytes : List ℕ) → 32 ≤ length bytes → IsWalkedUnjudged (limits head) bytes result }
+        ensures { (bytes : List ℕ) → 32 ≤ length bytes → IsWalkedUnjudged head bytes result }
     {
         Progress {
             offsets: Vec::new(alloc),
             starts: Starts::new(),
-            reached: Place::start(head),
+            reached: Reached::start(head),
             at: 32,
         }
     }
@@ -123,10 +122,10 @@ impl Progress {
     /// Goes on over one frame; no, where anything is wrong with it, but for a body that isn't judged.
     #[inline(always)]
     fn pass_frame(&mut self, head: Head, bytes: &[u8]) -> Result<bool, AllocError>
-        requires says { SaysHead bytes.now (limits head) }
+        requires says { SaysHead bytes.now head }
         requires length { length bytes.now ≤ MOST_BYTES }
-        requires walked { IsWalkedUnjudged (limits head) bytes.now self.old }
-        ensures walked { IfOk result (λ right. IsTrue right → IsWalkedUnjudged (limits head) bytes.now self.new) }
+        requires walked { IsWalkedUnjudged head bytes.now self.old }
+        ensures walked { IfOk result (λ right. IsTrue right → IsWalkedUnjudged head bytes.now self.new) }
         ensures kept { IfOk result (λ right. IsTrue right → WalksOn self.old self.new) }
         ensures on { IfOk result (λ right. IsTrue right → self.old.at < self.new.at) }
     {
@@ -134,7 +133,7 @@ impl Progress {
             return Ok(false);
         };
         let number = self.offsets.len() as u32;
-        self.starts.note(&self.reached, frame.kind, number);
+        self.starts.note(&self.reached.place, frame.kind, number);
         self.offsets.push(self.at as u32)?;
         self.reached.pass(frame.kind, frame.accesses);
         self.at += frame.len;
@@ -144,14 +143,14 @@ impl Progress {
     /// Goes on over the access frames that have to follow the last attempt; no, where they don't.
     #[inline(always)]
     fn pass_accesses(&mut self, head: Head, bytes: &[u8]) -> Result<bool, AllocError>
-        requires says { SaysHead bytes.now (limits head) }
+        requires says { SaysHead bytes.now head }
         requires length { length bytes.now ≤ MOST_BYTES }
-        requires walked { IsWalkedUnjudged (limits head) bytes.now self.old }
-        ensures walked { IfOk result (λ right. IsTrue right → IsWalkedUnjudged (limits head) bytes.now self.new) }
+        requires walked { IsWalkedUnjudged head bytes.now self.old }
+        ensures walked { IfOk result (λ right. IsTrue right → IsWalkedUnjudged head bytes.now self.new) }
         ensures kept { IfOk result (λ right. IsTrue right → WalksOn self.old self.new) }
         ensures on { IfOk result (λ right. IsTrue right → self.old.at ≤ self.new.at) }
     {
-        'frames: while 0 < self.reached.accesses {
+        'frames: while 0 < self.reached.place.accesses {
             let at = self.at;
             let Some(len) = access_unjudged(&self.reached, &bytes[at..]) else {
                 return Ok(false);
@@ -173,16 +172,16 @@ impl Progress {
         most: usize,
         until: usize,
     ) -> Result<Option<Progress>, AllocError>
-        requires says { SaysHead bytes.now (limits head) }
+        requires says { SaysHead bytes.now head }
         requires length { length bytes.now ≤ MOST_BYTES }
-        requires walked { IsWalkedUnjudged (limits head) bytes.now self }
-        ensures walked { IfOk result (λ found. IfSome found (IsWalkedUnjudged (limits head) bytes.now)) }
+        requires walked { IsWalkedUnjudged head bytes.now self }
+        ensures walked { IfOk result (λ found. IfSome found (IsWalkedUnjudged head bytes.now)) }
         ensures kept { IfOk result (λ found. IfSome found (WalksOn self)) }
     {
         let mut walked = self;
         'frames: while walked.offsets.len() < most
             && walked.at < until
-            && (!walked.reached.ended || walked.at < bytes.len())
+            && (!walked.reached.place.ended || walked.at < bytes.len())
         {
             if !walked.pass_frame(head, bytes)? || !walked.pass_accesses(head, bytes)? {
                 return Ok(None);
@@ -193,11 +192,11 @@ impl Progress {
 
     /// The frames up to the end, where it came as the last; nothing where it didn't come or bytes follow it.
     pub fn ended(self, head: Head, bytes: &[u8]) -> Option<Index>
-        requires walked { IsWalkedUnjudged (limits head) bytes.now self }
-        requires right { AreRightFrames (row_count (limits head)) bytes.now self.offsets.items }
-        ensures { IfSome result (IsIndex (limits head) bytes.now) }
+        requires walked { IsWalkedUnjudged head bytes.now self }
+        requires right { AreRightFrames (row_count head) bytes.now self.offsets.items }
+        ensures { IfSome result (IsIndex head bytes.now) }
     {
-        if self.reached.ended && bytes.len() <= self.at {
+        if self.reached.place.ended && bytes.len() <= self.at {
             Some(Index {
                 offsets: self.offsets,
                 starts: self.starts,

@@ -2,10 +2,9 @@
 
 ghost use Rattle.std.specs.Prelude.{◌≡◌, ◌≤◌, length, take, IsTrue, IfOk, IfErr, IfSome};
 ghost use denote.Param.Send.{IsSync};
-ghost use Rattle.eve_grammar.specs.Bodies.{limits};
 ghost use Rattle.eve_grammar.specs.Kinds.{kind_byte};
 ghost use Rattle.eve_grammar.specs.Limits.{row_count};
-ghost use Rattle.eve_views.specs.Form.{SaysHead, IsFormFault, IfFound};
+ghost use Rattle.eve_views.specs.Form.{SaysHead, IfFound, StandsInForm, IsFaultOutside};
 ghost use Rattle.eve_views.specs.Indexing.{IsIndex};
 ghost use Rattle.eve_views.specs.SideBySide.{is_right_body, IsRightFrame, AreRightFrames};
 ghost use Rattle.eve_views.specs.SideBySide.{IsWalkedUnjudged, WalksOn};
@@ -103,11 +102,11 @@ fn judge_and_go_on<R: Threads + Sync>(
     until: usize,
     fewer: usize,
 ) -> (bool, Result<Option<Progress>, AllocError>)
-    requires says { SaysHead bytes.now (limits head) }
+    requires says { SaysHead bytes.now head }
     requires length { length bytes.now ≤ MOST_BYTES }
-    requires walked { IsWalkedUnjudged (limits head) bytes.now walked }
-    ensures right { IsTrue result.0 → AreRightFrames (row_count (limits head)) bytes.now found.items }
-    ensures walked { IfOk result.1 (λ found. IfSome found (IsWalkedUnjudged (limits head) bytes.now)) }
+    requires walked { IsWalkedUnjudged head bytes.now walked }
+    ensures right { IsTrue result.0 → AreRightFrames (row_count head) bytes.now found.items }
+    ensures walked { IfOk result.1 (λ found. IfSome found (IsWalkedUnjudged head bytes.now)) }
     ensures kept { IfOk result.1 (λ found. IfSome found (WalksOn walked)) }
 {
     let rows = 2 * head.customers;
@@ -116,10 +115,10 @@ fn judge_and_go_on<R: Threads + Sync>(
         ensures { IsTrue result → AreRightFrames rows bytes.entry.now found.items }
     { are_right(rt, rows, bytes, found.as_slice(), fewer) };
     let go_on = move || -> Result<Option<Progress>, AllocError>
-        requires says { SaysHead bytes.now (limits head) }
+        requires says { SaysHead bytes.now head }
         requires length { length bytes.now ≤ MOST_BYTES }
-        requires walked { IsWalkedUnjudged (limits head) bytes.now walked }
-        ensures walked { IfOk result (λ found. IfSome found (IsWalkedUnjudged (limits head) bytes.entry.now)) }
+        requires walked { IsWalkedUnjudged head bytes.now walked }
+        ensures walked { IfOk result (λ found. IfSome found (IsWalkedUnjudged head bytes.entry.now)) }
         ensures kept { IfOk result (λ found. IfSome found (WalksOn walked)) }
     { walked.go_on(head, bytes, usize::MAX, until) };
     thread::join(rt, judge, go_on)
@@ -137,17 +136,17 @@ fn go_on_and_judge<R: Threads + Sync>(
     until: usize,
     threads: usize,
 ) -> Result<Option<Progress>, AllocError>
-    requires says { SaysHead bytes.now (limits head) }
+    requires says { SaysHead bytes.now head }
     requires length { length bytes.now ≤ MOST_BYTES }
-    requires walked { IsWalkedUnjudged (limits head) bytes.now walked }
+    requires walked { IsWalkedUnjudged head bytes.now walked }
     requires there { judged ≤ length walked.offsets.items }
-    requires judged { AreRightFrames (row_count (limits head)) bytes.now (take judged walked.offsets.items) }
+    requires judged { AreRightFrames (row_count head) bytes.now (take judged walked.offsets.items) }
     requires threads { 1 ≤ threads }
-    ensures walked { IfOk result (λ found. IfSome found (IsWalkedUnjudged (limits head) bytes.now)) }
+    ensures walked { IfOk result (λ found. IfSome found (IsWalkedUnjudged head bytes.now)) }
     ensures there { IfOk result (λ found. IfSome found (λ on.
         length walked.offsets.items ≤ length on.offsets.items)) }
     ensures judged { IfOk result (λ found. IfSome found (λ on.
-        AreRightFrames (row_count (limits head)) bytes.now (take (length walked.offsets.items) on.offsets.items))) }
+        AreRightFrames (row_count head) bytes.now (take (length walked.offsets.items) on.offsets.items))) }
 {
     let (_, behind) = walked.offsets.as_slice().split_at(judged);
     let last = Vec::from_slice(alloc, behind)?;
@@ -168,11 +167,11 @@ fn judge_behind<R: Threads + Sync>(
     judged: usize,
     threads: usize,
 ) -> Option<Index>
-    requires says { SaysHead bytes.now (limits head) }
-    requires walked { IsWalkedUnjudged (limits head) bytes.now walked }
+    requires says { SaysHead bytes.now head }
+    requires walked { IsWalkedUnjudged head bytes.now walked }
     requires there { judged ≤ length walked.offsets.items }
-    requires judged { AreRightFrames (row_count (limits head)) bytes.now (take judged walked.offsets.items) }
-    ensures { IfSome result (IsIndex (limits head) bytes.now) }
+    requires judged { AreRightFrames (row_count head) bytes.now (take judged walked.offsets.items) }
+    ensures { IfSome result (IsIndex head bytes.now) }
 {
     let (_, behind) = walked.offsets.as_slice().split_at(judged);
     if are_right(rt, 2 * head.customers, bytes, behind, threads) {
@@ -193,13 +192,13 @@ fn judge_to_end<R: Threads + Sync>(
     judged: usize,
     threads: usize,
 ) -> Result<Option<Index>, AllocError>
-    requires says { SaysHead bytes.now (limits head) }
+    requires says { SaysHead bytes.now head }
     requires length { length bytes.now ≤ MOST_BYTES }
-    requires walked { IsWalkedUnjudged (limits head) bytes.now walked }
+    requires walked { IsWalkedUnjudged head bytes.now walked }
     requires there { judged ≤ length walked.offsets.items }
-    requires judged { AreRightFrames (row_count (limits head)) bytes.now (take judged walked.offsets.items) }
+    requires judged { AreRightFrames (row_count head) bytes.now (take judged walked.offsets.items) }
     requires threads { 1 ≤ threads }
-    ensures { IfOk result (λ found. IfSome found (IsIndex (limits head) bytes.now)) }
+    ensures { IfOk result (λ found. IfSome found (IsIndex head bytes.now)) }
 {
     if bytes.len() <= walked.at {
         return Ok(judge_behind(rt, head, bytes, walked, judged, threads));
@@ -235,11 +234,11 @@ fn index_judged<R: Threads + Sync>(
     bytes: &[u8],
     threads: usize,
 ) -> Result<Option<Index>, AllocError>
-    requires says { SaysHead bytes.now (limits head) }
+    requires says { SaysHead bytes.now head }
     requires header { 32 ≤ length bytes.now }
     requires length { length bytes.now ≤ MOST_BYTES }
     requires threads { 1 ≤ threads }
-    ensures { IfOk result (λ found. IfSome found (IsIndex (limits head) bytes.now)) }
+    ensures { IfOk result (λ found. IfSome found (IsIndex head bytes.now)) }
 {
     let most = head.customers as usize + head.batches as usize;
     let Some(walked) = Progress::start(alloc, head).go_on(head, bytes, most, usize::MAX)? else {
@@ -264,10 +263,10 @@ fn index_by_threads<R: Threads + Sync>(
     bytes: &[u8],
     jobs: u8,
 ) -> Result<Option<Index>, AllocError>
-    requires says { SaysHead bytes.now (limits head) }
+    requires says { SaysHead bytes.now head }
     requires header { 32 ≤ length bytes.now }
     requires length { length bytes.now ≤ MOST_BYTES }
-    ensures { IfOk result (λ found. IfSome found (IsIndex (limits head) bytes.now)) }
+    ensures { IfOk result (λ found. IfSome found (IsIndex head bytes.now)) }
 {
     let threads = usize::from(jobs).min(bytes.len() / LEAST_BYTES);
     if threads < 2 {
@@ -289,11 +288,11 @@ pub fn index_side_by_side<R: Threads + Sync>(
     bytes: &[u8],
     jobs: u8,
 ) -> Result<Index, CheckFault>
-    requires says { SaysHead bytes.now (limits head) }
+    requires says { SaysHead bytes.now head }
     requires header { 32 ≤ length bytes.now }
     requires length { length bytes.now ≤ MOST_BYTES }
-    ensures found { IfOk result (IsIndex (limits head) bytes.now) }
-    ensures fault { IfErr result (λ e. IfFound e (IsFormFault bytes.now)) }
+    ensures found { IfOk result (IsIndex head bytes.now) }
+    ensures fault { IfErr result (λ e. IfFound e (IsFaultOutside StandsInForm bytes.now)) }
 {
     if let Some(index) = index_by_threads(rt, alloc, head, bytes, jobs)? {
         return Ok(index);

@@ -4,10 +4,8 @@ ghost use Rattle.std.specs.Prelude.{◌≡◌, ◌<◌};
 ghost use Rattle.eve_grammar.specs.Kinds.{kind_byte};
 ghost use Rattle.eve_grammar.specs.declared.frame_kind.FrameKind.TheVariants.{Replica, Verifier};
 ghost use Rattle.eve_views.specs.Starting.{no_starts, noted};
-ghost use Rattle.eve_views.specs.Places.{place};
 
-use crate::place::Place;
-use eve_grammar::{FrameKind, MOST_REPLICAS, MOST_VERIFIERS};
+use eve_grammar::{FrameKind, MOST_REPLICAS, MOST_VERIFIERS, Place};
 
 const SECTIONS: usize = MOST_REPLICAS as usize;
 
@@ -41,7 +39,7 @@ impl Starts {
     pub fn note(&mut self, at: &Place, kind: FrameKind, frame: u32)
         requires replica { kind ≡ Replica → at.now.replicas < MOST_REPLICAS }
         requires verifier { kind ≡ Verifier → at.now.verifiers < MOST_VERIFIERS }
-        ensures { self.new ≡ noted self.old (place at.now) (kind_byte kind) frame }
+        ensures { self.new ≡ noted self.old at.now (kind_byte kind) frame }
     {
         match kind {
             FrameKind::Replica => self.sections[at.replicas as usize] = frame,

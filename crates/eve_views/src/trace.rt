@@ -6,10 +6,10 @@ ghost use Rattle.eve_grammar.specs.Frames.{Frame, OfCustomer, OfBatch, OfSent, f
 ghost use Rattle.eve_grammar.specs.Spelling.{frame_text, frames_text, frames_at, section_start, customers_at};
 ghost use Rattle.eve_grammar.specs.Spelling.{batches_at, steps_at, votes_at, sent_at};
 ghost use Rattle.eve_grammar.specs.Trace.{Trace as TraceValue, head_of};
-ghost use Rattle.eve_grammar.specs.Limits.{HasLimits, Spells};
+ghost use Rattle.eve_grammar.specs.Limits.{HasLimits};
+ghost use Rattle.eve_grammar.specs.Following.{Spells};
 ghost use Rattle.eve_frames.specs.Said.{batch_said, customer_said, sent_said};
-ghost use Rattle.eve_grammar.specs.Bodies.{limits};
-ghost use Rattle.eve_views.specs.Form.{SaysHead, IsFormFault, IfFound, IsLeast, HasNone};
+ghost use Rattle.eve_views.specs.Form.{SaysHead, IfFound, IsLeast, HasNone, StandsInForm, IsFaultOutside};
 ghost use Rattle.eve_views.specs.Header.{IsHeader};
 ghost use Rattle.eve_views.specs.Indexing.{IsIndex};
 ghost use Rattle.eve_views.specs.Fronts.{before_section, before_verifier, before_sent};
@@ -59,8 +59,8 @@ impl<'a> Trace<'a> {
     /// they come. Refused memory decides nothing.
     pub fn read(alloc: Global, bytes: &'a [u8]) -> Result<Trace<'a>, CheckFault>
         ensures trace { IfOk result (Spells bytes.now) }
-        ensures faultless { IfOk result (λ _. HasNone (IsFormFault bytes.now)) }
-        ensures least { IfErr result (λ e. IfFound e (IsLeast (IsFormFault bytes.now))) }
+        ensures faultless { IfOk result (λ _. HasNone (IsFaultOutside StandsInForm bytes.now)) }
+        ensures least { IfErr result (λ e. IfFound e (IsLeast (IsFaultOutside StandsInForm bytes.now))) }
         ensures no_trace { IfErr result (λ e. IfFound e (λ _. (t : TraceValue) → ¬ Spells bytes.now t)) }
         ensures within { IfErr result (λ e. IfFound e (λ f. f.offset ≤ length bytes.now)) }
     {
@@ -85,8 +85,8 @@ impl<'a> Trace<'a> {
         jobs: u8,
     ) -> Result<Trace<'a>, CheckFault>
         ensures trace { IfOk result (Spells bytes.now) }
-        ensures faultless { IfOk result (λ _. HasNone (IsFormFault bytes.now)) }
-        ensures least { IfErr result (λ e. IfFound e (IsLeast (IsFormFault bytes.now))) }
+        ensures faultless { IfOk result (λ _. HasNone (IsFaultOutside StandsInForm bytes.now)) }
+        ensures least { IfErr result (λ e. IfFound e (IsLeast (IsFaultOutside StandsInForm bytes.now))) }
         ensures no_trace { IfErr result (λ e. IfFound e (λ _. (t : TraceValue) → ¬ Spells bytes.now t)) }
         ensures within { IfErr result (λ e. IfFound e (λ f. f.offset ≤ length bytes.now)) }
     {
@@ -104,12 +104,12 @@ impl<'a> Trace<'a> {
         bytes: &'a [u8],
         found: Result<Index, CheckFault>,
     ) -> Result<Trace<'a>, CheckFault>
-        requires header { IsHeader bytes.now (limits head) }
-        requires found { IfOk found (IsIndex (limits head) bytes.now) }
-        requires fault { IfErr found (λ e. IfFound e (IsFormFault bytes.now)) }
+        requires header { IsHeader bytes.now head }
+        requires found { IfOk found (IsIndex head bytes.now) }
+        requires fault { IfErr found (λ e. IfFound e (IsFaultOutside StandsInForm bytes.now)) }
         ensures trace { IfOk result (Spells bytes.now) }
-        ensures faultless { IfOk result (λ _. HasNone (IsFormFault bytes.now)) }
-        ensures least { IfErr result (λ e. IfFound e (IsLeast (IsFormFault bytes.now))) }
+        ensures faultless { IfOk result (λ _. HasNone (IsFaultOutside StandsInForm bytes.now)) }
+        ensures least { IfErr result (λ e. IfFound e (IsLeast (IsFaultOutside StandsInForm bytes.now))) }
         ensures no_trace { IfErr result (λ e. IfFound e (λ _. (t : TraceValue) → ¬ Spells bytes.now t)) }
         ensures within { IfErr result (λ e. IfFound e (λ f. f.offset ≤ length bytes.now)) }
     {
@@ -121,7 +121,7 @@ impl<'a> Trace<'a> {
 
     /// The limits that the header says.
     pub fn head(&self) -> Head
-        ensures { limits result ≡ head_of self.now }
+        ensures { result ≡ head_of self.now }
     {
         let head = self.head;
         head
@@ -347,9 +347,9 @@ fn part(bytes: &[u8], from: usize, to: usize) -> &[u8]
 
 /// The head that the header says, or the first fault, where it is one of the header.
 fn read_head(bytes: &[u8]) -> Result<Head, CheckFault>
-    ensures header { IfOk result (λ head. IsHeader bytes.now (limits head)) }
-    ensures says { IfOk result (λ head. SaysHead bytes.now (limits head)) }
-    ensures least { IfErr result (λ e. IfFound e (IsLeast (IsFormFault bytes.now))) }
+    ensures header { IfOk result (λ head. IsHeader bytes.now head) }
+    ensures says { IfOk result (λ head. SaysHead bytes.now head) }
+    ensures least { IfErr result (λ e. IfFound e (IsLeast (IsFaultOutside StandsInForm bytes.now))) }
     ensures no_trace { IfErr result (λ e. IfFound e (λ _. (t : TraceValue) → ¬ Spells bytes.now t)) }
     ensures within { IfErr result (λ e. IfFound e (λ f. f.offset ≤ length bytes.now)) }
 {

@@ -1,18 +1,16 @@
 //! The walk over a trace, frame by frame.
 
 ghost use Rattle.std.specs.Prelude.{◌≡◌, ◌≤◌, length, IfOk, IfErr, IfSome, IfNone, IsFalse};
-ghost use Rattle.eve_grammar.specs.Trace.{Head as HeadValue};
-ghost use Rattle.eve_grammar.specs.Frames.{Place as PlaceValue};
-ghost use Rattle.eve_grammar.specs.Bodies.{limits};
+ghost use Rattle.eve_grammar.specs.declared.head.Head.{Head as HeadValue};
+ghost use Rattle.eve_grammar.specs.declared.place.Place.{Place as PlaceValue};
 ghost use Rattle.eve_grammar.specs.Kinds.{kind_byte};
-ghost use Rattle.eve_views.specs.Form.{is_framed, SaysHead, IsFormFault, IfFound};
-ghost use Rattle.eve_views.specs.Places.{place};
+ghost use Rattle.eve_views.specs.Form.{is_framed, SaysHead, IfFound, StandsInForm, IsFaultOutside};
 ghost use Rattle.eve_views.specs.Walk.{frame_at, IsFrontOf};
 ghost use Rattle.eve_views.specs.Indexing.{answer_in, kept, IsIndex};
 
 use crate::body::accesses_behind;
 use crate::fault::{CheckFault, Code, Fault};
-use crate::place::Place;
+use crate::reached::Reached;
 use crate::starts::Starts;
 use eve_grammar::{FrameKind, Head, MOST_BYTES, MOST_NAMES, u8_at, u32_at};
 use std::alloc::Global;
@@ -46,9 +44,9 @@ pub fn kind_and_body(bytes: &[u8]) -> Option<(FrameKind, &[u8])>
 
 /// The frame at the front of the bytes, or what is wrong there.
 #[tactic(auto, unfolding(crate::specs::Walk::frame_at))]
-fn frame_in_front(at: &Place, bytes: &[u8]) -> Result<Framed, Code>
+fn frame_in_front(at: &Reached, bytes: &[u8]) -> Result<Framed, Code>
     requires { at.now.head.customers ≤ MOST_NAMES }
-    ensures { answer_in result ≡ kept bytes.now (frame_at (limits at.now.head) (place at.now) bytes.now) }
+    ensures { answer_in result ≡ kept bytes.now (frame_at at.now.head at.now.place bytes.now) }
 {
     let Some((kind, body)) = kind_and_body(bytes) else {
         return Err(Code::Frame);
@@ -77,17 +75,17 @@ pub struct Index {
 
 /// Finds the frames after a header, or the first fault among them.
 pub fn index_of(alloc: Global, head: Head, bytes: &[u8]) -> Result<Index, CheckFault>
-    requires says { SaysHead bytes.now (limits head) }
+    requires says { SaysHead bytes.now head }
     requires header { 32 ≤ length bytes.now }
     requires length { length bytes.now ≤ MOST_BYTES }
-    ensures found { IfOk result (IsIndex (limits head) bytes.now) }
-    ensures fault { IfErr result (λ e. IfFound e (IsFormFault bytes.now)) }
+    ensures found { IfOk result (IsIndex head bytes.now) }
+    ensures fault { IfErr result (λ e. IfFound e (IsFaultOutside StandsInForm bytes.now)) }
 {
     let mut offsets = Vec::new(alloc);
     let mut starts = Starts::new();
-    let mut reached = Place::start(head);
+    let mut reached = Reached::start(head);
     let mut at: usize = 32;
-    'frames: while !reached.ended || at < bytes.len() {
+    'frames: while !reached.place.ended || at < bytes.len() {
         match frame_in_front(&reached, &bytes[at..]) {
             Err(code) => {
                 return Err(CheckFault::Found(Fault {
@@ -97,7 +95,7 @@ pub fn index_of(alloc: Global, head: Head, bytes: &[u8]) -> Result<Index, CheckF
                 }));
             }
             Ok(frame) => {
-                starts.note(&reached, frame.kind, offsets.len() as u32);
+                starts.note(&reached.place, frame.kind, offsets.len() as u32);
                 offsets.push(at as u32)?;
                 reached.pass(frame.kind, frame.accesses);
                 at += frame.len;

@@ -97,17 +97,17 @@ only_one a b (w ∷ x ∷ ws) e f = absurd cc
 -- ---- decisions
 
 -- a decided commit has a vote for it, of which holds what holds of each
-pub decided_backs : (t : Trace) (P : Vote → Type 0) (n view : ℕ) (token : List ℕ) → 1 ≤ t.quorum
-    → ((v : ℕ) → v + t.quorum ≤ length t.verifiers → All P (votes_of t v)) → IsDecided t n view token
+pub decided_backs : (t : Trace) (P : Vote → Type 0) (n view : ℕ) (token : List ℕ) → 1 ≤ t.head.quorum
+    → ((v : ℕ) → v + t.head.quorum ≤ length t.verifiers → All P (votes_of t v)) → IsDecided t n view token
     → Backs P n view token
 decided_backs t P n view token some all decided =
     let p : List Vote → Bool = λ votes. is_only (ForCommit token) (filter (is_vote_on n view) votes) in
-    let one = counted p t.quorum t.verifiers some decided in
+    let one = counted p t.head.quorum t.verifiers some decided in
     backs P n view token (votes_of t one.place) (recursion_from_All P (votes_of t one.place) (all one.place one.early))
     (one.is [])
 
 -- more than half of the verifiers can't be for two tokens
-pub one_token : (t : Trace) (n view : ℕ) (a b : List ℕ) → length t.verifiers < 2 * t.quorum → IsDecided t n view a
+pub one_token : (t : Trace) (n view : ℕ) (a b : List ℕ) → length t.verifiers < 2 * t.head.quorum → IsDecided t n view a
     → IsDecided t n view b → a ≡ b
 one_token t n view a b most for_a for_b = by_test (pointwise ◌==◌ a b) refl
   where

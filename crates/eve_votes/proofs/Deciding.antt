@@ -125,15 +125,7 @@ pub clash_judging : (t : Trace) (ds : Table) (least : Option ℕ) (n view offset
 clash_judging t ds least n view offset token b known is unnoted decided low got judging =
     let earlier : IsKnown t n known = subst (λ (o : Option (ℕ × List ℕ)). IfSome o (IsKnown t n)) is (judging.known n)
     in
-    let two : HasTwoDecisions t n = record {
-      view = known.0;
-      other = view;
-      token = known.1;
-      other_token = token;
-      apart = unnoted known is;
-      decided = earlier.decided;
-      other_decided = decided;
-    } in
+    let two : HasTwoDecisions t n = (known.0, view, known.1, token, unnoted known is, earlier.decided, decided) in
     record {
       long = judging.long;
       known = judging.known;
@@ -344,7 +336,8 @@ IfNone_from None P given = given refl
 IfNone_from (Some x) P given = tt
 
 -- a quorum is more than half of the verifiers, and not more than all
-pub quorum_limits : (t : Trace) → HasLimits t → (t.quorum ≤ length t.verifiers) × (length t.verifiers < 2 * t.quorum)
+pub quorum_limits : (t : Trace) → HasLimits t
+    → (t.head.quorum ≤ length t.verifiers) × (length t.verifiers < 2 * t.head.quorum)
 quorum_limits t limits =
     let h = head_of t in
     let all = and_parts (is_between 1 8 h.replicas)
@@ -385,7 +378,7 @@ pub decided_within : (t : Trace) → HasLimits t → (n view : ℕ) (token : Lis
     → IsWithin t n token
 decided_within t limits n view token decided =
     let most = (quorum_limits t limits).1 in
-    let some : 1 ≤ t.quorum = omega (arith, most) in
+    let some : 1 ≤ t.head.quorum = omega (arith, most) in
     let back = decided_backs t (IsRight (length t.batches)) n view token some
     (λ v early. votes_right t limits v (omega (arith, some, early))) decided in
     record {
@@ -399,11 +392,11 @@ pub within_table : {t : Trace} {ds : Table} {least : Option ℕ} {n : ℕ} {toke
 within_table judging within = (let long = judging.long in let high = within.high in omega arith)
 
 -- a verifier's only vote is for it
-pub decided_among : (t : Trace) (xs : List Ballot) (n view : ℕ) (token : List ℕ) → HasCast t xs → 1 ≤ t.quorum
+pub decided_among : (t : Trace) (xs : List Ballot) (n view : ℕ) (token : List ℕ) → HasCast t xs → 1 ≤ t.head.quorum
     → IsDecided t n view token → (v : ℕ) × IsAmong xs n view v
 decided_among t xs n view token cast some decided =
     let p : List Vote → Bool = λ votes. is_only (ForCommit token) (filter (is_vote_on n view) votes) in
-    let one = counted p t.quorum t.verifiers some decided in
+    let one = counted p t.head.quorum t.verifiers some decided in
     let alone = single (ForCommit token) (filter (is_vote_on n view) (votes_of t one.place)) (one.is []) in
     (one.place, cast.all n view one.place alone.0 alone.1)
   where
@@ -436,14 +429,14 @@ clashes_below t ds least all at s =
     let two = s.holds.1 in
     let place : IsBatchAt t n at =
     record { before = s.before; item = s.item; rest = s.rest; is = s.is; holds = (s.holds.0, refl) } in
-    let first = all n two.view two.token two.decided in
-    let second = all n two.other two.other_token two.other_decided in
+    let first = all n two.0 two.2 two.5 in
+    let second = all n two.1 two.3 two.6 in
     let same : first.found.0 ≡ second.found.0 = ap (λ (o : Option (ℕ × List ℕ)). view_of o) (sym first.is ∙ second.is)
     in
     let clashed : IsClash t n least → IsBelow least at = λ (c : IsClash t n least). subst (IsBelow least)
     (sym (c.only at place)) c.below in
     elim first.same [
-      | inl e ↦ elim second.same [ inl f ↦ absurd (two.apart (sym e ∙ same ∙ f)) | inr c ↦ clashed c ]
+      | inl e ↦ elim second.same [ inl f ↦ absurd (two.4 (sym e ∙ same ∙ f)) | inr c ↦ clashed c ]
       | inr c ↦ clashed c
     ]
   where

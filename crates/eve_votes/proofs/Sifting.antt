@@ -14,7 +14,7 @@ use Rattle.eve_grammar.specs.Spelling.{votes_of, votes_at}
 use Rattle.eve_grammar.proofs.Lists.{get_in_front}
 use Rattle.eve_views.specs.declared.fault.Code.TheVariants as code
 use Rattle.eve_votes.specs.Votes.{is_vote_on}
-use Rattle.eve_votes.specs.Faults.{IsFurther, IsFurtherAt, StandsInVotes}
+use Rattle.eve_votes.specs.Faults.{IsFurther, StandsInVotes}
 use Rattle.eve_views.specs.Least.{lower, IsBelow}
 use Rattle.eve_votes.specs.Least.{IsLowest}
 use Rattle.eve_views.specs.Order.{AreInOrder}
@@ -24,6 +24,7 @@ use Rattle.eve_votes.specs.Ballots.{IsOnly, HasCast}
 use Rattle.eve_votes.specs.declared.ballots.Ballot.{Ballot}
 use Rattle.eve_votes.proofs.Places.{place_at, get_place, get_between}
 use Rattle.eve_views.proofs.Lowering.{lower_lowers, lower_at, lower_stands}
+use Rattle.eve_views.specs.Form.{SomePlace}
 use Rattle.eve_votes.proofs.Deciding.{vote_got}
 use Rattle.eve_votes.proofs.InOrder.{Alike, alike_is, is_alike_from, adjoin_later, adjoin_next}
 
@@ -253,7 +254,7 @@ module _ (t : Trace) (xs : List Ballot) (votes : HasVotes t xs) where
       )
 
   -- each further vote follows
-  pub further_follows : (v at : ℕ) → IsFurtherAt (votes_at t v) at
+  pub further_follows : (v at : ℕ) → SomePlace (votes_at t v) (λ before w. (w.0 ≡ at) × IsFurther before w)
       → (j : ℕ) × (b : Ballot) × (w : Vote) × FollowsAlike xs j × (slice_get xs j ≡ Some b) ×
       (slice_get (votes_at t b.verifier) b.place ≡ Some (at, w))
   further_follows v at s =

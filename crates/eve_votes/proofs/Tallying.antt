@@ -12,14 +12,14 @@ use Rattle.std.proofs.lemmas.List.Folds.{list_any-append}
 use Rattle.eve_grammar.specs.Trace.{Vote, Trace}
 use Rattle.eve_grammar.specs.Frames.{OfVote, OfVerifier}
 use Rattle.eve_grammar.specs.Spelling.{votes_of, votes_at, frame_text, verifier_start}
-use Rattle.eve_views.specs.Form.{IsUpTo, IsLeast, HasNone}
+use Rattle.eve_views.specs.Form.{IsUpTo, IsLeast, HasNone, IsFaultOutside, SomePlace}
 use Rattle.eve_views.specs.First.{is_before, first_of}
 use Rattle.eve_views.specs.declared.fault.Code.{Code}
 use Rattle.eve_views.specs.declared.fault.Code.TheVariants as code
 use Rattle.eve_views.specs.declared.fault.Fault.{Fault}
 use Rattle.eve_votes.specs.Votes.{is_vote_on, IsDecided}
 use Rattle.eve_views.proofs.Firsts.{before_precedes, behind_precedes, precedes-refl, up_to_from, first_of_two}
-use Rattle.eve_votes.specs.Faults.{IsFurther, IsFurtherAt, StandsInVotes, outside, IsVoteFault, AreVotesSound}
+use Rattle.eve_votes.specs.Faults.{IsFurther, StandsInVotes, outside, AreVotesSound}
 use Rattle.eve_views.specs.Least.{IsBelow}
 use Rattle.eve_votes.specs.Least.{IsBelowAll, IsLowest}
 use Rattle.eve_votes.specs.Decisions.{decision_said, decision_on, IsKnown, AreDecisions}
@@ -48,7 +48,7 @@ up_to_own c at b up = up_to_later f c at b (up_to_from f f refl (precedes-refl f
 least_fault : (t : Trace) (c : Code) (at : ℕ) → StandsInVotes c t at
     → ((b : ℕ) → StandsInVotes code.TwoVotes t b → IsUpTo (outside c at) (outside code.TwoVotes b))
     → ((b : ℕ) → StandsInVotes code.TwoDecisions t b → IsUpTo (outside c at) (outside code.TwoDecisions b))
-    → IsLeast (IsVoteFault t) (outside c at)
+    → IsLeast (IsFaultOutside StandsInVotes t) (outside c at)
 least_fault t c at stands votes decisions = record {
   is = record { stands = stands; outside = refl };
   least = λ g fault. by g.code g.offset fault.stands;
@@ -66,7 +66,7 @@ first_of_both again apart = first_of (option_map (outside code.TwoVotes) again)
 
 pub first_is_least : (t : Trace) (again apart : Option ℕ) → IsLowest (StandsInVotes code.TwoVotes t) again
     → IsLowest (StandsInVotes code.TwoDecisions t) apart
-    → IfSome (first_of_both again apart) (IsLeast (IsVoteFault t))
+    → IfSome (first_of_both again apart) (IsLeast (IsFaultOutside StandsInVotes t))
 first_is_least t None None votes decisions = tt
 first_is_least t (Some a) None votes decisions = least_fault t code.TwoVotes a votes.stands
     (λ b s. up_to_own code.TwoVotes a b (votes.below b s)) (λ b s. absurd (decisions.below b s))
@@ -80,7 +80,8 @@ first_is_least t (Some a) (Some d) votes decisions = by_test (is_before g f) ref
     g : Fault
     g = outside code.TwoDecisions d
 
-    by_test : (x : Bool) → is_before g f ≡ x → IfSome (if x then Some g else Some f) (IsLeast (IsVoteFault t))
+    by_test : (x : Bool) → is_before g f ≡ x
+        → IfSome (if x then Some g else Some f) (IsLeast (IsFaultOutside StandsInVotes t))
     by_test true is = least_fault t code.TwoDecisions d decisions.stands
         (λ b s. up_to_later g code.TwoVotes a b (up_to_from g f refl (before_precedes g f is)) (votes.below b s))
         (λ b s. up_to_own code.TwoDecisions d b (decisions.below b s))
@@ -115,7 +116,8 @@ none_below : (P : ℕ → Type 0) (least : Option ℕ) → least ≡ None → Is
 none_below P least none all b p = (let below = subst (λ (o : Option ℕ). IsBelow o b) none (all b p) in absurd below)
 
 pub none_stands : (t : Trace) (again apart : Option ℕ) → IsLowest (StandsInVotes code.TwoVotes t) again
-    → IsLowest (StandsInVotes code.TwoDecisions t) apart → first_of_both again apart ≡ None → HasNone (IsVoteFault t)
+    → IsLowest (StandsInVotes code.TwoDecisions t) apart → first_of_both again apart ≡ None
+    → HasNone (IsFaultOutside StandsInVotes t)
 none_stands t again apart votes decisions none f fault =
     let both = none_found again apart none in
     no_fault t (none_below (StandsInVotes code.TwoVotes t) again both.0 votes.below)
@@ -124,13 +126,14 @@ none_stands t again apart votes decisions none f fault =
 -- ---- where each votes once
 
 abbrev Further : List (ℕ × Vote) → Type 0
-Further xs = (at : ℕ) × IsFurtherAt xs at
+Further xs = (at : ℕ) × SomePlace xs (λ before w. (w.0 ≡ at) × IsFurther before w)
 
 shifted : (before : List (ℕ × Vote)) (x : ℕ × Vote) (xs : List (ℕ × Vote)) → Further ((before ++ x ∷ []) ++ xs)
     → Further (before ++ x ∷ xs)
 shifted before x xs f = (
   f.0,
-  subst (λ (zs : List (ℕ × Vote)). IsFurtherAt zs f.0) (append_assoc before (x ∷ []) xs)
+  subst (λ (zs : List (ℕ × Vote)). SomePlace zs (λ before w. (w.0 ≡ f.0) × IsFurther before w))
+      (append_assoc before (x ∷ []) xs)
       f.1,
 )
 

@@ -10,37 +10,23 @@ use Rattle.eve_views.specs.Form.{SomePlace}
 use Rattle.eve_votes.specs.Votes.{is_vote_on, IsDecided}
 
 -- two views of the batch are decided as commit
-pub record HasTwoDecisions (t : Trace) (n : ℕ) : Type 0 where
-  pub view : ℕ
-  pub other : ℕ
-  pub token : List ℕ
-  pub other_token : List ℕ
-  pub apart : view ≢ other
-  pub decided : IsDecided t n view token
-  pub other_decided : IsDecided t n other other_token
+abbrev pub HasTwoDecisions : Trace → ℕ → Type 0
+HasTwoDecisions t n = (view : ℕ) × (other : ℕ) × (token : List ℕ) × (other_token : List ℕ) × (view ≢ other)
+    × IsDecided t n view token × IsDecided t n other other_token
 
 -- the verifier has an earlier vote on this batch in this view
 abbrev pub IsFurther : List (ℕ × Vote) → ℕ × Vote → Type 0
 IsFurther before w = IsTrue (list_any (λ u. is_vote_on w.1.seq w.1.view u.1) before)
 
--- such a vote stands at this offset among those of a verifier
-abbrev pub IsFurtherAt : List (ℕ × Vote) → ℕ → Type 0
-IsFurtherAt votes at = SomePlace votes (λ before w. (w.0 ≡ at) × IsFurther before w)
-
 -- a fault of votes stands at this offset
 abbrev pub StandsInVotes : Code → Trace → ℕ → Type 0
-StandsInVotes code.TwoVotes t at = (v : ℕ) × IsFurtherAt (votes_at t v) at
+StandsInVotes code.TwoVotes t at = (v : ℕ) × SomePlace (votes_at t v) (λ before w. (w.0 ≡ at) × IsFurther before w)
 StandsInVotes code.TwoDecisions t at = SomePlace (batches_at t) (λ _ b. (b.0 ≡ at) × HasTwoDecisions t b.1.0)
 StandsInVotes _ t at = ⊥
 
 -- a fault outside the sections, at this offset
 abbrev pub outside : Code → ℕ → Fault
 outside c at = record { code = c; offset = at; replica = None }
-
--- the fault is one of votes; it lies outside the sections
-pub record IsVoteFault (t : Trace) (f : Fault) : Type 0 where
-  pub stands : StandsInVotes f.code t f.offset
-  pub outside : f.replica ≡ None
 
 -- what holds where no fault of votes stands: each verifier votes at most once on a batch in a view, and a batch
 -- is decided as commit in one view, with one token

@@ -60,7 +60,7 @@ fn leader<'a>(trace: &Trace<'a>, ballots: &[Ballot], start: usize, seq: u32, vie
 
 /// Whether so many votes are a quorum.
 pub(crate) fn is_quorum(trace: &Trace<'_>, votes: u8) -> bool
-    ensures { result ≡ nat_le trace.now.quorum votes }
+    ensures { result ≡ nat_le trace.now.head.quorum votes }
 {
     trace.recall_limits();
     trace.head().quorum <= votes

@@ -4,9 +4,9 @@ ghost use Rattle.std.specs.Prelude.{◌≡◌, ◌+◌, ℕ, List, None, Some, l
 ghost use Rattle.std.specs.List.{All};
 ghost use Rattle.std.specs.Option.{option_map};
 ghost use Rattle.eve_grammar.specs.Trace.{ForCommit};
-ghost use Rattle.eve_views.specs.Form.{IfFound, IsLeast, HasNone};
+ghost use Rattle.eve_views.specs.Form.{IfFound, IsLeast, HasNone, IsFaultOutside};
 ghost use Rattle.eve_votes.specs.Votes.{backers, IsDecided, IsRolledBack};
-ghost use Rattle.eve_votes.specs.Faults.{outside, IsVoteFault, AreVotesSound};
+ghost use Rattle.eve_votes.specs.Faults.{outside, AreVotesSound, StandsInVotes};
 
 use crate::ballots::{Ballot, backers};
 use crate::decisions::{Decision, decide};
@@ -84,8 +84,8 @@ impl<'t, 'a> Tally<'t, 'a> {
     pub fn of(alloc: Global, trace: &'t Trace<'a>) -> Result<Tally<'t, 'a>, CheckFault>
         ensures trace { IfOk result (λ tally. tally ≡ trace.now) }
         ensures sound { IfOk result (λ _. AreVotesSound trace.now) }
-        ensures none { IfOk result (λ _. HasNone (IsVoteFault trace.now)) }
-        ensures least { IfErr result (λ e. IfFound e (IsLeast (IsVoteFault trace.now))) }
+        ensures none { IfOk result (λ _. HasNone (IsFaultOutside StandsInVotes trace.now)) }
+        ensures least { IfErr result (λ e. IfFound e (IsLeast (IsFaultOutside StandsInVotes trace.now))) }
     {
         let cast = cast(alloc, trace)?;
         let mut ballots = Vec::with_capacity(alloc, cast.len())?;

@@ -7,9 +7,10 @@ use Rattle.std.proofs.lemmas.List.{length-map}
 use Rattle.std.proofs.lemmas.Bool.{and_parts}
 use Rattle.std.proofs.lemmas.Option.{slice_get-map, slice_get_read}
 use Rattle.std.specs.declared.alloc.Global.{Global}
-use Rattle.eve_grammar.specs.Trace.{Asked, Head}
+use Rattle.eve_grammar.specs.Trace.{Asked}
 use Rattle.eve_grammar.specs.Limits.{is_between, is_customer, is_asked, is_head}
 use Rattle.eve_grammar.proofs.Grouping.{all_at}
+use Rattle.eve_grammar.specs.declared.head.Head.{Head}
 use Rattle.eve_write.specs.Data.{customer, asked}
 use Rattle.eve_write.specs.declared.customer.CustomerData.{CustomerData}
 use Rattle.eve_write.specs.declared.request.RequestData.{RequestData}

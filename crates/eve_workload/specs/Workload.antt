@@ -2,8 +2,9 @@
 use Rattle.std.specs.Prelude.{◌≢◌, ℕ, Bool, ◌&&◌, IsTrue, List, map, length, AllPairs}
 use Rattle.std.specs.List.{list_all, flat_map}
 use Rattle.eve_grammar.specs.declared.limits.TheConstants.{MOST_REQUESTS}
-use Rattle.eve_grammar.specs.Trace.{Customer, Asked, request_id, Head}
+use Rattle.eve_grammar.specs.Trace.{Customer, Asked, request_id}
 use Rattle.eve_grammar.specs.Limits.{is_between, is_customer, is_asked, is_head}
+use Rattle.eve_grammar.specs.declared.head.Head.{Head}
 use Rattle.eve_workload.specs.declared.deployment.Deployment.{Deployment}
 
 -- the deployment, its customers, and the requests of each batch as they are listed

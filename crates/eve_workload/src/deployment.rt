@@ -1,7 +1,6 @@
 //! The numbers of a deployment.
 
 ghost use Rattle.std.specs.Prelude.{◌≡◌};
-ghost use Rattle.eve_grammar.specs.Bodies.{limits};
 ghost use Rattle.eve_workload.specs.Workload.{head_with};
 ghost use Rattle.eve_workload.specs.Steps.{is_deployment};
 
@@ -27,7 +26,7 @@ pub struct Deployment {
 impl Deployment {
     // The numbers in the header of a trace with so many customers and batches.
     pub(crate) fn head(&self, customers: u32, batches: u32) -> Head
-        ensures { limits result ≡ head_with self.now customers batches }
+        ensures { result ≡ head_with self.now customers batches }
     {
         Head {
             replicas: self.replicas,

@@ -3,7 +3,6 @@
 ghost use Rattle.std.specs.Prelude.{◌≡◌, ◌≢◌, ℕ, List, ◌-◌, ◌≤◌};
 ghost use Rattle.std.specs.Prelude.{IsTrue, IfOk, Err, AllPairs, length, map, slice_get, Some};
 ghost use Rattle.std.specs.List.{list_all};
-ghost use Rattle.eve_grammar.specs.Bodies.{limits};
 ghost use Rattle.eve_grammar.specs.Limits.{is_customer, is_asked, is_head};
 ghost use Rattle.eve_write.specs.Data.{customer, asked};
 ghost use Rattle.eve_workload.specs.Workload.{IsWorkload, head_asked, customer_names};
@@ -62,8 +61,8 @@ impl Workload {
 
     /// The numbers in the header of its trace.
     pub fn head(&self) -> Head
-        ensures head { limits result ≡ head_asked self.now }
-        ensures right { IsTrue (is_head (limits result)) }
+        ensures head { result ≡ head_asked self.now }
+        ensures right { IsTrue (is_head result) }
         ensures workload { IsWorkload self.now }
     {
         let customers = self.customers.len() as u32;

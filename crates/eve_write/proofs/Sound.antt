@@ -6,8 +6,7 @@ use Rattle.std.specs.List.{list_all}
 use Rattle.std.proofs.lemmas.Bool.{and_parts, and_from, leb-true, le-leb}
 use Rattle.std.proofs.lemmas.List.{length-map}
 use Rattle.std.proofs.lemmas.List.Folds.{list_all-map}
-use Rattle.eve_grammar.specs.Trace.{Head, head_of}
-use Rattle.eve_grammar.specs.Bodies.{restore}
+use Rattle.eve_grammar.specs.Trace.{head_of}
 use Rattle.eve_grammar.specs.Limits.{is_number, is_between, is_head, row_count, is_customer, is_batch, is_attempt}
 use Rattle.eve_grammar.specs.Limits.{is_access, is_rising, is_restore, is_step, is_vote, is_sent}
 use Rattle.eve_write.specs.declared.step.Step as code
@@ -18,6 +17,7 @@ use Rattle.eve_write.specs.Data.{customer, batch, attempt, section, votes, step,
 use Rattle.eve_write.specs.Writable.{fits_vote, HasSpelling}
 use Rattle.eve_write.specs.Passes.{fits_step, right_step, right_vote, are_right_parts}
 use Rattle.eve_grammar.proofs.BodyCodecs.{few_restores}
+use Rattle.eve_grammar.specs.declared.head.Head.{Head}
 
 -- a step that a section may hold can be written
 step_fits : (rows : ℕ) → rows ≤ 131072 → (s : code.Step) → IsTrue (is_step rows (step s)) → IsTrue (fits_step s)
@@ -26,13 +26,13 @@ step_fits rows few (Attempt a) right =
     (eqb (length a.accesses) (length a.certificate.items) && list_all (is_access rows) a.accesses) right).0
 step_fits rows few (Commit x) right = refl
 step_fits rows few (Rollback r) right =
-    let restores = map restore r.restores.items in
+    let restores = r.restores.items in
     let p = and_parts (is_number 4 r.to)
     (is_number 4 r.view && (is_rising restores && list_all (is_restore rows) restores)) right in
     let q = and_parts (is_number 4 r.view) (is_rising restores && list_all (is_restore rows) restores) p.1 in
     let s = and_parts (is_rising restores) (list_all (is_restore rows) restores) q.1 in
     le-leb (length r.restores.items) 131072
-    (omega (arith, few_restores rows restores s.0 s.1, length-map r.restores.items restore))
+    (omega (arith, few_restores rows restores s.0 s.1))
 
 steps_fit : (rows : ℕ) → rows ≤ 131072 → (xs : List code.Step) → IsTrue (list_all (is_step rows) (map step xs))
     → IsTrue (list_all fits_step xs)
@@ -181,6 +181,7 @@ HasSpelling-from_tests p right tests =
     let split = verifiers_split h p.verifiers.items v.0 in
     record {
       limits = record {
+        counts = refl;
         head = right;
         customers = list_all-map is_customer customer p.customers.items ∙ a.0;
         batches = list_all-map is_batch batch p.batches.items ∙ b.0;

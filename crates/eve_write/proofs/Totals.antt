@@ -6,7 +6,7 @@ use Rattle.std.specs.List.{flat_map, enumerate_from, sum_by}
 use Rattle.std.proofs.lemmas.List.Concat.{flat_map-append, length-flat_map}
 use Rattle.std.proofs.lemmas.List.Folds.{flat_map-map}
 use Rattle.std.proofs.lemmas.List.Sums.{sum_by-cons}
-use Rattle.eve_grammar.specs.Trace.{Trace, head_of}
+use Rattle.eve_grammar.specs.Trace.{Trace}
 use Rattle.eve_grammar.specs.Frames.{OfCustomer, OfBatch, OfVote, OfSent, End, step_frames, section_frames}
 use Rattle.eve_grammar.specs.Frames.{verifier_frames, batches_of, sections_of, verifiers_of, frames_of}
 use Rattle.eve_grammar.specs.Spelling.{frame_text, frames_text, customer_text, batch_text, section_text, votes_text}
@@ -60,7 +60,7 @@ pub spelling_is : (p : Parts) → front_text p (length_of (trace p)) ++ rest_tex
 unfolding spelling parts_text
 spelling_is p =
     let t = trace p in
-    let head = head_text (head_of t) (length_of t) in
+    let head = head_text t.head (length_of t) in
     let customers = flat_map customer_text t.customers in
     let batches = flat_map batch_text (batches_of t) in
     append_assoc head (customers ++ batches) (rest_text p)

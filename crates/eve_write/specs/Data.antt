@@ -1,11 +1,11 @@
 -- The owned parts of a trace as the plain data that they are.
-use Rattle.std.specs.Prelude.{ℕ, ◌==◌, Bool, true, List, Vec, map}
+use Rattle.std.specs.Prelude.{ℕ, ◌==◌, Bool, true, List, Vec, map, length}
 use Rattle.std.specs.List.{list_all}
 use Rattle.std.specs.declared.alloc.Global.{Global}
 use Rattle.eve_smallbank.specs.SmallBank.{Request, Balance, DepositChecking, TransactSaving, Amalgamate, WriteCheck}
 use Rattle.eve_grammar.specs.Trace.{Customer, Asked, Batch, Access, Attempt, Commit, Rollback, Step, Attempts, Commits}
 use Rattle.eve_grammar.specs.Trace.{RollsBack, Choice, ForRollback, ForCommit, Vote, Sent, Trace}
-use Rattle.eve_grammar.specs.Bodies.{restore}
+use Rattle.eve_grammar.specs.declared.head.Head.{Head}
 use Rattle.eve_write.specs.declared.customer.CustomerData.{CustomerData}
 use Rattle.eve_write.specs.declared.request.TransactionData.{TransactionData}
 use Rattle.eve_write.specs.declared.request.TransactionData.TheVariants as of
@@ -58,7 +58,7 @@ abbrev pub commit : CommitData → Commit
 commit c = record { seq = c.seq; view = c.view; token = c.token }
 
 abbrev pub rollback : RollbackData → Rollback
-rollback r = record { to = r.to; view = r.view; restores = map restore r.restores.items }
+rollback r = record { to = r.to; view = r.view; restores = r.restores.items }
 
 abbrev pub step : code.Step → Step
 step (does.Attempt a) = Attempts (attempt a)
@@ -94,12 +94,22 @@ section s = map step s.items
 abbrev pub votes : Vec VoteData Global → List Vote
 votes v = map vote v.items
 
--- the parts as a trace
-abbrev pub trace : Parts → Trace
-trace p = record {
+-- the header that counts the parts
+abbrev pub header : Parts → Head
+header p = record {
+  replicas = length (map section p.sections.items);
+  verifiers = length (map votes p.verifiers.items);
   quorum = p.quorum;
   window = p.window;
   workers = p.workers;
+  customers = length (map customer p.customers.items);
+  batches = length (map batch p.batches.items);
+}
+
+-- the parts as a trace
+abbrev pub trace : Parts → Trace
+trace p = record {
+  head = header p;
   customers = map customer p.customers.items;
   batches = map batch p.batches.items;
   sections = map section p.sections.items;

@@ -3,11 +3,11 @@
 use Rattle.std.specs.Prelude.{ℕ, nat_le, Bool, true, ◌&&◌, List, ◌++◌, length}
 use Rattle.std.specs.List.{list_all, flat_map}
 use Rattle.eve_accounts.specs.declared.limits.TheConstants.{MOST_NAMED_ROWS}
-use Rattle.eve_grammar.specs.Trace.{Head, head_of}
 use Rattle.eve_grammar.specs.Frames.{OfVote, OfSent, End, batches_of, sections_of, verifiers_of}
 use Rattle.eve_grammar.specs.Spelling.{frame_text, step_text, head_text, customer_text, batch_text, section_text}
 use Rattle.eve_grammar.specs.Spelling.{votes_text}
 use Rattle.eve_grammar.specs.Limits.{row_count, is_attempt, is_step, is_vote, is_customer, is_batch, is_sent}
+use Rattle.eve_grammar.specs.declared.head.Head.{Head}
 use Rattle.eve_write.specs.declared.step.Step.{Step}
 use Rattle.eve_write.specs.declared.step.Step.TheVariants.{Attempt, Commit, Rollback}
 use Rattle.eve_write.specs.declared.vote.VoteData.{VoteData}
@@ -48,7 +48,7 @@ are_right_parts h p =
 -- the header with this length, customers and batches
 abbrev pub front_text : Parts → ℕ → List ℕ
 front_text p total =
-    head_text (head_of (trace p)) total ++
+    head_text (trace p).head total ++
     (flat_map customer_text (trace p).customers ++ flat_map batch_text (batches_of (trace p)))
 
 -- what stands after them

@@ -9,7 +9,6 @@ ghost use Rattle.eve_smallbank.specs.Spelling.{reply_text};
 ghost use Rattle.eve_grammar.specs.Frames.{attempt_frames, OfAttempt};
 ghost use Rattle.eve_grammar.specs.Spelling.{frames_text, body_text, frame_text};
 ghost use Rattle.eve_grammar.specs.Limits.{row_count, is_access, is_whole_attempt, is_attempt};
-ghost use Rattle.eve_grammar.specs.Bodies.{limits};
 ghost use Rattle.eve_write.specs.Data.{attempt as plain};
 ghost use Rattle.eve_write.specs.Writing.{Puts, Writes};
 
@@ -143,14 +142,14 @@ impl AttemptData {
     // Whether it has as many accesses as replies, each within the limits.
     fn has_accesses(&self, head: &Head) -> bool
         ensures { result ≡ ((length (plain self.now).accesses == length self.now.certificate.items)
-            && list_all (is_access (row_count (limits head.now))) (plain self.now).accesses) }
+            && list_all (is_access (row_count head.now)) (plain self.now).accesses) }
     {
         self.accesses.len() == self.certificate.len() && self.accesses.are_within(row_count(head))
     }
 
     // Whether it lies within the limits, with its accesses.
     pub(crate) fn is_right(&self, head: &Head) -> bool
-        ensures { result ≡ is_whole_attempt (row_count (limits head.now)) (plain self.now) }
+        ensures { result ≡ is_whole_attempt (row_count head.now) (plain self.now) }
     {
         self.is_counted(head) && self.has_accesses(head)
     }

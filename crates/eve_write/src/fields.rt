@@ -2,15 +2,15 @@
 //!
 //! docs/TRACE.md, "Parts".
 
-ghost use Rattle.std.specs.Prelude.{◌≡◌, ◌+◌, ◌*◌, ◌≤◌, ◌∷◌, ◌++◌, true, length, IsTrue};
+ghost use Rattle.std.specs.Prelude.{◌≡◌, ◌+◌, ◌*◌, ◌≤◌, ◌∷◌, ◌++◌, true, length, IsTrue, if◌then◌else◌};
 ghost use Rattle.std.specs.List.{flat_map, list_all};
 ghost use Rattle.arrayvec.specs.ArrayVec.{array_vec_len};
 ghost use Rattle.byteorder.specs.Endian.{big_bytes};
 ghost use Rattle.eve_smallbank.specs.Spelling.{money_text, reply_text};
 ghost use Rattle.eve_smallbank.specs.SmallBank.{plain};
-ghost use Rattle.eve_grammar.specs.Spelling.{name_text, request_text, kind_code, entry_text, restore_text};
+ghost use Rattle.eve_smallbank.specs.Access.{is_write};
+ghost use Rattle.eve_grammar.specs.Spelling.{name_text, request_text, entry_text, restore_text};
 ghost use Rattle.eve_grammar.specs.Limits.{is_number, is_request};
-ghost use Rattle.eve_grammar.specs.Bodies.{restore};
 ghost use Rattle.eve_write.specs.Writing.{Puts};
 
 use crate::pieces::put;
@@ -71,7 +71,7 @@ fn row_bytes(row: Row) -> [u8; 4]
 }
 
 fn kind_byte(kind: Kind) -> [u8; 1]
-    ensures { result ≡ big_bytes 1 (kind_code kind) }
+    ensures { result ≡ big_bytes 1 (if is_write kind then 1 else 0) }
 {
     match kind {
         Kind::Read => byte(0),
@@ -134,7 +134,7 @@ fn put_entry<const N: usize>(frame: &mut ArrayVec<u8, N>, entry: Entry)
 }
 
 impl Spell for Restore {
-    ghost text = { λ r. restore_text (restore r) };
+    ghost text = { restore_text };
 
     ghost fits = { λ _. true };
 

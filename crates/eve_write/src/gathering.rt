@@ -3,7 +3,6 @@
 ghost use Rattle.std.specs.Prelude.{◌≡◌, ◌≢◌, ◌≤◌, ◌<◌, IfOk, Err};
 ghost use Rattle.eve_grammar.specs.Trace.{head_of};
 ghost use Rattle.eve_grammar.specs.Spelling.{length_of, spelling};
-ghost use Rattle.eve_grammar.specs.Bodies.{limits};
 ghost use Rattle.eve_write.specs.Data.{trace};
 ghost use Rattle.eve_write.specs.Writable.{HasSpelling};
 ghost use Rattle.eve_write.specs.Passes.{front_text, rest_text};
@@ -36,7 +35,7 @@ fn write_front<W: Sink>(
     total: u64,
 ) -> Result<(), SendFault>
     requires right { HasSpelling parts.now }
-    requires head { limits head.now ≡ head_of (trace parts.now) }
+    requires head { head.now ≡ head_of (trace parts.now) }
     ensures { Writes W.written W.failures out.old out.new result (front_text parts.now total) }
 {
     write_header(out, head, total)?;
@@ -61,7 +60,7 @@ fn write_parts<W: Sink>(
     total: u64,
 ) -> Result<(), SendFault>
     requires right { HasSpelling parts.now }
-    requires head { limits head.now ≡ head_of (trace parts.now) }
+    requires head { head.now ≡ head_of (trace parts.now) }
     requires total { total ≡ length_of (trace parts.now) }
     ensures { Writes W.written W.failures out.old out.new result (spelling (trace parts.now)) }
 {

@@ -1,7 +1,6 @@
 //! The header.
 
 ghost use Rattle.eve_grammar.specs.Spelling.{head_text};
-ghost use Rattle.eve_grammar.specs.Bodies.{limits};
 ghost use Rattle.eve_write.specs.Writing.{Writes};
 
 use crate::fields::byte;
@@ -14,7 +13,7 @@ use eve_streams::{SendFault, Sink};
 /// docs/TRACE.md, "Header". After a fault a front of the header has been taken, and not all of it.
 #[tactic(auto, unfolding(eve_grammar::specs::Spelling::head_text))]
 pub fn write_header<W: Sink>(out: &mut W, head: &Head, total: u64) -> Result<(), SendFault>
-    ensures { Writes W.written W.failures out.old out.new result (head_text (limits head.now) total) }
+    ensures { Writes W.written W.failures out.old out.new result (head_text head.now total) }
 {
     let replicas = byte(head.replicas);
     let verifiers = byte(head.verifiers);

@@ -4,7 +4,6 @@ ghost use Rattle.std.specs.Prelude.{◌≡◌, ◌↔◌, ◌-◌, ◌^◌, ◌&
 ghost use Rattle.eve_grammar.specs.Trace.{head_of};
 ghost use Rattle.eve_grammar.specs.Spelling.{length_of};
 ghost use Rattle.eve_grammar.specs.Limits.{is_head};
-ghost use Rattle.eve_grammar.specs.Bodies.{limits};
 ghost use Rattle.eve_write.specs.Data.{trace};
 ghost use Rattle.eve_write.specs.Writable.{HasSpelling};
 ghost use Rattle.eve_write.specs.Passes.{are_right_parts};
@@ -56,8 +55,8 @@ impl Parts {
 
     // The numbers of the header, where they lie in their ranges.
     pub(crate) fn head(&self) -> Option<Head>
-        ensures head { IfSome result (λ h. limits h ≡ head_of (trace self.now)) }
-        ensures right { IfSome result (λ h. IsTrue (is_head (limits h))) }
+        ensures head { IfSome result (λ h. h ≡ head_of (trace self.now)) }
+        ensures right { IfSome result (λ h. IsTrue (is_head h)) }
         ensures wrong { IfNone result (is_head (head_of (trace self.now)) ≡ false) }
     {
         if self.sections.len() > MOST_REPLICAS as usize
@@ -81,7 +80,7 @@ impl Parts {
 
     // Whether all parts lie within the limits under this header.
     pub(crate) fn are_right(&self, head: &Head) -> bool
-        ensures { result ≡ are_right_parts (limits head.now) self.now }
+        ensures { result ≡ are_right_parts head.now self.now }
     {
         all_right(self.customers.as_slice(), head)
             && all_right(self.batches.as_slice(), head)

@@ -2,9 +2,8 @@
 
 ghost use Rattle.std.specs.Prelude.{◌≡◌, Bool};
 ghost use Rattle.std.specs.List.{list_all};
-ghost use Rattle.eve_grammar.specs.Trace.{Head};
 ghost use Rattle.eve_grammar.specs.Limits.{row_count, is_restore, is_reply};
-ghost use Rattle.eve_grammar.specs.Bodies.{limits, restore};
+ghost use Rattle.eve_grammar.specs.declared.head.Head.{Head};
 
 use eve_grammar::{Head, MOST_VERSIONS, Restore};
 use eve_smallbank::Reply;
@@ -16,12 +15,12 @@ pub(crate) trait Judge {
 
     /// Whether it lies within the limits.
     fn is_right(&self, head: &Head) -> bool
-        ensures { result ≡ right (limits head.now) self.now };
+        ensures { result ≡ right head.now self.now };
 }
 
 /// Whether all of them lie within the limits.
 pub(crate) fn all_right<T: Judge>(items: &[T], head: &Head) -> bool
-    ensures { result ≡ list_all (T.right (limits head.now)) items.now }
+    ensures { result ≡ list_all (T.right head.now) items.now }
 {
     for item in items {
         if !item.is_right(head) {
@@ -33,13 +32,13 @@ pub(crate) fn all_right<T: Judge>(items: &[T], head: &Head) -> bool
 
 /// How many rows a trace with this header has.
 pub(crate) fn row_count(head: &Head) -> usize
-    ensures { result ≡ row_count (limits head.now) }
+    ensures { result ≡ row_count head.now }
 {
     2 * head.customers as usize
 }
 
 impl Judge for Restore {
-    ghost right = { λ h r. is_restore (row_count h) (restore r) };
+    ghost right = { λ h r. is_restore (row_count h) r };
 
     fn is_right(&self, head: &Head) -> bool {
         let _value = self.value.get();

@@ -5,7 +5,6 @@ ghost use Rattle.byteorder.specs.Endian.{big_bytes};
 ghost use Rattle.eve_grammar.specs.Frames.{OfRollback};
 ghost use Rattle.eve_grammar.specs.Spelling.{body_text, frame_text};
 ghost use Rattle.eve_grammar.specs.Limits.{row_count, is_rising, is_rollback};
-ghost use Rattle.eve_grammar.specs.Bodies.{limits, restore};
 ghost use Rattle.eve_write.specs.Data.{rollback as plain};
 ghost use Rattle.eve_write.specs.Writing.{Writes};
 
@@ -63,7 +62,7 @@ pub fn write_rollback<W: Sink>(out: &mut W, rollback: &RollbackData) -> Result<(
 
 // Whether each row is below the rows after it.
 fn is_rising(restores: &[Restore]) -> bool
-    ensures { result ≡ is_rising (map restore restores.now) }
+    ensures { result ≡ is_rising restores.now }
 {
     let mut least = 0;
     for restore in restores {
@@ -79,7 +78,7 @@ fn is_rising(restores: &[Restore]) -> bool
 impl RollbackData {
     // Whether it lies within the limits.
     pub(crate) fn is_right(&self, head: &Head) -> bool
-        ensures { result ≡ is_rollback (row_count (limits head.now)) (plain self.now) }
+        ensures { result ≡ is_rollback (row_count head.now) (plain self.now) }
     {
         let _to = self.to;
         let _view = self.view;

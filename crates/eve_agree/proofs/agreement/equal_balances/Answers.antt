@@ -1,6 +1,8 @@
-use Rattle.std.proofs.Common.{◌+◌, ◌-◌, Some, None, subst, arith}
+use Rattle.std.proofs.Common.{◌+◌, ◌-◌, Some, None, subst, arith, ◌≡◌, sym}
 use Rattle.eve_agree.proofs.Agreeing.{Judged, all_judged, they_agree, none_stands, is_least, alone_judged}
 use Rattle.eve_agree.proofs.SameBefore.{all_have_same}
+use Rattle.eve_agree.specs.Judging.{AreAfter}
+use Rattle.eve_chains.specs.Settling.{settlings}
 use Rattle.eve_agree.proofs.agreement.equal_balances.Goals as goal
 
 pub returns-in-Some-clause-least : goal.returns-in-Some-clause-least
@@ -48,3 +50,9 @@ judge_batch-least-requires-clause-before c =
     let right = c.recall_all_right.ensures t c.requires.histories in
     all_have_same t (λ e n. c.settled_values_are_the_banks.ensures t e n c.recall_limits.ensures (right e)) right
     c.loop-n.n (c.loop-n.n + 1 - 1) c.loop-n.least c.loop-n.invariant.judged (omega arith)
+
+pub advance_all-requires-clause-before : goal.advance_all-requires-clause-before
+advance_all-requires-clause-before c =
+    let one_less : c.loop-n.n ≡ c.loop-n.n + 1 - 1 = omega arith in
+    subst (λ settled. AreAfter settled (c.loop-n.n + 1 - 1) c.loop-n.all.items) (sym c.requires.settled)
+    (subst (λ n. AreAfter (settlings c.args.trace.now) n c.loop-n.all.items) one_less c.loop-n.invariant.after)

@@ -6,16 +6,16 @@ use Rattle.eve_grammar.specs.Trace.{Step}
 use Rattle.eve_grammar.specs.Spelling.{steps_at}
 use Rattle.eve_grammar.specs.Limits.{is_restore}
 use Rattle.eve_frames.specs.Views.{rollback_in}
-use Rattle.eve_views.specs.Form.{IfFound, IsLeast}
+use Rattle.eve_views.specs.Form.{IfFound, IsLeast, IsFaultIn}
 use Rattle.eve_views.specs.declared.fault.CheckFault.{CheckFault}
 use Rattle.eve_views.specs.declared.fault.CheckFault.TheVariants.{Found}
 use Rattle.eve_views.specs.declared.fault.Code.TheVariants as code
-use Rattle.eve_agree.specs.Restores.{IsRestoreFault}
 use Rattle.eve_agree.specs.Marking.{marking_of}
 use Rattle.eve_agree.proofs.Marking.{none_marked}
 use Rattle.eve_agree.proofs.RestoresInOrder.{HasJudged, judged_start, on_attempt, on_commit, on_rollback}
 use Rattle.eve_agree.proofs.RestoresInOrder.{judged_rollback, restores_fit, wrong_is_least, judged_end, right_told}
 use Rattle.eve_agree.proofs.RestoresInOrder.{section_told, within_told, attempt_told, there_told, found_told}
+use Rattle.eve_agree.specs.Restores.{StandsInRestores}
 use Rattle.eve_agree.proofs.restores.judge.Goals as goal
 
 pub returns-then-rollbacks-eq0-clause-right : goal.returns-then-rollbacks-eq0-clause-right
@@ -135,7 +135,7 @@ returns-then-not-is_right-clause-least c = λ sound.
       offset = c.offset.ensures i;
       replica = Some (c.replica-then-not-is_right.ensures i);
     })) in
-    subst (λ (x : CheckFault). IfFound x (IsLeast (IsRestoreFault t h.replica))) (sym same) least
+    subst (λ (x : CheckFault). IfFound x (IsLeast (IsFaultIn StandsInRestores t h.replica))) (sym same) least
 
 pub loop-step-preserved : goal.loop-step-preserved
 loop-step-preserved c =

@@ -1,18 +1,19 @@
 use Rattle.std.proofs.Common.{rules}
 use Rattle.std.proofs.lemmas.Result.{IfOk-weaker, IfErr-weaker}
-use Rattle.eve_views.specs.Form.{IfFound, IsLeast, HasNone}
-use Rattle.eve_agree.specs.Agreement.{IsOutcomeFault}
-use Rattle.eve_agree.specs.SentReplies.{IsReplyFault}
+use Rattle.eve_views.specs.Form.{IfFound, IsLeast, HasNone, IsFaultSomewhere, IsFaultOutside}
 use Rattle.eve_audit.specs.Verdict.{IsCommonFault}
 use Rattle.eve_audit.specs.Reports.{IsFirstOf}
 use Rattle.eve_audit.proofs.Firsts.{found_weaker, outcome_first, reply_first, none_common}
+use Rattle.eve_agree.specs.Agreement.{StandsInAgreement}
+use Rattle.eve_agree.specs.SentReplies.{StandsInReplies}
 use Rattle.eve_audit.proofs.auditing.judge_together.Goals as goal
 
 pub returns-in_err-equal_balances-clause-first : goal.returns-in_err-equal_balances-clause-first
 returns-in_err-equal_balances-clause-first c =
     let t = c.args.trace.now in
     let found = c.in_err-equal_balances in
-    let first = found_weaker (IsLeast (IsOutcomeFault t)) (IsFirstOf (IsCommonFault t)) found.field-0.0
+    let first = found_weaker (IsLeast (IsFaultSomewhere StandsInAgreement t)) (IsFirstOf (IsCommonFault t))
+    found.field-0.0
     (λ f least. outcome_first t f c.in_ok-tally.ensures.none c.in_ok-majorities.ensures.none least)
     found.ensures.least in
     search rules
@@ -20,15 +21,15 @@ returns-in_err-equal_balances-clause-first c =
 pub returns-clause-none : goal.returns-clause-none
 returns-clause-none c =
     let t = c.args.trace.now in
-    IfOk-weaker c.replies.result (λ _. HasNone (IsReplyFault t)) (λ _. HasNone (IsCommonFault t))
+    IfOk-weaker c.replies.result (λ _. HasNone (IsFaultOutside StandsInReplies t)) (λ _. HasNone (IsCommonFault t))
     (λ _ none. none_common t c.in_ok-tally.ensures.none c.in_ok-majorities.ensures.none
     c.in_ok-equal_balances.ensures.none none) c.replies.ensures.none
 
 pub returns-clause-first : goal.returns-clause-first
 returns-clause-first c =
     let t = c.args.trace.now in
-    IfErr-weaker c.replies.result (λ why. IfFound why (IsLeast (IsReplyFault t)))
+    IfErr-weaker c.replies.result (λ why. IfFound why (IsLeast (IsFaultOutside StandsInReplies t)))
     (λ why. IfFound why (IsFirstOf (IsCommonFault t)))
-    (λ why found. found_weaker (IsLeast (IsReplyFault t)) (IsFirstOf (IsCommonFault t)) why
+    (λ why found. found_weaker (IsLeast (IsFaultOutside StandsInReplies t)) (IsFirstOf (IsCommonFault t)) why
     (λ f least. reply_first t f c.in_ok-tally.ensures.none c.in_ok-majorities.ensures.none
     c.in_ok-equal_balances.ensures.none least) found) c.replies.ensures.least

@@ -1,7 +1,7 @@
 use Rattle.std.proofs.Common.{◌≤◌, length}
 use Rattle.eve_grammar.specs.Trace.{head_of}
-use Rattle.eve_audit.specs.Verdict.{IsFaultBelow, IsCommonFault, IsTraceFault}
-use Rattle.eve_audit.specs.Reports.{IsFirstOf}
+use Rattle.eve_audit.specs.Verdict.{IsCommonFault, IsTraceFault}
+use Rattle.eve_audit.specs.Reports.{IsFirstOf, IsFaultBelow}
 use Rattle.eve_audit.proofs.Firsts.{found_weaker, section_first, common_first, none_in_trace}
 use Rattle.eve_audit.proofs.Verdicts.{summary_is, some_replica}
 use Rattle.eve_audit.proofs.Accepted.{no_request_again, accepted_of}

@@ -1,16 +1,17 @@
-use Rattle.eve_views.specs.Form.{IsLeast}
-use Rattle.eve_history.specs.Faults.{IsOrderFault}
+use Rattle.eve_views.specs.Form.{IsLeast, IsFaultOutside}
 use Rattle.eve_audit.specs.declared.verdict.Verdict.TheVariants.{No}
 use Rattle.eve_audit.specs.Answer.{IsAnswer}
 use Rattle.eve_audit.proofs.Answering.{form_for, no_for}
 use Rattle.eve_audit.proofs.Firsts.{found_weaker, order_first}
+use Rattle.eve_history.specs.Faults.{StandsInOrders}
 use Rattle.eve_audit.proofs.auditing.open.Goals as goal
 
 pub returns-clause-fault : goal.returns-clause-fault
 returns-clause-fault g c =
     let bytes = c.args.bytes.now in
     let t = c.in-Ok.trace in
-    found_weaker (IsLeast (IsOrderFault t)) (λ f. IsAnswer bytes (No f)) c.in-Err-orders_side_by_side.why
+    found_weaker (IsLeast (IsFaultOutside StandsInOrders t)) (λ f. IsAnswer bytes (No f))
+    c.in-Err-orders_side_by_side.why
     (λ f least. no_for bytes t (record { spells = c.in-Ok.ensures.trace; none = c.in-Ok.ensures.faultless })
     (λ u other. c.bytes_spell_one_trace.ensures bytes u t other c.in-Ok.ensures.trace)
     (c.faults_lie_within.ensures.orders t)

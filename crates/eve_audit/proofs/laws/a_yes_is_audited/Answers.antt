@@ -19,4 +19,4 @@ returns-clause-spelled c =
 pub returns-clause-audited : goal.returns-clause-audited
 returns-clause-audited c = λ bytes s t is spells.
     let yes : SpellsAudited bytes = returns-clause-spelled c bytes s is in
-    subst IsAudited (c.bytes_spell_one_trace.ensures bytes yes.trace t yes.spells spells) yes.audited
+    subst IsAudited (c.bytes_spell_one_trace.ensures bytes yes.0 t yes.1 spells) yes.2

@@ -1,11 +1,11 @@
 use Rattle.std.proofs.Common.{ℕ, subst, sym, ◌∙◌, ap}
-use Rattle.eve_views.specs.Form.{IfFound, HasNone}
-use Rattle.eve_history.specs.Faults.{IsStructureFault}
+use Rattle.eve_views.specs.Form.{IfFound, HasNone, IsFaultIn}
 use Rattle.eve_chains.specs.Settling.{settling}
 use Rattle.eve_agree.proofs.Outcomes.{replica_told}
 use Rattle.eve_audit.specs.Verdict.{IsOwnFault}
 use Rattle.eve_audit.specs.Reports.{IsFirstOf, IsSoundReplica}
 use Rattle.eve_audit.proofs.Told.{section_history_by_its_own}
+use Rattle.eve_history.specs.Faults.{StandsInStructure}
 use Rattle.eve_audit.proofs.replicas.judge_replica.Goals as goal
 
 pub settle-requires-clause-history : goal.settle-requires-clause-history
@@ -14,7 +14,7 @@ settle-requires-clause-history g c κs within = section_history_by_its_own c.arg
 
 pub settle-requires-clause-none : goal.settle-requires-clause-none
 settle-requires-clause-none g c κs within =
-    subst (λ (k : ℕ). HasNone (IsStructureFault c.args.trace.now k))
+    subst (λ (k : ℕ). HasNone (IsFaultIn StandsInStructure c.args.trace.now k))
     (sym (replica_told c.args.trace.now c.args.e c.in-Ok.history c.in-Ok.ensures.section_history))
     c.in-Ok.ensures.none
 

@@ -1,8 +1,7 @@
 use Rattle.std.proofs.Common.{◌≡◌, ℕ, ◌+◌, ◌<◌, List, length, ap, Option, sym, subst, ◌∙◌, rules}
 use Rattle.eve_views.specs.declared.fault.Fault.{Fault}
 use Rattle.eve_views.specs.Form.{HasNone}
-use Rattle.eve_audit.specs.Verdict.{IsFaultBelow}
-use Rattle.eve_audit.specs.Reports.{IsFirstOf, IsFoundBelow, AreKept, IsJudgedBelow}
+use Rattle.eve_audit.specs.Reports.{IsFirstOf, IsFoundBelow, AreKept, IsJudgedBelow, IsFaultBelow}
 use Rattle.eve_audit.proofs.Kept.{sound_more, judged_more, all_told, all_settled, all_sound}
 use Rattle.eve_history.specs.SectionHistory.{SectionHistory}
 use Rattle.eve_audit.specs.declared.replicas.Reports.{Reports}

@@ -1,10 +1,10 @@
-use Rattle.eve_views.specs.Form.{IsLeast}
+use Rattle.eve_views.specs.Form.{IsLeast, IsFaultIn}
 use Rattle.std.proofs.Common.{ℕ, length, sym, subst}
-use Rattle.eve_chains.specs.Faults.{IsRecordFault}
 use Rattle.eve_history.specs.SectionHistory.{names_of}
 use Rattle.eve_chains.specs.Stretches.{IsFoundBetween}
 use Rattle.eve_chains.specs.Unfit.{IsLeastUnfit}
 use Rattle.eve_chains.proofs.Judged.{judged_of, record_fault, all_fit, no_fault, least_fault, as_told}
+use Rattle.eve_chains.specs.Faults.{StandsInRecords}
 use Rattle.eve_chains.proofs.unfit.records.Goals as goal
 
 pub returns-in-None-clause-fit : goal.returns-in-None-clause-fit
@@ -36,5 +36,6 @@ returns-in-Some-clause-least c =
     let least = least_fault t h.replica c.recall_limits.ensures
     (c.recall_right.ensures.section c.args.trace.now c.args.history.now.replica c.requires.history)
     c.in-Some.offset (subst (IsLeastUnfit _ (judged_of t h.replica)) c.in-Some.is found) in
-    subst (λ (e : ℕ). IsLeast (IsRecordFault t h.replica) (record_fault e c.in-Some.offset)) (sym c.replica.ensures)
+    subst (λ (e : ℕ). IsLeast (IsFaultIn StandsInRecords t h.replica) (record_fault e c.in-Some.offset))
+    (sym c.replica.ensures)
     least

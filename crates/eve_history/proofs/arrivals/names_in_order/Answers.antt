@@ -2,13 +2,14 @@ use Rattle.std.proofs.Common.{◌≡◌, ℕ, true, false, List, [], ◌∷◌, 
 use Rattle.std.proofs.Common.{arith}
 use Rattle.std.proofs.lemmas.Bool.{both_ways}
 use Rattle.eve_accounts.specs.Names.{is_name, NameList}
-use Rattle.eve_grammar.specs.Trace.{Customer, Head}
+use Rattle.eve_grammar.specs.Trace.{Customer}
+use Rattle.eve_grammar.specs.declared.head.Head.{Head}
 use Rattle.eve_frames.specs.Views.{customer_in}
 use Rattle.eve_views.specs.declared.fault.Code.TheVariants as code
 use Rattle.eve_views.specs.declared.fault.CheckFault.{CheckFault}
 use Rattle.eve_views.specs.declared.fault.CheckFault.TheVariants.{Found}
-use Rattle.eve_views.specs.Form.{IfFound, IsLeast}
-use Rattle.eve_history.specs.Faults.{name_in, IsOrderFault}
+use Rattle.eve_views.specs.Form.{IfFound, IsLeast, IsFaultOutside}
+use Rattle.eve_history.specs.Faults.{name_in, StandsInOrders}
 use Rattle.eve_history.proofs.OrderLaws.{naming_start, naming_more, naming_room, is_named, naming_end, naming_apart}
 use Rattle.eve_history.proofs.OrderLaws.{fault, named_again}
 use Rattle.eve_history.proofs.arrivals.names_in_order.Goals as goal
@@ -31,7 +32,7 @@ returns-in-Err-SameName-clause-fault c =
     (c.in-Err-SameName.ensures.same_name.0 (ap Err c.in-Err-SameName.field-0-is)).1 in
     let again : Contains c.loop-i.names.items (name_in said) =
     subst (λ (n : List ℕ). Contains c.loop-i.names.items n) c.name.ensures there in
-    subst (λ (e : CheckFault). IfFound e (IsLeast (IsOrderFault t)))
+    subst (λ (e : CheckFault). IfFound e (IsLeast (IsFaultOutside StandsInOrders t)))
     (sym (c.outside.ensures ∙ ap (λ (o : ℕ). Found (fault code.SameName o)) c.offset.ensures))
     (named_again t c.loop-i.i c.loop-i.names said c.loop-i.invariant c.customer-customer.ensures.says again)
 

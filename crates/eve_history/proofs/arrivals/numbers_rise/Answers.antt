@@ -1,6 +1,7 @@
 use Rattle.std.proofs.Common.{◌≡◌, ℕ, length, ap, arith}
-use Rattle.eve_grammar.specs.Trace.{Head, Batch}
+use Rattle.eve_grammar.specs.Trace.{Batch}
 use Rattle.eve_grammar.specs.Spelling.{batches_at}
+use Rattle.eve_grammar.specs.declared.head.Head.{Head}
 use Rattle.eve_frames.specs.Views.{batch_in}
 use Rattle.eve_history.proofs.OrderLaws.{batch_there}
 use Rattle.eve_history.specs.Rising.{greatest_of}

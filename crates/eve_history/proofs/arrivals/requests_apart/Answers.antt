@@ -6,8 +6,8 @@ use Rattle.eve_frames.specs.Views.{batch_in}
 use Rattle.eve_views.specs.declared.fault.Code.TheVariants as code
 use Rattle.eve_views.specs.declared.fault.CheckFault.{CheckFault}
 use Rattle.eve_views.specs.declared.fault.CheckFault.TheVariants.{Found}
-use Rattle.eve_views.specs.Form.{IfFound, IsLeast}
-use Rattle.eve_history.specs.Faults.{request_ids_at, IsOrderFault}
+use Rattle.eve_views.specs.Form.{IfFound, IsLeast, IsFaultOutside}
+use Rattle.eve_history.specs.Faults.{request_ids_at, StandsInOrders}
 use Rattle.eve_history.specs.Repeats.{IsFirstRepeat}
 use Rattle.eve_grammar.proofs.FrameLaws.{small_head}
 use Rattle.eve_history.proofs.OrderLaws.{asked_again, fault}
@@ -33,7 +33,7 @@ returns-in-Some-clause-fault c =
     let said : ℕ × (ℕ × Batch) = (c.batch.result.offset, batch_in c.batch.result.bytes.now) in
     let repeat : IsFirstRepeat t n = subst (λ (o : Option ℕ). IfSome o (IsFirstRepeat t)) c.in-Some.is
     c.in_ok-first_repeat.ensures.first in
-    subst (λ (e : CheckFault). IfFound e (IsLeast (IsOrderFault t)))
+    subst (λ (e : CheckFault). IfFound e (IsLeast (IsFaultOutside StandsInOrders t)))
     (sym (c.outside.ensures ∙ ap (λ (o : ℕ). Found (fault code.SameRequest o)) c.offset.ensures))
     (asked_again t (n - 1) (flat_map request_ids_at (take (n - 1) bs)) said c.requires
     (record { items = refl; apart = repeat.first }) c.batch.ensures.says (repeat.again said c.batch.ensures.says))

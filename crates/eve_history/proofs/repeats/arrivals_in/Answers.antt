@@ -1,6 +1,7 @@
 use Rattle.std.proofs.Common.{◌≡◌, ℕ, ◌++◌, List, length, ap, sym, ◌∙◌, arith}
-use Rattle.eve_grammar.specs.Trace.{Head, Batch}
+use Rattle.eve_grammar.specs.Trace.{Batch}
 use Rattle.eve_grammar.specs.Spelling.{batches_at}
+use Rattle.eve_grammar.specs.declared.head.Head.{Head}
 use Rattle.eve_frames.specs.Views.{batch_in}
 use Rattle.eve_history.specs.Repeats.{arrivals_at}
 use Rattle.eve_history.specs.declared.repeats.Arrival.{Arrival}

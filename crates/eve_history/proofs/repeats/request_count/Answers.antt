@@ -1,8 +1,9 @@
 use Rattle.std.proofs.Common.{◌≡◌, ℕ, List, length, take, ap, ◌∙◌, arith, length-append}
 use Rattle.std.proofs.lemmas.List.{length-map}
 use Rattle.std.specs.List.{flat_map}
-use Rattle.eve_grammar.specs.Trace.{Head, Batch}
+use Rattle.eve_grammar.specs.Trace.{Batch}
 use Rattle.eve_grammar.specs.Spelling.{batches_at}
+use Rattle.eve_grammar.specs.declared.head.Head.{Head}
 use Rattle.eve_frames.specs.Views.{batch_in}
 use Rattle.eve_history.specs.Repeats.{arrival, arrivals_at}
 use Rattle.eve_history.specs.declared.repeats.Arrival.{Arrival}

@@ -1,6 +1,7 @@
 use Rattle.std.proofs.Common.{◌≡◌, ℕ, ◌*◌, List, length, IfOk, IfSome, sym, ap, subst, ◌∙◌, rules}
-use Rattle.eve_grammar.specs.Trace.{Head, Batch}
+use Rattle.eve_grammar.specs.Trace.{Batch}
 use Rattle.eve_grammar.specs.Spelling.{batches_at}
+use Rattle.eve_grammar.specs.declared.head.Head.{Head}
 use Rattle.eve_history.specs.Spans.{span_of, HaveSpans}
 use Rattle.eve_history.proofs.OrderLaws.{batch_count}
 use Rattle.eve_history.proofs.Spans.{stretch_cut}

@@ -1,6 +1,6 @@
 use Rattle.std.proofs.Common.{◌≡◌, ◌≤◌, ℕ, ◌*◌, length, sym, ap, subst, ◌∙◌}
-use Rattle.eve_grammar.specs.Trace.{Head}
 use Rattle.eve_history.proofs.Spans.{all_apart, where_true}
+use Rattle.eve_grammar.specs.declared.head.Head.{Head}
 use Rattle.eve_history.proofs.stretches.stretches_rise.Goals as goal
 
 pub returns : goal.returns

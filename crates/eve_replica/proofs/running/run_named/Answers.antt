@@ -1,11 +1,11 @@
 use Rattle.std.proofs.Common.{rules, ◌≡◌, ℕ, ◌*◌, All, IsTrue, List, length, map, sym, ◌∙◌, ap, subst, arith}
 use Rattle.std.proofs.lemmas.List.{length-map}
 use Rattle.std.specs.List.{list_all}
-use Rattle.eve_grammar.specs.Trace.{Customer, Head, Vote, head_of, opening_rows}
+use Rattle.eve_grammar.specs.Trace.{Customer, Vote, head_of, opening_rows}
 use Rattle.eve_grammar.specs.declared.head.Head as header
 use Rattle.eve_grammar.proofs.OpeningRows.{length-opening_rows}
-use Rattle.eve_grammar.specs.Bodies.{limits}
 use Rattle.eve_grammar.specs.Limits.{is_customer}
+use Rattle.eve_grammar.specs.declared.head.Head.{Head}
 use Rattle.eve_write.specs.declared.parts.Parts.{Parts}
 use Rattle.eve_write.specs.declared.vote.VoteData.{VoteData}
 use Rattle.eve_write.specs.Data.{batch, customer, section, trace, vote}
@@ -37,7 +37,7 @@ returns g c =
     let same = c.in_ok-servers.ensures.head in
     let servers : List Server = c.in_ok-servers.field-0.servers.items in
     let given : List VoteData = c.in_ok-servers.field-0.votes.items in
-    let h : Head = limits c.head-head.result in
+    let h : Head = c.head-head.result in
     let replicas : length p.sections.items ≡ h.replicas =
     sym (length-map p.sections.items section) ∙ ap length c.in_ok-sections_of.ensures
     ∙ length-map servers (λ s. section s.steps)

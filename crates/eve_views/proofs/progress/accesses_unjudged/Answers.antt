@@ -1,26 +1,24 @@
 use Rattle.std.proofs.Common.{◌≡◌, IsTrue, Some, IfSome, None, Option, ℕ, drop}
 use Rattle.byteorder.specs.Endian.{big_number}
-use Rattle.eve_grammar.specs.Bodies.{limits}
 use Rattle.eve_grammar.specs.Limits.{row_count}
-use Rattle.eve_views.specs.Places.{place}
 use Rattle.eve_views.specs.SideBySide.{is_right_body}
 use Rattle.eve_views.proofs.Unjudged.{access_followed, attempt_followed, batch_followed, Follow}
 use Rattle.eve_views.proofs.progress.accesses_unjudged.Goals as goal
 
 pub returns-in-Access : goal.returns-in-Access
 returns-in-Access c =
-    rw c.in-Access.is (access_followed (limits c.args.at.now.head) (place c.args.at.now) c.args.body.now)
+    rw c.in-Access.is (access_followed c.args.at.now.head c.args.at.now.place c.args.body.now)
 
 pub returns-in-Attempt : goal.returns-in-Attempt
 returns-in-Attempt c = rw c.in-Attempt.is (said c.accesses_said.result c.accesses_said.ensures)
   where
     said : (o : Option ℕ) → IfSome o (λ n. n ≡ big_number 2 (drop 9 c.args.body.now))
-        → IfSome o (λ n. IsTrue (is_right_body (row_count (limits c.args.at.now.head)) 17 c.args.body.now)
-        → Follow (limits c.args.at.now.head) (place c.args.at.now) 17 c.args.body.now n)
-    said (Some n) e = attempt_followed (limits c.args.at.now.head) (place c.args.at.now) c.args.body.now n e
+        → IfSome o (λ n. IsTrue (is_right_body (row_count c.args.at.now.head) 17 c.args.body.now)
+        → Follow c.args.at.now.head c.args.at.now.place 17 c.args.body.now n)
+    said (Some n) e = attempt_followed c.args.at.now.head c.args.at.now.place c.args.body.now n e
     said None e = tt
 
 pub returns-then-says_number : goal.returns-then-says_number
 returns-then-says_number c =
-    rw c.in-Batch.is (batch_followed (limits c.args.at.now.head) (place c.args.at.now) c.args.body.now
+    rw c.in-Batch.is (batch_followed c.args.at.now.head c.args.at.now.place c.args.body.now
     (c.says_number.ensures c.if-says_number.true))

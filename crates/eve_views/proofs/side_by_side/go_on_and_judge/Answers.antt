@@ -1,7 +1,6 @@
 use Rattle.std.proofs.Common.{◌≡◌, ◌∙◌, ap, subst, Option, IfOk, IfSome, drop}
 use Rattle.std.specs.Prelude.{Result}
 use Rattle.std.specs.declared.alloc.AllocError.{AllocError}
-use Rattle.eve_grammar.specs.Bodies.{limits}
 use Rattle.eve_grammar.specs.Limits.{row_count}
 use Rattle.eve_views.specs.SideBySide.{WalksOn}
 use Rattle.eve_views.specs.declared.progress.Progress.{Progress}
@@ -10,7 +9,7 @@ use Rattle.eve_views.proofs.side_by_side.go_on_and_judge.Goals as goal
 
 pub returns-then-right-clause-judged : goal.returns-then-right-clause-judged
 returns-then-right-clause-judged g c =
-    let rows = row_count (limits c.args.head) in
+    let rows = row_count c.args.head in
     let bytes = c.args.bytes.now in
     let before = c.args.walked in
     let both = c.judge_and_go_on-right in

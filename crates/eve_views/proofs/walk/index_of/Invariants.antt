@@ -1,12 +1,10 @@
 use Rattle.std.proofs.Common.{◌≡◌, ◌-◌, length}
-use Rattle.eve_grammar.specs.Bodies.{limits}
-use Rattle.eve_views.specs.Places.{place}
 use Rattle.eve_views.specs.Walking.{Walking}
 use Rattle.eve_views.proofs.walk.index_of.Given as goal
 
 abbrev pub invariant-frames : goal.invariant-frames
 invariant-frames l =
-    Walking (limits l.fn.head) l.bytes l.at (place l.reached) l.offsets.items l.starts × (l.reached.head ≡ l.fn.head)
+    Walking l.fn.head l.bytes l.at l.reached.place l.offsets.items l.starts × (l.reached.head ≡ l.fn.head)
 
 abbrev pub decreases-frames : goal.decreases-frames
 decreases-frames l = length l.bytes - l.at

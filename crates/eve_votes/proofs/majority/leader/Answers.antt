@@ -1,7 +1,8 @@
 use Rattle.std.proofs.Common.{◌≡◌, ◌+◌, ◌<◌, length, refl, sym, ap, ◌∙◌, subst, arith}
 use Rattle.std.specs.Option.{option_map}
-use Rattle.eve_grammar.specs.Trace.{ForCommit, Head}
+use Rattle.eve_grammar.specs.Trace.{ForCommit}
 use Rattle.eve_grammar.specs.Bodies.{borrowed_choice}
+use Rattle.eve_grammar.specs.declared.head.Head.{Head}
 use Rattle.eve_votes.specs.Votes.{same_choice}
 use Rattle.eve_votes.specs.Ballots.{is_for}
 use Rattle.eve_votes.specs.Majority.{HasLead}

@@ -1,7 +1,7 @@
 use Rattle.std.proofs.Common.{◌≡◌, ℕ, ◌+◌, ◌<◌, ◌++◌, List, [], length, take, sym, ap, ◌∙◌, arith}
 use Rattle.std.proofs.lemmas.List.{take_more, length-take-le}
-use Rattle.eve_grammar.specs.Trace.{Head}
 use Rattle.eve_grammar.specs.Spelling.{votes_of}
+use Rattle.eve_grammar.specs.declared.head.Head.{Head}
 use Rattle.eve_votes.specs.Ballots.{ballots_from, ballots_among}
 use Rattle.eve_votes.specs.declared.ballots.Ballot.{Ballot}
 use Rattle.eve_votes.proofs.Gathered.{among_more}

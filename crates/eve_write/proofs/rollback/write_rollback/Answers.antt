@@ -1,16 +1,15 @@
-use Rattle.std.proofs.Common.{map, subst}
+use Rattle.std.proofs.Common.{subst, ap}
 use Rattle.std.specs.List.{flat_map}
 use Rattle.eve_grammar.specs.Spelling.{restore_text}
-use Rattle.eve_grammar.specs.Bodies.{restore}
 use Rattle.eve_write.specs.Writing.{Writes}
-use Rattle.eve_write.proofs.Joined.{Stopped-before, Writes-at_err, Writes-then, all_fit, each_as}
+use Rattle.eve_write.proofs.Joined.{Stopped-before, Writes-at_err, Writes-then, all_fit}
 use Rattle.eve_write.proofs.rollback.write_rollback.Goals as goal
 
 pub returns-in_err-write_front : goal.returns-in_err-write_front
 returns-in_err-write_front g c =
     Writes-at_err {S = g.row.W.Denot} g.W.Sink.written g.W.Sink.failures _ _ _ c.from_residual.result
     c.from_residual.ensures.0
-    (Stopped-before {S = g.row.W.Denot} (flat_map restore_text (map restore c.args.rollback.now.restores.items))
+    (Stopped-before {S = g.row.W.Denot} (flat_map restore_text c.args.rollback.now.restores.items)
     c.in_err-write_front.ensures)
 
 pub write_each-requires : goal.write_each-requires
@@ -18,7 +17,7 @@ write_each-requires g c = all_fit c.as_slice.result.now
 
 pub returns : goal.returns
 returns g c =
-    let same = each_as restore_text restore _ _ c.as_slice.ensures.value in
+    let same = ap (flat_map restore_text) c.as_slice.ensures.value in
     let restores = subst (Writes g.W.Sink.written g.W.Sink.failures c.write_front.new.out c.write_each.new.out
     c.write_each.result) same c.write_each.ensures in
     Writes-then {S = g.row.W.Denot} g.W.Sink.written g.W.Sink.failures _ _ _ _ _ c.write_each.result

@@ -1,8 +1,8 @@
 use Rattle.std.proofs.Common.{◌≡◌, ◌<◌, not, length, sym, ap, subst, ◌∙◌, arith}
 use Rattle.std.specs.Prelude.{List, Option}
-use Rattle.eve_smallbank.specs.Chain.{Versioned}
 use Rattle.eve_agree.specs.Marking.{marked_count}
 use Rattle.eve_agree.proofs.Marking.{one_less}
+use Rattle.eve_smallbank.specs.declared.versioned.Versioned.{Versioned}
 use Rattle.eve_agree.proofs.first_seen.FirstSeen.mark.Goals as goal
 
 pub overflow_add-self : goal.overflow_add-self

@@ -1,9 +1,8 @@
 use Rattle.std.proofs.Common.{◌≡◌, IsTrue, List, true, false, length, subst, sym, ◌∙◌, inl, inr, rules}
 use Rattle.std.specs.List.{list_all}
 use Rattle.std.proofs.lemmas.Bool.{cases_Bool, and_parts}
-use Rattle.eve_grammar.specs.Trace.{Restore}
-use Rattle.eve_grammar.specs.Bodies.{restore}
 use Rattle.eve_grammar.specs.Limits.{is_restore}
+use Rattle.eve_grammar.specs.declared.restore.Restore.{Restore}
 use Rattle.eve_agree.specs.Marking.{marking_of}
 use Rattle.eve_agree.proofs.Marking.{IsTaking, taking_next, found_wrong, found_left, found_right}
 use Rattle.eve_agree.proofs.first_seen.FirstSeen.take_all.Goals as goal
@@ -13,7 +12,7 @@ returns-then-not-take-clause-right c =
     let old = marking_of c.args.self.now in
     let now = marking_of c.loop-restored.self in
     let no : c.take.result ≡ false = search rules in
-    found_wrong old now c.args.restores (restore c.in-Some.restored) c.next.new.self
+    found_wrong old now c.args.restores c.in-Some.restored c.next.new.self
     (subst (IsTaking old now c.args.restores) c.in-Some.ensures.steps c.loop-restored.invariant.taking)
     (sym c.take.ensures.right ∙ no)
 
@@ -24,11 +23,11 @@ loop-restored-preserved c =
     let yes : c.take.result ≡ true = search rules in
     record {
       as_many = c.take.ensures.as_many ∙ c.loop-restored.invariant.as_many;
-      rows = (and_parts (is_restore (length c.args.self.now) (restore c.in-Some.restored))
+      rows = (and_parts (is_restore (length c.args.self.now) c.in-Some.restored)
           (list_all (is_restore (length c.args.self.now)) c.next.new.self)
           (subst (λ (rs : List Restore). IsTrue (list_all (is_restore (length c.args.self.now)) rs))
           c.in-Some.ensures.steps c.loop-restored.invariant.rows)).1;
-      taking = taking_next old now (marking_of c.take.new.self) c.args.restores (restore c.in-Some.restored)
+      taking = taking_next old now (marking_of c.take.new.self) c.args.restores c.in-Some.restored
           c.next.new.self
           (subst (IsTaking old now c.args.restores) c.in-Some.ensures.steps c.loop-restored.invariant.taking)
           (sym c.take.ensures.right ∙ yes) (c.take.ensures.taken yes);

@@ -2,7 +2,6 @@ use Rattle.std.proofs.Common.{◌≡◌, ℕ, ◌+◌, ◌<◌, true, List, map,
 use Rattle.std.specs.List.{AllByRecursion}
 use Rattle.std.specs.List.Sorted.{IsPermutation}
 use Rattle.eve_smallbank.specs.Chain.{Table}
-use Rattle.eve_grammar.specs.Bodies.{restore}
 use Rattle.eve_attempts.specs.Ledgers.{Opened, Ledger, IsLedger, table_of_rows, values_before, writes_in, open_writes}
 use Rattle.eve_attempts.specs.Ledgers.{rows_committed}
 use Rattle.eve_attempts.specs.Discarding.{restore_in, RollsBack}
@@ -42,7 +41,7 @@ returns-clause-rolled_back c =
     c.undo_all.ensures.table
     ∙ ap (λ (os : List Opened). values_before (table_of_rows c.self.inside.rows) (writes_in os))
     c.as_slice-2.ensures.value in
-    let restores : map restore c.restore_all.new.restores.items ≡ map (restore_in (rows_committed s))
+    let restores : c.restore_all.new.restores.items ≡ map (restore_in (rows_committed s))
     (rising_from 0 c.in_ok-numbers.numbers.items) =
     c.restore_all.ensures ∙ ap₂ (λ (u : Table) (ns : List ℕ). map (restore_in u) (rising_from 0 ns)) table
     c.as_slice-3.ensures.value in
@@ -53,10 +52,10 @@ returns-clause-rolled_back c =
       is_next_serial = true;
     } in
     subst (λ (o : Ledger). RollsBack o new
-    (record { to = s.committed; view = s.view + 1; restores = map restore c.restore_all.new.restores.items }))
+    (record { to = s.committed; view = s.view + 1; restores = c.restore_all.new.restores.items }))
     c.self.view_is
     (rolled_back s c.self.invariant c.in_ok-numbers.numbers.items moved c.in_ok-numbers.ensures.rising new
-    c.undo_all.new.rows (map restore c.restore_all.new.restores.items)
+    c.undo_all.new.rows c.restore_all.new.restores.items
     (ap (λ (os : List Opened). record s {
       rows = c.undo_all.new.rows;
       opened = os;

@@ -1,6 +1,5 @@
 use Rattle.std.proofs.Common.{sym, ◌∙◌}
 use Rattle.eve_grammar.specs.Reading.{restore_at}
-use Rattle.eve_grammar.specs.Bodies.{restore}
 use Rattle.eve_grammar.specs.declared.limits.TheConstants.{MOST_ROWS}
 use Rattle.eve_frames.proofs.Lists.{none_left, there_some, there_steps, goes_on}
 use Rattle.eve_frames.proofs.restores.RestoresIterator.next.Goals as goal
@@ -15,15 +14,15 @@ unreachable-requires c = there_some (restore_at MOST_ROWS) c.self.inside.count c
 
 pub invariant_of-self : goal.invariant_of-self
 invariant_of-self c = (there_steps (restore_at MOST_ROWS) c.self.inside.count c.self.inside.bytes.now
-    c.if-count-eq0.false c.self.invariant (restore c.in-Some.found) c.in-Some.rest.now c.in-Some.ensures).there
+    c.if-count-eq0.false c.self.invariant c.in-Some.found c.in-Some.rest.now c.in-Some.ensures).there
 
 pub returns-clause-steps : goal.returns-clause-steps
 returns-clause-steps c =
     sym c.self.view_is ∙ (there_steps (restore_at MOST_ROWS) c.self.inside.count c.self.inside.bytes.now
-    c.if-count-eq0.false c.self.invariant (restore c.in-Some.found) c.in-Some.rest.now c.in-Some.ensures).list
+    c.if-count-eq0.false c.self.invariant c.in-Some.found c.in-Some.rest.now c.in-Some.ensures).list
 
 pub returns-clause-goes : goal.returns-clause-goes
 returns-clause-goes c =
-    goes_on _ (λ _. tt) _ _ _ (restore c.in-Some.found)
+    goes_on _ (λ _. tt) _ _ _ c.in-Some.found
     (sym c.self.view_is ∙ (there_steps (restore_at MOST_ROWS) c.self.inside.count c.self.inside.bytes.now
-    c.if-count-eq0.false c.self.invariant (restore c.in-Some.found) c.in-Some.rest.now c.in-Some.ensures).list)
+    c.if-count-eq0.false c.self.invariant c.in-Some.found c.in-Some.rest.now c.in-Some.ensures).list)

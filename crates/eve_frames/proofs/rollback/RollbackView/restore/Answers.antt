@@ -1,6 +1,5 @@
 use Rattle.std.proofs.Common.{◌+◌, ◌*◌, refl}
 use Rattle.eve_grammar.specs.Reading.{restore_at}
-use Rattle.eve_grammar.specs.Bodies.{restore}
 use Rattle.eve_grammar.specs.declared.limits.TheConstants.{MOST_ROWS}
 use Rattle.eve_frames.specs.Views.{rollback_in}
 use Rattle.eve_frames.proofs.RollbackPlaces.{restores_of, rollback_placed}
@@ -19,4 +18,4 @@ returns c =
     let bytes = c.args.self.now.bytes.now in
     stand_is 20 (restores_of bytes) 17 (restore_at MOST_ROWS) bytes (rollback_in bytes).restores
     (rollback_placed bytes c.args.self.now.whole).restores c.args.i (17 + 20 * c.args.i) c.requires refl
-    (restore c.in-Some.found) c.in-Some.field-0-1.now c.in-Some.ensures
+    c.in-Some.found c.in-Some.field-0-1.now c.in-Some.ensures

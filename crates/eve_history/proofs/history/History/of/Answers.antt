@@ -1,17 +1,17 @@
-use Rattle.eve_views.specs.Form.{IsLeast}
+use Rattle.eve_views.specs.Form.{IsLeast, IsFaultIn}
 use Rattle.std.proofs.Common.{ℕ, List, ◌∷◌, ◌∙◌, sym, subst, rules}
 use Rattle.std.proofs.lemmas.Result.{err_from_is_err_and}
 use Rattle.std.specs.List.{AllByRecursion}
 use Rattle.eve_grammar.specs.Trace.{Step}
-use Rattle.eve_grammar.specs.Limits.{Spells}
 use Rattle.eve_history.specs.Standing.{IsAttemptAt, IsAccessAt, IsRollbackAt}
 use Rattle.eve_grammar.specs.Spelling.{steps_at}
+use Rattle.eve_grammar.specs.Following.{Spells}
 use Rattle.eve_views.specs.StepKinds.{IsStep}
 use Rattle.eve_views.specs.declared.fault.Fault.{Fault}
-use Rattle.eve_history.specs.Faults.{IsStructureFault}
 use Rattle.eve_history.specs.Coming.{KeptSection, kept_section, HasCome}
 use Rattle.eve_history.proofs.Coming.{come_start, come_ended, come_told, come_faultless}
 use Rattle.eve_history.proofs.Taking.{weaker_found}
+use Rattle.eve_history.specs.Faults.{StandsInStructure}
 use Rattle.eve_history.proofs.history.History.of.Goals as goal
 
 pub loop-step-init : goal.loop-step-init
@@ -53,8 +53,8 @@ returns-in_err-take-clause-least c =
     in
     let P : Fault → Type 0 =
     λ f. (rest : List (ℕ × Step)) (next : ℕ × Step) → HasCome t e (next ∷ rest) (kept_section c.loop-step.notes)
-    → IsStep c.in-Some.step next → IsLeast (IsStructureFault t e) f in
-    let least = weaker_found c.in_err-take.field-0.0 P (IsLeast (IsStructureFault t e))
+    → IsStep c.in-Some.step next → IsLeast (IsFaultIn StandsInStructure t e) f in
+    let least = weaker_found c.in_err-take.field-0.0 P (IsLeast (IsFaultIn StandsInStructure t e))
     (λ f wrong. wrong c.next.new.self some.0 come some.2) c.in_err-take.ensures.wrong in
     let p = err_from_is_err_and c.from_residual.result c.from_residual.ensures.1 in
     rw (p.1, p.2) least

@@ -1,12 +1,12 @@
 use Rattle.std.proofs.Common.{◌≡◌, ℕ, ◌+◌, ◌<◌, ◌==◌, Bool, ◌&&◌, List, length, get_or, slice_get, Some, ap, sym, ◌∙◌}
 use Rattle.std.proofs.Common.{refl, rules}
 use Rattle.std.proofs.lemmas.Bool.{eq-eqb}
+use Rattle.std.specs.Cmp.Lexicographic.{pointwise}
 use Rattle.eve_grammar.specs.Trace.{Attempt}
 use Rattle.eve_grammar.proofs.Lists.{all-slice_get}
 use Rattle.eve_frames.specs.Views.{attempt_in, commit_in}
 use Rattle.eve_history.specs.declared.notes.Attempted.{Attempted}
 use Rattle.eve_history.specs.Standing.{IsAttemptAt}
-use Rattle.eve_history.specs.Section.{same_bytes}
 use Rattle.eve_history.specs.Coming.{kept_section, kept_attempt}
 use Rattle.eve_history.proofs.Finding.{commit_is, get_mapped, get_is}
 use Rattle.eve_history.proofs.notes.Notes.is_right_commit.Goals as goal
@@ -39,7 +39,7 @@ returns c = λ s stands.
     let at = get_mapped (kept_attempt n.bytes.now) n.attempts.items (length n.fates.items) x
     (first_at n.attempts.items c.len-settled.result (length n.fates.items) x settled more c.index.ensures) in
     let seq : said.seq ≡ n.last + 1 = sym c.seq.ensures ∙ c.if-seq-self.false in
-    c.is_of.ensures ∙ ap (λ (a : Attempt). (a.view == said.view) && same_bytes a.token said.token)
+    c.is_of.ensures ∙ ap (λ (a : Attempt). (a.view == said.view) && pointwise ◌==◌ a.token said.token)
     (ap attempt_in c.attempt_at.ensures.bytes)
     ∙ sym (commit_is s (kept_section n) f said stands at
-    ∙ number_is said.seq n.last ((f.attempt.view == said.view) && same_bytes f.attempt.token said.token) seq)
+    ∙ number_is said.seq n.last ((f.attempt.view == said.view) && pointwise ◌==◌ f.attempt.token said.token) seq)

@@ -8,11 +8,11 @@ use Rattle.eve_grammar.proofs.Lists.{all-push}
 use Rattle.eve_frames.specs.Views.{attempt_in}
 use Rattle.eve_views.specs.declared.fault.Fault.{Fault}
 use Rattle.eve_views.specs.declared.fault.CheckFault.{CheckFault}
-use Rattle.eve_views.specs.Form.{IfFound, IsLeast}
+use Rattle.eve_views.specs.Form.{IfFound, IsLeast, IsFaultIn}
 use Rattle.eve_history.specs.declared.notes.Attempted.{Attempted}
 use Rattle.eve_history.specs.Section.{start, state_after}
 use Rattle.eve_history.specs.SectionHistory.{ordered, access_with}
-use Rattle.eve_history.specs.Faults.{accesses_of, IsStructureFault}
+use Rattle.eve_history.specs.Faults.{accesses_of, StandsInStructure}
 use Rattle.eve_history.specs.Coming.{KeptAttempt, kept_section, kept_attempt, seen, HasCome, ComesNext}
 use Rattle.eve_history.proofs.Coming.{come_wrong, come_attempt, with_attempt}
 use Rattle.eve_history.proofs.Finding.{found_offsets, listed_small}
@@ -39,7 +39,7 @@ returns-in-Some-clause-wrong c =
     let said = attempt_in c.args.attempt.now.bytes.now in
     let xs = c.args.accesses.now in
     let P : Fault → Type 0 = λ f. (rest : List (ℕ × Step)) (b : Attempt) → ComesNext t e rest b k at said xs
-    → IsLeast (IsStructureFault t e) f in
+    → IsLeast (IsFaultIn StandsInStructure t e) f in
     subst (λ (x : CheckFault). IfFound x P) (sym c.fault_in.ensures)
     (λ rest b comes.
     come_wrong t e (at, Attempts b) rest k c.in-Some.wrong comes.come

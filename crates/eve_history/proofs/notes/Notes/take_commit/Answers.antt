@@ -5,13 +5,13 @@ use Rattle.eve_views.specs.declared.fault.Code.TheVariants as code
 use Rattle.eve_views.specs.declared.fault.Fault.{Fault}
 use Rattle.eve_views.specs.declared.fault.CheckFault.{CheckFault}
 use Rattle.eve_views.specs.declared.fault.CheckFault.TheVariants.{Found}
-use Rattle.eve_views.specs.Form.{IfFound, IsLeast}
+use Rattle.eve_views.specs.Form.{IfFound, IsLeast, IsFaultIn}
 use Rattle.eve_history.specs.Section.{start, state_after}
-use Rattle.eve_history.specs.Faults.{IsStructureFault}
 use Rattle.eve_history.specs.FirstWrong.{fault_of}
 use Rattle.eve_history.specs.Coming.{kept_section, HasCome}
 use Rattle.eve_history.proofs.Coming.{come_wrong, come_commit, with_commit}
 use Rattle.eve_history.proofs.Taking.{commit_wrong, commit_right}
+use Rattle.eve_history.specs.Faults.{StandsInStructure}
 use Rattle.eve_history.proofs.notes.Notes.take_commit.Goals as goal
 
 pub returns-then-not-is_right_commit-clause-wrong : goal.returns-then-not-is_right_commit-clause-wrong
@@ -21,7 +21,7 @@ returns-then-not-is_right_commit-clause-wrong c =
     let at = c.args.commit.now.offset in
     let said = commit_in c.args.commit.now.bytes.now in
     let P : Fault → Type 0 = λ f. (t : Trace) (rest : List (ℕ × Step)) → HasCome t e ((at, Commits said) ∷ rest) k
-    → IsLeast (IsStructureFault t e) f in
+    → IsLeast (IsFaultIn StandsInStructure t e) f in
     subst (λ (x : CheckFault). IfFound x P)
     (sym (c.fault_in.ensures ∙ ap (λ (o : ℕ). Found (fault_of e (record { code = code.Commit; offset = o })))
     c.offset.ensures))

@@ -9,16 +9,16 @@ use Rattle.eve_views.specs.declared.fault.Code.TheVariants as code
 use Rattle.eve_views.specs.declared.fault.Fault.{Fault}
 use Rattle.eve_views.specs.declared.fault.CheckFault.{CheckFault}
 use Rattle.eve_views.specs.declared.fault.CheckFault.TheVariants.{Found}
-use Rattle.eve_views.specs.Form.{IfFound, IsLeast}
+use Rattle.eve_views.specs.Form.{IfFound, IsLeast, IsFaultIn}
 use Rattle.eve_history.specs.declared.fate.Fate.TheVariants.{Discarded}
 use Rattle.eve_history.specs.Standing.{frame_in, IsRollbackAt}
 use Rattle.eve_history.specs.Section.{start, state_after}
-use Rattle.eve_history.specs.Faults.{IsStructureFault}
 use Rattle.eve_history.specs.FirstWrong.{fault_of}
 use Rattle.eve_history.specs.Coming.{kept_section, kept_attempt, rolled, open_count, HasCome}
 use Rattle.eve_history.proofs.Coming.{come_wrong, come_rollback, with_rollback}
 use Rattle.eve_history.proofs.Standing.{rollback_there}
 use Rattle.eve_history.proofs.Taking.{rollback_wrong, rollback_right, discarded_all}
+use Rattle.eve_history.specs.Faults.{StandsInStructure}
 use Rattle.eve_history.proofs.notes.Notes.take_rollback.Goals as goal
 
 pub returns-then-not-rolls_back-clause-wrong : goal.returns-then-not-rolls_back-clause-wrong
@@ -29,7 +29,7 @@ returns-then-not-rolls_back-clause-wrong c =
     let at = c.args.rollback.now.offset in
     let said = rollback_in c.args.rollback.now.bytes.now in
     let P : Fault → Type 0 = λ f. (rest : List (ℕ × Step)) → HasCome t e ((at, RollsBack said) ∷ rest) k
-    → IsLeast (IsStructureFault t e) f in
+    → IsLeast (IsFaultIn StandsInStructure t e) f in
     subst (λ (x : CheckFault). IfFound x P)
     (sym (c.fault_in.ensures ∙ ap (λ (o : ℕ). Found (fault_of e (record { code = code.Rollback; offset = o })))
     c.offset.ensures))

@@ -1,11 +1,10 @@
 use Rattle.std.proofs.Common.{◌-◌, length}
-use Rattle.eve_grammar.specs.Bodies.{limits}
 use Rattle.eve_views.specs.SideBySide.{IsWalkedUnjudged, WalksOn}
 use Rattle.eve_views.proofs.progress.Progress.go_on.Given as goal
 
 abbrev pub invariant-frames : goal.invariant-frames
 invariant-frames l = record {
-  found : IsWalkedUnjudged (limits l.fn.head) l.bytes l.walked;
+  found : IsWalkedUnjudged l.fn.head l.bytes l.walked;
   kept : WalksOn l.fn.self l.walked;
 }
 

@@ -1,10 +1,8 @@
 use Rattle.std.proofs.Common.{◌≡◌, ◌+◌, ◌-◌, ◌∙◌, drop, ℕ, List, [], ◌∷◌, ◌++◌, length, sym, ap, subst, arith}
 use Rattle.std.proofs.Common.{append_assoc}
 use Rattle.std.proofs.lemmas.List.{length-append, length-drop, length-take}
-use Rattle.eve_grammar.specs.Frames.{Place}
-use Rattle.eve_grammar.specs.Bodies.{limits}
 use Rattle.eve_grammar.specs.Limits.{row_count}
-use Rattle.eve_views.specs.Places.{place}
+use Rattle.eve_grammar.specs.declared.place.Place.{Place}
 use Rattle.eve_views.specs.SideBySide.{AreRightFrames, access_kept}
 use Rattle.eve_views.specs.Walking.{Walking}
 use Rattle.eve_views.proofs.Unjudged.{walking_unjudged}
@@ -12,9 +10,9 @@ use Rattle.eve_views.proofs.progress.Progress.pass_accesses.Goals as goal
 
 pub frames-preserved : goal.frames-preserved
 frames-preserved c =
-    let h = limits c.args.head in
+    let h = c.args.head in
     let self = c.frames.self in
-    let p = place self.reached in
+    let p = self.reached.place in
     let bytes = c.args.bytes.now in
     let at = self.at in
     let xs = self.offsets.items in
@@ -23,17 +21,17 @@ frames-preserved c =
     let more = at + c.in-Some.len in
     let items : c.push.new.self.items ≡ xs ++ at ∷ [] = c.in_ok-push.ensures.items in
     let walked : AreRightFrames (row_count h) bytes c.push.new.self.items
-    → Walking h bytes more (place c.pass.new.self) c.push.new.self.items self.starts = λ right.
-    let w = walking_unjudged h (limits self.reached.head) p bytes at xs self.starts (access_kept c.in-Some.len)
+    → Walking h bytes more c.pass.new.self.place c.push.new.self.items self.starts = λ right.
+    let w = walking_unjudged h self.reached.head p bytes at xs self.starts (access_kept c.in-Some.len)
     c.requires.says.limits (λ i. omega (arith, c.type_inv.bytes i)) before.within before.head framed before.walking
     (subst (AreRightFrames (row_count h) bytes) items right) in
     let one = subst (λ (q : Place). Walking h bytes more q (xs ++ at ∷ []) self.starts) (sym c.pass.ensures.place) w in
-    subst (λ (ys : List ℕ). Walking h bytes more (place c.pass.new.self) ys self.starts) (sym items) one
+    subst (λ (ys : List ℕ). Walking h bytes more c.pass.new.self.place ys self.starts) (sym items) one
     in
     let kept = c.frames.invariant.kept in
     record {
       walked = record {
-        head = ap limits c.pass.ensures.head ∙ before.head;
+        head = c.pass.ensures.head ∙ before.head;
         within = omega (
           arith,
           framed.within,

@@ -1,10 +1,8 @@
 use Rattle.std.proofs.Common.{◌≡◌, ◌+◌, ◌-◌, ◌∙◌, drop, ℕ, List, [], ◌∷◌, ◌++◌, length, sym, ap, subst, rules, arith}
 use Rattle.std.proofs.lemmas.List.{length-append, length-drop, length-take}
-use Rattle.eve_grammar.specs.Frames.{Place}
 use Rattle.eve_grammar.specs.Kinds.{kind_byte}
-use Rattle.eve_grammar.specs.Bodies.{limits}
 use Rattle.eve_grammar.specs.Limits.{row_count}
-use Rattle.eve_views.specs.Places.{place}
+use Rattle.eve_grammar.specs.declared.place.Place.{Place}
 use Rattle.eve_views.specs.Starting.{noted}
 use Rattle.eve_views.specs.Indexing.{kept_in}
 use Rattle.eve_views.specs.SideBySide.{AreRightFrames}
@@ -15,9 +13,9 @@ use Rattle.eve_views.proofs.progress.Progress.pass_frame.Goals as goal
 
 pub returns-clause-walked : goal.returns-clause-walked
 returns-clause-walked c = λ _.
-    let h = limits c.args.head in
+    let h = c.args.head in
     let self = c.args.self.now in
-    let p = place self.reached in
+    let p = self.reached.place in
     let bytes = c.args.bytes.now in
     let at = self.at in
     let xs = self.offsets.items in
@@ -30,18 +28,18 @@ returns-clause-walked c = λ _.
     let noted_is : noted self.starts p (kind_byte c.in-Some.frame.kind) (length xs) ≡ c.note.new.self =
     ap (noted self.starts p (kind_byte c.in-Some.frame.kind)) (sym count) ∙ sym c.note.ensures in
     let walked : AreRightFrames (row_count h) bytes c.push.new.self.items
-    → Walking h bytes more (place c.pass.new.self) c.push.new.self.items c.note.new.self = λ right.
-    let w = walking_unjudged h (limits self.reached.head) p bytes at xs self.starts k
+    → Walking h bytes more c.pass.new.self.place c.push.new.self.items c.note.new.self = λ right.
+    let w = walking_unjudged h self.reached.head p bytes at xs self.starts k
     c.requires.says.limits (λ i. omega (arith, c.type_inv.bytes i)) before.within before.head framed before.walking
     (subst (AreRightFrames (row_count h) bytes) items right) in
     let one = subst (λ (q : Place). Walking h bytes more q (xs ++ at ∷ [])
     (noted self.starts p (kind_byte c.in-Some.frame.kind) (length xs))) (sym c.pass.ensures.place) w in
-    let two = subst (λ (ys : List ℕ). Walking h bytes more (place c.pass.new.self) ys
+    let two = subst (λ (ys : List ℕ). Walking h bytes more c.pass.new.self.place ys
     (noted self.starts p (kind_byte c.in-Some.frame.kind) (length xs))) (sym items) one in
-    subst (λ (s : Starts). Walking h bytes more (place c.pass.new.self) c.push.new.self.items s) noted_is two
+    subst (λ (s : Starts). Walking h bytes more c.pass.new.self.place c.push.new.self.items s) noted_is two
     in
     record {
-      head = ap limits c.pass.ensures.head ∙ before.head;
+      head = c.pass.ensures.head ∙ before.head;
       within = omega (
         arith,
         framed.within,

@@ -3,7 +3,7 @@ use Rattle.std.specs.Prelude.{drop}
 use Rattle.eve_views.proofs.Reaching.{length-offsets_of}
 use Rattle.eve_grammar.specs.Frames.{frames_of}
 use Rattle.eve_grammar.specs.Spelling.{frame_text}
-use Rattle.eve_grammar.specs.Limits.{Spells}
+use Rattle.eve_grammar.specs.Following.{Spells}
 use Rattle.eve_views.proofs.FrameLaws.{length-frame_text}
 use Rattle.eve_views.proofs.TraceLaws.{part_is}
 use Rattle.eve_views.proofs.trace.Trace.frame.Goals as goal

@@ -1,6 +1,5 @@
 use Rattle.std.proofs.Common.{Result, IfOk, IfErr, subst, arith}
-use Rattle.eve_grammar.specs.Bodies.{limits}
-use Rattle.eve_views.specs.Form.{IsFormFault, IfFound}
+use Rattle.eve_views.specs.Form.{IfFound, StandsInForm, IsFaultOutside}
 use Rattle.eve_views.specs.Indexing.{IsIndex}
 use Rattle.eve_views.specs.declared.fault.CheckFault.{CheckFault}
 use Rattle.eve_views.specs.declared.walk.Index.{Index}
@@ -11,7 +10,7 @@ use Rattle.eve_views.proofs.trace.Trace.of_index.Goals as goal
 pub invariant_of-result : goal.invariant_of-result
 invariant_of-result c =
     let bytes = c.args.bytes.now in
-    let h = limits c.args.head in
+    let h = c.args.head in
     let found : IsIndex h bytes c.in-Ok.index = subst (λ (r : Result Index CheckFault). IfOk r (IsIndex h bytes))
     c.in-Ok.is c.requires.found in
     held_of bytes h c.in-Ok.index (λ i. omega (arith, c.type_inv.bytes i)) c.requires.header found
@@ -19,7 +18,7 @@ invariant_of-result c =
 pub returns-in-Ok-clause-trace : goal.returns-in-Ok-clause-trace
 returns-in-Ok-clause-trace c =
     let bytes = c.args.bytes.now in
-    let h = limits c.args.head in
+    let h = c.args.head in
     let found : IsIndex h bytes c.in-Ok.index = subst (λ (r : Result Index CheckFault). IfOk r (IsIndex h bytes))
     c.in-Ok.is c.requires.found in
     (held_of bytes h c.in-Ok.index (λ i. omega (arith, c.type_inv.bytes i)) c.requires.header found).spells
@@ -27,7 +26,7 @@ returns-in-Ok-clause-trace c =
 pub returns-in-Ok-clause-faultless : goal.returns-in-Ok-clause-faultless
 returns-in-Ok-clause-faultless c = λ f stands.
     let bytes = c.args.bytes.now in
-    let h = limits c.args.head in
+    let h = c.args.head in
     let found : IsIndex h bytes c.in-Ok.index = subst (λ (r : Result Index CheckFault). IfOk r (IsIndex h bytes))
     c.in-Ok.is c.requires.found in
     let held = held_of bytes h c.in-Ok.index (λ i. omega (arith, c.type_inv.bytes i)) c.requires.header found in
@@ -36,17 +35,19 @@ returns-in-Ok-clause-faultless c = λ f stands.
 pub returns-in-Err-clause-least : goal.returns-in-Err-clause-least
 returns-in-Err-clause-least c =
     let bytes = c.args.bytes.now in
-    let h = limits c.args.head in
-    let stands : IfFound c.in-Err.fault (IsFormFault bytes) =
-    subst (λ (r : Result Index CheckFault). IfErr r (λ e. IfFound e (IsFormFault bytes))) c.in-Err.is c.requires.fault
+    let h = c.args.head in
+    let stands : IfFound c.in-Err.fault (IsFaultOutside StandsInForm bytes) =
+    subst (λ (r : Result Index CheckFault). IfErr r (λ e. IfFound e (IsFaultOutside StandsInForm bytes))) c.in-Err.is
+    c.requires.fault
     in
     found_least bytes h c.in-Err.fault (λ i. omega (arith, c.type_inv.bytes i)) c.requires.header stands
 
 pub returns-in-Err-clause-no_trace : goal.returns-in-Err-clause-no_trace
 returns-in-Err-clause-no_trace c =
     let bytes = c.args.bytes.now in
-    let h = limits c.args.head in
-    let stands : IfFound c.in-Err.fault (IsFormFault bytes) =
-    subst (λ (r : Result Index CheckFault). IfErr r (λ e. IfFound e (IsFormFault bytes))) c.in-Err.is c.requires.fault
+    let h = c.args.head in
+    let stands : IfFound c.in-Err.fault (IsFaultOutside StandsInForm bytes) =
+    subst (λ (r : Result Index CheckFault). IfErr r (λ e. IfFound e (IsFaultOutside StandsInForm bytes))) c.in-Err.is
+    c.requires.fault
     in
     found_none bytes h c.in-Err.fault (λ i. omega (arith, c.type_inv.bytes i)) c.requires.header stands

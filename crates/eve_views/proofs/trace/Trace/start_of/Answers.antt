@@ -1,7 +1,6 @@
 use Rattle.std.proofs.Common.{◌≡◌, ◌<◌, ℕ, List, length, get_or, vec_len, ap, subst, ◌∙◌, rules, arith}
 use Rattle.std.proofs.lemmas.List.{get_or_read}
 use Rattle.eve_grammar.specs.Frames.{frames_of}
-use Rattle.eve_grammar.specs.Bodies.{limits}
 use Rattle.eve_views.specs.Held.{IsHeldTrace}
 use Rattle.eve_views.proofs.Reaching.{length-offsets_of}
 use Rattle.eve_views.proofs.TraceLaws.{offsets_at, end_at}
@@ -9,7 +8,7 @@ use Rattle.eve_views.proofs.trace.Trace.start_of.Goals as goal
 
 pub returns-then-i-len : goal.returns-then-i-len
 returns-then-i-len c =
-    let held = subst (IsHeldTrace c.self.inside.bytes.now (limits c.self.inside.head) c.self.inside.index)
+    let held = subst (IsHeldTrace c.self.inside.bytes.now c.self.inside.head c.self.inside.index)
     c.self.view_is
     c.self.invariant in
     let fs = frames_of c.args.self.now in
@@ -23,7 +22,7 @@ returns-then-i-len c =
 
 pub returns-else-i-len : goal.returns-else-i-len
 returns-else-i-len c =
-    let held = subst (IsHeldTrace c.self.inside.bytes.now (limits c.self.inside.head) c.self.inside.index)
+    let held = subst (IsHeldTrace c.self.inside.bytes.now c.self.inside.head c.self.inside.index)
     c.self.view_is
     c.self.invariant in
     let fs = frames_of c.args.self.now in

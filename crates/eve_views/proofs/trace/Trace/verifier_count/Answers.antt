@@ -1,5 +1,6 @@
 use Rattle.std.proofs.Common.{sym, ap, ◌∙◌}
-use Rattle.eve_grammar.specs.Trace.{Head, Trace, head_of}
+use Rattle.eve_grammar.specs.Trace.{Trace, head_of}
+use Rattle.eve_grammar.specs.declared.head.Head.{Head}
 use Rattle.eve_views.proofs.trace.Trace.verifier_count.Goals as goal
 
 pub returns : goal.returns

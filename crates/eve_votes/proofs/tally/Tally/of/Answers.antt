@@ -1,10 +1,10 @@
 use Rattle.std.proofs.Common.{◌≡◌, Option, IfSome, sym, ◌∙◌, subst}
-use Rattle.eve_views.specs.Form.{IsLeast}
+use Rattle.eve_views.specs.Form.{IsLeast, IsFaultOutside}
 use Rattle.eve_views.specs.First.{first_of}
 use Rattle.eve_views.specs.declared.fault.Fault.{Fault}
-use Rattle.eve_votes.specs.Faults.{IsVoteFault}
 use Rattle.eve_votes.specs.Decisions.{AreDecisions}
 use Rattle.eve_votes.proofs.Tallying.{first_of_both, first_is_least, not_apart, none_stands, votes_sound}
+use Rattle.eve_votes.specs.Faults.{StandsInVotes}
 use Rattle.eve_votes.proofs.tally.Tally.of.Goals as goal
 
 pub returns-in-Some-clause-least : goal.returns-in-Some-clause-least
@@ -14,7 +14,7 @@ returns-in-Some-clause-least c =
     let apart = c.decide-apart.result in
     let told : c.first_of.result ≡ first_of_both again apart =
     c.first_of.ensures ∙ (λ k. first_of (c.outside.ensures k) (c.outside-2.ensures k)) in
-    subst (λ (o : Option Fault). IfSome o (IsLeast (IsVoteFault t))) (sym told ∙ c.in-Some.is)
+    subst (λ (o : Option Fault). IfSome o (IsLeast (IsFaultOutside StandsInVotes t))) (sym told ∙ c.in-Some.is)
     (first_is_least t again apart c.in_ok-again.ensures.least c.decide-apart.ensures.least)
 
 pub invariant_of-result : goal.invariant_of-result

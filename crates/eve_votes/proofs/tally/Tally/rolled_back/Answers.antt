@@ -9,10 +9,10 @@ pub returns : goal.returns
 returns c =
     let t = c.self.inside.trace.now in
     let same : t ≡ c.args.self.now = c.self.view_is in
-    let told : c.is_quorum.result ≡ leb t.quorum (backers t c.args.n c.args.view ForRollback) =
-    c.is_quorum.ensures ∙ ap (leb t.quorum) c.backers-votes.ensures in
+    let told : c.is_quorum.result ≡ leb t.head.quorum (backers t c.args.n c.args.view ForRollback) =
+    c.is_quorum.ensures ∙ ap (leb t.head.quorum) c.backers-votes.ensures in
     subst (λ (u : Trace). IsTrue c.is_quorum.result ↔ IsRolledBack u c.args.n c.args.view) same (
-      λ given. leb-true t.quorum (backers t c.args.n c.args.view ForRollback) (sym told ∙ given),
+      λ given. leb-true t.head.quorum (backers t c.args.n c.args.view ForRollback) (sym told ∙ given),
       λ backed. told
-          ∙ le-leb t.quorum (backers t c.args.n c.args.view ForRollback) backed,
+          ∙ le-leb t.head.quorum (backers t c.args.n c.args.view ForRollback) backed,
     )

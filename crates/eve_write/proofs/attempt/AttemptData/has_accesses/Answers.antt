@@ -1,6 +1,5 @@
 use Rattle.std.proofs.Common.{◌≡◌, length, eqb, eq-eqb, sym, ◌∙◌, ap, arith}
 use Rattle.std.specs.List.{list_all}
-use Rattle.eve_grammar.specs.Bodies.{limits}
 use Rattle.eve_grammar.specs.Limits.{row_count, is_access}
 use Rattle.eve_write.proofs.Judged.{and_true}
 use Rattle.eve_write.proofs.attempt.AttemptData.has_accesses.Goals as goal
@@ -8,7 +7,7 @@ use Rattle.eve_write.proofs.attempt.AttemptData.has_accesses.Goals as goal
 pub returns-then-len : goal.returns-then-len
 returns-then-len c =
     let a = c.args.self.now in
-    let rows = row_count (limits c.args.head.now) in
+    let rows = row_count c.args.head.now in
     let many : length a.accesses ≡ length a.certificate.items =
     omega (arith, c.if-len.true, c.len.ensures, c.len-2.ensures, a.certificate.ok) in
     c.are_within.ensures ∙ ap (λ n. list_all (is_access n) a.accesses) c.row_count.ensures

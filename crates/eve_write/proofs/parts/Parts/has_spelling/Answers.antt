@@ -1,10 +1,9 @@
-use Rattle.eve_grammar.specs.Bodies.{limits}
 use Rattle.eve_write.proofs.Sound.{tested, passed}
 use Rattle.eve_write.proofs.parts.Parts.has_spelling.Goals as goal
 
 pub returns-in-Some : goal.returns-in-Some
 returns-in-Some c = (
-  tested c.args.self.now (limits c.in-Some.head) c.are_right.result c.in-Some.ensures.head c.in-Some.ensures.right
+  tested c.args.self.now c.in-Some.head c.are_right.result c.in-Some.ensures.head c.in-Some.ensures.right
       c.are_right.ensures,
-  passed c.args.self.now (limits c.in-Some.head) c.are_right.result c.in-Some.ensures.head c.are_right.ensures,
+  passed c.args.self.now c.in-Some.head c.are_right.result c.in-Some.ensures.head c.are_right.ensures,
 )

@@ -1,6 +1,4 @@
-use Rattle.std.proofs.Common.{◌≡◌, length, map, subst, ap, ◌∙◌, arith}
-use Rattle.std.proofs.lemmas.List.{length-map}
-use Rattle.eve_grammar.specs.Bodies.{restore}
+use Rattle.std.proofs.Common.{◌≡◌, length, subst, ap, ◌∙◌, arith}
 use Rattle.byteorder.specs.Endian.{big_bytes}
 use Rattle.eve_write.specs.Writing.{Writes}
 use Rattle.eve_write.proofs.Joined.{app, led}
@@ -9,8 +7,8 @@ use Rattle.eve_write.proofs.rollback.RollbackData.write_front.Goals as goal
 pub returns : goal.returns
 returns g c =
     let restores = c.args.self.now.restores in
-    let counted : c.len.result ≡ length (map restore restores.items) =
-    omega (arith, c.len.ensures, restores.ok, length-map restores.items restore) in
+    let counted : c.len.result ≡ length restores.items =
+    omega (arith, c.len.ensures, restores.ok) in
     let count = c.to_be_bytes-count.ensures ∙ ap (big_bytes 4) counted in
     let body_len = c.to_be_bytes-body_len.ensures ∙ ap (big_bytes 4) c.body_len.ensures in
     subst (Writes g.W.Sink.written g.W.Sink.failures c.args.out.now c.send_texts.new.out c.send_texts.result)

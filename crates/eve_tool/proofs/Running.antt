@@ -1,0 +1,39 @@
+-- What a run of the bytes is, and what is left where out fails, once its trace is known to be short enough.
+use Rattle.std.proofs.Common.{ℕ, ◌≤◌, ◌^◌, List, length, refl, arith, Option, Some}
+use Rattle.eve_grammar.specs.Spelling.{length_of, spelling}
+use Rattle.eve_grammar.proofs.Spelled.{spelled_within}
+use Rattle.eve_workload.specs.declared.mixer.Mixer.{Mixer}
+use Rattle.eve_write.specs.Data.{trace}
+use Rattle.eve_write.specs.declared.parts.Parts.{Parts}
+use Rattle.eve_write.specs.Writing.{Stopped}
+use Rattle.eve_tool.specs.declared.fault.ToolFault.TheVariants as fault
+use Rattle.eve_tool.specs.Run.{Runs, IsRunOfText}
+use Rattle.eve_tool.specs.Calls.{Leaves}
+use Rattle.eve_tool_arguments.specs.Arguments.{Run}
+
+pub runs_of : (limit : ℕ) (mixer : Mixer) (bytes : List ℕ) (p : Parts) → length bytes ≤ limit → limit ≤ 2 ^ 30
+    → IsRunOfText mixer bytes p → length_of (trace p) ≤ limit → Runs limit mixer bytes (spelling (trace p)) 0
+runs_of limit mixer bytes p short few run fits = record {
+  short = short;
+  workload = run.workload;
+  typed = run.typed;
+  trace = trace p;
+  spelled = spelled_within (trace p) run.run.spelled.limits (omega (arith, fits, few));
+  run = run.run.run;
+  fits = fits;
+  ends = refl;
+}
+
+pub failed_run : {O : Type 0} (written : O → Option (List ℕ)) (failures : O → ℕ) (limit : ℕ) (mixer : Mixer)
+    (bytes : List ℕ) (p : Parts) (old new : O) → length bytes ≤ limit → limit ≤ 2 ^ 30 → IsRunOfText mixer bytes p
+    → length_of (trace p) ≤ limit → Stopped written failures old new (spelling (trace p))
+    → Leaves limit written failures (Run mixer) (Some bytes) ⊥ old new fault.Write
+failed_run written failures limit mixer bytes p old new short few run fits stopped = (
+  stopped.counted,
+  record {
+    text = spelling (trace p);
+    status = 0;
+    said = runs_of limit mixer bytes p short few run fits;
+    written = stopped.front;
+  },
+)
