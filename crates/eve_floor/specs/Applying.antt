@@ -1,6 +1,6 @@
 -- What is applied under the locks of a floor's stripes, and what is drawn for it. docs/MODEL.md, "Executions".
 use Rattle.std.specs.Prelude.{◌≡◌, ℕ, List, Result, Ok, Err}
-use Rattle.eve_smallbank.specs.SmallBank.{plain}
+use Rattle.eve_smallbank.specs.SmallBank.{Request, plain}
 use Rattle.eve_smallbank.specs.Touch.{touched_of}
 use Rattle.eve_stamps.specs.declared.fault.StampFault.{StampFault}
 use Rattle.eve_stamps.specs.declared.fault.StampFault.TheVariants as stamp
@@ -36,3 +36,10 @@ abbrev pub Applies : List (List ℕ) → Task → Drawer → Drawer → Result A
 Applies names task old new (Ok r) =
     (new ≡ with_drawn r.tick old) × IsRecordOf names (plain task.request.now) task.index task.worker task.place r
 Applies names task old new (Err why) = Refuses why old new
+
+-- What one execution for a worker alone gives. At Ok one number was drawn, which is the tick of the request's record:
+-- of worker 0, at the place of its index.
+abbrev pub ExecutesAlone : List (List ℕ) → Request → ℕ → Drawer → Drawer → Result Applied ExecFault → Type 0
+ExecutesAlone names request index old new (Ok r) =
+    (new ≡ with_drawn r.tick old) × IsRecordOf names request index 0 index r
+ExecutesAlone names request index old new (Err why) = Refuses why old new

@@ -4,14 +4,15 @@ ghost use Rattle.std.specs.Prelude.{◌≡◌, ◌<◌, length};
 ghost use Rattle.eve_smallbank.specs.SmallBank.{plain};
 ghost use Rattle.eve_smallbank.specs.Touch.{touched_of};
 ghost use Rattle.eve_write.specs.Data.{batch as plain_batch};
+ghost use Rattle.eve_floor.specs.Applying.{ExecutesAlone};
 ghost use Rattle.eve_floor.specs.Executing.{IsSeatedAt, KeepsSeats, Executes, Flushes};
 ghost use Rattle.eve_grammar.specs.Trace.{request_with};
 
 use crate::applying::{Task, applied};
 use crate::{ExecFault, Floor, Worker};
-use eve_recorder::{Gate, NoteFault, Recorder, Tickets};
+use eve_recorder::{Gate, NoteFault, Recorder, TicketSeat, Tickets};
 use eve_smallbank::{Request, Touched, touched};
-use eve_stamps::MOST_PLACES;
+use eve_stamps::{AccessRecord, MOST_PLACES};
 use eve_write::BatchData;
 use std::sync::Wait;
 
@@ -79,6 +80,37 @@ pub fn execute_touched<R: Wait, G: Gate>(
     execute_request(
         rt, floor, recorder, tickets, worker, &request, reached, index, gate,
     )
+}
+
+/// Executes the request as `execute_touched` does, for a worker that executes all requests of the batch alone, in their
+/// order: its record, of worker 0 and with the request's index as its place, is given and noted nowhere.
+///
+/// docs/MODEL.md, "Executions".
+pub fn execute_alone<R: Wait, G: Gate>(
+    rt: &R,
+    floor: &Floor,
+    tickets: &Tickets,
+    drawer: &mut TicketSeat,
+    batch: &BatchData,
+    reached: &Touched,
+    index: u16,
+    gate: &G,
+) -> Result<AccessRecord, ExecFault>
+    requires tickets { drawer.old.tickets ≡ tickets.now }
+    requires index { index < length batch.now.requests.items }
+    requires touched { reached.now ≡ touched_of floor.now (request_with (plain_batch batch.now) index) }
+    ensures { let request = request_with (plain_batch batch.now) index in
+        ExecutesAlone floor.now request index drawer.old drawer.new result }
+{
+    let request = request_at(batch, index);
+    let task = Task {
+        request: &request,
+        reached,
+        index,
+        worker: 0,
+        place: index,
+    };
+    applied(rt, floor, tickets, drawer, &task, gate)
 }
 
 // Executes the request, which has this index in its batch, and notes its record.

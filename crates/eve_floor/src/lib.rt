@@ -1,4 +1,4 @@
-//! Stripes behind locks, and workers that execute requests on them: each execution notes one record.
+//! Stripes behind locks, and workers that execute requests on them: each execution notes one record, or gives it.
 #![tactic(auto)]
 
 mod applying;
@@ -7,7 +7,7 @@ mod fault;
 mod floor;
 mod worker;
 
-pub use executing::{execute, execute_touched, flush};
+pub use executing::{execute, execute_alone, execute_touched, flush};
 pub use fault::ExecFault;
 pub use floor::Floor;
 pub use worker::Worker;

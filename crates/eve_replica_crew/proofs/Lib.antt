@@ -2,3 +2,4 @@ mod Batches
 mod Sizes
 mod Faults
 mod Seatings
+mod Records

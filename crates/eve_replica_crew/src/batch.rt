@@ -11,6 +11,7 @@ ghost use Rattle.eve_replica_crew.specs.Leading.{Leads, Led};
 use crate::crew::{deal, run_hands};
 use crate::lead::Lead;
 use crate::leg::Leg;
+use crate::lone::lone_hands;
 use crate::progress::Progress;
 use crate::room::{Room, Seating, requests_before};
 use crate::share::{Hands, Share};
@@ -50,15 +51,13 @@ pub fn run_batches<R: Threads + Wait + Sync, G: Gate, A, F: FnMut(&mut Lead<'_>)
     ensures refused { OnErr result (own.new ≡ own.old) }
 {
     let progress = Progress::new();
+    let workers = seats.len();
+    if workers == 1 {
+        let hands = lone_hands(alloc, floor, legs)?;
+        return run_hands(rt, alloc, ticks, &progress, seats, hands, gate, own);
+    }
     let (rooms, seatings) = furnish_all(alloc, legs)?;
-    let hands = deal_all(
-        alloc,
-        floor,
-        &progress,
-        rooms.as_slice(),
-        seatings,
-        seats.len(),
-    )?;
+    let hands = deal_all(alloc, floor, &progress, rooms.as_slice(), seatings, workers)?;
     run_hands(rt, alloc, ticks, &progress, seats, hands, gate, own)
 }
 

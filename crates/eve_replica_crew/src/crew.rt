@@ -11,7 +11,7 @@ ghost use Rattle.eve_replica_crew.specs.Leading.{Leads, Led};
 use crate::lead::Lead;
 use crate::progress::Progress;
 use crate::room::Seating;
-use crate::share::{Hands, Share, Turn};
+use crate::share::{Hands, Part, Share, Turn};
 use crate::shared::Shared;
 use crate::work::run_parts;
 use eve_floor::ExecFault;
@@ -73,7 +73,7 @@ pub(crate) fn deal<'s>(
     deal_parts(shared, crew, &mut seating, &mut hands.others)?;
     let share = part_of(shared, 0, &mut seating);
     let Seating { taker, .. } = seating;
-    hands.turns.push(Turn { share, taker })?;
+    hands.turns.push(Part::Beside(Turn { share, taker }))?;
     Ok(())
 }
 
@@ -155,7 +155,7 @@ pub(crate) fn run_hands<R: Threads + Wait + Sync, G: Gate, A, F: FnMut(&mut Lead
 fn lead_of<'s>(
     ticks: &'s Tickets,
     progress: &'s Progress,
-    turns: Vec<Turn<'s>>,
+    turns: Vec<Part<'s>>,
     records: Vec<AccessRecord>,
     seats: &mut Vec<TicketSeat>,
 ) -> Lead<'s>

@@ -3,8 +3,8 @@
 ghost use Rattle.std.specs.Prelude.{◌≡◌};
 
 use crate::progress::Progress;
-use crate::share::Turn;
-use crate::work::run_turn;
+use crate::share::Part;
+use crate::work::run_own;
 use eve_floor::ExecFault;
 use eve_recorder::{Gate, TicketSeat, Tickets};
 use eve_stamps::AccessRecord;
@@ -18,7 +18,7 @@ pub struct Lead<'s> {
     pub(crate) ticks: &'s Tickets,
     pub(crate) progress: &'s Progress,
     // its parts that are left, the first batch last
-    pub(crate) turns: Vec<Turn<'s>>,
+    pub(crate) turns: Vec<Part<'s>>,
     pub(crate) tick: Option<TicketSeat>,
     // why it gave a request up
     pub(crate) fault: Option<ExecFault>,
@@ -47,14 +47,14 @@ impl<'s> Lead<'s> {
     pub fn next<R: Wait, G: Gate>(&mut self, rt: &R, gate: &G) -> bool
         ensures { self.new ≡ self.old }
     {
-        let Some(turn) = self.turns.pop() else {
+        let Some(part) = self.turns.pop() else {
             return false;
         };
         let Some(tick) = self.tick.take() else {
             unreachable!()
         };
         self.records.clear();
-        let (tick, end) = run_turn(rt, self.ticks, turn, tick, gate, &mut self.records);
+        let (tick, end) = run_own(rt, self.ticks, part, tick, gate, &mut self.records);
         self.tick = Some(tick);
         match end {
             Ok(()) => true,

@@ -6,6 +6,7 @@ mod batch;
 mod crew;
 mod lead;
 mod leg;
+mod lone;
 mod progress;
 mod room;
 mod share;

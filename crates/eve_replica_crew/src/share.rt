@@ -3,6 +3,7 @@
 ghost use Rattle.std.specs.Prelude.{◌≡◌};
 ghost use Rattle.eve_replica_crew.specs.Sharing.{IsReady};
 
+use crate::lone::Lone;
 use crate::shared::Shared;
 use eve_recorder::{TakerSeat, TicketSeat, WorkerSeat};
 
@@ -24,11 +25,20 @@ pub(crate) struct Turn<'s> {
     pub ghost own: { taker.recorder ≡ share.shared.recorder.now.recorder },
 }
 
+/// What the first worker has to do of a batch.
+#[derive(Drop)]
+pub(crate) enum Part<'s> {
+    /// All of it.
+    Alone(Lone<'s>),
+    /// What it claims beside other workers.
+    Beside(Turn<'s>),
+}
+
 /// The parts of the workers, of each the first batch last.
 #[derive(Drop)]
 pub(crate) struct Hands<'s> {
     // of the first worker, which has a part in every batch
-    pub turns: Vec<Turn<'s>>,
+    pub turns: Vec<Part<'s>>,
     // of each worker, but none of the first
     pub others: Vec<Vec<Share<'s>>>,
 }

@@ -9,8 +9,9 @@ ghost use Rattle.eve_replica_crew.specs.Sharing.{IsSet};
 ghost use Rattle.eve_replica_crew.specs.Crews.{IsSeated};
 
 use crate::crew::Member;
+use crate::lone::run_lone;
 use crate::progress::Pace;
-use crate::share::{Share, Turn};
+use crate::share::{Part, Share, Turn};
 use crate::shared::Shared;
 use eve_floor::{ExecFault, Worker, execute_touched};
 use eve_grammar::MOST_REQUESTS;
@@ -42,9 +43,34 @@ pub(crate) fn run_parts<R: Wait, G: Gate>(
     }
 }
 
-/// Runs the first worker's part in one batch, and takes what was noted of it, once all of it is. The seat at the
-/// tickets of ticks is given back. Its fault, where it gives a request up, and none where another worker did.
-pub(crate) fn run_turn<R: Wait, G: Gate>(
+/// Runs what the first worker has to do of a batch, and then knows what was noted of all of it. The seat at the tickets
+/// of ticks is given back. Its fault, where it gives a request up, and none where another worker did.
+pub(crate) fn run_own<R: Wait, G: Gate>(
+    rt: &R,
+    ticks: &Tickets,
+    part: Part<'_>,
+    mut tick: TicketSeat,
+    gate: &G,
+    records: &mut Vec<AccessRecord>,
+) -> (TicketSeat, Result<(), Option<ExecFault>>)
+    requires tick { tick.tickets ≡ ticks.now }
+    requires empty { vec_len records.old ≡ 0 }
+    requires room { MOST_REQUESTS ≤ vec_capacity records.old }
+    ensures tick { result.0.tickets ≡ ticks.now }
+    ensures room { vec_capacity records.new ≡ vec_capacity records.old }
+{
+    match part {
+        Part::Alone(lone) => match run_lone(rt, ticks, &lone, &mut tick, gate, records) {
+            Ok(()) => (tick, Ok(())),
+            Err(why) => (tick, Err(Some(why))),
+        },
+        Part::Beside(turn) => run_turn(rt, ticks, turn, tick, gate, records),
+    }
+}
+
+// Runs the first worker's part in one batch, and takes what was noted of it, once all of it is. The seat at the
+// tickets of ticks is given back. Its fault, where it gives a request up, and none where another worker did.
+fn run_turn<R: Wait, G: Gate>(
     rt: &R,
     ticks: &Tickets,
     turn: Turn<'_>,

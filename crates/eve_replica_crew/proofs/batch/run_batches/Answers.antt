@@ -4,6 +4,7 @@ use Rattle.eve_replica_crew.proofs.batch.run_batches.Goals as goal
 
 pub deal_all-requires-clause-rooms : goal.deal_all-requires-clause-rooms
 deal_all-requires-clause-rooms g c =
-    subst (All (IsRightRoom c.args.floor.now c.len.result)) (sym c.as_slice.ensures.value)
-    (c.in_ok-rooms.ensures.rooms c.args.floor.now c.len.result
-    (subst (λ (w : ℕ). All (IsRightLeg c.args.floor.now w) c.args.legs.now) (sym c.len.ensures) c.requires.legs))
+    subst (All (IsRightRoom c.args.floor.now c.len-workers.result)) (sym c.as_slice.ensures.value)
+    (c.in_ok-rooms.ensures.rooms c.args.floor.now c.len-workers.result
+    (subst (λ (w : ℕ). All (IsRightLeg c.args.floor.now w) c.args.legs.now) (sym c.len-workers.ensures)
+    c.requires.legs))

@@ -1,0 +1,74 @@
+//! Batches that one worker runs alone.
+
+ghost use Rattle.std.specs.Prelude.{◌≡◌, ◌≤◌, All, IfOk, OnOk, length, vec_len, vec_capacity};
+ghost use Rattle.eve_write.specs.Data.{batch as plain};
+ghost use Rattle.eve_replica_crew.specs.Sharing.{IsRightLeg};
+ghost use Rattle.eve_replica_crew.specs.Recording.{AreRecordsFrom};
+
+use crate::leg::Leg;
+use crate::share::{Hands, Part};
+use eve_floor::{ExecFault, Floor, execute_alone};
+use eve_grammar::MOST_REQUESTS;
+use eve_recorder::{Gate, TicketSeat, Tickets};
+use eve_stamps::AccessRecord;
+use std::alloc::{AllocError, Global};
+use std::sync::Wait;
+
+/// A batch in which no other worker takes part. So nobody claims its requests or is waited for, and what is noted needs
+/// no queue.
+#[derive(Drop)]
+pub(crate) struct Lone<'s> {
+    pub floor: &'s Floor<'s>,
+    pub leg: Leg<'s>,
+    pub ghost right: { IsRightLeg floor.now 1 leg },
+}
+
+/// The parts of the only worker there is: each batch, the first one last.
+pub(crate) fn lone_hands<'s>(
+    alloc: Global,
+    floor: &'s Floor<'s>,
+    legs: &[Leg<'s>],
+) -> Result<Hands<'s>, AllocError>
+    requires { All (IsRightLeg floor.now 1) legs.now }
+    ensures turns { IfOk result (λ hands. vec_len hands.turns ≡ length legs.now) }
+    ensures others { IfOk result (λ hands. vec_len hands.others ≡ 0) }
+{
+    let mut hands = Hands {
+        turns: Vec::with_capacity(alloc, legs.len())?,
+        others: Vec::new(alloc),
+    };
+    let mut left = legs.len();
+    while left > 0 {
+        left -= 1;
+        let leg = legs[left];
+        hands.turns.push(Part::Alone(Lone { floor, leg }))?;
+    }
+    Ok(hands)
+}
+
+/// Runs the requests of the batch, one after another, and keeps the record of each.
+pub(crate) fn run_lone<R: Wait, G: Gate>(
+    rt: &R,
+    ticks: &Tickets,
+    lone: &Lone<'_>,
+    tick: &mut TicketSeat,
+    gate: &G,
+    records: &mut Vec<AccessRecord>,
+) -> Result<(), ExecFault>
+    requires tick { tick.old.tickets ≡ ticks.now }
+    requires empty { vec_len records.old ≡ 0 }
+    requires room { MOST_REQUESTS ≤ vec_capacity records.old }
+    ensures tick { tick.new.tickets ≡ ticks.now }
+    ensures room { vec_capacity records.new ≡ vec_capacity records.old }
+    ensures noted { AreRecordsFrom lone.now.floor.now (plain lone.now.leg.batch.now) 0 records.new.items }
+    ensures all { OnOk result (vec_len records.new ≡ length lone.now.leg.batch.now.requests.items) }
+{
+    let Leg { batch, touched, .. } = lone.leg;
+    for index in 0..batch.requests.len() {
+        let reached = &touched[index];
+        let number = index as u16;
+        let record = execute_alone(rt, lone.floor, ticks, tick, batch, reached, number, gate)?;
+        records.push_reserved(record);
+    }
+    Ok(())
+}
