@@ -1,7 +1,9 @@
 //! Batches that one worker runs alone.
 
-ghost use Rattle.std.specs.Prelude.{◌≡◌, ◌≤◌, All, IfOk, OnOk, length, vec_len, vec_capacity};
+ghost use Rattle.std.specs.Prelude.{◌≡◌, ◌≤◌, All, IfOk, IfErr, OnOk, length, vec_len, vec_capacity};
 ghost use Rattle.eve_write.specs.Data.{batch as plain};
+ghost use Rattle.eve_recorder.specs.Drawing.{Drawer};
+ghost use Rattle.eve_floor.specs.Applying.{Refuses};
 ghost use Rattle.eve_replica_crew.specs.Sharing.{IsRightLeg};
 ghost use Rattle.eve_replica_crew.specs.Recording.{AreRecordsFrom};
 
@@ -62,6 +64,7 @@ pub(crate) fn run_lone<R: Wait, G: Gate>(
     ensures room { vec_capacity records.new ≡ vec_capacity records.old }
     ensures noted { AreRecordsFrom lone.now.floor.now (plain lone.now.leg.batch.now) 0 records.new.items }
     ensures all { OnOk result (vec_len records.new ≡ length lone.now.leg.batch.now.requests.items) }
+    ensures refused { IfErr result (λ why. (before : Drawer) × Refuses why before tick.new) }
 {
     let Leg { batch, touched, .. } = lone.leg;
     for index in 0..batch.requests.len() {
