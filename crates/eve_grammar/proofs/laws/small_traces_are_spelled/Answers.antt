@@ -1,16 +1,14 @@
 use Rattle.std.proofs.Common.{refl, arith}
 use Rattle.eve_grammar.specs.Frames.{frames_of}
 use Rattle.eve_grammar.specs.Spelling.{head_text, length_of, spelling}
-use Rattle.eve_grammar.specs.Limits.{HasLimits}
 use Rattle.eve_grammar.specs.Cases.{empty_run, deposit_committed}
-use Rattle.eve_grammar.proofs.Runs.{run_of_trace}
+use Rattle.eve_grammar.proofs.Spelled.{spelled_within}
 use Rattle.eve_grammar.proofs.laws.small_traces_are_spelled.Goals as goal
 
 pub returns-clause-empty_run : goal.returns-clause-empty_run
 unfolding frames_of head_text length_of spelling
 returns-clause-empty_run c =
-    let limits : HasLimits empty_run =
-    record {
+    spelled_within empty_run (record {
       counts = refl;
       head = refl;
       customers = refl;
@@ -18,19 +16,12 @@ returns-clause-empty_run c =
       sections = refl;
       votes = refl;
       sent = refl;
-    } in
-    record {
-      head = refl;
-      follow = (run_of_trace empty_run limits (omega arith)).follow;
-      short = omega arith;
-      spelled = refl;
-    }
+    }) (omega arith)
 
 pub returns-clause-deposit_committed : goal.returns-clause-deposit_committed
 unfolding frames_of head_text length_of spelling
 returns-clause-deposit_committed c =
-    let limits : HasLimits deposit_committed =
-    record {
+    spelled_within deposit_committed (record {
       counts = refl;
       head = refl;
       customers = refl;
@@ -38,10 +29,4 @@ returns-clause-deposit_committed c =
       sections = refl;
       votes = refl;
       sent = refl;
-    } in
-    record {
-      head = refl;
-      follow = (run_of_trace deposit_committed limits (omega arith)).follow;
-      short = omega arith;
-      spelled = refl;
-    }
+    }) (omega arith)

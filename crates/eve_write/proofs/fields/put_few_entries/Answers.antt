@@ -1,7 +1,7 @@
 use Rattle.std.proofs.Common.{◌≡◌, ◌≤◌, ◌+◌, length, take, sym, ap, subst, ◌∙◌, arith}
 use Rattle.std.specs.List.{flat_map}
 use Rattle.std.proofs.lemmas.List.{take_all}
-use Rattle.arrayvec.specs.ArrayVec.{ArrayVec, array_vec_len}
+use Rattle.arrayvec.specs.ArrayVec.{array_vec_len}
 use Rattle.eve_grammar.specs.Spelling.{entry_text}
 use Rattle.eve_write.specs.Writing.{Puts}
 use Rattle.eve_write.proofs.Joined.{Puts-more}
