@@ -37,9 +37,9 @@ Applies names task old new (Ok r) =
     (new ≡ with_drawn r.tick old) × IsRecordOf names (plain task.request.now) task.index task.worker task.place r
 Applies names task old new (Err why) = Refuses why old new
 
--- What one execution for a worker alone gives. At Ok one number was drawn, which is the tick of the request's record:
--- of worker 0, at the place of its index.
-abbrev pub ExecutesAlone : List (List ℕ) → Request → ℕ → Drawer → Drawer → Result Applied ExecFault → Type 0
-ExecutesAlone names request index old new (Ok r) =
-    (new ≡ with_drawn r.tick old) × IsRecordOf names request index 0 index r
-ExecutesAlone names request index old new (Err why) = Refuses why old new
+-- What one execution gives a first worker that keeps its records. At Ok one number was drawn, which is the tick of the
+-- request's record: of worker 0, at this place.
+abbrev pub ExecutesKept : List (List ℕ) → Request → ℕ → ℕ → Drawer → Drawer → Result Applied ExecFault → Type 0
+ExecutesKept names request index place old new (Ok r) =
+    (new ≡ with_drawn r.tick old) × IsRecordOf names request index 0 place r
+ExecutesKept names request index place old new (Err why) = Refuses why old new

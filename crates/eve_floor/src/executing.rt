@@ -4,7 +4,7 @@ ghost use Rattle.std.specs.Prelude.{◌≡◌, ◌<◌, length};
 ghost use Rattle.eve_smallbank.specs.SmallBank.{plain};
 ghost use Rattle.eve_smallbank.specs.Touch.{touched_of};
 ghost use Rattle.eve_write.specs.Data.{batch as plain_batch};
-ghost use Rattle.eve_floor.specs.Applying.{ExecutesAlone};
+ghost use Rattle.eve_floor.specs.Applying.{ExecutesKept};
 ghost use Rattle.eve_floor.specs.Executing.{IsSeatedAt, KeepsSeats, Executes, Flushes};
 ghost use Rattle.eve_grammar.specs.Trace.{request_with};
 
@@ -82,11 +82,11 @@ pub fn execute_touched<R: Wait, G: Gate>(
     )
 }
 
-/// Executes the request as `execute_touched` does, for a worker that executes all requests of the batch alone, in their
-/// order: its record, of worker 0 and with the request's index as its place, is given and noted nowhere.
+/// Executes the request as `execute_touched` does, for a first worker that keeps its records itself: the record, of
+/// worker 0 and with this place, is given and noted nowhere.
 ///
 /// docs/MODEL.md, "Executions".
-pub fn execute_alone<R: Wait, G: Gate>(
+pub fn execute_kept<R: Wait, G: Gate>(
     rt: &R,
     floor: &Floor,
     tickets: &Tickets,
@@ -94,13 +94,14 @@ pub fn execute_alone<R: Wait, G: Gate>(
     batch: &BatchData,
     reached: &Touched,
     index: u16,
+    place: u16,
     gate: &G,
 ) -> Result<AccessRecord, ExecFault>
     requires tickets { drawer.old.tickets ≡ tickets.now }
     requires index { index < length batch.now.requests.items }
     requires touched { reached.now ≡ touched_of floor.now (request_with (plain_batch batch.now) index) }
     ensures { let request = request_with (plain_batch batch.now) index in
-        ExecutesAlone floor.now request index drawer.old drawer.new result }
+        ExecutesKept floor.now request index place drawer.old drawer.new result }
 {
     let request = request_at(batch, index);
     let task = Task {
@@ -108,7 +109,7 @@ pub fn execute_alone<R: Wait, G: Gate>(
         reached,
         index,
         worker: 0,
-        place: index,
+        place,
     };
     applied(rt, floor, tickets, drawer, &task, gate)
 }

@@ -7,7 +7,7 @@ mod fault;
 mod floor;
 mod worker;
 
-pub use executing::{execute, execute_alone, execute_touched, flush};
+pub use executing::{execute, execute_kept, execute_touched, flush};
 pub use fault::ExecFault;
 pub use floor::Floor;
 pub use worker::Worker;

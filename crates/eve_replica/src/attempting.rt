@@ -1,11 +1,10 @@
 //! Attempts that are made while a replica's workers run.
 
-ghost use Rattle.std.specs.Prelude.{◌≡◌, ◌+◌, ◌≤◌, true, false, ℕ, [], ◌∷◌, ◌++◌, All, length, vec_len, map};
+ghost use Rattle.std.specs.Prelude.{◌≡◌, ◌+◌, ◌≤◌, true, false, ℕ, [], ◌∷◌, ◌++◌, All, length, map};
 ghost use Rattle.std.specs.Prelude.{IsTrue, IfOk, IfErr, IfSome, OnOk, OnErr};
 ghost use Rattle.std.specs.List.{list_all};
 ghost use Rattle.eve_grammar.specs.Limits.{is_step};
 ghost use Rattle.eve_write.specs.Data.{attempt, batch as plain_batch, section, step as plain};
-ghost use Rattle.eve_replica_crew.specs.Crews.{AreTickets};
 ghost use Rattle.eve_replica_crew.specs.Sharing.{IsRightLeg};
 ghost use Rattle.eve_replica.specs.Replicas.{AttemptsDue, FailsAttempt, GivesUp, KeepsCrew, MayAttempt};
 ghost use Rattle.eve_replica.specs.Serving.{AreDue, GoesOn, IsRightMixed, MayAttemptAll, AttemptsAll, attempt_move};
@@ -15,8 +14,8 @@ ghost use Rattle.eve_replica.specs.Replicas.{IsFresh};
 use crate::account::Account;
 use crate::fault::{AttemptFault, RunFault, fault_of};
 use eve_floor::{ExecFault, Floor};
-use eve_recorder::{Gate, TicketSeat, Tickets};
-use eve_replica_crew::{Lead, Leg, run_batches};
+use eve_recorder::Gate;
+use eve_replica_crew::{Lead, Leg, Workers, run_batches};
 use eve_workload::MixedBatch;
 use eve_write::{AttemptData, Step};
 use std::alloc::{AllocError, Global};
@@ -29,18 +28,14 @@ pub(crate) fn attempt_one<R: Threads + Wait + Sync, G: Gate>(
     rt: &R,
     alloc: Global,
     floor: &Floor,
-    ticks: &Tickets,
-    seats: &mut Vec<TicketSeat>,
+    workers: &mut Workers,
     account: &mut Account<'_>,
     leg: Leg<'_>,
     gate: &G,
 ) -> Result<AttemptData, AttemptFault>
-    requires leg { IsRightLeg floor.now (vec_len seats.old) leg }
-    requires seats { AreTickets ticks.now seats.old.items }
-    requires some { 1 ≤ vec_len seats.old }
+    requires leg { IsRightLeg floor.now workers.old.many leg }
     requires due { MayAttempt account.old (plain_batch leg.batch.now) leg.touched.now }
-    ensures seats { AreTickets ticks.now seats.new.items }
-    ensures many { vec_len seats.new ≡ vec_len seats.old }
+    ensures workers { workers.new ≡ workers.old }
     ensures attempted { IfOk result (λ a.
         AttemptsDue account.old account.new (plain_batch leg.entry.batch.now) (attempt a)) }
     ensures refused { IfErr result (λ why. FailsAttempt why account.old account.new) }
@@ -56,7 +51,7 @@ pub(crate) fn attempt_one<R: Threads + Wait + Sync, G: Gate>(
         ensures refused { IfErr result (λ given. GivesUp given account.entry.now account.exit.now) }
         ensures same { KeepsCrew account.entry.now account.exit.now }
     { account.attempt_next(rt, alloc, lead, batch, touched, gate) };
-    let ran = run_batches(rt, alloc, floor, ticks, seats, &[leg], gate, &mut own);
+    let ran = run_batches(rt, alloc, floor, workers, &[leg], gate, &mut own);
     match ran {
         Ok((Ok(attempt), _)) => Ok(attempt),
         Ok((Err(Some(why)), _)) => Err(why),
@@ -71,20 +66,16 @@ pub(crate) fn attempt_legs<R: Threads + Wait + Sync, G: Gate>(
     rt: &R,
     alloc: Global,
     floor: &Floor,
-    ticks: &Tickets,
-    seats: &mut Vec<TicketSeat>,
+    workers: &mut Workers,
     account: &mut Account<'_>,
     steps: &mut Vec<Step>,
     window: &[MixedBatch],
     legs: &[Leg],
     gate: &G,
 ) -> Result<(), RunFault>
-    requires legs { All (IsRightLeg floor.now (vec_len seats.old)) legs.now }
-    requires seats { AreTickets ticks.now seats.old.items }
-    requires some { 1 ≤ vec_len seats.old }
+    requires legs { All (IsRightLeg floor.now workers.old.many) legs.now }
     requires due { MayAttemptAll account.old window.now }
-    ensures seats { AreTickets ticks.now seats.new.items }
-    ensures many { vec_len seats.new ≡ vec_len seats.old }
+    ensures workers { workers.new ≡ workers.old }
     ensures on { OnOk result (AttemptsAll window.now account.old steps.old account.new steps.new) }
     ensures broken { OnErr result (account.new.is_broken ≡ true) }
     ensures same { KeepsCrew account.old account.new }
@@ -97,7 +88,7 @@ pub(crate) fn attempt_legs<R: Threads + Wait + Sync, G: Gate>(
         ensures broken { IfErr result (λ given. IfSome given (λ _. account.exit.now.is_broken ≡ true)) }
         ensures same { KeepsCrew account.entry.now account.exit.now }
     { attempt_each(rt, alloc, lead, account, steps, window, gate) };
-    let ran = run_batches(rt, alloc, floor, ticks, seats, legs, gate, &mut own);
+    let ran = run_batches(rt, alloc, floor, workers, legs, gate, &mut own);
     match ran {
         Ok((Ok(()), _)) => Ok(()),
         Ok((Err(Some(why)), _)) => Err(why),

@@ -1,18 +1,16 @@
 //! One replica.
 
 ghost use Rattle.std.specs.Prelude.{◌≡◌, ◌+◌, ◌-◌, ◌*◌, ◌^◌, ◌<◌, ◌≤◌, ◌↔◌, true, false, Err, Some, All, length};
-ghost use Rattle.std.specs.Prelude.{vec_len, vec_capacity, option_map, slice_get};
+ghost use Rattle.std.specs.Prelude.{vec_len, option_map, slice_get};
 ghost use Rattle.std.specs.Prelude.{IsTrue, IfOk, IfErr, IfSome, IfNone, OnOk, OnErr, IsOk, Contains, [], map};
 ghost use Rattle.eve_grammar.specs.Limits.{is_batch};
 ghost use Rattle.eve_write.specs.Data.{batch as plain, attempt, commit, rollback};
 ghost use Rattle.eve_attempts.specs.Ledgers.{opening};
 ghost use Rattle.eve_attempts.specs.Closing.{touched_in_batch, AreMismatched};
 ghost use Rattle.eve_attempts.specs.Discarding.{RollsBack};
-ghost use Rattle.eve_recorder.specs.Drawing.{fresh_seats};
 ghost use Rattle.eve_replica.specs.Replicas.{Attempts, AttemptsDue, FailsAttempt, ClosesThese, ClosesOwn};
 ghost use Rattle.eve_replica.specs.Replicas.{IsFirstOpen, CommitsFirst};
 ghost use Rattle.eve_replica.specs.Serving.{IsRightMixed, MayAttemptAll, AttemptsAll};
-ghost use Rattle.eve_replica_crew.specs.Crews.{AreTickets};
 ghost use Rattle.eve_replica_crew.specs.Sharing.{IsRightLeg};
 
 use crate::account::Account;
@@ -22,8 +20,8 @@ use eve_accounts::{Balances, Names};
 use eve_attempts::{AttemptFront, CloseFault as Unclosed};
 use eve_floor::Floor;
 use eve_grammar::{MOST_BATCHES, MOST_WINDOW, MOST_WORKERS};
-use eve_recorder::{Gate, MOST_DRAWN, TicketSeat, TicketSeats, Tickets};
-use eve_replica_crew::{Leg, crew_size};
+use eve_recorder::Gate;
+use eve_replica_crew::{Leg, Workers, crew_size};
 use eve_smallbank::Touched;
 use eve_stamps::AccessRecord;
 use eve_workload::{MixedBatch, look_up};
@@ -41,25 +39,19 @@ use std::thread::Threads;
 #[derive(Drop)]
 pub struct Replica<'n> {
     floor: Floor<'n>,
-    ticks: Tickets,
-    // one for each worker
-    seats: Vec<TicketSeat>,
+    workers: Workers,
     account: Account<'n>,
 }
 
 impl<'n> Model for Replica<'n> {
-    ghost use Rattle.std.specs.Prelude.{◌≡◌, ◌≤◌, vec_len};
-    ghost use Rattle.eve_replica_crew.specs.Crews.{AreTickets};
+    ghost use Rattle.std.specs.Prelude.{◌≡◌};
     ghost use Rattle.eve_replica.specs.Replicas as model;
-    ghost use Rattle.eve_grammar.specs.declared.limits.TheConstants.{MOST_WORKERS};
 
     ghost Value = { model.Replica };
 
     ghost view = { λ r. r.account };
 
-    ghost invariant = { λ r. AreTickets r.ticks r.seats.items
-        × (1 ≤ vec_len r.seats) × (vec_len r.seats ≤ MOST_WORKERS)
-        × (r.floor ≡ r.account.names) × (vec_len r.seats ≡ r.account.ledger.workers) };
+    ghost invariant = { λ r. (r.floor ≡ r.account.names) × (r.workers.many ≡ r.account.ledger.workers) };
 }
 
 impl<'n> Replica<'n> {
@@ -78,13 +70,12 @@ impl<'n> Replica<'n> {
         ensures { let ledger = opening balances.now workers window in
             IfOk result (λ r. r ≡ record { names = names.now.items; ledger = ledger; is_broken = false }) }
     {
-        let (ticks, seats) = seated(alloc, workers)?;
+        let crew = Workers::new(alloc, workers)?;
         let floor = Floor::new(alloc, names, balances)?;
         let account = Account::new(alloc, names, balances, workers, window)?;
         Ok(Replica {
             floor,
-            ticks,
-            seats,
+            workers: crew,
             account,
         })
     }
@@ -179,13 +170,12 @@ impl<'n> Replica<'n> {
             return Err(self.account.broken_by(AttemptFault::Memory));
         };
         let touched = touched.as_slice();
-        let leg = leg_of(&self.floor, self.seats.len() as u8, batch, touched, serial);
+        let leg = leg_of(&self.floor, self.workers.many(), batch, touched, serial);
         attempt_one(
             rt,
             alloc,
             &self.floor,
-            &self.ticks,
-            &mut self.seats,
+            &mut self.workers,
             &mut self.account,
             leg,
             gate,
@@ -206,7 +196,7 @@ impl<'n> Replica<'n> {
         ensures on { OnOk result (AttemptsAll window.now self.old steps.old self.new steps.new) }
         ensures broken { OnErr result (self.new.is_broken ≡ true) }
     {
-        let workers = self.seats.len() as u8;
+        let workers = self.workers.many();
         let serial = self.is_next_serial();
         let Ok(legs) = legs_of(alloc, &self.floor, workers, window, serial) else {
             return Err(self.account.broken_by(AttemptFault::Memory).into());
@@ -215,8 +205,7 @@ impl<'n> Replica<'n> {
             rt,
             alloc,
             &self.floor,
-            &self.ticks,
-            &mut self.seats,
+            &mut self.workers,
             &mut self.account,
             steps,
             window,
@@ -306,42 +295,6 @@ impl<'n> Replica<'n> {
         self.floor.go_back();
         Ok(rollback)
     }
-}
-
-// The tickets of ticks for so many workers, and a seat for each.
-fn seated(alloc: Global, workers: u8) -> Result<(Tickets, Vec<TicketSeat>), AllocError>
-    requires { workers ≤ MOST_WORKERS }
-    ensures own { IfOk result (λ r. AreTickets r.0 r.1.items) }
-    ensures many { IfOk result (λ r. vec_len r.1 ≡ workers) }
-{
-    let seats = Vec::with_capacity(alloc, workers as usize)?;
-    let (ticks, all) = Tickets::new(alloc, workers, MOST_DRAWN)?;
-    let seats = seats_of(&ticks, all, workers, seats);
-    Ok((ticks, seats))
-}
-
-// The seats of so many workers.
-fn seats_of(
-    tickets: &Tickets,
-    mut all: TicketSeats,
-    workers: u8,
-    mut seats: Vec<TicketSeat>,
-) -> Vec<TicketSeat>
-    requires tickets { tickets.now.seats ≡ workers }
-    requires all { all ≡ fresh_seats tickets.now }
-    requires few { workers ≤ MOST_WORKERS }
-    requires room { (vec_len seats ≡ 0) × (workers ≤ vec_capacity seats) }
-    ensures own { AreTickets tickets.now result.items }
-    ensures many { vec_len result ≡ workers }
-{
-    for number in 0..workers {
-        match all.seat(number) {
-            Some(seat) => seats.push_reserved(seat),
-            None => unreachable!(),
-        }
-    }
-    drop(all);
-    seats
 }
 
 // The batches of a window, for so many workers: only the first can be one in serial mode.

@@ -1,11 +1,11 @@
--- One more record of a worker alone.
-use Rattle.std.proofs.Common.{◌≡◌, ℕ, ◌+◌, List, [], ◌∷◌, ◌++◌, length, subst, arith}
+-- One more record that the first worker keeps.
+use Rattle.std.proofs.Common.{◌≡◌, ℕ, ◌+◌, List, [], ◌∷◌, ◌++◌, length, subst, sym, arith}
 use Rattle.eve_stamps.specs.Applied.{Applied}
 use Rattle.eve_grammar.specs.Trace.{Batch, request_with}
 use Rattle.eve_floor.specs.Executing.{IsRecordOf}
-use Rattle.eve_replica_crew.specs.Recording.{AreRecordsFrom}
+use Rattle.eve_replica_crew.specs.Recording.{AreKeptFrom, AreRecordsFrom}
 
--- that of the request after those that have one
+-- of a worker alone: that of the request after those that have one
 pub records_push : (names : List (List ℕ)) (b : Batch) (index : ℕ) (records : List Applied) (r : Applied) (next : ℕ)
     → AreRecordsFrom names b index records → next ≡ index + length records
     → IsRecordOf names (request_with b next) next 0 next r
@@ -15,3 +15,15 @@ records_push names b index [] r next all at own =
     (subst (λ (k : ℕ). IsRecordOf names (request_with b k) k 0 k r) same own, record {})
 records_push names b index (q ∷ records) r next all at own =
     (all.0, records_push names b (index + 1) records r next all.1 (omega (arith, at)) own)
+
+-- of the first of several: that of any request, at the place after those that are taken
+pub kept_push : (names : List (List ℕ)) (b : Batch) (place : ℕ) (records : List Applied) (r : Applied) (index next : ℕ)
+    → AreKeptFrom names b place records → next ≡ place + length records
+    → IsRecordOf names (request_with b index) index 0 next r
+    → AreKeptFrom names b place (records ++ r ∷ [])
+kept_push names b place [] r index next all at own =
+    let same : next ≡ place = omega (arith, at) in
+    let there = subst (λ (k : ℕ). IsRecordOf names (request_with b index) index 0 k r) same own in
+    (subst (λ (k : ℕ). IsRecordOf names (request_with b k) k 0 place r) (sym there.0) there, record {})
+kept_push names b place (q ∷ records) r index next all at own =
+    (all.0, kept_push names b (place + 1) records r index next all.1 (omega (arith, at)) own)

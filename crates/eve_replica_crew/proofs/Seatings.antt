@@ -47,9 +47,9 @@ seats_seen rooms seatings s r k d t all at is desk claims =
     (subst (λ (u : TicketSource). AreSeatsAt r.recorder.recorder u r.leg.crew s) (sym claims) own)
 
 -- at first all seats of a recorder's workers are there, and nothing is noted on them
-pub fresh_noters : (recorder : RecorderId) (n : ℕ) → recorder.workers ≡ n → n ≤ 8
+pub fresh_noters : (recorder : RecorderId) (n : ℕ) → n ≤ recorder.workers → recorder.workers ≡ 8
     → AreNoters recorder n (fresh_places recorder).seats
-fresh_noters recorder n same few = search rules
+fresh_noters recorder n few all = search rules
 
 -- and all seats at tickets
 pub fresh_there : (t : TicketSource) (n : ℕ) → t.seats ≡ n → n ≤ 8 → AreThere n (fresh_seats t).places

@@ -29,3 +29,8 @@ crew_of sizes workers serial = if serial then 1 else min workers (max 1 (largest
 -- seats at these tickets
 abbrev pub AreTickets : TicketSource → List Drawer → Type 0
 AreTickets tickets seats = All (λ d. d.tickets ≡ tickets) seats
+
+-- the workers of a replica: the tickets of ticks at which they have their seats, and how many there are
+pub record Workforce : Type 0 where
+  pub ticks : TicketSource
+  pub many : ℕ

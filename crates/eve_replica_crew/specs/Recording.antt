@@ -1,12 +1,18 @@
--- What a worker alone notes of a batch. docs/MODEL.md, "Executions".
+-- What the first worker keeps of a batch. docs/MODEL.md, "Executions".
 use Rattle.std.specs.Prelude.{ℕ, ◌+◌, ⊤, List, [], ◌∷◌}
 use Rattle.eve_stamps.specs.Applied.{Applied}
 use Rattle.eve_grammar.specs.Trace.{Batch, request_with}
 use Rattle.eve_floor.specs.Executing.{IsRecordOf}
 
--- Records of the batch's requests from this index on, one of each in their order: of worker 0, each at the place of its
--- request's index.
+-- A worker alone: records of the batch's requests from this index on, one of each in their order: of worker 0, each at
+-- the place of its request's index.
 abbrev pub AreRecordsFrom : List (List ℕ) → Batch → ℕ → List Applied → Type 0
 AreRecordsFrom names b index [] = ⊤
 AreRecordsFrom names b index (r ∷ records) =
     IsRecordOf names (request_with b index) index 0 index r × AreRecordsFrom names b (index + 1) records
+
+-- The first of several: records of such requests as it claimed, of worker 0, at the places from this one on.
+abbrev pub AreKeptFrom : List (List ℕ) → Batch → ℕ → List Applied → Type 0
+AreKeptFrom names b place [] = ⊤
+AreKeptFrom names b place (r ∷ records) =
+    IsRecordOf names (request_with b r.index) r.index 0 place r × AreKeptFrom names b (place + 1) records

@@ -2,7 +2,7 @@
 use Rattle.std.specs.Prelude.{◌≡◌, ℕ, IsTrue, ◌<◌, ◌≤◌, List, [], ◌∷◌, length, map, Option, Some, None, IsSome, ⊤}
 use Rattle.std.specs.Prelude.{slice_index_or}
 use Rattle.eve_recorder.specs.Drawing.{Drawer, TicketSource}
-use Rattle.eve_recorder.specs.Seen.{Noter, RecorderId}
+use Rattle.eve_recorder.specs.Seen.{Noter, RecorderId, Taker}
 use Rattle.eve_write.specs.Data.{batch as plain}
 use Rattle.eve_smallbank.specs.declared.rows.Touched.{Touched}
 use Rattle.eve_smallbank.specs.Touch.{touched_of}
@@ -37,7 +37,7 @@ pub record IsRightLeg (names : List (List ℕ)) (workers : ℕ) (l : Leg) : Type
 -- Such a batch with its room: each request has a start.
 pub record IsRightRoom (names : List (List ℕ)) (workers : ℕ) (r : Room) : Type 0 where
   pub leg : IsRightLeg names workers r.leg
-  pub crew : r.recorder.recorder.workers ≡ r.leg.crew
+  pub crew : r.leg.crew ≤ r.recorder.recorder.workers
   pub starts : length r.starts.items ≡ length r.leg.batch.now.requests.items
 
 -- the seats of the workers below this number are there, and nothing is noted on them
@@ -65,6 +65,12 @@ abbrev pub AreSeatingsOf : List Room → List Seating → Type 0
 AreSeatingsOf rooms [] = ⊤
 AreSeatingsOf [] (s ∷ seatings) = ⊥
 AreSeatingsOf (r ∷ rooms) (s ∷ seatings) = IsSeatingOf r s × AreSeatingsOf rooms seatings
+
+-- the seats of the first worker's part in a batch: the taker's at the recorder that is shared, and one at the tickets
+-- of claims
+abbrev pub IsTakeable : Shared → Taker → Drawer → Type 0
+IsTakeable s taker claims =
+    IsSet s × (taker.recorder ≡ s.recorder.now.recorder) × (claims.tickets ≡ s.claims.now)
 
 -- the seats of a part in a batch: at the recorder that is shared, with nothing noted on it, and at the
 -- tickets of claims

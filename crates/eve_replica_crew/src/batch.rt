@@ -16,9 +16,11 @@ use crate::progress::Progress;
 use crate::room::{Room, Seating, requests_before};
 use crate::share::{Hands, Share};
 use crate::shared::{Shared, starts_of};
+use crate::spare::{Spare, Stock};
+use crate::workers::Workers;
 use eve_floor::{ExecFault, Floor};
 use eve_grammar::MOST_REQUESTS;
-use eve_recorder::{Gate, Recorder, TicketSeat, Tickets};
+use eve_recorder::{Gate, Tickets};
 use eve_write::BatchData;
 use std::alloc::{AllocError, Global};
 use std::sync::Wait;
@@ -35,36 +37,40 @@ pub fn run_batches<R: Threads + Wait + Sync, G: Gate, A, F: FnMut(&mut Lead<'_>)
     rt: &R,
     alloc: Global,
     floor: &Floor,
-    ticks: &Tickets,
-    seats: &mut Vec<TicketSeat>,
+    workers: &mut Workers,
     legs: &[Leg],
     gate: &G,
     own: &mut F,
 ) -> Result<(A, Option<ExecFault>), AllocError>
-    requires legs { All (IsRightLeg floor.now (vec_len seats.old)) legs.now }
-    requires seats { AreTickets ticks.now seats.old.items }
-    requires some { 1 ≤ vec_len seats.old }
-    requires own { Leads F.FnMut ticks.now own.old }
-    ensures seats { AreTickets ticks.now seats.new.items }
-    ensures many { vec_len seats.new ≡ vec_len seats.old }
-    ensures led { IfOk result (λ r. Led F.FnMut ticks.now own.old r.0 own.new) }
+    requires legs { All (IsRightLeg floor.now workers.old.many) legs.now }
+    requires own { Leads F.FnMut workers.old.ticks own.old }
+    ensures workers { workers.new ≡ workers.old }
+    ensures led { IfOk result (λ r. Led F.FnMut workers.old.ticks own.old r.0 own.new) }
     ensures refused { OnErr result (own.new ≡ own.old) }
 {
     let progress = Progress::new();
-    let workers = seats.len();
-    if workers == 1 {
+    let many = workers.many();
+    if many == 1 {
         let hands = lone_hands(alloc, floor, legs)?;
-        return run_hands(rt, alloc, ticks, &progress, seats, hands, gate, own);
+        return run_hands(rt, alloc, workers, &progress, hands, gate, own);
     }
-    let (rooms, seatings) = furnish_all(alloc, legs)?;
-    let hands = deal_all(alloc, floor, &progress, rooms.as_slice(), seatings, workers)?;
-    run_hands(rt, alloc, ticks, &progress, seats, hands, gate, own)
+    let (rooms, seatings) = furnish_all(alloc, legs, &mut workers.stock)?;
+    let hands = deal_all(
+        alloc,
+        floor,
+        &progress,
+        rooms.as_slice(),
+        seatings,
+        many as usize,
+    )?;
+    run_hands(rt, alloc, workers, &progress, hands, gate, own)
 }
 
 // The rooms of the batches, and the seats of each.
 fn furnish_all<'b>(
     alloc: Global,
     legs: &[Leg<'b>],
+    stock: &mut Stock,
 ) -> Result<(Vec<Room<'b>>, Vec<Seating>), AllocError>
     requires legs { (names : List (List ℕ)) × (workers : ℕ) × All (IsRightLeg names workers) legs.now }
     ensures rooms { (names : List (List ℕ)) (workers : ℕ) → All (IsRightLeg names workers) legs.now
@@ -76,7 +82,7 @@ fn furnish_all<'b>(
     let mut rooms = Vec::with_capacity(alloc, legs.len())?;
     let mut seatings = Vec::with_capacity(alloc, legs.len())?;
     for leg in legs {
-        let (room, seating) = furnish(alloc, leg)?;
+        let (room, seating) = furnish(alloc, leg, stock)?;
         rooms.push_reserved(room);
         seatings.push_reserved(seating);
     }
@@ -151,7 +157,11 @@ fn empty_hands<'s>(
 }
 
 // The room of a batch, with its seats.
-fn furnish<'b>(alloc: Global, leg: &Leg<'b>) -> Result<(Room<'b>, Seating), AllocError>
+fn furnish<'b>(
+    alloc: Global,
+    leg: &Leg<'b>,
+    stock: &mut Stock,
+) -> Result<(Room<'b>, Seating), AllocError>
     requires { (names : List (List ℕ)) × (workers : ℕ) × IsRightLeg names workers leg.now }
     ensures room { (names : List (List ℕ)) (workers : ℕ) → IsRightLeg names workers leg.now
         → IfOk result (λ r. IsRightRoom names workers r.0) }
@@ -160,7 +170,11 @@ fn furnish<'b>(alloc: Global, leg: &Leg<'b>) -> Result<(Room<'b>, Seating), Allo
     let count = count_of(leg.batch);
     let starts = starts_of(alloc, leg.batch.sizes.as_slice(), count as u16)?;
     let (claims, own) = Tickets::new(alloc, leg.crew, count as u64)?;
-    let (recorder, mut places) = Recorder::new(alloc, leg.crew, count)?;
+    let Spare {
+        recorder,
+        mut places,
+        ..
+    } = stock.take()?;
     let Some(taker) = places.taker() else {
         unreachable!()
     };

@@ -13,7 +13,9 @@ use crate::progress::Progress;
 use crate::room::Seating;
 use crate::share::{Hands, Part, Share, Turn};
 use crate::shared::Shared;
+use crate::spare::Stock;
 use crate::work::run_parts;
+use crate::workers::Workers;
 use eve_floor::ExecFault;
 use eve_grammar::{MOST_REQUESTS, MOST_WORKERS};
 use eve_recorder::{Gate, TicketSeat, Tickets};
@@ -32,6 +34,8 @@ pub(crate) struct Member<'s> {
     pub tick: Option<TicketSeat>,
     // why it gave a request up
     pub fault: Option<ExecFault>,
+    // the recorders that it makes for batches to come
+    pub stock: Stock,
 }
 
 /// How many of so many workers can have something to do at once: in serial mode one, else as many as the largest
@@ -71,9 +75,19 @@ pub(crate) fn deal<'s>(
     ensures { vec_len hands.new.others ≡ vec_len hands.old.others }
 {
     deal_parts(shared, crew, &mut seating, &mut hands.others)?;
-    let share = part_of(shared, 0, &mut seating);
-    let Seating { taker, .. } = seating;
-    hands.turns.push(Part::Beside(Turn { share, taker }))?;
+    let Seating {
+        taker,
+        mut claims,
+        ..
+    } = seating;
+    let Some(claims) = claims.seat(0) else {
+        unreachable!()
+    };
+    hands.turns.push(Part::Beside(Turn {
+        shared: *shared,
+        taker,
+        claims,
+    }))?;
     Ok(())
 }
 
@@ -125,30 +139,33 @@ fn part_of<'s>(shared: &Shared<'s>, number: u8, seating: &mut Seating) -> Share<
 pub(crate) fn run_hands<R: Threads + Wait + Sync, G: Gate, A, F: FnMut(&mut Lead<'_>) -> A>(
     rt: &R,
     alloc: Global,
-    ticks: &Tickets,
+    workers: &mut Workers,
     progress: &Progress,
-    seats: &mut Vec<TicketSeat>,
     hands: Hands<'_>,
     gate: &G,
     own: &mut F,
 ) -> Result<(A, Option<ExecFault>), AllocError>
-    requires seats { AreTickets ticks.now seats.old.items }
-    requires enough { vec_len hands.others < vec_len seats.old }
-    requires own { Leads F.FnMut ticks.now own.old }
-    ensures seats { AreTickets ticks.now seats.new.items }
-    ensures many { vec_len seats.new ≡ vec_len seats.old }
-    ensures led { IfOk result (λ r. Led F.FnMut ticks.now own.old r.0 own.new) }
+    requires enough { vec_len hands.others < workers.old.many }
+    requires own { Leads F.FnMut workers.old.ticks own.old }
+    ensures workers { workers.new ≡ workers.old }
+    ensures led { IfOk result (λ r. Led F.FnMut workers.old.ticks own.old r.0 own.new) }
     ensures refused { OnErr result (own.new ≡ own.old) }
 {
     let Hands { turns, others } = hands;
     let records = Vec::with_capacity(alloc, MOST_REQUESTS as usize)?;
     let members = Vec::with_capacity(alloc, others.len())?;
-    let mut members = muster(ticks, others, members, seats);
+    let Workers {
+        ticks,
+        seats,
+        stock,
+    } = workers;
+    stock.want(turns.len());
+    let mut members = muster(ticks, others, members, seats, stock);
     let mut lead = lead_of(ticks, progress, turns, records, seats);
     let answer = run_beside(rt, ticks, &mut members, gate, &mut lead, own);
     let (tick, fault) = lead.dismissed();
     seats.push_reserved(tick);
-    Ok((answer, dismiss(ticks, fault, members, seats)))
+    Ok((answer, dismiss(ticks, fault, members, seats, stock)))
 }
 
 // The first worker, with the last of the seats.
@@ -231,6 +248,7 @@ fn muster<'s>(
     mut hands: Vec<Vec<Share<'s>>>,
     mut members: Vec<Member<'s>>,
     ticks: &mut Vec<TicketSeat>,
+    stock: &Stock,
 ) -> Vec<Member<'s>>
     requires enough { vec_len hands ≤ vec_len ticks.old }
     requires room { (vec_len members ≡ 0) × (vec_len hands ≤ vec_capacity members) }
@@ -241,6 +259,7 @@ fn muster<'s>(
     ensures few { vec_len result ≤ vec_len hands.entry }
     ensures capacity { vec_capacity ticks.new ≡ vec_capacity ticks.old }
 {
+    let most = hands.len();
     while let Some(shares) = hands.pop() {
         if !shares.is_empty() {
             let Some(tick) = ticks.pop() else {
@@ -250,6 +269,7 @@ fn muster<'s>(
                 shares,
                 tick: Some(tick),
                 fault: None,
+                stock: stock.part(most),
             });
         }
     }
@@ -275,17 +295,21 @@ fn run_members<'s, R: Threads + Wait + Sync, G: Gate>(
         &|_: usize, member: &mut Member|
             requires { IsSync R.row × IsSync G.row × IsSeated tickets.now member.old }
             ensures { IsSeated tickets.entry.now member.new }
-        { run_parts(rt, tickets, member, gate) },
+        {
+            run_parts(rt, tickets, member, gate);
+            member.stock.fill();
+        },
     );
 }
 
-// The workers but the first give the seats at the tickets of ticks back. The fault of the lowest worker that has one,
-// where this is the first worker's.
+// The workers but the first give the seats at the tickets of ticks back, and the recorders that they made. The fault of
+// the lowest worker that has one, where this is the first worker's.
 fn dismiss(
     tickets: &Tickets,
     first: Option<ExecFault>,
     mut members: Vec<Member<'_>>,
     ticks: &mut Vec<TicketSeat>,
+    stock: &mut Stock,
 ) -> Option<ExecFault>
     requires members { All (IsSeated tickets.now) members.items }
     requires ticks { AreTickets tickets.now ticks.old.items }
@@ -298,19 +322,21 @@ fn dismiss(
     let mut told = first;
     while let Some(member) = members.pop() {
         told = told.or(member.fault);
-        ticks.push_reserved(seat_of(tickets, member));
+        let (tick, made) = leavings_of(tickets, member);
+        ticks.push_reserved(tick);
+        stock.absorb(made);
     }
     told
 }
 
-// The seat at the tickets of ticks.
-fn seat_of(tickets: &Tickets, member: Member<'_>) -> TicketSeat
+// The seat at the tickets of ticks, and the recorders that were made.
+fn leavings_of(tickets: &Tickets, member: Member<'_>) -> (TicketSeat, Stock)
     requires { IsSeated tickets.now member }
-    ensures { result.tickets ≡ tickets.now }
+    ensures { result.0.tickets ≡ tickets.now }
 {
-    let Member { tick, .. } = member;
+    let Member { tick, stock, .. } = member;
     match tick {
-        Some(tick) => tick,
+        Some(tick) => (tick, stock),
         None => unreachable!(),
     }
 }

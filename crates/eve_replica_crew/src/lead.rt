@@ -50,11 +50,11 @@ impl<'s> Lead<'s> {
         let Some(part) = self.turns.pop() else {
             return false;
         };
-        let Some(tick) = self.tick.take() else {
+        let Some(mut tick) = self.tick.take() else {
             unreachable!()
         };
         self.records.clear();
-        let (tick, end) = run_own(rt, self.ticks, part, tick, gate, &mut self.records);
+        let end = run_own(rt, self.ticks, part, &mut tick, gate, &mut self.records);
         self.tick = Some(tick);
         match end {
             Ok(()) => true,

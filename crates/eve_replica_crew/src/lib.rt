@@ -11,9 +11,12 @@ mod progress;
 mod room;
 mod share;
 mod shared;
+mod spare;
 mod work;
+mod workers;
 
 pub use batch::run_batches;
 pub use crew::crew_size;
 pub use lead::Lead;
 pub use leg::Leg;
+pub use workers::Workers;

@@ -9,7 +9,7 @@ ghost use Rattle.eve_replica_crew.specs.Recording.{AreRecordsFrom};
 
 use crate::leg::Leg;
 use crate::share::{Hands, Part};
-use eve_floor::{ExecFault, Floor, execute_alone};
+use eve_floor::{ExecFault, Floor, execute_kept};
 use eve_grammar::MOST_REQUESTS;
 use eve_recorder::{Gate, TicketSeat, Tickets};
 use eve_stamps::AccessRecord;
@@ -70,7 +70,9 @@ pub(crate) fn run_lone<R: Wait, G: Gate>(
     for index in 0..batch.requests.len() {
         let reached = &touched[index];
         let number = index as u16;
-        let record = execute_alone(rt, lone.floor, ticks, tick, batch, reached, number, gate)?;
+        let record = execute_kept(
+            rt, lone.floor, ticks, tick, batch, reached, number, number, gate,
+        )?;
         records.push_reserved(record);
     }
     Ok(())

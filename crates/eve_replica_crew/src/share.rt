@@ -1,7 +1,6 @@
 //! A worker's part in a batch.
 
-ghost use Rattle.std.specs.Prelude.{◌≡◌};
-ghost use Rattle.eve_replica_crew.specs.Sharing.{IsReady};
+ghost use Rattle.eve_replica_crew.specs.Sharing.{IsReady, IsTakeable};
 
 use crate::lone::Lone;
 use crate::shared::Shared;
@@ -17,12 +16,14 @@ pub(crate) struct Share<'s> {
     pub ghost ready: { IsReady shared seat claims },
 }
 
-/// The first worker's part in a batch, with the seat at which its records are taken.
+/// The first worker's part in a batch: it keeps its own records, and takes those that the others note.
 #[derive(Drop)]
 pub(crate) struct Turn<'s> {
-    pub share: Share<'s>,
+    pub shared: Shared<'s>,
     pub taker: TakerSeat,
-    pub ghost own: { taker.recorder ≡ share.shared.recorder.now.recorder },
+    // its seat at the tickets by which requests are claimed
+    pub claims: TicketSeat,
+    pub ghost ready: { IsTakeable shared taker claims },
 }
 
 /// What the first worker has to do of a batch.

@@ -1,10 +1,11 @@
 //! What each worker does in its batches.
 
-ghost use Rattle.std.specs.Prelude.{◌≡◌, ◌+◌, ◌<◌, ◌≤◌, IfSome, OnOk, length, vec_len, vec_capacity};
+ghost use Rattle.std.specs.Prelude.{◌≡◌, ◌+◌, ◌<◌, ◌≤◌, IfOk, IfSome, OnOk, length, vec_len, vec_capacity};
 ghost use Rattle.eve_smallbank.specs.Touch.{touched_of};
 ghost use Rattle.eve_write.specs.Data.{batch as plain_batch};
 ghost use Rattle.eve_floor.specs.Executing.{IsSeatedAt};
 ghost use Rattle.eve_grammar.specs.Trace.{request_with};
+ghost use Rattle.eve_replica_crew.specs.Recording.{AreKeptFrom};
 ghost use Rattle.eve_replica_crew.specs.Sharing.{IsSet};
 ghost use Rattle.eve_replica_crew.specs.Crews.{IsSeated};
 
@@ -13,7 +14,7 @@ use crate::lone::run_lone;
 use crate::progress::Pace;
 use crate::share::{Part, Share, Turn};
 use crate::shared::Shared;
-use eve_floor::{ExecFault, Worker, execute_touched};
+use eve_floor::{ExecFault, Worker, execute_kept, execute_touched};
 use eve_grammar::MOST_REQUESTS;
 use eve_recorder::{Gate, TakerSeat, TicketSeat, Tickets};
 use eve_smallbank::Touched;
@@ -43,62 +44,138 @@ pub(crate) fn run_parts<R: Wait, G: Gate>(
     }
 }
 
-/// Runs what the first worker has to do of a batch, and then knows what was noted of all of it. The seat at the tickets
-/// of ticks is given back. Its fault, where it gives a request up, and none where another worker did.
+/// Runs what the first worker has to do of a batch, and then knows what was noted of all of it. Its fault, where it gives
+/// a request up, and none where another worker did.
 pub(crate) fn run_own<R: Wait, G: Gate>(
     rt: &R,
     ticks: &Tickets,
     part: Part<'_>,
-    mut tick: TicketSeat,
+    tick: &mut TicketSeat,
     gate: &G,
     records: &mut Vec<AccessRecord>,
-) -> (TicketSeat, Result<(), Option<ExecFault>>)
-    requires tick { tick.tickets ≡ ticks.now }
+) -> Result<(), Option<ExecFault>>
+    requires tick { tick.old.tickets ≡ ticks.now }
     requires empty { vec_len records.old ≡ 0 }
     requires room { MOST_REQUESTS ≤ vec_capacity records.old }
-    ensures tick { result.0.tickets ≡ ticks.now }
+    ensures tick { tick.new.tickets ≡ ticks.now }
     ensures room { vec_capacity records.new ≡ vec_capacity records.old }
 {
     match part {
-        Part::Alone(lone) => match run_lone(rt, ticks, &lone, &mut tick, gate, records) {
-            Ok(()) => (tick, Ok(())),
-            Err(why) => (tick, Err(Some(why))),
+        Part::Alone(lone) => match run_lone(rt, ticks, &lone, tick, gate, records) {
+            Ok(()) => Ok(()),
+            Err(why) => Err(Some(why)),
         },
         Part::Beside(turn) => run_turn(rt, ticks, turn, tick, gate, records),
     }
 }
 
-// Runs the first worker's part in one batch, and takes what was noted of it, once all of it is. The seat at the
-// tickets of ticks is given back. Its fault, where it gives a request up, and none where another worker did.
+// Runs the first worker's part in one batch, whose records it keeps, and takes what the others noted of the batch, once
+// all of it is. Its fault, where it gives a request up, and none where another worker did.
 fn run_turn<R: Wait, G: Gate>(
     rt: &R,
     ticks: &Tickets,
     turn: Turn<'_>,
-    tick: TicketSeat,
+    tick: &mut TicketSeat,
     gate: &G,
     records: &mut Vec<AccessRecord>,
-) -> (TicketSeat, Result<(), Option<ExecFault>>)
-    requires tick { tick.tickets ≡ ticks.now }
+) -> Result<(), Option<ExecFault>>
+    requires tick { tick.old.tickets ≡ ticks.now }
     requires empty { vec_len records.old ≡ 0 }
     requires room { MOST_REQUESTS ≤ vec_capacity records.old }
-    ensures tick { result.0.tickets ≡ ticks.now }
+    ensures tick { tick.new.tickets ≡ ticks.now }
     ensures room { vec_capacity records.new ≡ vec_capacity records.old }
 {
     let Turn {
-        share,
+        shared,
         mut taker,
+        mut claims,
         ..
     } = turn;
-    let shared = share.shared;
-    let (tick, end) = run_part(rt, ticks, share, tick, gate);
-    if let Err(why) = end {
-        return (tick, Err(why));
-    }
+    run_kept(rt, ticks, &shared, tick, &mut claims, gate, records)?;
     if !shared.progress.wait_for(rt, noted_after(&shared)) {
-        return (tick, Err(None));
+        return Err(None);
     }
-    take_all(rt, &shared, &mut taker, records);
-    (tick, Ok(()))
+    take_rest(rt, &shared, &mut taker, records);
+    Ok(())
+}
+
+// Claims requests of the batch and runs them, as `run_share` does, and keeps the record of each.
+fn run_kept<R: Wait, G: Gate>(
+    rt: &R,
+    ticks: &Tickets,
+    shared: &Shared<'_>,
+    tick: &mut TicketSeat,
+    claims: &mut TicketSeat,
+    gate: &G,
+    records: &mut Vec<AccessRecord>,
+) -> Result<(), Option<ExecFault>>
+    requires set { IsSet shared.now }
+    requires tick { tick.old.tickets ≡ ticks.now }
+    requires claims { claims.old.tickets ≡ shared.now.claims.now }
+    requires empty { vec_len records.old ≡ 0 }
+    requires room { MOST_REQUESTS ≤ vec_capacity records.old }
+    ensures tick { tick.new.tickets ≡ ticks.now }
+    ensures kept { AreKeptFrom shared.now.floor.now (plain_batch shared.now.batch.now) 0 records.new.items }
+    ensures few { vec_len records.new ≤ length shared.now.batch.now.requests.items }
+    ensures room { vec_capacity records.new ≡ vec_capacity records.old }
+{
+    let mut pace = Pace::new();
+    for place in 0..shared.batch.requests.len() {
+        let Some(index) = next_due(rt, shared, claims, &mut pace)? else {
+            break;
+        };
+        let reached = touched_at(shared, index);
+        let executed = execute_kept(
+            rt,
+            shared.floor,
+            ticks,
+            tick,
+            shared.batch,
+            &reached,
+            index,
+            place as u16,
+            gate,
+        );
+        match executed {
+            Ok(record) => records.push_reserved(record),
+            Err(why) => {
+                shared.progress.give_up();
+                return Err(Some(why));
+            }
+        }
+        pace.note();
+    }
+    if pace.tell(shared.progress) {
+        Ok(())
+    } else {
+        Err(None)
+    }
+}
+
+// The next request that nobody has claimed, by its index, once those of all batches before and of all parallelBatches
+// before its own are noted. An error where one was given up.
+fn next_due<R: Wait>(
+    rt: &R,
+    shared: &Shared<'_>,
+    claims: &mut TicketSeat,
+    pace: &mut Pace,
+) -> Result<Option<u16>, Option<ExecFault>>
+    requires set { IsSet shared.now }
+    requires own { claims.old.tickets ≡ shared.now.claims.now }
+    ensures own { claims.new.tickets ≡ shared.now.claims.now }
+    ensures there { IfOk result (λ next. IfSome next (λ index. index < length shared.now.batch.now.requests.items)) }
+{
+    let Some(index) = claim(shared, claims) else {
+        return Ok(None);
+    };
+    let due = shared
+        .before
+        .saturating_add(u64::from(shared.starts[index as usize]));
+    if pace.wait_for(rt, shared.progress, due) {
+        Ok(Some(index))
+    } else {
+        Err(None)
+    }
 }
 
 // How many requests are noted once the batch is. Nothing rests on it but for how long the first worker waits.
@@ -108,8 +185,8 @@ fn noted_after(shared: &Shared<'_>) -> u64 {
         .saturating_add(shared.batch.requests.len() as u64)
 }
 
-// Takes what was noted of the batch, up to so many records as it has requests.
-fn take_all<R: Wait>(
+// Takes what the others noted of the batch, until there are as many records as it has requests.
+fn take_rest<R: Wait>(
     rt: &R,
     shared: &Shared<'_>,
     taker: &mut TakerSeat,
@@ -117,11 +194,11 @@ fn take_all<R: Wait>(
 )
     requires set { IsSet shared.now }
     requires taker { taker.old.recorder ≡ shared.now.recorder.now.recorder }
-    requires empty { vec_len records.old ≡ 0 }
+    requires few { vec_len records.old ≤ length shared.now.batch.now.requests.items }
     requires room { MOST_REQUESTS ≤ vec_capacity records.old }
     ensures { vec_capacity records.new ≡ vec_capacity records.old }
 {
-    for taken in 0..shared.batch.requests.len() {
+    for place in records.len()..shared.batch.requests.len() {
         let Some(record) = shared.recorder.take(rt, taker) else {
             break;
         };
@@ -182,15 +259,9 @@ fn run_share<R: Wait, G: Gate>(
 {
     let mut pace = Pace::new();
     for turn in 0..shared.batch.requests.len() {
-        let Some(index) = claim(shared, claims) else {
+        let Some(index) = next_due(rt, shared, claims, &mut pace)? else {
             break;
         };
-        let due = shared
-            .before
-            .saturating_add(u64::from(shared.starts[index as usize]));
-        if !pace.wait_for(rt, shared.progress, due) {
-            return Err(None);
-        }
         if let Err(why) = run_one(rt, ticks, shared, worker, index, gate) {
             return Err(Some(why));
         }

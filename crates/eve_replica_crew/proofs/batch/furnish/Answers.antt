@@ -1,6 +1,6 @@
 use Rattle.std.proofs.Common.{rules, ap, subst, sym, ◌∙◌, arith}
 use Rattle.eve_recorder.specs.Drawing.{Drawers}
-use Rattle.eve_recorder.specs.Seen.{Places}
+use Rattle.eve_recorder.specs.Seen.{Places, RecorderId}
 use Rattle.eve_replica_crew.specs.Sharing.{AreNoters, AreThere}
 use Rattle.eve_replica_crew.proofs.Seatings.{fresh_noters, fresh_there}
 use Rattle.eve_replica_crew.proofs.batch.furnish.Goals as goal
@@ -8,12 +8,13 @@ use Rattle.eve_replica_crew.proofs.batch.furnish.Goals as goal
 pub returns-clause-seating : goal.returns-clause-seating
 returns-clause-seating c =
     let few = c.requires.2.within in
+    let all = c.in_ok-recorder.field-0.many in
     let seats = ap (λ (p : Places). p.seats) c.taker.ensures.rest
-    ∙ ap (λ (p : Places). p.seats) c.in_ok-recorder.ensures.seats in
+    ∙ ap (λ (p : Places). p.seats) c.in_ok-recorder.field-0.fresh in
+    let recorder : RecorderId = c.in_ok-recorder.field-0.recorder.recorder in
     record {
-      noters = subst (AreNoters c.in_ok-recorder.recorder.recorder c.args.leg.now.crew) (sym seats)
-          (fresh_noters c.in_ok-recorder.recorder.recorder c.args.leg.now.crew c.in_ok-recorder.ensures.workers
-          (omega arith));
+      noters = subst (AreNoters recorder c.args.leg.now.crew) (sym seats)
+          (fresh_noters recorder c.args.leg.now.crew (omega arith) all);
       taker = search rules;
       claims = ap (λ (d : Drawers). d.tickets) c.in_ok-claims.ensures.fresh;
       there = subst (AreThere c.args.leg.now.crew) (sym (ap (λ (d : Drawers). d.places) c.in_ok-claims.ensures.fresh))

@@ -4,7 +4,7 @@ use Rattle.eve_replica_crew.proofs.batch.run_batches.Goals as goal
 
 pub deal_all-requires-clause-rooms : goal.deal_all-requires-clause-rooms
 deal_all-requires-clause-rooms g c =
-    subst (All (IsRightRoom c.args.floor.now c.len-workers.result)) (sym c.as_slice.ensures.value)
-    (c.in_ok-rooms.ensures.rooms c.args.floor.now c.len-workers.result
-    (subst (λ (w : ℕ). All (IsRightLeg c.args.floor.now w) c.args.legs.now) (sym c.len-workers.ensures)
+    subst (All (IsRightRoom c.args.floor.now c.many-many.result)) (sym c.as_slice.ensures.value)
+    (c.in_ok-rooms.ensures.rooms c.args.floor.now c.many-many.result
+    (subst (λ (w : ℕ). All (IsRightLeg c.args.floor.now w) c.args.legs.now) (sym c.many-many.ensures.is)
     c.requires.legs))

@@ -15,8 +15,8 @@ loop-member-preserved c =
     (Some c.in-Some.member) c.in-Some.ensures.items c.loop-member.invariant.0 in (
       popped.0,
       subst (AreTickets tickets) (sym c.push_reserved.ensures.items)
-          (All-push (λ (d : Drawer). d.tickets ≡ tickets) c.loop-member.ticks.items c.seat_of.result
-          c.loop-member.invariant.1 c.seat_of.ensures),
+          (All-push (λ (d : Drawer). d.tickets ≡ tickets) c.loop-member.ticks.items c.leavings_of-tick.result.0
+          c.loop-member.invariant.1 c.leavings_of-tick.ensures),
       grind (arith, common_steps),
       grind (arith, common_steps),
       ap (λ (x : Option ExecFault). option_or x (lowest_fault c.pop.new.self.items)) c.or-told.ensures

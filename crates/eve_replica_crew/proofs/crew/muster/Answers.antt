@@ -12,7 +12,8 @@ loop-shares-preserved-then-not-is_empty c =
     let popped = All-pop (λ (d : Drawer). d.tickets ≡ tickets) c.loop-shares.ticks.items
     c.pop-then-not-is_empty.new.self.items (Some c.in-Some-pop.tick) c.in-Some-pop.ensures.items
     c.loop-shares.invariant.1 in
-    let own : Member = record { shares = c.in-Some.shares; tick = Some c.in-Some-pop.tick; fault = None } in (
+    let own : Member =
+    record { shares = c.in-Some.shares; tick = Some c.in-Some-pop.tick; fault = None; stock = c.part.result } in (
       subst (All (IsSeated tickets)) (sym c.push_reserved.ensures.items)
           (All-push (IsSeated tickets) c.loop-shares.members.items own c.loop-shares.invariant.0
           (record { seat = c.in-Some-pop.tick; there = refl; own = popped.1 })),

@@ -5,7 +5,7 @@ use Rattle.std.proofs.lemmas.List.Elements.{All-push}
 use Rattle.std.specs.Prelude.{slice_index_or}
 use Rattle.eve_recorder.specs.Drawing.{Drawer, Drawers, TicketSource}
 use Rattle.eve_replica_crew.specs.Crews.{AreTickets}
-use Rattle.eve_replica.proofs.replica.seats_of.Goals as goal
+use Rattle.eve_replica_crew.proofs.workers.seats_of.Goals as goal
 
 pub loop-number-preserved : goal.loop-number-preserved
 loop-number-preserved c =

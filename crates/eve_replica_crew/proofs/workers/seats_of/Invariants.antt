@@ -1,7 +1,7 @@
 use Rattle.std.proofs.Common.{◌≡◌, ℕ, ◌<◌, ◌≤◌, vec_len, vec_capacity, None, IsSome}
 use Rattle.std.specs.Prelude.{slice_index_or}
 use Rattle.eve_replica_crew.specs.Crews.{AreTickets}
-use Rattle.eve_replica.proofs.replica.seats_of.Given as goal
+use Rattle.eve_replica_crew.proofs.workers.seats_of.Given as goal
 
 abbrev pub invariant-loop-number : goal.invariant-loop-number
 invariant-loop-number l =

@@ -1,0 +1,88 @@
+//! Recorders that are made before there is a batch for them.
+
+ghost use Rattle.std.specs.Prelude.{◌≡◌, ◌≤◌};
+ghost use Rattle.eve_grammar.specs.declared.limits.TheConstants.{MOST_WORKERS};
+ghost use Rattle.eve_recorder.specs.Seen.{fresh_places};
+
+use eve_grammar::{MOST_REQUESTS, MOST_WORKERS};
+use eve_recorder::{Recorder, Seats};
+use std::alloc::{AllocError, Global};
+
+/// A recorder on which nothing is noted, with its seats, for any number of workers and any batch.
+#[derive(Drop)]
+pub(crate) struct Spare {
+    pub recorder: Recorder,
+    pub places: Seats,
+    pub ghost many: { recorder.recorder.workers ≡ MOST_WORKERS },
+    pub ghost fresh: { places ≡ fresh_places recorder.recorder },
+}
+
+impl Spare {
+    fn new(alloc: Global) -> Result<Spare, AllocError> {
+        let (recorder, places) = Recorder::new(alloc, MOST_WORKERS, MOST_REQUESTS as usize)?;
+        Ok(Spare { recorder, places })
+    }
+}
+
+/// Recorders for batches to come. Making one takes time, so the other workers make them while the first one has more to
+/// do than they have. Nothing rests on how many there are: one that is lacking is made when it is needed.
+#[derive(Drop)]
+pub(crate) struct Stock {
+    alloc: Global,
+    spares: Vec<Spare>,
+    // how many there are to be
+    wanted: usize,
+}
+
+impl Stock {
+    /// None yet, of so many.
+    pub(crate) fn new(alloc: Global, wanted: usize) -> Stock {
+        Stock {
+            alloc,
+            spares: Vec::new(alloc),
+            wanted,
+        }
+    }
+
+    /// One that is there, or a new one.
+    pub(crate) fn take(&mut self) -> Result<Spare, AllocError> {
+        match self.spares.pop() {
+            Some(spare) => Ok(spare),
+            None => Spare::new(self.alloc),
+        }
+    }
+
+    /// From now on there are to be so many.
+    pub(crate) fn want(&mut self, count: usize) {
+        self.wanted = count;
+    }
+
+    /// What is lacking, for one of so many workers to make its part of it.
+    pub(crate) fn part(&self, workers: usize) -> Stock
+        requires { 1 ≤ workers }
+    {
+        let lacking = self.wanted.saturating_sub(self.spares.len());
+        Stock::new(self.alloc, lacking.div_ceil(workers))
+    }
+
+    /// Makes what is lacking, as far as there is memory.
+    pub(crate) fn fill(&mut self) {
+        for number in self.spares.len()..self.wanted {
+            let Ok(spare) = Spare::new(self.alloc) else {
+                return;
+            };
+            if self.spares.push(spare).is_err() {
+                return;
+            }
+        }
+    }
+
+    /// Takes what another has, as far as there is memory.
+    pub(crate) fn absorb(&mut self, part: Stock) {
+        for spare in part.spares {
+            if self.spares.push(spare).is_err() {
+                return;
+            }
+        }
+    }
+}
