@@ -44,8 +44,8 @@ pub(crate) fn run_parts<R: Wait, G: Gate>(
     }
 }
 
-/// Runs what the first worker has to do of a batch, and then knows what was noted of all of it. Its fault, where it gives
-/// a request up, and none where another worker did.
+/// Runs what the first worker has to do of a batch, and then knows what was noted of all of it. Its fault, where it
+/// gives a request up, and none where another worker did.
 pub(crate) fn run_own<R: Wait, G: Gate>(
     rt: &R,
     ticks: &Tickets,
