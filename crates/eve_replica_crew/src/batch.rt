@@ -26,10 +26,10 @@ use std::alloc::{AllocError, Global};
 use std::sync::Wait;
 use std::thread::Threads;
 
-/// Runs the batches one after another by up to so many workers as there are seats. Each worker has one thread for all
-/// the batches, so that no thread is started anew for each of them, and the first worker has this one: `own` is called
-/// in it once, with the first worker, and runs its parts by `Lead::next`. What `own` answers, and the fault of the
-/// lowest worker that has one.
+/// Runs the batches one after another by up to all of the workers. Each worker has one thread for all the batches, so
+/// that no thread is started anew for each of them, and the first worker has this one: `own` is called in it once, with
+/// the first worker, and runs its parts by `Lead::next`. What `own` answers, and the fault of the lowest worker that has
+/// one.
 ///
 /// The workers are lent the last of the seats at the tickets of ticks, and give them back whatever comes. The lists of
 /// what they note are asked for before the first request is run.
@@ -55,6 +55,7 @@ pub fn run_batches<R: Threads + Wait + Sync, G: Gate, A, F: FnMut(&mut Lead<'_>)
         return run_hands(rt, alloc, workers, &progress, hands, gate, own);
     }
     let (rooms, seatings) = furnish_all(alloc, legs, &mut workers.stock)?;
+    workers.stock.want(legs.len(), most_requests(legs));
     let hands = deal_all(
         alloc,
         floor,
@@ -174,7 +175,7 @@ fn furnish<'b>(
         recorder,
         mut places,
         ..
-    } = stock.take()?;
+    } = stock.take(count)?;
     let Some(taker) = places.taker() else {
         unreachable!()
     };
@@ -192,6 +193,15 @@ fn furnish<'b>(
             claims: own,
         },
     ))
+}
+
+// How many requests the largest of the batches has. Nothing rests on it but for what recorders are made.
+fn most_requests(legs: &[Leg]) -> usize {
+    let mut most = 0;
+    for leg in legs {
+        most = leg.batch.requests.len().max(most);
+    }
+    most
 }
 
 // How many requests the batch has.

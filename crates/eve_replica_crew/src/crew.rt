@@ -159,7 +159,6 @@ pub(crate) fn run_hands<R: Threads + Wait + Sync, G: Gate, A, F: FnMut(&mut Lead
         seats,
         stock,
     } = workers;
-    stock.want(turns.len());
     let mut members = muster(ticks, others, members, seats, stock);
     let mut lead = lead_of(ticks, progress, turns, records, seats);
     let answer = run_beside(rt, ticks, &mut members, gate, &mut lead, own);

@@ -8,19 +8,26 @@ use eve_grammar::{MOST_REQUESTS, MOST_WORKERS};
 use eve_recorder::{Recorder, Seats};
 use std::alloc::{AllocError, Global};
 
-/// A recorder on which nothing is noted, with its seats, for any number of workers and any batch.
+/// A recorder on which nothing is noted, with its seats, for any number of workers.
 #[derive(Drop)]
 pub(crate) struct Spare {
     pub recorder: Recorder,
     pub places: Seats,
+    // for a batch of how many requests it was made
+    room: usize,
     pub ghost many: { recorder.recorder.workers ≡ MOST_WORKERS },
     pub ghost fresh: { places ≡ fresh_places recorder.recorder },
 }
 
 impl Spare {
-    fn new(alloc: Global) -> Result<Spare, AllocError> {
-        let (recorder, places) = Recorder::new(alloc, MOST_WORKERS, MOST_REQUESTS as usize)?;
-        Ok(Spare { recorder, places })
+    fn new(alloc: Global, room: usize) -> Result<Spare, AllocError> {
+        let most = room.clamp(1, MOST_REQUESTS as usize);
+        let (recorder, places) = Recorder::new(alloc, MOST_WORKERS, most)?;
+        Ok(Spare {
+            recorder,
+            places,
+            room,
+        })
     }
 }
 
@@ -32,29 +39,35 @@ pub(crate) struct Stock {
     spares: Vec<Spare>,
     // how many there are to be
     wanted: usize,
+    // for batches of how many requests they are made
+    room: usize,
 }
 
 impl Stock {
-    /// None yet, of so many.
-    pub(crate) fn new(alloc: Global, wanted: usize) -> Stock {
+    /// None yet, of so many, for batches of so many requests.
+    pub(crate) fn new(alloc: Global, wanted: usize, room: usize) -> Stock {
         Stock {
             alloc,
             spares: Vec::new(alloc),
             wanted,
+            room,
         }
     }
 
-    /// One that is there, or a new one.
-    pub(crate) fn take(&mut self) -> Result<Spare, AllocError> {
-        match self.spares.pop() {
-            Some(spare) => Ok(spare),
-            None => Spare::new(self.alloc),
+    /// One for a batch of so many requests: one that is there, or a new one.
+    pub(crate) fn take(&mut self, room: usize) -> Result<Spare, AllocError> {
+        if let Some(spare) = self.spares.pop() {
+            if room <= spare.room {
+                return Ok(spare);
+            }
         }
+        Spare::new(self.alloc, room)
     }
 
-    /// From now on there are to be so many.
-    pub(crate) fn want(&mut self, count: usize) {
+    /// From now on there are to be so many, for batches of so many requests.
+    pub(crate) fn want(&mut self, count: usize, room: usize) {
         self.wanted = count;
+        self.room = room;
     }
 
     /// What is lacking, for one of so many workers to make its part of it.
@@ -62,13 +75,13 @@ impl Stock {
         requires { 1 ≤ workers }
     {
         let lacking = self.wanted.saturating_sub(self.spares.len());
-        Stock::new(self.alloc, lacking.div_ceil(workers))
+        Stock::new(self.alloc, lacking.div_ceil(workers), self.room)
     }
 
     /// Makes what is lacking, as far as there is memory.
     pub(crate) fn fill(&mut self) {
         for number in self.spares.len()..self.wanted {
-            let Ok(spare) = Spare::new(self.alloc) else {
+            let Ok(spare) = Spare::new(self.alloc, self.room) else {
                 return;
             };
             if self.spares.push(spare).is_err() {

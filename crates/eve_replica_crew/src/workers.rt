@@ -45,7 +45,7 @@ impl Workers {
         Ok(Workers {
             ticks,
             seats,
-            stock: Stock::new(alloc, 0),
+            stock: Stock::new(alloc, 0, 0),
         })
     }
 
