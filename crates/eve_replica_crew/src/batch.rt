@@ -28,8 +28,8 @@ use std::thread::Threads;
 
 /// Runs the batches one after another by up to all of the workers. Each worker has one thread for all the batches, so
 /// that no thread is started anew for each of them, and the first worker has this one: `own` is called in it once, with
-/// the first worker, and runs its parts by `Lead::next`. What `own` answers, and the fault of the lowest worker that has
-/// one.
+/// the first worker, and runs its parts by `Lead::next`. What `own` answers, and the fault of the lowest worker that
+/// has one.
 ///
 /// The workers are lent the last of the seats at the tickets of ticks, and give them back whatever comes. The lists of
 /// what they note are asked for before the first request is run.

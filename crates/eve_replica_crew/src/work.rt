@@ -11,7 +11,7 @@ ghost use Rattle.eve_replica_crew.specs.Crews.{IsSeated};
 
 use crate::crew::Member;
 use crate::lone::run_lone;
-use crate::progress::Pace;
+use crate::progress::{Pace, Progress};
 use crate::share::{Part, Share, Turn};
 use crate::shared::Shared;
 use eve_floor::{ExecFault, Worker, execute_kept, execute_touched};
@@ -145,11 +145,7 @@ fn run_kept<R: Wait, G: Gate>(
         }
         pace.note();
     }
-    if pace.tell(shared.progress) {
-        Ok(())
-    } else {
-        Err(None)
-    }
+    tell(&mut pace, shared.progress)
 }
 
 // The next request that nobody has claimed, by its index, once those of all batches before and of all parallelBatches
@@ -183,6 +179,15 @@ fn noted_after(shared: &Shared<'_>) -> u64 {
     shared
         .before
         .saturating_add(shared.batch.requests.len() as u64)
+}
+
+// Tells the others what the worker has noted, at the end of its part. An error where a request was given up.
+fn tell(pace: &mut Pace, progress: &Progress) -> Result<(), Option<ExecFault>> {
+    if pace.tell(progress) {
+        Ok(())
+    } else {
+        Err(None)
+    }
 }
 
 // Takes what the others noted of the batch, until there are as many records as it has requests.
@@ -267,11 +272,7 @@ fn run_share<R: Wait, G: Gate>(
         }
         pace.note();
     }
-    if pace.tell(shared.progress) {
-        Ok(())
-    } else {
-        Err(None)
-    }
+    tell(&mut pace, shared.progress)
 }
 
 // The next request that nobody has claimed, by its index.
