@@ -1,21 +1,33 @@
-//! A case: a floor and a batch, two workers, what is done with them, and what is told of it.
+//! A case: a floor and a batch, two workers, and what is done with them.
+
+ghost use Rattle.std.specs.Prelude.{◌≡◌};
+ghost use Rattle.eve_floor.specs.Executing.{IsSeatedAt};
 
 use crate::crew::{Crew, crew_of};
+use crate::gates::Watched;
 use crate::opening::{Ask, batch_of, floor_of};
+use crate::site::{Site, take_both_turns, take_turn};
 use crate::telling::Text;
 use eve_accounts::Names;
-use eve_floor::Floor;
+use eve_floor::{ExecFault, Floor, Worker, flush};
+use eve_recorder::{OpenGate, TakerSeat};
+use eve_stamps::AccessRecord;
 use eve_write::BatchData;
 use std::alloc::{AllocError, Global};
+use std::mem;
 use std::sync::Wait;
+use std::thread::Threads;
 
-/// A floor where each customer has nothing, a batch, and two workers.
+/// Two workers, one of which is at hand, and where they work.
 #[derive(Drop)]
 pub struct Case<'n> {
-    pub floor: Floor<'n>,
-    pub batch: BatchData,
-    pub crew: Crew,
-    pub text: Text,
+    site: Site<'n>,
+    taker: TakerSeat,
+    hand: Worker,
+    other: Worker,
+    ghost hand_at: { IsSeatedAt site.recorder site.tickets hand },
+    ghost other_at: { IsSeatedAt site.recorder site.tickets other },
+    ghost taker_at: { taker.recorder ≡ site.recorder.recorder },
 }
 
 /// What is done in a case.
@@ -35,11 +47,10 @@ pub enum Act {
     GoBack,
 }
 
-/// A case of which nothing is done yet: the words with which it begins, the requests of its batch, how much room the
-/// queue has, and how many numbers there are for each worker.
+/// A case of which nothing is done yet: the requests of its batch, how much room the queue has, and how many numbers
+/// there are for each worker.
 #[derive(Clone, Copy)]
 pub struct Plan<'p> {
-    pub begin: &'p str,
     pub asks: &'p [Ask<'p>],
     pub room: usize,
     pub limit: u64,
@@ -51,17 +62,38 @@ pub fn case_of<'n>(
     names: &'n Names<'n>,
     plan: &Plan,
 ) -> Result<Case<'n>, AllocError> {
-    Ok(Case {
-        floor: floor_of(alloc, names)?,
-        batch: batch_of(alloc, plan.asks)?,
-        crew: crew_of(alloc, plan.room, plan.limit)?,
-        text: Text::new(alloc, plan.begin),
-    })
+    let floor = floor_of(alloc, names)?;
+    let batch = batch_of(alloc, plan.asks)?;
+    let crew = crew_of(alloc, plan.room, plan.limit)?;
+    Ok(at_work(floor, batch, crew))
 }
 
-/// A plan, and what is done in its case, one thing after another.
+// A case of the crew, on this floor, with this batch.
+fn at_work<'n>(floor: Floor<'n>, batch: BatchData, crew: Crew) -> Case<'n> {
+    let Crew {
+        recorder,
+        tickets,
+        taker,
+        hand,
+        other,
+    } = crew;
+    Case {
+        site: Site {
+            floor,
+            batch,
+            recorder,
+            tickets,
+        },
+        taker,
+        hand,
+        other,
+    }
+}
+
+/// The words with which a case's text begins, its plan, and what is done in it, one thing after another.
 #[derive(Clone, Copy)]
 pub struct Script {
+    pub begin: &'static str,
     pub plan: Plan<'static>,
     pub acts: &'static [Act],
 }
@@ -74,47 +106,81 @@ pub fn told<R: Wait>(
     script: &Script,
 ) -> Result<Text, AllocError> {
     let mut case = case_of(alloc, names, &script.plan)?;
-    case.play(rt, script.acts);
-    Ok(case.into_text())
+    let mut text = Text::new(alloc, script.begin);
+    case.play(rt, script.acts, &mut text);
+    drop(case);
+    Ok(text)
 }
 
 impl<'n> Case<'n> {
-    /// What is told of the case.
-    pub fn into_text(self) -> Text {
-        let Case { text, .. } = self;
-        text
-    }
-
-    /// Does these things, one after another.
-    pub fn play<R: Wait>(&mut self, rt: &R, acts: &[Act]) {
+    /// Does these things, one after another, and tells what comes of them.
+    pub fn play<R: Wait>(&mut self, rt: &R, acts: &[Act], text: &mut Text) {
         for act in acts {
             match *act {
-                Act::Run(index) => self.run(rt, index),
-                Act::Turn => self.crew.turn(),
-                Act::Flush => self.flush(rt),
-                Act::Take => self.take(rt),
-                Act::Settle(tick) => self.floor.settle(tick),
-                Act::GoBack => self.floor.go_back(),
+                Act::Run(index) => self.run(rt, index, text),
+                Act::Turn => self.turn(),
+                Act::Flush => self.flush(rt, text),
+                Act::Take => text.say_record(self.take(rt)),
+                Act::Settle(tick) => self.site.floor.settle(tick),
+                Act::GoBack => self.site.floor.go_back(),
             }
         }
     }
 
-    // The worker at hand executes a request.
-    fn run<R: Wait>(&mut self, rt: &R, index: u16) {
-        let answer = self.crew.execute(rt, &self.floor, &self.batch, index);
-        self.text.say_answer(answer);
+    /// The worker at hand executes a request, if it is there and the worker has a place for it.
+    pub fn run<R: Wait>(&mut self, rt: &R, index: u16, text: &mut Text) {
+        let answer = take_turn(rt, &self.site, &OpenGate, index, &mut self.hand);
+        text.say_answer(answer);
     }
 
-    // What waits in the worker at hand is noted.
-    fn flush<R: Wait>(&mut self, rt: &R) {
-        self.text.say(", flush");
-        let answer = self.crew.flush(rt);
-        self.text.say_answer(answer);
+    /// Both workers at once: the one at hand executes request 0, the other request 1. Whether each did, where neither
+    /// was refused memory.
+    pub fn run_both<R: Threads + Wait + Sync, G: Watched>(
+        &mut self,
+        rt: &R,
+        gate: &G,
+    ) -> Result<(bool, bool), AllocError> {
+        let (first, second) = take_both_turns(
+            rt,
+            &self.site,
+            gate,
+            &mut self.hand,
+            &mut self.other,
+        );
+        if first == Err(ExecFault::Memory) || second == Err(ExecFault::Memory) {
+            return Err(AllocError);
+        }
+        Ok((first.is_ok(), second.is_ok()))
     }
 
-    // What was noted first, and not yet taken.
-    fn take<R: Wait>(&mut self, rt: &R) {
-        let record = self.crew.take(rt);
-        self.text.say_record(record);
+    /// The other worker comes to hand.
+    pub fn turn(&mut self) {
+        mem::swap(&mut self.hand, &mut self.other);
+    }
+
+    /// What waits in the worker at hand is noted.
+    pub fn flush<R: Wait>(&mut self, rt: &R, text: &mut Text) {
+        text.say(", flush");
+        let answer = flush(rt, &self.site.recorder, &mut self.hand);
+        text.say_answer(answer);
+    }
+
+    /// What was noted first, and not yet taken.
+    pub fn take<R: Wait>(&mut self, rt: &R) -> Option<AccessRecord> {
+        self.site.recorder.take(rt, &mut self.taker)
+    }
+
+    /// The worker at hand, alone.
+    pub fn into_hand(self) -> Worker {
+        let Case {
+            site,
+            taker,
+            hand,
+            other,
+        } = self;
+        drop(site);
+        drop(taker);
+        drop(other);
+        hand
     }
 }

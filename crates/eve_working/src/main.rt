@@ -6,13 +6,12 @@ mod cases;
 mod crew;
 mod gates;
 mod opening;
-mod pair;
+mod site;
 mod telling;
 
 use crate::cases::{Act, Case, Plan, Script, case_of, told};
 use crate::gates::{HeldGate, LoneGate, Watched};
 use crate::opening::{Ask, customers};
-use crate::pair::{Met, at_once};
 use crate::telling::Text;
 use eve_accounts::Names;
 use eve_floor::Worker;
@@ -25,8 +24,8 @@ use std::thread::Threads;
 
 /// Two deposits to one customer, the second by another worker.
 const ATTEMPT_AND_CLOSE: Script = Script {
+    begin: "replica-attempt-and-close:",
     plan: Plan {
-        begin: "replica-attempt-and-close:",
         asks: &[Ask::Deposit(b"a"), Ask::Deposit(b"a")],
         room: 2,
         limit: 8,
@@ -43,8 +42,8 @@ const ATTEMPT_AND_CLOSE: Script = Script {
 
 /// A queue with room for one record: the second waits, and its worker does nothing until it is noted.
 const FULL_AND_DRAINED: Script = Script {
+    begin: "queue-full-and-drained:",
     plan: Plan {
-        begin: "queue-full-and-drained:",
         asks: &[Ask::Deposit(b"a"), Ask::Deposit(b"a")],
         room: 1,
         limit: 8,
@@ -63,8 +62,8 @@ const FULL_AND_DRAINED: Script = Script {
 
 /// Customers 0 and 16 share a stripe, 0 and 1 don't, and `z` is none.
 const ONE_LOCK_OR_TWO: Script = Script {
+    begin: "one-lock-or-two:",
     plan: Plan {
-        begin: "one-lock-or-two:",
         asks: &[
             Ask::Deposit(b"a"),
             Ask::Move(b"a", b"q"),
@@ -95,8 +94,8 @@ const ONE_LOCK_OR_TWO: Script = Script {
 /// Two deposits for each of two customers, of which the first two are settled and the others undone: what comes
 /// next sees the settled ones. Their rows lie in the first stripe and in the last.
 const SETTLED_AND_WENT_BACK: Script = Script {
+    begin: "settled-and-went-back:",
     plan: Plan {
-        begin: "settled-and-went-back:",
         asks: &[Ask::Deposit(b"a"), Ask::Deposit(b"p")],
         room: 8,
         limit: 8,
@@ -122,8 +121,8 @@ const SETTLED_AND_WENT_BACK: Script = Script {
 
 /// No number may be drawn.
 const NONE_TO_DRAW: Script = Script {
+    begin: "tickets-two-seats:",
     plan: Plan {
-        begin: "tickets-two-seats:",
         asks: &[Ask::Deposit(b"a")],
         room: 2,
         limit: 0,
@@ -133,8 +132,8 @@ const NONE_TO_DRAW: Script = Script {
 
 /// One number may be drawn.
 const ONE_TO_DRAW: Script = Script {
+    begin: "tickets-two-seats:",
     plan: Plan {
-        begin: "tickets-two-seats:",
         asks: &[Ask::Deposit(b"a")],
         room: 2,
         limit: 1,
@@ -142,18 +141,38 @@ const ONE_TO_DRAW: Script = Script {
     acts: &[Act::Run(0), Act::Run(0), Act::Take],
 };
 
-/// A worker in which a record waits keeps its seats, until the record is taken out.
-fn waiting_worker<R: Wait>(rt: &R, alloc: Global, names: &Names) -> Result<Text, AllocError> {
-    let plan = Plan {
-        begin: "waiting-worker:",
+/// What is done in one thread, in the order in which it is told.
+static SCRIPTS: [Script; 6] = [
+    ATTEMPT_AND_CLOSE,
+    FULL_AND_DRAINED,
+    NONE_TO_DRAW,
+    ONE_TO_DRAW,
+    ONE_LOCK_OR_TWO,
+    SETTLED_AND_WENT_BACK,
+];
+
+/// A record waits in a worker.
+static WAITING_WORKER: Script = Script {
+    begin: "waiting-worker:",
+    plan: Plan {
         asks: &[Ask::Deposit(b"a"), Ask::Deposit(b"a")],
         room: 1,
         limit: 8,
-    };
-    let mut case = case_of(alloc, names, &plan)?;
-    case.play(rt, &[Act::Run(0), Act::Run(1)]);
-    let Case { crew, mut text, .. } = case;
-    take_apart(crew.into_hand(), &mut text);
+    },
+    acts: &[Act::Run(0), Act::Run(1)],
+};
+
+/// A worker in which a record waits keeps its seats, until the record is taken out.
+fn waiting_worker<R: Wait>(
+    rt: &R,
+    alloc: Global,
+    names: &Names,
+    script: &Script,
+) -> Result<Text, AllocError> {
+    let mut case = case_of(alloc, names, &script.plan)?;
+    let mut text = Text::new(alloc, script.begin);
+    case.play(rt, script.acts, &mut text);
+    take_apart(case.into_hand(), &mut text);
     Ok(text)
 }
 
@@ -168,6 +187,13 @@ fn take_apart(worker: Worker, text: &mut Text) {
     }
 }
 
+/// Three deposits to one customer, with room for one record.
+static THREE_DEPOSITS: Plan = Plan {
+    asks: &[Ask::Deposit(b"a"), Ask::Deposit(b"a"), Ask::Deposit(b"a")],
+    room: 1,
+    limit: 8,
+};
+
 /// Two deposits to one customer in two threads, with room for one record: one of the two waits, and its worker does
 /// nothing more until it is noted. A third deposit sees both.
 fn waiting_record<R: Threads + Wait + Sync>(
@@ -175,55 +201,50 @@ fn waiting_record<R: Threads + Wait + Sync>(
     alloc: Global,
     names: &Names,
 ) -> Result<Text, AllocError> {
-    let plan = Plan {
-        begin: "waiting-record: one waits",
-        asks: &[Ask::Deposit(b"a"), Ask::Deposit(b"a"), Ask::Deposit(b"a")],
-        room: 1,
-        limit: 8,
-    };
-    let mut met = met_of(rt, alloc, names, &plan, &OpenGate)?;
-    let (first, second) = met.answers()?;
-    play_waiting(rt, &mut met.case, first, second);
-    Ok(met.into_text())
+    let mut case = case_of(alloc, names, &THREE_DEPOSITS)?;
+    let mut text = Text::new(alloc, "waiting-record: one waits");
+    match case.run_both(rt, &OpenGate) {
+        Ok((first, second)) => play_waiting(rt, &mut case, first, second, &mut text),
+        Err(AllocError) => text.lacks_memory(),
+    }
+    drop(case);
+    Ok(text)
 }
 
 // What follows, where these of the two deposits were noted.
-fn play_waiting<R: Wait>(rt: &R, case: &mut Case, first: bool, second: bool) {
-    case.text.say_whether(first != second);
+fn play_waiting<R: Wait>(rt: &R, case: &mut Case, first: bool, second: bool, text: &mut Text) {
+    text.say_whether(first != second);
     if first {
-        case.crew.turn();
+        case.turn();
     }
-    case.play(rt, &[Act::Run(2)]);
-    let first = case.crew.take(rt).is_some();
-    case.play(rt, &[Act::Flush]);
-    let second = case.crew.take(rt).is_some();
-    case.text.say_whether(first && second);
-    case.play(rt, &[Act::Run(2)]);
-    if let Some(record) = case.crew.take(rt) {
-        case.text.say_entries(&record);
+    case.run(rt, 2, text);
+    let first = case.take(rt).is_some();
+    case.flush(rt, text);
+    let second = case.take(rt).is_some();
+    text.say_whether(first && second);
+    case.run(rt, 2, text);
+    if let Some(record) = case.take(rt) {
+        text.say_entries(&record);
     }
 }
 
-// The case of a plan, after its first two requests were executed at once.
-fn met_of<'n, R: Threads + Wait + Sync, G: Watched>(
+/// Whether each of two requests was executed, where both are run at once.
+fn answers<R: Threads + Wait + Sync, G: Watched>(
     rt: &R,
     alloc: Global,
-    names: &'n Names<'n>,
-    plan: &Plan,
+    names: &Names,
+    asks: &[Ask],
     gate: &G,
-) -> Result<Met<'n>, AllocError> {
-    let case = case_of(alloc, names, plan)?;
-    at_once(rt, alloc, case, gate)
-}
-
-// Two requests that are to be run at once.
-fn pair_of<'p>(asks: &'p [Ask<'p>]) -> Plan<'p> {
-    Plan {
-        begin: "",
+) -> Result<(bool, bool), AllocError> {
+    let plan = Plan {
         asks,
         room: 2,
         limit: 8,
-    }
+    };
+    let mut case = case_of(alloc, names, &plan)?;
+    let answers = case.run_both(rt, gate);
+    drop(case);
+    answers
 }
 
 /// Request 0 is held in its gate until request 1 is noted by another thread. Whether that came in time.
@@ -250,41 +271,8 @@ fn meet<R: Threads + Wait + Sync>(
     Ok(!first || !second || gate.met())
 }
 
-// Whether each of two requests was executed, where both are run at once.
-fn answers<R: Threads + Wait + Sync, G: Watched>(
-    rt: &R,
-    alloc: Global,
-    names: &Names,
-    asks: &[Ask],
-    gate: &G,
-) -> Result<(bool, bool), AllocError> {
-    let met = met_of(rt, alloc, names, &pair_of(asks), gate)?;
-    met.answers()
-}
-
-// Whether each of the pairs of requests comes to what is asked of it.
-fn say_each<R: Threads + Wait + Sync>(
-    rt: &R,
-    alloc: Global,
-    names: &Names,
-    text: &mut Text,
-    pairs: &[[Ask; 2]],
-    is_meeting: bool,
-) -> Result<(), AllocError> {
-    for asks in pairs {
-        let is_so = if is_meeting {
-            meet(rt, alloc, names, asks)?
-        } else {
-            // Where a thread couldn't be started, once more.
-            held(rt, alloc, names, asks)? || held(rt, alloc, names, asks)?
-        };
-        text.say_whether(is_so);
-    }
-    Ok(())
-}
-
 /// Pairs of requests of different stripes.
-const APART: [[Ask<'static>; 2]; 5] = [
+static APART: [[Ask<'static>; 2]; 5] = [
     [Ask::Deposit(b"a"), Ask::Deposit(b"b")],
     [Ask::Move(b"a", b"q"), Ask::Deposit(b"b")],
     [Ask::Move(b"a", b"b"), Ask::Deposit(b"c")],
@@ -293,7 +281,7 @@ const APART: [[Ask<'static>; 2]; 5] = [
 ];
 
 /// Pairs of requests that share a stripe.
-const SHARED: [[Ask<'static>; 2]; 5] = [
+static SHARED: [[Ask<'static>; 2]; 5] = [
     [Ask::Deposit(b"a"), Ask::Deposit(b"a")],
     [Ask::Deposit(b"a"), Ask::Deposit(b"q")],
     [Ask::Move(b"a", b"b"), Ask::Deposit(b"a")],
@@ -301,17 +289,34 @@ const SHARED: [[Ask<'static>; 2]; 5] = [
     [Ask::Move(b"a", b"b"), Ask::Move(b"b", b"a")],
 ];
 
+// Whether each of the pairs of requests of different stripes is executed, though one of the two is held.
+fn say_held<R: Threads + Wait + Sync>(rt: &R, alloc: Global, names: &Names, text: &mut Text) {
+    for asks in &APART {
+        let first = held(rt, alloc, names, asks);
+        // Where a thread couldn't be started, once more.
+        let is_so = if first == Ok(false) {
+            held(rt, alloc, names, asks)
+        } else {
+            first
+        };
+        text.say_asked(is_so);
+    }
+}
+
+// Whether the pairs of requests that share a stripe meet.
+fn say_met<R: Threads + Wait + Sync>(rt: &R, alloc: Global, names: &Names, text: &mut Text) {
+    for asks in &SHARED {
+        text.say_asked(meet(rt, alloc, names, asks));
+    }
+}
+
 /// Requests of different stripes don't wait for one another, and those that share a stripe do.
-fn gates_held<R: Threads + Wait + Sync>(
-    rt: &R,
-    alloc: Global,
-    names: &Names,
-) -> Result<Text, AllocError> {
+fn gates_held<R: Threads + Wait + Sync>(rt: &R, alloc: Global, names: &Names) -> Text {
     let mut text = Text::new(alloc, "gates-held:");
-    say_each(rt, alloc, names, &mut text, &APART, false)?;
+    say_held(rt, alloc, names, &mut text);
     text.say("; meet:");
-    say_each(rt, alloc, names, &mut text, &SHARED, true)?;
-    Ok(text)
+    say_met(rt, alloc, names, &mut text);
+    text
 }
 
 // Prints what is told of a case.
@@ -321,18 +326,10 @@ fn tell<R: Print>(rt: &R, told: Result<Text, AllocError>) -> io::Result<()> {
 
 // Prints the cases of one thread.
 fn tell_one_by_one<R: Print + Wait>(rt: &R, alloc: Global, names: &Names) -> io::Result<()> {
-    let scripts = [
-        ATTEMPT_AND_CLOSE,
-        FULL_AND_DRAINED,
-        NONE_TO_DRAW,
-        ONE_TO_DRAW,
-        ONE_LOCK_OR_TWO,
-        SETTLED_AND_WENT_BACK,
-    ];
-    for script in &scripts {
+    for script in &SCRIPTS {
         tell(rt, told(rt, alloc, names, script))?;
     }
-    tell(rt, waiting_worker(rt, alloc, names))
+    tell(rt, waiting_worker(rt, alloc, names, &WAITING_WORKER))
 }
 
 // Prints the cases of two threads.
@@ -342,11 +339,20 @@ fn tell_at_once<R: Print + Threads + Wait + Sync>(
     names: &Names,
 ) -> io::Result<()> {
     tell(rt, waiting_record(rt, alloc, names))?;
-    tell(rt, gates_held(rt, alloc, names))
+    gates_held(rt, alloc, names).print(rt)
+}
+
+// Prints all cases.
+fn tell_all<R: Print + Threads + Wait + Sync>(
+    rt: &R,
+    alloc: Global,
+    names: &Names,
+) -> io::Result<()> {
+    tell_one_by_one(rt, alloc, names)?;
+    tell_at_once(rt, alloc, names)
 }
 
 fn main(rt: HostRuntime) -> io::Result<()> {
     let names = customers(rt.alloc(), RandomState::new(&rt)?)?;
-    tell_one_by_one(&rt, rt.alloc(), &names)?;
-    tell_at_once(&rt, rt.alloc(), &names)
+    tell_all(&rt, rt.alloc(), &names)
 }

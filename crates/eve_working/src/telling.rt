@@ -34,23 +34,37 @@ impl Text {
 
     /// Tells what a call answered.
     pub fn say_answer(&mut self, answer: Result<(), ExecFault>) {
-        if answer == Err(ExecFault::Memory) {
-            self.is_whole = false;
-        }
-        self.say(match answer {
+        let words = match answer {
             Ok(()) => " ok",
             Err(ExecFault::Full) => " Full",
             Err(ExecFault::Spent) => " Spent",
             Err(ExecFault::NoRow) => " NoRow",
             Err(ExecFault::TickOrder) => " TickOrder",
             Err(ExecFault::Worn) => " Worn",
-            Err(ExecFault::Memory) => " Memory",
-        });
+            Err(ExecFault::Memory) => {
+                self.lacks_memory();
+                " Memory"
+            }
+        };
+        self.say(words);
     }
 
     /// Tells whether it is so.
     pub fn say_whether(&mut self, is_so: bool) {
         self.say(if is_so { " yes" } else { " no" });
+    }
+
+    /// A call was refused memory.
+    pub fn lacks_memory(&mut self) {
+        self.is_whole = false;
+    }
+
+    /// Tells whether it is so, unless the call that asked was refused memory.
+    pub fn say_asked(&mut self, is_so: Result<bool, AllocError>) {
+        match is_so {
+            Ok(is_so) => self.say_whether(is_so),
+            Err(AllocError) => self.lacks_memory(),
+        }
     }
 
     fn say_number(&mut self, words: &str, number: i64) {
