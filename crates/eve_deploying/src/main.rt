@@ -10,14 +10,14 @@ mod runs;
 mod world;
 
 use crate::gates::Turn;
-use crate::misses::Misses;
 use crate::replicas::{Case, Part};
-use crate::runs::{Ran, run_knots, run_whole};
+use crate::runs::{run_knots, run_whole, sections_of, verdict_on};
 use crate::world::{names_of, workload_of};
 use eve_accounts::Names;
 use eve_audit::Verdict;
 use eve_recorder::OpenGate;
 use eve_replica::eve_workload::Workload;
+use eve_write::Parts;
 use std::alloc::Global;
 use std::fs::Files;
 use std::hash::RandomState;
@@ -41,70 +41,55 @@ fn file_of(name: &str) -> &str {
     }
 }
 
-/// Whether the case is calls of one replica, and not a run.
-fn is_of_replica(name: &str) -> bool {
-    matches!(
-        name,
-        "replica-attempt-and-close"
-            | "gates-held"
-            | "rollback"
-            | "commit-and-rollback"
-            | "broken-until-rollback"
-    )
+/// What is done in the case, where it is calls of replicas: each part with a new one. A run has no parts.
+fn parts_of(name: &str) -> &'static [Part] {
+    match name {
+        "replica-attempt-and-close" => &[Part::Attempted, Part::Closed],
+        "gates-held" => &[Part::GatesHeld],
+        "rollback" => &[Part::RolledBack],
+        "commit-and-rollback" => &[Part::OneCommitted],
+        "broken-until-rollback" => &[Part::Broken],
+        _ => &[],
+    }
 }
 
-// What of a case of a replica isn't as it is due, where it has this workload.
-fn of_workload<R: Threads + Wait + Sync>(
+// What of the parts of a case with this workload isn't as it is due, if there is something.
+fn miss_of<R: AllocGlobal + Files + RandomSource + Threads + Wait + Sync>(
     rt: &R,
-    alloc: Global,
-    name: &str,
+    parts: &[Part],
     workload: &Workload,
-    random: RandomState,
-    trace: &[u8],
-) -> io::Result<Misses> {
-    let names = names_of(alloc, workload, random)?;
-    of_names(rt, alloc, name, workload, &names, trace)
+) -> io::Result<Option<&'static str>> {
+    let random = RandomState::new(rt)?;
+    let trace = fs::read(rt, "deposit-committed.trace")?;
+    let names = names_of(rt.alloc(), workload, random)?;
+    miss_of_names(rt, rt.alloc(), parts, workload, &names, trace.as_slice())
 }
 
-// The same, where the workload's customers have these names.
-fn of_names<R: Threads + Wait + Sync>(
+// The same, where the workload's customers have these names, and the trace is wanted of ann's deposit.
+fn miss_of_names<R: Threads + Wait + Sync>(
     rt: &R,
     alloc: Global,
-    name: &str,
+    parts: &[Part],
     workload: &Workload,
     names: &Names,
-    trace: &[u8],
-) -> io::Result<Misses> {
+    wanted: &[u8],
+) -> io::Result<Option<&'static str>> {
     let case = Case {
         rt,
         alloc,
         workload,
         names,
-        wanted: trace,
+        wanted,
     };
-    of_case(name, &case)
+    case.first_miss(parts)
 }
 
-// The same, of the case with this name.
-fn of_case<R: Threads + Wait + Sync>(name: &str, case: &Case<R>) -> io::Result<Misses> {
-    match name {
-        "replica-attempt-and-close" => {
-            let attempted = case.of_part(Part::Attempted)?;
-            Ok(attempted.and(case.of_part(Part::Closed)?))
-        }
-        "gates-held" => case.of_part(Part::GatesHeld),
-        "rollback" => case.of_part(Part::RolledBack),
-        "commit-and-rollback" => case.of_part(Part::OneCommitted),
-        _ => case.of_part(Part::Broken),
-    }
-}
-
-/// What the run of the case's workload came to.
-fn of_run<R: AllocGlobal + RandomSource + Threads + Wait + Sync>(
+/// The parts of the trace of the case's run.
+fn run_of<R: AllocGlobal + RandomSource + Threads + Wait + Sync>(
     rt: &R,
     name: &str,
     workload: &Workload,
-) -> io::Result<Ran> {
+) -> io::Result<Parts> {
     let check = Turn::CheckFirst;
     let order = Turn::InOrder;
     let free = Turn::Free;
@@ -124,16 +109,17 @@ fn workload_in<R: AllocGlobal + Files>(rt: &R, file: &str) -> io::Result<Workloa
     workload_of(rt.alloc(), text.as_slice())
 }
 
-// Prints what of a case of a replica isn't as it is due.
-fn tell_replica<R: AllocGlobal + Files + Print + RandomSource + Threads + Wait + Sync>(
+// Prints what of a case of replicas isn't as it is due.
+fn tell_replicas<R: AllocGlobal + Files + Print + RandomSource + Threads + Wait + Sync>(
     rt: &R,
     name: &str,
+    parts: &[Part],
     workload: &Workload,
 ) -> io::Result<()> {
-    let random = RandomState::new(rt)?;
-    let trace = fs::read(rt, "deposit-committed.trace")?;
-    let misses = of_workload(rt, rt.alloc(), name, workload, random, trace.as_slice())?;
-    println!(rt; "{name}: {misses}")
+    match miss_of(rt, parts, workload)? {
+        Some(what) => println!(rt; "{name}: wanted: {what}"),
+        None => println!(rt; "{name}: as it is due"),
+    }
 }
 
 // Prints what a run came to: where the case has no file of its own, what each replica did, too.
@@ -142,11 +128,23 @@ fn tell_run<R: AllocGlobal + Print + RandomSource + Threads + Wait + Sync>(
     name: &str,
     workload: &Workload,
 ) -> io::Result<()> {
-    let Ran { sections, verdict } = of_run(rt, name, workload)?;
+    let parts = run_of(rt, name, workload)?;
+    let verdict = verdict_on(rt, rt.alloc(), &parts)?;
     match verdict {
         Verdict::Yes(_) if file_of(name) == name => println!(rt; "{name}: accepted"),
-        _ => println!(rt; "{name}: {sections}{verdict:?}"),
+        _ => tell_sections(rt, name, &parts, verdict),
     }
+}
+
+// Prints what each replica did, and the verdict.
+fn tell_sections<R: AllocGlobal + Print>(
+    rt: &R,
+    name: &str,
+    parts: &Parts,
+    verdict: Verdict,
+) -> io::Result<()> {
+    let sections = sections_of(rt.alloc(), parts)?;
+    println!(rt; "{name}: {sections}{verdict:?}")
 }
 
 // Prints the line of a case.
@@ -155,10 +153,11 @@ fn tell<R: AllocGlobal + Files + Print + RandomSource + Threads + Wait + Sync>(
     name: &str,
 ) -> io::Result<()> {
     let workload = workload_in(rt, file_of(name))?;
-    if is_of_replica(name) {
-        tell_replica(rt, name, &workload)
-    } else {
+    let parts = parts_of(name);
+    if parts.is_empty() {
         tell_run(rt, name, &workload)
+    } else {
+        tell_replicas(rt, name, parts, &workload)
     }
 }
 

@@ -8,37 +8,59 @@ use crate::world::{
 };
 use eve_accounts::{Cents, Names, Row};
 use eve_grammar::Restore;
-use eve_recorder::OpenGate;
+use eve_recorder::{Gate, OpenGate};
 use eve_replica::eve_workload::Workload;
 use eve_replica::{AttemptFault, CloseFault, CommitFault, Replica};
-use eve_write::{AttemptData, RollbackData};
+use eve_write::AttemptData;
 use std::alloc::{AllocError, Global};
 use std::io;
-use std::io::ErrorKind;
 use std::sync::Wait;
 use std::thread::Threads;
 
-// Ann's checking row, after so many deposits of 500 cents.
-fn row_after(deposits: u8) -> io::Result<Restore> {
-    Ok(Restore {
+// Ann's checking row at first.
+fn opening_row() -> Restore {
+    Restore {
         row: Row::checking(0),
-        version: u64::from(deposits),
-        value: Cents::new(500 * i64::from(deposits)).ok_or(ErrorKind::InvalidData)?,
-    })
-}
-
-// Whether each entry of the attempt saw version 0 and nothing in its row.
-fn sees_opening(attempt: &AttemptData) -> bool {
-    sees(attempt, 0, Cents::ZERO)
-}
-
-// Whether each entry of the attempt saw this version of its row, with this value.
-fn sees(attempt: &AttemptData, version: u64, value: Cents) -> bool {
-    let mut all = true;
-    for entry in attempt.accesses.entries() {
-        all = all && entry.version == version && entry.seen == value;
+        version: 0,
+        value: Cents::ZERO,
     }
-    all
+}
+
+// Ann's checking row after her deposit.
+fn row_after_deposit() -> Restore {
+    Restore {
+        row: Row::checking(0),
+        version: 1,
+        value: Cents::of(500),
+    }
+}
+
+/// How an attempt is due: its number, its view, its mode, and how each of its entries sees its row.
+#[derive(Clone, Copy)]
+struct Due {
+    seq: u32,
+    view: u32,
+    serial: bool,
+    seen: Restore,
+}
+
+impl Due {
+    // Whether the attempt is as it is due.
+    fn is_met(&self, made: &AttemptData) -> bool {
+        self.is_placed(made) && self.is_seen(made)
+    }
+
+    fn is_placed(&self, made: &AttemptData) -> bool {
+        made.seq == self.seq && made.view == self.view && made.serial == self.serial
+    }
+
+    fn is_seen(&self, made: &AttemptData) -> bool {
+        let mut all = true;
+        for entry in made.accesses.entries() {
+            all = all && entry.version == self.seen.version && entry.seen == self.seen.value;
+        }
+        all
+    }
 }
 
 /// What is done with a new replica.
@@ -72,215 +94,220 @@ pub struct Case<'c, R> {
 }
 
 impl<R: Threads + Wait + Sync> Case<'_, R> {
-    /// What isn't as it is due, of this part of the case.
-    pub fn of_part(&self, part: Part) -> io::Result<Misses> {
-        let mut replica = replica_of(self.alloc, self.names)?;
-        self.of_replica(part, &mut replica)
+    /// What of these parts of the case isn't as it is due: the first such thing, if there is one.
+    pub fn first_miss(&self, parts: &[Part]) -> io::Result<Option<&'static str>> {
+        let mut misses = Misses::none();
+        for part in parts {
+            self.of_part(*part, &mut misses);
+        }
+        misses.first()
     }
 
-    // The same, of a replica of which nothing was asked yet.
-    fn of_replica(&self, part: Part, replica: &mut Replica) -> io::Result<Misses> {
-        match part {
-            Part::Attempted => self.attempt_and_commit(replica),
-            Part::Closed => self.close_records(replica),
-            Part::GatesHeld => self.gates_held(replica),
-            Part::RolledBack => self.rolled_back(replica),
-            Part::OneCommitted => self.one_committed(replica),
-            Part::Broken => self.broken_until_rollback(replica),
+    fn of_part(&self, part: Part, misses: &mut Misses) {
+        match replica_of(self.alloc, self.names) {
+            Ok(mut replica) => self.of_replica(part, &mut replica, misses),
+            Err(why) => misses.stop(why.into()),
         }
     }
 
-    fn attempt_and_commit(&self, replica: &mut Replica) -> io::Result<Misses> {
-        let mut misses = Misses::none();
-        misses.want(is_not_open(replica), "nothing is open at first");
-        let is_wanted = self.attempt_gives(replica)?;
-        misses.want(is_wanted, "the trace of the attempt");
-        misses.want(is_not_open(replica), "what is committed isn't open");
-        misses.want(restores_nothing(self.alloc, replica)?, "nothing to restore");
-        Ok(misses)
+    // The part, of a replica of which nothing was asked yet.
+    fn of_replica(&self, part: Part, replica: &mut Replica, misses: &mut Misses) {
+        match part {
+            Part::Attempted => self.attempt_and_commit(replica, misses),
+            Part::Closed => self.close_records(replica, misses),
+            Part::GatesHeld => self.gates_held(replica, misses),
+            Part::RolledBack => self.rolled_back(replica, misses),
+            Part::OneCommitted => self.one_committed(replica, misses),
+            Part::Broken => self.broken_until_rollback(replica, misses),
+        }
     }
 
-    // Whether a deployment that attempts ann's deposit and commits it has this trace.
+    fn attempt_and_commit(&self, replica: &mut Replica, misses: &mut Misses) {
+        misses.want(is_not_open(replica), "nothing is open at first");
+        misses.want_answer(self.attempt_gives(replica), "the trace of the attempt");
+        misses.want(is_not_open(replica), "what is committed isn't open");
+        misses.want_answer(goes_back(self.alloc, replica, 1, &[]), "nothing to restore");
+    }
+
+    // Whether a deployment that attempts ann's deposit and commits it has the trace that is wanted.
     fn attempt_gives(&self, replica: &mut Replica) -> io::Result<bool> {
-        let trace = self.trace_of_attempt(replica)?;
+        let batch = batch_of(self.alloc, self.workload, 1, self.names)?;
+        let made = ran(attempt(self.rt, self.alloc, replica, &batch, &OpenGate))?;
+        self.gives_wanted(batch, made, replica)
+    }
+
+    // Whether one that made this attempt of ann's deposit, and commits it, has it.
+    fn gives_wanted(
+        &self,
+        batch: Fit,
+        made: AttemptData,
+        replica: &mut Replica,
+    ) -> io::Result<bool> {
+        let commit = committed(commit_first(replica))?;
+        let trace = trace_of(self.alloc, self.workload, batch, made, commit)?;
         Ok(trace.as_slice() == self.wanted)
     }
 
-    // The trace of a deployment that attempts ann's deposit and commits it.
-    fn trace_of_attempt(&self, replica: &mut Replica) -> io::Result<Vec<u8>> {
-        let batch = batch_of(self.alloc, self.workload, 1, self.names)?;
-        let made = ran(attempt(self.rt, self.alloc, replica, &batch, &OpenGate))?;
-        self.trace_with(batch, made, replica)
-    }
-
-    // The trace of a deployment that made this attempt of ann's deposit and commits it.
-    fn trace_with(
-        &self,
-        fit: Fit,
-        made: AttemptData,
-        replica: &mut Replica,
-    ) -> io::Result<Vec<u8>> {
-        let commit = committed(commit_first(replica))?;
-        trace_of(self.alloc, self.workload, fit, made, commit)
-    }
-
-    fn close_records(&self, replica: &mut Replica) -> io::Result<Misses> {
-        let refused = self.records_refused(replica)?;
-        let made = self.records_made(replica)?;
-        Ok(refused.and(made))
-    }
-
-    fn records_refused(&self, replica: &mut Replica) -> io::Result<Misses> {
-        let batch = batch_of(self.alloc, self.workload, 1, self.names)?;
-        self.refused_for(&batch, replica)
+    fn close_records(&self, replica: &mut Replica, misses: &mut Misses) {
+        match batch_of(self.alloc, self.workload, 1, self.names) {
+            Ok(batch) => self.records_refused(&batch, replica, misses),
+            Err(why) => misses.stop(why),
+        }
+        misses.want_answer(self.record_gives(replica), "the trace of the records");
     }
 
     // No records are no attempt of the batch, and neither is one that saw another version.
-    fn refused_for(&self, batch: &Fit, replica: &mut Replica) -> io::Result<Misses> {
-        let mut misses = Misses::none();
-        let none = is_mismatch(close(self.alloc, replica, batch, &[]))?;
-        misses.want(none, "no records are no attempt");
-        let later = record_at(self.alloc, self.names, 1)?;
-        let at_one = is_mismatch(close(self.alloc, replica, batch, &[later]))?;
-        misses.want(at_one, "the row isn't at version 1");
-        Ok(misses)
+    fn records_refused(&self, batch: &Fit, replica: &mut Replica, misses: &mut Misses) {
+        let none = is_mismatch(close(self.alloc, replica, batch, &[]));
+        misses.want_answer(none, "no records are no attempt");
+        match record_at(self.alloc, self.names, 1) {
+            Ok(later) => {
+                let at_one = is_mismatch(close(self.alloc, replica, batch, &[later]));
+                misses.want_answer(at_one, "the row isn't at version 1");
+            }
+            Err(why) => misses.stop(why),
+        }
     }
 
-    fn records_made(&self, replica: &mut Replica) -> io::Result<Misses> {
-        let mut misses = Misses::none();
-        let trace = self.trace_of_record(replica)?;
-        misses.want(trace.as_slice() == self.wanted, "the trace of the records");
-        Ok(misses)
-    }
-
-    // The same trace, of a record that was taken by hand.
-    fn trace_of_record(&self, replica: &mut Replica) -> io::Result<Vec<u8>> {
+    // Whether one that closes a record of ann's deposit, which was taken by hand, and commits it, has it.
+    fn record_gives(&self, replica: &mut Replica) -> io::Result<bool> {
         let batch = batch_of(self.alloc, self.workload, 1, self.names)?;
+        let made = self.close_one(&batch, replica)?;
+        self.gives_wanted(batch, made, replica)
+    }
+
+    // Ann's deposit, which the batch has, is closed of a record that was taken by hand.
+    fn close_one(&self, batch: &Fit, replica: &mut Replica) -> io::Result<AttemptData> {
         let record = record_at(self.alloc, self.names, 0)?;
-        let made = closed(close(self.alloc, replica, &batch, &[record]))?;
-        self.trace_with(batch, made, replica)
+        closed(close(self.alloc, replica, batch, &[record]))
     }
 
-    fn gates_held(&self, replica: &mut Replica) -> io::Result<Misses> {
-        let mut misses = Misses::none();
-        let batch = batch_of(self.alloc, self.workload, 2, self.names)?;
+    fn gates_held(&self, replica: &mut Replica, misses: &mut Misses) {
         let gate = MeetingGate::new();
-        let made = attempt(self.rt, self.alloc, replica, &batch, &gate);
-        misses.want(made.is_ok(), "an attempt");
+        match self.attempt_fault(2, &gate, replica) {
+            Ok(fault) => misses.want(fault.is_none(), "an attempt"),
+            Err(why) => misses.stop(why),
+        }
         misses.want(gate.have_met(), "both inside at one moment");
-        Ok(misses)
     }
 
-    fn rolled_back(&self, replica: &mut Replica) -> io::Result<Misses> {
-        let first = self.first_attempt(replica)?;
-        let back = row_back(self.alloc, replica, 0)?;
-        let again = self.serial_again(1, replica)?;
-        Ok(first.and(back).and(again))
+    // Why the batch with this number wasn't attempted, if it wasn't.
+    fn attempt_fault<G: Gate>(
+        &self,
+        number: u32,
+        gate: &G,
+        replica: &mut Replica,
+    ) -> io::Result<Option<AttemptFault>> {
+        let batch = batch_of(self.alloc, self.workload, number, self.names)?;
+        Ok(attempt(self.rt, self.alloc, replica, &batch, gate).err())
+    }
+
+    fn rolled_back(&self, replica: &mut Replica, misses: &mut Misses) {
+        self.attempt_first(replica, misses);
+        self.go_back(0, opening_row(), replica, misses);
+        self.attempt_again(1, replica, misses);
     }
 
     // The first attempt is parallel, and sees the opening rows.
-    fn first_attempt(&self, replica: &mut Replica) -> io::Result<Misses> {
-        let mut misses = Misses::none();
-        let first = ran(self.attempt_one(1, replica)?)?;
-        misses.want(
-            !first.serial && sees_opening(&first),
-            "the first attempt sees version 0",
-        );
-        Ok(misses)
+    fn attempt_first(&self, replica: &mut Replica, misses: &mut Misses) {
+        let due = Due {
+            seq: 1,
+            view: 0,
+            serial: false,
+            seen: opening_row(),
+        };
+        let is_met = self.attempt_meets(1, due, replica);
+        misses.want_answer(is_met, "the first attempt is parallel and sees version 0");
     }
 
-    // The attempt after a rollback, of the batch with this number: it sees the opening rows again.
-    fn serial_again(&self, number: u32, replica: &mut Replica) -> io::Result<Misses> {
-        let mut misses = Misses::none();
-        let again = ran(self.attempt_one(number, replica)?)?;
-        misses.want(
-            again.seq == 1 && again.view == 1 && again.serial,
-            "a serial attempt in view 1",
+    // The attempt after a rollback, of the batch with this number: it is serial, and sees the opening rows again.
+    fn attempt_again(&self, number: u32, replica: &mut Replica, misses: &mut Misses) {
+        let due = Due {
+            seq: 1,
+            view: 1,
+            serial: true,
+            seen: opening_row(),
+        };
+        let is_met = self.attempt_meets(number, due, replica);
+        misses.want_answer(
+            is_met,
+            "a serial attempt in view 1 that sees version 0 again",
         );
-        misses.want(sees_opening(&again), "it sees version 0 again");
-        Ok(misses)
     }
 
-    // An attempt of the batch with this number.
-    fn attempt_one(
-        &self,
-        number: u32,
-        replica: &mut Replica,
-    ) -> io::Result<Result<AttemptData, AttemptFault>> {
+    // Whether an attempt of the batch with this number is as it is due.
+    fn attempt_meets(&self, number: u32, due: Due, replica: &mut Replica) -> io::Result<bool> {
         let batch = batch_of(self.alloc, self.workload, number, self.names)?;
-        Ok(attempt(self.rt, self.alloc, replica, &batch, &OpenGate))
+        let made = ran(attempt(self.rt, self.alloc, replica, &batch, &OpenGate))?;
+        Ok(due.is_met(&made))
     }
 
-    fn one_committed(&self, replica: &mut Replica) -> io::Result<Misses> {
-        let first = self.first_attempt(replica)?;
-        let second = self.attempt_after_one(replica)?;
-        committed(commit_first(replica))?;
-        let back = row_back(self.alloc, replica, 1)?;
-        let again = self.attempt_after_one(replica)?;
-        Ok(first.and(second).and(back).and(again))
+    // A rollback restores ann's row, and what is committed stays.
+    fn go_back(&self, to: u32, row: Restore, replica: &mut Replica, misses: &mut Misses) {
+        let is_back = goes_back(self.alloc, replica, to, &[row]);
+        misses.want_answer(is_back, "her row is restored, and what is committed stays");
     }
 
-    // An attempt of ann's deposit as the second batch: it sees the row as the first left it.
-    fn attempt_after_one(&self, replica: &mut Replica) -> io::Result<Misses> {
-        let mut misses = Misses::none();
-        let left = row_after(1)?;
-        let made = ran(self.attempt_one(1, replica)?)?;
-        misses.want(made.seq == 2, "the second batch");
-        misses.want(sees(&made, left.version, left.value), "it sees version 1");
-        Ok(misses)
+    fn one_committed(&self, replica: &mut Replica, misses: &mut Misses) {
+        self.attempt_first(replica, misses);
+        self.attempt_second(0, replica, misses);
+        misses.want(commit_first(replica).is_ok(), "the first is committed");
+        self.go_back(1, row_after_deposit(), replica, misses);
+        self.attempt_second(1, replica, misses);
     }
 
-    fn broken_until_rollback(&self, replica: &mut Replica) -> io::Result<Misses> {
-        self.close_one(replica)?;
-        let failed = self.attempt_fails(replica)?;
-        let refused = self.while_broken(replica)?;
-        let back = back_at_last(self.alloc, replica)?;
-        let again = self.serial_again(2, replica)?;
-        Ok(failed.and(refused).and(back).and(again))
+    // An attempt of ann's deposit as the second batch, in this view, serial in that after the first: it sees the row as
+    // the first left it.
+    fn attempt_second(&self, view: u32, replica: &mut Replica, misses: &mut Misses) {
+        let due = Due {
+            seq: 2,
+            view,
+            serial: view > 0,
+            seen: row_after_deposit(),
+        };
+        let is_met = self.attempt_meets(1, due, replica);
+        misses.want_answer(is_met, "the second batch sees version 1");
     }
 
-    // An attempt over ann's row fails, since the stripes don't have her deposit.
-    fn attempt_fails(&self, replica: &mut Replica) -> io::Result<Misses> {
-        let mut misses = Misses::none();
-        let why = self.attempt_one(2, replica)?.err();
-        let has_failed = why == Some(AttemptFault::Mismatch) || why == Some(AttemptFault::Memory);
-        misses.want(has_failed, "an attempt over her row fails");
-        Ok(misses)
+    fn broken_until_rollback(&self, replica: &mut Replica, misses: &mut Misses) {
+        misses.want_answer(self.is_closed(replica), "her deposit is closed");
+        misses.want_answer(self.attempt_fails(replica), "an attempt over her row fails");
+        self.while_broken(replica, misses);
+        back_at_last(self.alloc, replica, misses);
+        misses.want(!replica.is_broken(), "not broken any more");
+        self.attempt_again(2, replica, misses);
     }
 
-    // Ann's deposit is closed of a record that was taken by hand.
-    fn close_one(&self, replica: &mut Replica) -> io::Result<()> {
+    // Whether ann's deposit is closed as the first batch.
+    fn is_closed(&self, replica: &mut Replica) -> io::Result<bool> {
         let batch = batch_of(self.alloc, self.workload, 1, self.names)?;
-        let record = record_at(self.alloc, self.names, 0)?;
-        closed(close(self.alloc, replica, &batch, &[record]))?;
-        Ok(())
+        Ok(self.close_one(&batch, replica)?.seq == 1)
+    }
+
+    // Whether an attempt over ann's row fails, since the stripes don't have her deposit.
+    fn attempt_fails(&self, replica: &mut Replica) -> io::Result<bool> {
+        let why = self.attempt_fault(2, &OpenGate, replica)?;
+        Ok(why == Some(AttemptFault::Mismatch) || why == Some(AttemptFault::Memory))
     }
 
     // Every call but a rollback is refused.
-    fn while_broken(&self, replica: &mut Replica) -> io::Result<Misses> {
-        let mut misses = Misses::none();
+    fn while_broken(&self, replica: &mut Replica, misses: &mut Misses) {
         misses.want(replica.is_broken(), "a broken replica");
         misses.want(is_broken_at_commit(replica), "no commit while broken");
-        let batch = batch_of(self.alloc, self.workload, 2, self.names)?;
-        let closed = close(self.alloc, replica, &batch, &[]).err();
-        misses.want(closed == Some(CloseFault::Broken), "no close while broken");
-        let attempted = attempt(self.rt, self.alloc, replica, &batch, &OpenGate).err();
-        misses.want(
-            attempted == Some(AttemptFault::Broken),
-            "no attempt while broken",
-        );
-        Ok(misses)
+        match batch_of(self.alloc, self.workload, 2, self.names) {
+            Ok(batch) => self.broken_for(&batch, replica, misses),
+            Err(why) => misses.stop(why),
+        }
     }
-}
 
-// Whether a rollback after the first batch restores nothing.
-fn restores_nothing(alloc: Global, replica: &mut Replica) -> io::Result<bool> {
-    let rollback = roll_back(alloc, replica)?;
-    Ok(rollback.restores.is_empty() && rollback.to == 1)
-}
-
-fn is_not_open(replica: &mut Replica) -> bool {
-    commit_first(replica).err() == Some(CommitFault::NotOpen)
+    // The batch can't be closed, and it can't be attempted.
+    fn broken_for(&self, batch: &Fit, replica: &mut Replica, misses: &mut Misses) {
+        let closed = close(self.alloc, replica, batch, &[]).err();
+        misses.want(closed == Some(CloseFault::Broken), "no close while broken");
+        let attempted = attempt(self.rt, self.alloc, replica, batch, &OpenGate).err();
+        let is_broken = attempted == Some(AttemptFault::Broken);
+        misses.want(is_broken, "no attempt while broken");
+    }
 }
 
 // Whether the records were refused, and not for lack of memory.
@@ -292,49 +319,27 @@ fn is_mismatch(answer: Result<AttemptData, CloseFault>) -> io::Result<bool> {
     }
 }
 
-// A rollback restores ann's row as it was after so many deposits, each of a batch.
-fn row_back(alloc: Global, replica: &mut Replica, deposits: u8) -> io::Result<Misses> {
-    let mut misses = Misses::none();
-    let rollback = roll_back(alloc, replica)?;
-    let is_back = restores_one_row(&rollback, deposits)?;
-    misses.want(is_back, "her row is restored");
-    misses.want(
-        rollback.to == u32::from(deposits),
-        "what is committed stays",
-    );
-    Ok(misses)
-}
-
-fn restores_one_row(rollback: &RollbackData, deposits: u8) -> io::Result<bool> {
-    Ok(rollback.restores.as_slice() == [row_after(deposits)?].as_slice())
-}
-
-// A rollback restores ann's row, and the replica isn't broken any more.
-fn back_at_last(alloc: Global, replica: &mut Replica) -> io::Result<Misses> {
-    let mut misses = Misses::none();
-    let rollback = roll_back_at_last(alloc, replica, &mut misses)?;
-    let is_back = restores_one_row(&rollback, 0)?;
-    misses.want(is_back, "her row is restored");
-    misses.want(!replica.is_broken(), "not broken any more");
-    Ok(misses)
+fn is_not_open(replica: &mut Replica) -> bool {
+    commit_first(replica).err() == Some(CommitFault::NotOpen)
 }
 
 fn is_broken_at_commit(replica: &mut Replica) -> bool {
     commit_first(replica).err() == Some(CommitFault::Broken)
 }
 
-// A rollback; where it is refused memory the replica stays broken, and a second one is asked for.
-fn roll_back_at_last(
-    alloc: Global,
-    replica: &mut Replica,
-    misses: &mut Misses,
-) -> io::Result<RollbackData> {
-    if let Ok(rollback) = roll_back(alloc, replica) {
-        return Ok(rollback);
+// Whether a rollback goes back to this number, and restores these rows.
+fn goes_back(alloc: Global, replica: &mut Replica, to: u32, rows: &[Restore]) -> io::Result<bool> {
+    let rollback = roll_back(alloc, replica)?;
+    Ok(rollback.to == to && rollback.restores.as_slice() == rows)
+}
+
+// A rollback restores ann's row. Where it is refused memory the replica stays broken, and a second one is asked for.
+fn back_at_last(alloc: Global, replica: &mut Replica, misses: &mut Misses) {
+    let mut is_back = goes_back(alloc, replica, 0, &[opening_row()]);
+    if is_back.is_err() {
+        let is_broken = is_broken_at_commit(replica);
+        misses.want(is_broken, "broken where the rollback was refused");
+        is_back = goes_back(alloc, replica, 0, &[opening_row()]);
     }
-    misses.want(
-        is_broken_at_commit(replica),
-        "broken where the rollback was refused",
-    );
-    Ok(roll_back(alloc, replica)?)
+    misses.want_answer(is_back, "her row is restored");
 }

@@ -14,48 +14,23 @@ use std::random::RandomSource;
 use std::sync::Wait;
 use std::thread::Threads;
 
-/// What each replica did, and the verdict on the trace.
-#[derive(Drop)]
-pub struct Ran {
-    pub sections: String,
-    pub verdict: Verdict,
-}
-
-/// Runs the workload, all requests of a batch in one parallelBatch, and audits the trace.
+/// Runs the workload, all requests of a batch in one parallelBatch, and answers the parts of the trace.
 pub fn run_whole<R: RandomSource + Threads + Wait + Sync, G: Gate>(
     rt: &R,
     alloc: Global,
     workload: &Workload,
     gate: &G,
-) -> io::Result<Ran> {
-    let parts = match run(
-        rt,
-        alloc,
-        workload,
-        Mixer::Whole,
-        RandomState::new(rt)?,
-        gate,
-    ) {
-        Ok(parts) => parts,
-        Err(RunFault::Memory) => return Err(AllocError.into()),
-        Err(RunFault::Broken) => return Err(io::Error::other("broken")),
-    };
-    ran_of(rt, alloc, &parts)
+) -> io::Result<Parts> {
+    let random = RandomState::new(rt)?;
+    match run(rt, alloc, workload, Mixer::Whole, random, gate) {
+        Ok(parts) => Ok(parts),
+        Err(RunFault::Memory) => Err(AllocError.into()),
+        Err(RunFault::Broken) => Err(io::Error::other("broken")),
+    }
 }
 
-// What a run of these parts came to.
-fn ran_of<R: RandomSource + Threads + Wait + Sync>(
-    rt: &R,
-    alloc: Global,
-    parts: &Parts,
-) -> io::Result<Ran> {
-    let verdict = verdict_on(rt, alloc, parts)?;
-    let sections = sections_of(alloc, parts)?;
-    Ok(Ran { sections, verdict })
-}
-
-// The verdict on a trace of these parts.
-fn verdict_on<R: RandomSource + Threads + Wait + Sync>(
+/// The verdict on a trace of these parts.
+pub fn verdict_on<R: RandomSource + Threads + Wait + Sync>(
     rt: &R,
     alloc: Global,
     parts: &Parts,
@@ -68,16 +43,42 @@ fn verdict_on<R: RandomSource + Threads + Wait + Sync>(
     }
 }
 
-// What each replica did, one thing after another.
-fn sections_of(alloc: Global, parts: &Parts) -> Result<String, AllocError> {
-    let mut told = String::new(alloc);
-    for section in &parts.sections {
-        for step in section {
-            told.push_str(word_of(step))?;
-        }
-        told.push_str("| ")?;
+// Words one after another. Where memory is refused for one, `all` says so.
+#[derive(Drop)]
+struct Told {
+    text: String,
+    is_whole: bool,
+}
+
+impl Told {
+    fn words(&mut self, words: &str) {
+        let written = self.text.push_str(words);
+        self.is_whole = self.is_whole && written.is_ok();
     }
-    Ok(told)
+
+    fn all(self) -> Result<String, AllocError> {
+        let Told { text, is_whole } = self;
+        if is_whole { Ok(text) } else { Err(AllocError) }
+    }
+}
+
+/// What each replica did, one thing after another.
+pub fn sections_of(alloc: Global, parts: &Parts) -> Result<String, AllocError> {
+    let mut told = Told {
+        text: String::new(alloc),
+        is_whole: true,
+    };
+    for section in &parts.sections {
+        tell_section(section, &mut told);
+    }
+    told.all()
+}
+
+fn tell_section(section: &[Step], told: &mut Told) {
+    for step in section {
+        told.words(word_of(step));
+    }
+    told.words("| ");
 }
 
 fn word_of(step: &Step) -> &'static str {
@@ -95,11 +96,18 @@ pub fn run_knots<R: RandomSource + Threads + Wait + Sync>(
     alloc: Global,
     workload: &Workload,
     turns: [Turn; 7],
-) -> io::Result<Ran> {
+) -> io::Result<Parts> {
     let gate = KnotGate::new(turns);
-    let ran = run_whole(rt, alloc, workload, &gate)?;
-    if !gate.is_kept() {
-        return Err(stopped());
+    let ran = run_whole(rt, alloc, workload, &gate);
+    kept_by(&gate, ran)
+}
+
+// The parts of the run, where no request of it was held longer than the limit of turns.
+fn kept_by(gate: &KnotGate, ran: io::Result<Parts>) -> io::Result<Parts> {
+    let parts = ran?;
+    if gate.is_kept() {
+        Ok(parts)
+    } else {
+        Err(stopped())
     }
-    Ok(ran)
 }

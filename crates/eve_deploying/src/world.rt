@@ -13,7 +13,8 @@ use eve_smallbank::{Request, touched};
 use eve_stamps::{AccessRecord, HeldRow, Stamp, Stripe, apply};
 use eve_streams::SinkOf;
 use eve_write::{
-    AttemptData, BatchData, ChoiceData, CommitData, Parts, RollbackData, Step, VoteData, gather,
+    AttemptData, BatchData, ChoiceData, CommitData, CustomerData, Parts, RollbackData, Step,
+    VoteData, gather,
 };
 use std::alloc::{AllocError, Global};
 use std::hash::RandomState;
@@ -66,9 +67,9 @@ pub fn batch_of(alloc: Global, workload: &Workload, number: u32, names: &Names) 
 }
 
 /// A replica whose customers have nothing, with two workers and at most two open attempts.
-pub fn replica_of<'n>(alloc: Global, names: &'n Names<'n>) -> io::Result<Replica<'n>> {
+pub fn replica_of<'n>(alloc: Global, names: &'n Names<'n>) -> Result<Replica<'n>, AllocError> {
     let balances = Balances::new(alloc, 2 * names.len())?;
-    Ok(Replica::new(alloc, names, &balances, 2, 2)?)
+    Replica::new(alloc, names, &balances, 2, 2)
 }
 
 /// An attempt of the batch, in the view and the mode that are due.
@@ -187,26 +188,61 @@ pub fn trace_of(
     attempt: AttemptData,
     commit: CommitData,
 ) -> io::Result<Vec<u8>> {
-    let vote = VoteData {
-        seq: commit.seq,
-        view: commit.view,
-        choice: ChoiceData::ForCommit,
-        token: commit.token,
-    };
     let customers = workload.customers().to_vec(alloc)?;
-    let Fit { batch } = fit;
-    let steps = vec![in alloc; Step::Attempt(attempt), Step::Commit(commit)]?;
-    let parts = Parts {
+    let parts = parts_of(alloc, customers, fit, attempt, commit)?;
+    bytes_of(alloc, &parts)
+}
+
+// Its parts, where these are its customers.
+fn parts_of(
+    alloc: Global,
+    customers: Vec<CustomerData>,
+    fit: Fit,
+    attempt: AttemptData,
+    commit: CommitData,
+) -> Result<Parts, AllocError> {
+    let sections = sections_of(alloc, attempt, commit)?;
+    let batches = batches_of(alloc, fit)?;
+    let verifiers = votes_for(alloc, commit)?;
+    Ok(Parts {
         quorum: 1,
         window: 1,
         workers: 1,
         customers,
-        batches: vec![in alloc; batch]?,
-        sections: vec![in alloc; steps]?,
-        verifiers: vec![in alloc; vec![in alloc; vote]?]?,
+        batches,
+        sections,
+        verifiers,
         sent: Vec::new(alloc),
+    })
+}
+
+// The section of a replica that did these two things, alone.
+fn sections_of(
+    alloc: Global,
+    attempt: AttemptData,
+    commit: CommitData,
+) -> Result<Vec<Vec<Step>>, AllocError> {
+    let steps = vec![in alloc; Step::Attempt(attempt), Step::Commit(commit)]?;
+    Ok(vec![in alloc; steps]?)
+}
+
+// This batch alone.
+fn batches_of(alloc: Global, fit: Fit) -> Result<Vec<BatchData>, AllocError> {
+    let Fit { batch } = fit;
+    Ok(vec![in alloc; batch]?)
+}
+
+// The votes of a verifier that voted for the commit, alone.
+fn votes_for(alloc: Global, commit: CommitData) -> Result<Vec<Vec<VoteData>>, AllocError> {
+    let token = commit.token;
+    let vote = VoteData {
+        seq: commit.seq,
+        view: commit.view,
+        choice: ChoiceData::ForCommit,
+        token,
     };
-    bytes_of(alloc, &parts)
+    let votes = vec![in alloc; vote]?;
+    Ok(vec![in alloc; votes]?)
 }
 
 /// The bytes of the parts of a trace.
