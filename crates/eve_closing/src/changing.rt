@@ -71,76 +71,115 @@ impl Change {
 
     /// What was met, with this change. There are so many workers.
     pub fn apply(self, met: &mut Vec<Meeting>, workers: u8) -> Result<(), AllocError> {
-        let (Some(first), Some(mut last)) = (met.first().copied(), met.pop()) else {
+        let Some(first) = met.first().copied() else {
             return Ok(());
         };
-        match self {
-            Change::LeftOut => return Ok(()),
-            Change::OnceMore => met.push(last)?,
-            Change::Twice => {
-                last.asked = first.asked;
-                last.index = first.index;
-            }
-            Change::IndexPast => last.index = last.index.max(first.index).saturating_add(1),
-            Change::OtherRequest => last.asked = first.asked,
-            Change::WorkerPast => last = at_first_of(last, workers),
-            Change::SecondWorker => last = at_first_of(last, 1),
-            Change::PlaceSkipped => last.place = last.place.saturating_add(1),
-            Change::OtherVersion(place) => last.seen = with_other_version(&last.seen, place),
-            Change::OtherValue(place) => last.seen = with_other_value(&last.seen, place),
-            _ => {}
+        let Some(last) = met.pop() else {
+            return Ok(());
+        };
+        for _ in 0..self.times_last() {
+            met.push(self.changed(&first, &last, workers))?;
         }
-        met.push(last)?;
         self.set_ticks(met.as_mut_slice());
         Ok(())
     }
 
+    /// How often the last record is there.
+    fn times_last(self) -> usize {
+        match self {
+            Change::LeftOut => 0,
+            Change::OnceMore => 2,
+            _ => 1,
+        }
+    }
+
+    /// The last of what was met, with this change.
+    fn changed(self, first: &Meeting, last: &Meeting, workers: u8) -> Meeting {
+        match self {
+            Change::Twice => Meeting {
+                asked: first.asked,
+                index: first.index,
+                ..*last
+            },
+            Change::IndexPast => Meeting {
+                index: last.index.max(first.index).saturating_add(1),
+                ..*last
+            },
+            Change::OtherRequest => Meeting {
+                asked: first.asked,
+                ..*last
+            },
+            Change::WorkerPast => at_first_of(last, workers),
+            Change::SecondWorker => at_first_of(last, 1),
+            Change::PlaceSkipped => Meeting {
+                place: last.place.saturating_add(1),
+                ..*last
+            },
+            Change::OtherVersion(place) => Meeting {
+                seen: with_other_version(&last.seen, place),
+                ..*last
+            },
+            Change::OtherValue(place) => Meeting {
+                seen: with_other_value(&last.seen, place),
+                ..*last
+            },
+            _ => *last,
+        }
+    }
+
     /// The ticks rise from 0 at first.
     fn set_ticks(self, met: &mut [Meeting]) {
-        let last = met.len() as u64;
+        let count = met.len() as u64;
         for meeting in met.iter_mut() {
-            match self {
-                Change::TicksFall => meeting.tick = u64::MAX - meeting.tick,
-                Change::TicksEqual => meeting.tick = 0,
-                Change::TicksLate => meeting.tick = u64::MAX
-                    - last.saturating_sub(meeting.tick).saturating_sub(1),
-                _ => {}
-            }
+            meeting.tick = self.tick_of(meeting.tick, count);
+        }
+    }
+
+    /// The tick in place of this one, of so many.
+    fn tick_of(self, tick: u64, count: u64) -> u64 {
+        match self {
+            Change::TicksFall => u64::MAX - tick,
+            Change::TicksEqual => 0,
+            Change::TicksLate => u64::MAX - count.saturating_sub(tick).saturating_sub(1),
+            _ => tick,
         }
     }
 }
 
-fn at_first_of(met: Meeting, worker: u8) -> Meeting {
+fn at_first_of(met: &Meeting, worker: u8) -> Meeting {
     Meeting {
         worker,
         place: 0,
-        ..met
+        ..*met
     }
 }
 
+/// The rows with the version after its own at this place, if there is one.
 fn with_other_version(seen: &UpToThree<HeldRow>, place: usize) -> UpToThree<HeldRow> {
-    let mut other = UpToThree::new();
-    for at in 0..seen.len() {
-        let mut row = seen.at(at);
-        if at == place {
-            row.version = row.version.saturating_add(1);
-        }
-        if other.len() < 3 {
-            other.push(row);
-        }
+    if place >= seen.len() {
+        return *seen;
     }
-    other
+    let row = seen.at(place);
+    let version = row.version.saturating_add(1);
+    with_row(seen, place, HeldRow { version, ..row })
 }
 
+/// The rows with one cent more at this place, if there is one.
 fn with_other_value(seen: &UpToThree<HeldRow>, place: usize) -> UpToThree<HeldRow> {
+    if place >= seen.len() {
+        return *seen;
+    }
+    let row = seen.at(place);
+    let value = Cents::new(row.value.get().saturating_add(1)).unwrap_or(Cents::ZERO);
+    with_row(seen, place, HeldRow { value, ..row })
+}
+
+/// The rows with this one at this place.
+fn with_row(seen: &UpToThree<HeldRow>, place: usize, row: HeldRow) -> UpToThree<HeldRow> {
     let mut other = UpToThree::new();
     for at in 0..seen.len() {
-        let mut row = seen.at(at);
-        if at == place {
-            row.value = Cents::new(row.value.get().saturating_add(1)).unwrap_or(Cents::ZERO);
-        }
         if other.len() < 3 {
-            other.push(row);
+            other.push(if at == place { row } else { seen.at(at) });
         }
     }
     other

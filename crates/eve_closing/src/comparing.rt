@@ -15,6 +15,11 @@ use eve_write::{
 };
 use std::alloc::{AllocError, Global};
 
+/// A sink in memory that has room for so many bytes.
+fn memory(alloc: Global, room: usize) -> Result<SinkOf<Vec<u8>>, AllocError> {
+    Ok(SinkOf::new(Vec::with_capacity(alloc, room)?))
+}
+
 /// Whether the batch is the one of the frame.
 pub fn is_batch_of(
     alloc: Global,
@@ -24,9 +29,22 @@ pub fn is_batch_of(
 ) -> Result<bool, AllocError>
     requires { IsTrue (is_batch (plain_batch batch.now)) }
 {
-    let mut out = SinkOf::new(Vec::with_capacity(alloc, frame.bytes().len())?);
+    let mut out = memory(alloc, frame.bytes().len())?;
     let is_written = write_batch(&mut out, number, batch).is_ok();
     Ok(is_written && out.writer().as_slice() == frame.bytes())
+}
+
+/// The bytes of an attempt's frame and of its access frames.
+fn frames_of(
+    alloc: Global,
+    frame: &AttemptView,
+    accesses: &Accesses,
+) -> Result<Vec<u8>, AllocError> {
+    let mut frames = frame.bytes().to_vec(alloc)?;
+    for place in 0..accesses.len() {
+        frames.extend_from_slice(accesses.get(place).bytes())?;
+    }
+    Ok(frames)
 }
 
 /// Whether the attempt is the one of the frames.
@@ -38,14 +56,18 @@ pub fn is_attempt_of(
 ) -> Result<bool, AllocError>
     requires { IsTrue (is_attempt (plain attempt.now)) }
 {
-    let mut frames = frame.bytes().to_vec(alloc)?;
-    for place in 0..accesses.len() {
-        frames.extend_from_slice(accesses.get(place).bytes())?;
-    }
-    let mut out = SinkOf::new(Vec::with_capacity(alloc, frames.len())?);
+    let frames = frames_of(alloc, frame, accesses)?;
+    is_written_as(alloc, attempt, frames.as_slice())
+}
+
+/// Whether the attempt is written as these bytes.
+fn is_written_as(alloc: Global, attempt: &AttemptData, bytes: &[u8]) -> Result<bool, AllocError>
+    requires { IsTrue (is_attempt (plain attempt.now)) }
+{
+    let mut out = memory(alloc, bytes.len())?;
     let is_written = write_attempt(&mut out, attempt).is_ok()
         && write_accesses(&mut out, &attempt.accesses).is_ok();
-    Ok(is_written && out.writer().as_slice() == frames.as_slice())
+    Ok(is_written && out.writer().as_slice() == bytes)
 }
 
 /// Whether the attempt has the token of the frame.
@@ -59,7 +81,7 @@ pub fn is_commit_of(
     commit: &CommitData,
     frame: &CommitView,
 ) -> Result<bool, AllocError> {
-    let mut out = SinkOf::new(Vec::with_capacity(alloc, frame.bytes().len())?);
+    let mut out = memory(alloc, frame.bytes().len())?;
     let is_written = write_commit(&mut out, commit).is_ok();
     Ok(is_written && out.writer().as_slice() == frame.bytes())
 }
@@ -73,7 +95,7 @@ pub fn is_rollback_of(
     if rollback.restores.len() > MOST_NAMED_ROWS as usize {
         return Ok(false);
     }
-    let mut out = SinkOf::new(Vec::with_capacity(alloc, frame.bytes().len())?);
+    let mut out = memory(alloc, frame.bytes().len())?;
     let is_written = write_rollback(&mut out, rollback).is_ok();
     Ok(is_written && out.writer().as_slice() == frame.bytes())
 }
@@ -91,32 +113,47 @@ pub struct Shown {
 impl Shown {
     /// What the ledger shows now.
     pub fn of(alloc: Global, ledger: &Ledger) -> Result<Shown, AllocError> {
-        let mut tokens = Vec::with_capacity(alloc, ledger.opened())?;
-        for place in 0..ledger.opened() {
-            tokens.push(ledger.token(place))?;
+        let balances = ledger.balances().copy(alloc)?;
+        match tokens_of(alloc, ledger) {
+            Ok(tokens) => Ok(Shown {
+                view: ledger.view(),
+                committed: ledger.committed(),
+                is_next_serial: ledger.is_next_serial(),
+                tokens,
+                balances,
+            }),
+            Err(why) => Err(why),
         }
-        Ok(Shown {
-            view: ledger.view(),
-            committed: ledger.committed(),
-            is_next_serial: ledger.is_next_serial(),
-            tokens,
-            balances: ledger.balances().copy(alloc)?,
-        })
     }
 
     /// Whether the ledger still shows the same.
     pub fn is_of(&self, ledger: &Ledger) -> bool {
-        if self.tokens.len() != ledger.opened() {
-            return false;
-        }
-        for place in 0..ledger.opened() {
-            if self.tokens[place] != ledger.token(place) {
-                return false;
-            }
-        }
         self.view == ledger.view()
             && self.committed == ledger.committed()
             && self.is_next_serial == ledger.is_next_serial()
+            && has_tokens(ledger, self.tokens.as_slice())
             && self.balances.as_slice() == ledger.balances().as_slice()
     }
+}
+
+/// The tokens of the open attempts, in their order.
+fn tokens_of(alloc: Global, ledger: &Ledger) -> Result<Vec<[u8; 32]>, AllocError> {
+    let mut tokens = Vec::with_capacity(alloc, ledger.opened())?;
+    for place in 0..ledger.opened() {
+        tokens.push(ledger.token(place))?;
+    }
+    Ok(tokens)
+}
+
+/// Whether these are the tokens of the open attempts.
+fn has_tokens(ledger: &Ledger, tokens: &[[u8; 32]]) -> bool {
+    if tokens.len() != ledger.opened() {
+        return false;
+    }
+    for (place, token) in tokens.iter().enumerate() {
+        if *token != ledger.token(place) {
+            return false;
+        }
+    }
+    true
 }

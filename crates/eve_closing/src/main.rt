@@ -13,10 +13,12 @@ mod comparing;
 mod meeting;
 mod opening;
 mod replaying;
+mod said;
 
 use crate::changing::Change;
 use crate::opening::names_of;
-use crate::replaying::{Case, has_its_batches, ledger_of, replay};
+use crate::replaying::{Case, has_its_batches, replay};
+use crate::said::Said;
 use eve_accounts::Names;
 use eve_views::{CheckFault, Trace};
 use eve_workload::{Mixer, Workload, WorkloadFault};
@@ -44,7 +46,7 @@ fn changes_of(alloc: Global, line: &str) -> Result<Vec<Change>, AllocError> {
 }
 
 /// Replays what a line names.
-fn replay_line(rt: &HostRuntime, line: &str) -> io::Result<()> {
+fn replay_line(rt: &HostRuntime, line: &str, said: &mut Said) -> io::Result<()> {
     let mut words = line.split(' ');
     let trace = words.next().unwrap_or("");
     let workload = words.next().unwrap_or("");
@@ -53,7 +55,7 @@ fn replay_line(rt: &HostRuntime, line: &str) -> io::Result<()> {
         _ => Mixer::Whole,
     };
     let changes = changes_of(rt.alloc(), line)?;
-    replay_files(rt, trace, workload, mixer, changes.as_slice())
+    replay_files(rt, trace, workload, mixer, changes.as_slice(), said)
 }
 
 /// Replays the trace of this name, by the workload of that one.
@@ -63,17 +65,21 @@ fn replay_files(
     workload: &str,
     mixer: Mixer,
     changes: &[Change],
+    said: &mut Said,
 ) -> io::Result<()> {
     let bytes = file_of(rt, trace, ".trace")?;
     match Trace::read(rt.alloc(), bytes.as_slice()) {
-        Ok(trace) => replay_trace(rt, &trace, workload, mixer, changes),
+        Ok(trace) => replay_trace(rt, &trace, workload, mixer, changes, said),
         Err(CheckFault::Memory) => Err(io::ErrorKind::OutOfMemory.into()),
-        Err(CheckFault::Found(_)) => io::writer(rt).write_all(NONE),
+        Err(CheckFault::Found(_)) => {
+            said.words(NONE);
+            Ok(())
+        }
     }
 }
 
 /// What is said where a file holds no trace, or no workload.
-const NONE: &[u8] = b" no trace, or no workload";
+const NONE: &str = " no trace, or no workload";
 
 /// Replays a trace, by the workload of this name.
 fn replay_trace(
@@ -82,12 +88,16 @@ fn replay_trace(
     workload: &str,
     mixer: Mixer,
     changes: &[Change],
+    said: &mut Said,
 ) -> io::Result<()> {
     let text = file_of(rt, workload, ".in")?;
     match Workload::read(rt.alloc(), text.as_slice()) {
-        Ok(workload) => replay_workload(rt, trace, &workload, mixer, changes),
+        Ok(workload) => replay_workload(rt, trace, &workload, mixer, changes, said),
         Err(WorkloadFault::Memory) => Err(io::ErrorKind::OutOfMemory.into()),
-        Err(WorkloadFault::Line(_)) => io::writer(rt).write_all(NONE),
+        Err(WorkloadFault::Line(_)) => {
+            said.words(NONE);
+            Ok(())
+        }
     }
 }
 
@@ -98,43 +108,44 @@ fn replay_workload(
     workload: &Workload,
     mixer: Mixer,
     changes: &[Change],
+    said: &mut Said,
 ) -> io::Result<()> {
-    let names = names_of(rt.alloc(), workload.customers(), RandomState::new(rt)?)?;
-    replay_all(rt, trace, workload, &names, mixer, changes)
-}
-
-/// Replays all sections of the trace.
-fn replay_all(
-    rt: &HostRuntime,
-    trace: &Trace,
-    workload: &Workload,
-    names: &Names,
-    mixer: Mixer,
-    changes: &[Change],
-) -> io::Result<()> {
+    let random = RandomState::new(rt)?;
+    let names = names_of(rt.alloc(), workload.customers(), random)?;
     let case = Case {
         trace,
         workload,
-        names,
+        names: &names,
         mixer,
         changes,
     };
-    if !has_its_batches(rt.alloc(), &case)? {
-        io::writer(rt).write_all(b" (other batches)")?;
+    replay_all(rt.alloc(), &case, said)
+}
+
+/// Replays all sections of the trace.
+fn replay_all(alloc: Global, case: &Case, said: &mut Said) -> io::Result<()> {
+    if !has_its_batches(alloc, case)? {
+        said.words(" (other batches)");
     }
-    for section in 0..trace.section_count() {
-        let mut ledger = ledger_of(rt.alloc(), &case)?;
-        replay(rt, &case, &mut ledger, section)?;
+    for section in 0..case.trace.section_count() {
+        replay(alloc, case, section, said)?;
     }
     Ok(())
 }
 
+/// What is said of a line: its words, and what came of them.
+fn said_of(rt: &HostRuntime, line: &str) -> io::Result<String> {
+    let mut said = Said::nothing(rt.alloc());
+    write!(said, "{line}:");
+    replay_line(rt, line, &mut said)?;
+    said.words("\n");
+    Ok(said.all()?)
+}
+
 /// Prints a line, and what came of it.
 fn tell(rt: &HostRuntime, line: &str) -> io::Result<()> {
-    let mut out = io::writer(rt);
-    write!(out, "{line}:")?;
-    replay_line(rt, line)?;
-    out.write_all(b"\n")
+    let said = said_of(rt, line)?;
+    io::writer(rt).write_all(said.as_bytes())
 }
 
 fn main(rt: HostRuntime) -> io::Result<()> {

@@ -5,7 +5,7 @@ ghost use Rattle.std.specs.Prelude.{◌<◌};
 use eve_accounts::Names;
 use eve_frames::{AccessView, AttemptView};
 use eve_grammar::MOST_VERSIONS;
-use eve_smallbank::{Reply, UpToThree, touched};
+use eve_smallbank::{Reply, Request, UpToThree, touched};
 use eve_stamps::{AccessRecord, HeldRow, Stamp, StampFault, Stripe, apply, untouched};
 use eve_views::Accesses;
 use eve_write::BatchData;
@@ -105,15 +105,28 @@ pub fn record_of(
             return Ok(Some(untouched(why, stamp_of(met))));
         }
     }
-    let Some(asked) = batch.requests.get(met.asked as usize) else {
-        return Ok(None);
-    };
-    let request = asked.request();
-    let reached = touched(&request, names);
+    match batch.requests.get(met.asked as usize) {
+        Some(asked) => record_on_rows(alloc, met, &asked.request(), names),
+        None => Ok(None),
+    }
+}
+
+/// The record of this request, run on rows as they were met, if they are its rows.
+fn record_on_rows(
+    alloc: Global,
+    met: &Meeting,
+    request: &Request,
+    names: &Names,
+) -> Result<Option<AccessRecord>, AllocError> {
     let Some(mut stripe) = stripe_of(alloc, &met.seen)? else {
         return Ok(None);
     };
-    match apply(&mut stripe, &request, &reached, stamp_of(met)) {
+    match apply(
+        &mut stripe,
+        request,
+        &touched(request, names),
+        stamp_of(met),
+    ) {
         Ok(record) => Ok(Some(record)),
         Err(StampFault::Memory) => Err(AllocError),
         Err(_) => Ok(None),
