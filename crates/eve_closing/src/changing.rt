@@ -7,7 +7,7 @@ use eve_stamps::HeldRow;
 use std::alloc::AllocError;
 
 /// A change of the records of an attempt, or of the ledger that they are handed to.
-#[derive(Clone, Copy, Debug, PartialEq, Eq)]
+#[derive(Clone, Copy, PartialEq, Eq)]
 pub enum Change {
     /// The last record is left out.
     LeftOut,

@@ -34,10 +34,10 @@ fn file_of(rt: &HostRuntime, name: &str, ending: &str) -> io::Result<Vec<u8>> {
     fs::read(rt, path.as_str())
 }
 
-/// The changes that a line asks for, after the trace, the workload and the mixer.
-fn changes_of(alloc: Global, line: &str) -> Result<Vec<Change>, AllocError> {
+/// The changes that these words name.
+fn changes_of(alloc: Global, words: &str) -> Result<Vec<Change>, AllocError> {
     let mut changes = Vec::new(alloc);
-    for word in line.split(' ').skip(3) {
+    for word in words.split(' ') {
         if let Some(change) = Change::named(word) {
             changes.push(change)?;
         }
@@ -47,14 +47,14 @@ fn changes_of(alloc: Global, line: &str) -> Result<Vec<Change>, AllocError> {
 
 /// Replays what a line names.
 fn replay_line(rt: &HostRuntime, line: &str, said: &mut Said) -> io::Result<()> {
-    let mut words = line.split(' ');
+    let mut words = line.splitn(4, ' ');
     let trace = words.next().unwrap_or("");
     let workload = words.next().unwrap_or("");
     let mixer = match words.next() {
         Some("first") => Mixer::First,
         _ => Mixer::Whole,
     };
-    let changes = changes_of(rt.alloc(), line)?;
+    let changes = changes_of(rt.alloc(), words.next().unwrap_or(""))?;
     replay_files(rt, trace, workload, mixer, changes.as_slice(), said)
 }
 

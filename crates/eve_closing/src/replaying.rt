@@ -70,11 +70,11 @@ pub fn replay(alloc: Global, case: &Case, section: u8, said: &mut Said) -> Resul
     requires { section < length case.now.trace.now.sections }
 {
     let mut ledger = ledger_of(alloc, case)?;
-    replay_steps(alloc, case, &mut ledger, section, said)?;
-    end(alloc, &mut ledger, said)
+    replay_on(alloc, case, &mut ledger, section, said)
 }
 
-fn replay_steps(
+/// Replays a section on this ledger.
+fn replay_on(
     alloc: Global,
     case: &Case,
     ledger: &mut Ledger,
@@ -93,7 +93,7 @@ fn replay_steps(
         };
         replay_step(alloc, case, ledger, &step, said)?;
     }
-    Ok(())
+    end(alloc, ledger, said)
 }
 
 fn replay_step(
