@@ -136,12 +136,25 @@ fn draw_at_once<R: Threads + Sync>(
     Both { one, two }
 }
 
-/// How often a number was drawn, here and there.
-fn times(here: &[Option<u64>], there: &[Option<u64>], number: u64) -> usize {
-    here.iter()
-        .chain(there.iter())
-        .filter(|drawn| **drawn == Some(number))
-        .count()
+/// How often a number was drawn.
+fn times(drawn: &[Option<u64>], number: u64) -> usize {
+    let mut times: usize = 0;
+    for drawn in drawn {
+        if *drawn == Some(number) {
+            times = times.wrapping_add(1);
+        }
+    }
+    times
+}
+
+/// Whether 0 to 5 were drawn, each once, here or there.
+fn is_each_once(here: &[Option<u64>], there: &[Option<u64>]) -> bool {
+    for number in 0..6 {
+        if times(here, number).wrapping_add(times(there, number)) != 1 {
+            return false;
+        }
+    }
+    true
 }
 
 impl Counter {
@@ -155,11 +168,10 @@ impl Counter {
             return false;
         };
         let Both { one, two } = draw_at_once(rt, &self.tickets, one, two);
-        let here = one.drawn;
-        let there = two.drawn;
+        let is_each_once = is_each_once(&one.drawn, &two.drawn);
         self.seats.give_back(one.seat);
         self.seats.give_back(two.seat);
-        (0..6).all(|number| times(&here, &there, number) == 1)
+        is_each_once
     }
 }
 

@@ -18,9 +18,9 @@ mod worked;
 use crate::parts::names;
 use crate::random::random_events;
 use crate::seen::Seen;
-use crate::worked::scheduled;
+use crate::worked::{scheduled, setting_of};
 use eve_accounts::Names;
-use std::alloc::Global;
+use std::alloc::{AllocError, Global};
 use std::hash::RandomState;
 use std::io;
 use std::random::RandomSource;
@@ -28,18 +28,18 @@ use std::sync::Wait;
 use std::thread::Threads;
 
 /// What is seen of the case of stripes of that name, None where none has it.
-fn of_stripes(alloc: Global, names: &Names, name: &str) -> io::Result<Option<Seen>> {
+fn of_stripes(alloc: Global, names: &Names, name: &str) -> Result<Option<Seen>, AllocError> {
     let seen = match name {
-        "stripe-deposit-and-undo" => stripes::deposit_and_undo(alloc, names)?,
-        "stripe-too-little-room" => stripes::undo_with_too_little_room(alloc, names)?,
-        "stripe-settled-and-went-back" => stripes::settled_and_went_back(alloc, names)?,
-        "stripe-worn-and-untouched" => stripes::worn_and_untouched(alloc, names)?,
-        "stripes-amalgamate" => stripes::two_stripes_amalgamate(alloc, names)?,
-        "stripes-that-share-a-row" => stripes::a_row_in_both_is_the_firsts(alloc, names)?,
-        "stripes-the-second-past" => stripes::the_second_alone_is_past_the_tick(alloc, names)?,
+        "stripe-deposit-and-undo" => stripes::deposit_and_undo(alloc, names),
+        "stripe-too-little-room" => stripes::undo_with_too_little_room(alloc, names),
+        "stripe-settled-and-went-back" => stripes::settled_and_went_back(alloc, names),
+        "stripe-worn-and-untouched" => stripes::worn_and_untouched(alloc, names),
+        "stripes-amalgamate" => stripes::two_stripes_amalgamate(alloc, names),
+        "stripes-that-share-a-row" => stripes::a_row_in_both_is_the_firsts(alloc, names),
+        "stripes-the-second-past" => stripes::the_second_alone_is_past_the_tick(alloc, names),
         _ => return Ok(None),
     };
-    Ok(Some(seen))
+    Ok(Some(seen?))
 }
 
 /// What is seen of the case of tickets or a recorder of that name, None where none has it.
@@ -47,35 +47,39 @@ fn of_seats<R: Threads + Wait + Sync>(
     rt: &R,
     alloc: Global,
     name: &str,
-) -> io::Result<Option<Seen>> {
+) -> Result<Option<Seen>, AllocError> {
     let seen = match name {
-        "tickets-two-seats" => drawing::two_seats(rt, alloc)?,
-        "tickets-eight-seats" => drawing::eight_seats(alloc)?,
-        "tickets-limit-zero" => drawing::limit_zero(alloc)?,
-        "queue-full-and-drained" => recording::full_and_drained(rt, alloc)?,
-        "queue-eight-threads" => recording::eight_threads(rt, alloc)?,
+        "tickets-two-seats" => drawing::two_seats(rt, alloc),
+        "tickets-eight-seats" => drawing::eight_seats(alloc),
+        "tickets-limit-zero" => drawing::limit_zero(alloc),
+        "queue-full-and-drained" => recording::full_and_drained(rt, alloc),
+        "queue-eight-threads" => recording::eight_threads(rt, alloc),
         _ => return Ok(None),
     };
-    Ok(Some(seen))
+    Ok(Some(seen?))
 }
 
-/// What is seen of the case of that name.
+/// What is seen of the worked schedule or the case of stripes of that name, None where none has it.
+fn of_customers(alloc: Global, random: RandomState, name: &str) -> io::Result<Option<Seen>> {
+    if let Some(setting) = setting_of(name) {
+        return scheduled(alloc, random, setting, name);
+    }
+    let names = names(alloc, random, 2)?;
+    Ok(of_stripes(alloc, &names, name)?)
+}
+
+/// What is seen of the case of that name, None where none has it.
 fn of_case<R: AllocGlobal + RandomSource + Threads + Wait + Sync>(
     rt: &R,
     name: &str,
 ) -> io::Result<Option<Seen>> {
     if let Some(count) = name.strip_prefix("random-events ") {
-        let count = count.parse::<u32>().unwrap_or(0);
-        return Ok(Some(random_events(rt, count)?));
+        return random_events(rt, count.parse::<u32>().unwrap_or(0));
     }
-    if let Some(seen) = of_seats(rt, rt.alloc(), name)? {
-        return Ok(Some(seen));
+    if name.starts_with("tickets") || name.starts_with("queue") {
+        return Ok(of_seats(rt, rt.alloc(), name)?);
     }
-    if let Some(seen) = scheduled(rt.alloc(), RandomState::new(rt)?, name)? {
-        return Ok(Some(seen));
-    }
-    let names = names(rt.alloc(), RandomState::new(rt)?, 2)?;
-    of_stripes(rt.alloc(), &names, name)
+    of_customers(rt.alloc(), RandomState::new(rt)?, name)
 }
 
 fn main(rt: HostRuntime) -> io::Result<()> {

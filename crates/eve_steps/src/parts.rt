@@ -59,18 +59,17 @@ fn set_from(balances: &mut Balances, row: Row, values: &[i64]) -> io::Result<()>
     Ok(())
 }
 
-/// These balances, by row, of 20 customers at most.
-pub(crate) fn balances(alloc: Global, values: &[i64]) -> io::Result<Balances> {
-    let mut balances = Balances::new(alloc, values.len())?;
+/// The balances of 20 customers at most, from the list of all.
+fn set_all(balances: &mut Balances, values: &[i64]) -> io::Result<()> {
     for customer in 0..20 {
-        set_from(&mut balances, Row::saving(customer), values)?;
-        set_from(&mut balances, Row::checking(customer), values)?;
+        set_from(balances, Row::saving(customer), values)?;
+        set_from(balances, Row::checking(customer), values)?;
     }
-    Ok(balances)
+    Ok(())
 }
 
 /// What is asked for, with customers by number.
-#[derive(Clone, Copy, Debug, PartialEq, Eq)]
+#[derive(Clone, Copy)]
 pub(crate) enum Ask {
     Balance(u8),
     Deposit(u8, i64),
@@ -79,79 +78,98 @@ pub(crate) enum Ask {
     Check(u8, i64),
 }
 
-fn name(customer: u8) -> io::Result<Name> {
-    match Name::new(name_of(customer)) {
-        Some(name) => Ok(name),
-        None => Err(stopped()),
-    }
-}
-
-/// An amount of so many cents.
-pub(crate) fn amount(value: i64) -> io::Result<Amount> {
-    match Amount::new(value) {
-        Some(amount) => Ok(amount),
-        None => Err(stopped()),
-    }
-}
-
-/// What is asked for, as a transaction.
-pub(crate) fn transaction(ask: Ask) -> io::Result<TransactionData> {
-    Ok(match ask {
+/// What is asked for, as a transaction, None where a name or an amount is none.
+fn transaction(ask: Ask) -> Option<TransactionData> {
+    Some(match ask {
         Ask::Balance(customer) => TransactionData::Balance(name(customer)?),
         Ask::Deposit(customer, value) => {
-            TransactionData::DepositChecking(name(customer)?, amount(value)?)
+            TransactionData::DepositChecking(name(customer)?, Amount::new(value)?)
         }
         Ask::Saving(customer, value) => {
-            TransactionData::TransactSaving(name(customer)?, amount(value)?)
+            TransactionData::TransactSaving(name(customer)?, Amount::new(value)?)
         }
         Ask::Amalgamate(from, to) => { TransactionData::Amalgamate(name(from)?, name(to)?) }
         Ask::Check(customer, value) => {
-            TransactionData::WriteCheck(name(customer)?, amount(value)?)
+            TransactionData::WriteCheck(name(customer)?, Amount::new(value)?)
         }
     })
 }
 
-/// A batch with these parallelBatches.
-pub(crate) fn batch(alloc: Global, sizes: &[u16], asks: &[Ask]) -> io::Result<BatchData> {
-    let mut requests = Vec::new(alloc);
+fn name(customer: u8) -> Option<Name> {
+    Name::new(name_of(customer))
+}
+
+/// Adds what is asked for, numbered from 0.
+fn push_requests(requests: &mut Vec<RequestData>, asks: &[Ask]) -> io::Result<()> {
     for (place, ask) in asks.iter().enumerate() {
-        let transaction = transaction(*ask)?;
+        let Some(transaction) = transaction(*ask) else {
+            return Err(stopped());
+        };
         requests.push(RequestData {
             client: 7,
             number: place as u64,
             transaction,
         })?;
     }
-    Ok(BatchData {
-        sizes: Vec::from_slice(alloc, sizes)?,
-        requests,
-    })
-}
-
-/// The batch, to be executed by so many workers.
-pub(crate) fn opened<'s>(
-    alloc: Global,
-    names: &'s Names<'s>,
-    balances: &Balances,
-    batch: &'s BatchData,
-    workers: u8,
-) -> io::Result<Schedule<'s>> {
-    if MOST_PLACES <= batch.requests.len() {
-        return Err(stopped());
-    }
-    if balances.len() != 2 * names.len() {
-        return Err(stopped());
-    }
-    match Schedule::new(alloc, names, balances, batch, workers) {
-        Err(AllocError) => Ok(Schedule::new(alloc, names, balances, batch, workers)?),
-        Ok(schedule) => Ok(schedule),
-    }
+    Ok(())
 }
 
 /// Customers with their balances, and a batch.
 #[derive(Drop)]
 pub(crate) struct Plan {
-    pub names: Names<'static>,
-    pub balances: Balances,
-    pub batch: BatchData,
+    names: Names<'static>,
+    balances: Balances,
+    batch: BatchData,
+}
+
+impl Plan {
+    /// Sets these balances, by row, and adds these parallelBatches.
+    fn fill(&mut self, values: &[i64], sizes: &[u16], asks: &[Ask]) -> io::Result<()> {
+        set_all(&mut self.balances, values)?;
+        self.batch.sizes.extend_from_slice(sizes)?;
+        push_requests(&mut self.batch.requests, asks)
+    }
+}
+
+/// These customers with these balances, by row, and a batch with these parallelBatches.
+pub(crate) fn plan_of(
+    alloc: Global,
+    names: Names<'static>,
+    values: &[i64],
+    sizes: &[u16],
+    asks: &[Ask],
+) -> io::Result<Plan> {
+    let balances = Balances::new(alloc, values.len())?;
+    let batch = BatchData {
+        sizes: Vec::new(alloc),
+        requests: Vec::new(alloc),
+    };
+    let mut plan = Plan {
+        names,
+        balances,
+        batch,
+    };
+    plan.fill(values, sizes, asks)?;
+    Ok(plan)
+}
+
+/// The plan's batch, to be executed by so many workers.
+fn begun<'s>(alloc: Global, plan: &'s Plan, workers: u8) -> io::Result<Schedule<'s>> {
+    let Plan {
+        names,
+        balances,
+        batch,
+    } = plan;
+    if MOST_PLACES <= batch.requests.len() || balances.len() != 2 * names.len() {
+        return Err(stopped());
+    }
+    Ok(Schedule::new(alloc, names, balances, batch, workers)?)
+}
+
+/// The same; where no memory was left, once more.
+pub(crate) fn opened<'s>(alloc: Global, plan: &'s Plan, workers: u8) -> io::Result<Schedule<'s>> {
+    match begun(alloc, plan, workers) {
+        Err(_) => begun(alloc, plan, workers),
+        schedule => schedule,
+    }
 }

@@ -11,7 +11,7 @@ use std::io;
 pub(crate) const CUSTOMERS: u8 = 20;
 
 /// A record, field by field.
-#[derive(Clone, Copy, Debug, PartialEq, Eq)]
+#[derive(Clone, Copy)]
 pub(crate) struct Made {
     pub worker: u8,
     pub place: usize,
@@ -69,6 +69,16 @@ fn row_of(row: u16) -> Row {
     }
 }
 
+/// Whether the customers that it names are there.
+fn is_known(ask: Ask) -> bool {
+    match ask {
+        Ask::Balance(c) | Ask::Deposit(c, _) | Ask::Saving(c, _) | Ask::Check(c, _) => {
+            c < CUSTOMERS
+        }
+        Ask::Amalgamate(from, to) => from < CUSTOMERS && to < CUSTOMERS,
+    }
+}
+
 fn refused(why: Abort) -> Done {
     Done {
         reply: Reply::Aborted(why),
@@ -76,11 +86,45 @@ fn refused(why: Abort) -> Done {
     }
 }
 
+/// What is done to a row with this version and value: it is read, or gets the value after it.
+fn entry_of(row: u16, held: (u64, i64), after: Option<i64>) -> io::Result<Entry> {
+    let (version, seen) = held;
+    let (kind, after) = match after {
+        Some(after) => (Kind::Write, after),
+        None => (Kind::Read, seen),
+    };
+    Ok(Entry {
+        row: row_of(row),
+        kind,
+        version,
+        seen: cents(seen)?,
+        after: cents(after)?,
+    })
+}
+
 fn one(row: u16, value: i64) -> Done {
     Done {
         reply: Reply::Done,
         rows: [Some((row, Some(value))), None, None],
     }
+}
+
+/// These values, by row, at version 0.
+fn rows_of(alloc: Global, values: &[i64]) -> Result<Vec<(u64, i64)>, AllocError> {
+    let mut rows = Vec::new(alloc);
+    for value in values {
+        rows.push((0, *value))?;
+    }
+    Ok(rows)
+}
+
+/// For each worker no records.
+fn none_noted(alloc: Global, workers: u8) -> Result<Vec<Vec<Made>>, AllocError> {
+    let mut noted = Vec::new(alloc);
+    for _ in 0..workers {
+        noted.push(Vec::new(alloc))?;
+    }
+    Ok(noted)
 }
 
 impl<'a> Plain<'a> {
@@ -91,22 +135,18 @@ impl<'a> Plain<'a> {
         asks: &'a [Ask],
         workers: u8,
     ) -> Result<Plain<'a>, AllocError> {
-        let mut rows = Vec::new(alloc);
-        for value in values {
-            rows.push((0, *value))?;
-        }
-        let mut noted = Vec::new(alloc);
-        for _ in 0..workers {
-            noted.push(Vec::new(alloc))?;
-        }
+        let rows = rows_of(alloc, values)?;
+        let noted = none_noted(alloc, workers)?;
+        let owners = vec![in alloc; None; 16]?;
+        let stages = vec![in alloc; At::Idle; workers as usize]?;
         Ok(Plain {
             sizes,
             asks,
             rows,
-            owners: vec![in alloc; None; 16]?,
+            owners,
             claimed: 0,
             counter: 0,
-            stages: vec![in alloc; At::Idle; workers as usize]?,
+            stages,
             noted,
             applied: Vec::new(alloc),
         })
@@ -132,18 +172,22 @@ impl<'a> Plain<'a> {
     }
 
     fn value(&self, row: u16) -> i64 {
-        self.rows.get(row as usize).map_or(0, |row| row.1)
+        match self.rows.get(row as usize) {
+            Some((_, value)) => *value,
+            None => 0,
+        }
     }
 
     fn does(&self, ask: Ask) -> Done {
-        let there = |customer: u8| customer < CUSTOMERS;
+        if !is_known(ask) {
+            return refused(Abort::NoSuchName);
+        }
         match ask {
-            Ask::Balance(c) if there(c) => self.balance(c),
-            Ask::Deposit(c, amount) if there(c) => self.deposit(c, amount),
-            Ask::Saving(c, amount) if there(c) => self.save(c, amount),
-            Ask::Amalgamate(from, to) if there(from) && there(to) => self.amalgamate(from, to),
-            Ask::Check(c, amount) if there(c) => self.check(c, amount),
-            _ => refused(Abort::NoSuchName),
+            Ask::Balance(c) => self.balance(c),
+            Ask::Deposit(c, amount) => self.deposit(c, amount),
+            Ask::Saving(c, amount) => self.save(c, amount),
+            Ask::Amalgamate(from, to) => self.amalgamate(from, to),
+            Ask::Check(c, amount) => self.check(c, amount),
         }
     }
 
@@ -260,39 +304,47 @@ impl<'a> Plain<'a> {
         last
     }
 
-    fn made(&mut self, worker: u8, index: u16, tick: u64) -> io::Result<Made> {
-        let done = self.does(self.ask_at(index));
+    /// Reads the row, or writes this into it, and adds what was done. Whether there is such a row.
+    fn enter(
+        &mut self,
+        entries: &mut UpToThree<Entry>,
+        row: u16,
+        after: Option<i64>,
+    ) -> io::Result<bool> {
+        let Some(held) = self.rows.get_mut(row as usize) else {
+            return Ok(false);
+        };
+        let entry = entry_of(row, *held, after)?;
+        if let Some(after) = after {
+            *held = (held.0.wrapping_add(1), after);
+        }
+        if entries.len() < 3 {
+            entries.push(entry);
+        }
+        Ok(true)
+    }
+
+    /// Reads and writes these rows, up to the first that is none. What was done to them.
+    fn enter_all(&mut self, rows: &[Option<(u16, Option<i64>)>]) -> io::Result<UpToThree<Entry>> {
         let mut entries = UpToThree::new();
-        for row in done.rows {
-            let Some((row, after)) = row else {
+        for row in rows {
+            let Some((row, after)) = *row else {
                 break;
             };
-            let Some(held) = self.rows.get_mut(row as usize) else {
+            if !self.enter(&mut entries, row, after)? {
                 break;
-            };
-            let at = row_of(row);
-            let entry = Entry {
-                row: at,
-                kind: if after.is_some() {
-                    Kind::Write
-                } else {
-                    Kind::Read
-                },
-                version: held.0,
-                seen: cents(held.1)?,
-                after: cents(after.unwrap_or(held.1))?,
-            };
-            if let Some(after) = after {
-                *held = (held.0.wrapping_add(1), after);
-            }
-            if entries.len() < 3 {
-                entries.push(entry);
             }
         }
-        let place = self
-            .noted
-            .get(worker as usize)
-            .map_or(0, |noted| noted.len());
+        Ok(entries)
+    }
+
+    fn made(&mut self, worker: u8, index: u16, tick: u64) -> io::Result<Made> {
+        let done = self.does(self.ask_at(index));
+        let entries = self.enter_all(&done.rows)?;
+        let place = match self.noted.get(worker as usize) {
+            Some(noted) => noted.len(),
+            None => 0,
+        };
         Ok(Made {
             worker,
             place,
@@ -385,7 +437,7 @@ impl<'a> Plain<'a> {
     }
 
     /// The indexes that are applied, by rising tick.
-    pub(crate) fn order(&mut self, alloc: Global) -> Result<Vec<u16>, AllocError> {
+    pub(crate) fn order(&self, alloc: Global) -> Result<Vec<u16>, AllocError> {
         let mut order = Vec::new(alloc);
         for tick in 0..self.counter {
             for applied in self.applied.as_slice() {

@@ -2,10 +2,11 @@
 
 ghost use Rattle.std.specs.Prelude.{◌<◌};
 
-use crate::parts::{Ask, Plan, balances, batch, names, opened};
+use crate::parts::{Ask, names, opened, plan_of};
 use crate::plain::{CUSTOMERS, Made, Plain};
 use crate::seen::Seen;
 use crate::worked::{ordered, stepped};
+use eve_accounts::Names;
 use eve_stamps::AccessRecord;
 use eve_stamps_schedule::{Event, Schedule, StepFault};
 use rand_core::Rng;
@@ -55,19 +56,26 @@ fn event(rng: &mut Pcg32, workers: u8) -> Event {
     }
 }
 
-fn shown(record: &AccessRecord) -> Made {
-    Made {
-        worker: record.worker(),
-        place: record.place() as usize,
-        index: record.index(),
-        tick: record.tick(),
-        reply: record.reply(),
-        entries: *record.entries(),
-    }
+/// Whether the record is the one that is due.
+fn is_due(record: &AccessRecord, due: &Made) -> bool {
+    let has_stamp = record.worker() == due.worker
+        && record.place() as usize == due.place
+        && record.index() == due.index
+        && record.tick() == due.tick;
+    has_stamp && record.reply() == due.reply && *record.entries() == due.entries
 }
 
-fn all_shown(alloc: Global, records: &[AccessRecord]) -> Result<Vec<Made>, AllocError> {
-    records.iter().map(|record| shown(record)).collect(alloc)
+/// Whether the records are those that are due.
+fn are_due(records: &[AccessRecord], due: &[Made]) -> bool {
+    if records.len() != due.len() {
+        return false;
+    }
+    for (record, due) in records.iter().zip(due) {
+        if !is_due(record, due) {
+            return false;
+        }
+    }
+    true
 }
 
 /// What a schedule begins with.
@@ -78,25 +86,41 @@ struct Drawn {
     asks: Vec<Ask>,
 }
 
-fn draw(alloc: Global, rng: &mut Pcg32) -> Result<Drawn, AllocError> {
-    let mut values = Vec::new(alloc);
-    for _ in 0..2 * CUSTOMERS {
-        values.push(i64::from(below(rng, 50)))?;
-    }
-    let mut sizes = Vec::new(alloc);
-    let mut asks = Vec::new(alloc);
-    for _ in 0..1 + below(rng, 3) {
-        let size = 1 + below(rng, 4);
-        sizes.push(size as u16)?;
-        for _ in 0..size {
-            asks.push(ask(rng))?;
+impl Drawn {
+    fn draw_values(&mut self, rng: &mut Pcg32) -> Result<(), AllocError> {
+        for _ in 0..2 * CUSTOMERS {
+            self.values.push(i64::from(below(rng, 50)))?;
         }
+        Ok(())
     }
-    Ok(Drawn {
-        values,
-        sizes,
-        asks,
-    })
+
+    /// Draws a parallelBatch.
+    fn draw_group(&mut self, rng: &mut Pcg32) -> Result<(), AllocError> {
+        let size = 1 + below(rng, 4);
+        self.sizes.push(size as u16)?;
+        for _ in 0..size {
+            self.asks.push(ask(rng))?;
+        }
+        Ok(())
+    }
+
+    fn draw_all(&mut self, rng: &mut Pcg32) -> Result<(), AllocError> {
+        self.draw_values(rng)?;
+        for _ in 0..1 + below(rng, 3) {
+            self.draw_group(rng)?;
+        }
+        Ok(())
+    }
+}
+
+fn draw(alloc: Global, rng: &mut Pcg32) -> Result<Drawn, AllocError> {
+    let mut drawn = Drawn {
+        values: Vec::new(alloc),
+        sizes: Vec::new(alloc),
+        asks: Vec::new(alloc),
+    };
+    drawn.draw_all(rng)?;
+    Ok(drawn)
 }
 
 /// Draws 600 events. What differs, step by step, if anything does.
@@ -122,22 +146,24 @@ fn compare_steps(
 }
 
 /// What of the workers' notes differs, if anything does.
-fn compare_noted(
-    alloc: Global,
-    schedule: &Schedule,
-    plain: &Plain,
-) -> Result<Option<&'static str>, AllocError> {
+fn compare_noted(schedule: &Schedule, plain: &Plain) -> Option<&'static str> {
     let mut worker: u8 = 0;
-    for noted in plain.noted.as_slice() {
+    for due in plain.noted.as_slice() {
         if schedule.workers() <= worker as usize {
-            return Ok(Some("no such worker"));
+            return Some("no such worker");
         }
-        if &all_shown(alloc, schedule.noted(worker))? != noted {
-            return Ok(Some("what a worker noted differs"));
+        if !are_due(schedule.noted(worker), due.as_slice()) {
+            return Some("what a worker noted differs");
         }
         worker = worker.wrapping_add(1);
     }
-    Ok(None)
+    None
+}
+
+/// Whether both have applied the same in the same order.
+fn has_same_order(alloc: Global, schedule: &Schedule, plain: &Plain) -> Result<bool, AllocError> {
+    let order = ordered(alloc, schedule)?;
+    Ok(order == plain.order(alloc)?)
 }
 
 /// What comes of a batch and a list of events: whether every request is noted at the end, and what differs.
@@ -147,21 +173,19 @@ struct Outcome {
     differs: Option<&'static str>,
 }
 
-/// Draws events for a batch, and compares.
-fn compared(
+/// Draws events, and compares.
+fn compare(
     alloc: Global,
     rng: &mut Pcg32,
-    plan: &Plan,
-    drawn: &Drawn,
+    schedule: &mut Schedule,
+    plain: &mut Plain,
     workers: u8,
 ) -> io::Result<Outcome> {
-    let mut schedule = opened(alloc, &plan.names, &plan.balances, &plan.batch, workers)?;
-    let mut plain = plain_of(alloc, drawn, workers)?;
-    let mut differs = compare_steps(rng, &mut schedule, &mut plain, workers)?;
+    let mut differs = compare_steps(rng, schedule, plain, workers)?;
     if differs.is_none() {
-        differs = compare_noted(alloc, &schedule, &plain)?;
+        differs = compare_noted(schedule, plain);
     }
-    if ordered(alloc, &schedule)? != plain.order(alloc)? {
+    if !has_same_order(alloc, schedule, plain)? {
         differs = Some("the order differs");
     }
     Ok(Outcome {
@@ -170,47 +194,45 @@ fn compared(
     })
 }
 
-fn plain_of<'d>(alloc: Global, drawn: &'d Drawn, workers: u8) -> Result<Plain<'d>, AllocError> {
+/// Draws events for a batch, and compares.
+fn compared(
+    alloc: Global,
+    rng: &mut Pcg32,
+    names: Names<'static>,
+    drawn: &Drawn,
+    workers: u8,
+) -> io::Result<Outcome> {
     let values = drawn.values.as_slice();
-    Plain::new(
-        alloc,
-        values,
-        drawn.sizes.as_slice(),
-        drawn.asks.as_slice(),
-        workers,
-    )
-}
-
-/// The batch that is drawn, with its customers.
-fn plan_of(alloc: Global, random: RandomState, drawn: &Drawn) -> io::Result<Plan> {
-    Ok(Plan {
-        names: names(alloc, random, CUSTOMERS)?,
-        balances: balances(alloc, drawn.values.as_slice())?,
-        batch: batch(alloc, drawn.sizes.as_slice(), drawn.asks.as_slice())?,
-    })
+    let sizes = drawn.sizes.as_slice();
+    let asks = drawn.asks.as_slice();
+    let plan = plan_of(alloc, names, values, sizes, asks)?;
+    let mut plain = Plain::new(alloc, values, sizes, asks, workers)?;
+    let mut schedule = opened(alloc, &plan, workers)?;
+    compare(alloc, rng, &mut schedule, &mut plain, workers)
 }
 
 /// Draws a batch and a list of events, and compares.
-fn drawn_and_compared<R: AllocGlobal + RandomSource>(rt: &R, seed: u64) -> io::Result<Outcome> {
+fn drawn_and_compared(alloc: Global, random: RandomState, seed: u64) -> io::Result<Outcome> {
     let mut rng = Pcg32::new(seed, 54);
     let workers = 1 + below(&mut rng, 4) as u8;
-    let drawn = draw(rt.alloc(), &mut rng)?;
-    let plan = plan_of(rt.alloc(), RandomState::new(rt)?, &drawn)?;
-    compared(rt.alloc(), &mut rng, &plan, &drawn, workers)
+    let drawn = draw(alloc, &mut rng)?;
+    let names = names(alloc, random, CUSTOMERS)?;
+    compared(alloc, &mut rng, names, &drawn, workers)
 }
 
-/// So many lists of events. They come far enough: more than half of the schedules are carried out whole.
-pub fn random_events<R: AllocGlobal + RandomSource>(rt: &R, count: u32) -> io::Result<Seen> {
+/// What is seen of so many lists of events. They come far enough: more than half of the schedules are carried out
+/// whole.
+pub fn random_events<R: AllocGlobal + RandomSource>(
+    rt: &R,
+    count: u32,
+) -> io::Result<Option<Seen>> {
     let mut seen = Seen::nothing();
     let mut done: u32 = 0;
     for seed in 0..u64::from(count) {
-        let compared = drawn_and_compared(rt, seed)?;
+        let compared = drawn_and_compared(rt.alloc(), RandomState::new(rt)?, seed)?;
         done = done.wrapping_add(u32::from(compared.is_done));
-        match compared.differs {
-            Some(what) => seen.want(false, what),
-            None => seen.want(true, ""),
-        }
+        seen.want(compared.differs.is_none(), compared.differs.unwrap_or(""));
     }
     seen.want(count / 2 < done, "half are carried out whole");
-    Ok(seen)
+    Ok(Some(seen))
 }

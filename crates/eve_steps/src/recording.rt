@@ -3,7 +3,7 @@
 ghost use Rattle.std.specs.Prelude.{◌≡◌, ◌≤◌, ◌∷◌, ◌++◌, [], All, IfOk, IfSome, length};
 
 use crate::seen::Seen;
-use eve_recorder::{MOST_QUEUED, MOST_SEATS, NoteFault, Recorder, Seats, TakerSeat, WorkerSeat};
+use eve_recorder::{MOST_QUEUED, MOST_SEATS, Recorder, Seats, Taken, TakerSeat, WorkerSeat};
 use eve_smallbank::Abort;
 use eve_stamps::{AccessRecord, Stamp, untouched};
 use std::alloc::{AllocError, Global};
@@ -46,17 +46,11 @@ impl Desk {
             self.seats.give_back(seat);
             return None;
         };
-        let answer = self.recorder.note(rt, &mut seat, made);
+        let is_noted = self.recorder.note(rt, &mut seat, made).is_ok();
         self.seats.give_back(seat);
-        if answer == Err(NoteFault::Full(made)) {
-            return Some(Noted {
-                record: made,
-                is_noted: false,
-            });
-        }
         Some(Noted {
             record: made,
-            is_noted: answer.is_ok(),
+            is_noted,
         })
     }
 
@@ -68,19 +62,31 @@ impl Desk {
         record
     }
 
-    /// Whether the first worker's seat and the taker's are there, each once, and the seats aren't whole without it.
-    fn has_each_seat_once(&mut self) -> bool {
+    /// Whether the first worker's seat is there, once, and the seats aren't whole without it.
+    fn has_first_once(&mut self) -> bool {
         let Some(worker) = self.seats.worker(0) else {
             return false;
         };
         let is_lent_once = self.seats.worker(0).is_none() && !self.seats.whole();
         self.seats.give_back(worker);
+        is_lent_once
+    }
+
+    /// Whether the taker's seat is there, once, and the seats aren't whole without it.
+    fn has_taker_once(&mut self) -> bool {
         let Some(taker) = self.seats.taker() else {
             return false;
         };
-        let is_taker_lent_once = self.seats.taker().is_none() && !self.seats.whole();
+        let is_lent_once = self.seats.taker().is_none() && !self.seats.whole();
         self.seats.give_taker(taker);
-        is_lent_once && is_taker_lent_once && self.seats.whole()
+        is_lent_once
+    }
+
+    /// Whether the first worker's seat and the taker's are there, each once, and the seats aren't whole without it.
+    fn has_each_seat_once(&mut self) -> bool {
+        let has_first_once = self.has_first_once();
+        let has_taker_once = self.has_taker_once();
+        has_first_once && has_taker_once && self.seats.whole()
     }
 
     /// What is left in the queue when the recorder ends, first to last, two at most; None where a seat is missing.
@@ -89,11 +95,15 @@ impl Desk {
         if !seats.whole() {
             return None;
         }
-        let mut taken = recorder.finish(seats);
-        let first = taken.next(rt);
-        let second = taken.next(rt);
-        Some(Left { first, second })
+        Some(left_in(rt, recorder.finish(seats)))
     }
+}
+
+/// The first two of what can still be taken.
+fn left_in<R: Wait>(rt: &R, mut taken: Taken) -> Left {
+    let first = taken.next(rt);
+    let second = taken.next(rt);
+    Left { first, second }
 }
 
 /// The record that may be noted next on a seat.
@@ -111,14 +121,14 @@ fn next_record(seat: &WorkerSeat) -> Option<AccessRecord>
 }
 
 /// What is left in a queue, first to last.
-#[derive(Clone, Copy, PartialEq, Eq)]
+#[derive(Clone, Copy)]
 struct Left {
     first: Option<AccessRecord>,
     second: Option<AccessRecord>,
 }
 
 /// A record, and whether it was noted.
-#[derive(Clone, Copy, PartialEq, Eq)]
+#[derive(Clone, Copy)]
 struct Noted {
     record: AccessRecord,
     is_noted: bool,

@@ -1,6 +1,6 @@
 //! Worked schedules.
 
-use crate::parts::{Ask, Plan, balances, batch, names, opened};
+use crate::parts::{Ask, Plan, names, opened, plan_of};
 use crate::seen::Seen;
 use eve_smallbank::{Abort, Reply};
 use eve_stamps::AccessRecord;
@@ -10,57 +10,64 @@ use std::hash::RandomState;
 use std::io;
 
 /// What a worked schedule begins with: so many customers with 10 cents in each row, the sizes of the parallelBatches,
-/// and what is asked for.
+/// what is asked for, and how many workers there are.
 #[derive(Clone, Copy)]
-struct Setting {
+pub struct Setting {
     customers: u8,
+    workers: u8,
     sizes: &'static [u16],
     asks: &'static [Ask],
 }
 
 const TWO_DEPOSITS: Setting = Setting {
     customers: 1,
+    workers: 2,
     sizes: &[2],
     asks: &[Ask::Deposit(0, 5), Ask::Deposit(0, 7)],
 };
 
 const TWO_GROUPS: Setting = Setting {
     customers: 2,
+    workers: 2,
     sizes: &[1, 1],
     asks: &[Ask::Deposit(0, 5), Ask::Deposit(1, 7)],
 };
 
 const BAD_AMOUNT: Setting = Setting {
     customers: 1,
+    workers: 1,
     sizes: &[1],
     asks: &[Ask::Deposit(0, -1)],
 };
 
 const TWO_STRIPES: Setting = Setting {
     customers: 3,
+    workers: 1,
     sizes: &[1],
     asks: &[Ask::Amalgamate(2, 1)],
 };
 
 const ONE_DEPOSIT: Setting = Setting {
     customers: 1,
+    workers: 1,
     sizes: &[1],
     asks: &[Ask::Deposit(0, 5)],
 };
 
 fn planned(alloc: Global, random: RandomState, setting: Setting) -> io::Result<Plan> {
     let values = vec![in alloc; 10; 2 * setting.customers as usize]?;
-    Ok(Plan {
-        names: names(alloc, random, setting.customers)?,
-        balances: balances(alloc, values.as_slice())?,
-        batch: batch(alloc, setting.sizes, setting.asks)?,
-    })
+    let names = names(alloc, random, setting.customers)?;
+    plan_of(alloc, names, values.as_slice(), setting.sizes, setting.asks)
+}
+
+fn take_step(schedule: &mut Schedule, event: Event) -> Result<(), StepFault> {
+    schedule.step(event)
 }
 
 /// The step; where no memory was left, the step again.
 pub fn stepped(schedule: &mut Schedule, event: Event) -> Result<(), StepFault> {
-    match schedule.step(event) {
-        Err(StepFault::Memory) => schedule.step(event),
+    match take_step(schedule, event) {
+        Err(StepFault::Memory) => take_step(schedule, event),
         answer => answer,
     }
 }
@@ -71,6 +78,12 @@ pub fn ordered(alloc: Global, schedule: &Schedule) -> Result<Vec<u16>, AllocErro
         Err(AllocError) => schedule.order(alloc),
         order => order,
     }
+}
+
+/// Whether that is the order of what is applied.
+fn has_order(alloc: Global, schedule: &Schedule, due: &[u16]) -> Result<bool, AllocError> {
+    let order = ordered(alloc, schedule)?;
+    Ok(order.as_slice() == due)
 }
 
 /// An event, and whether it is allowed where it comes.
@@ -101,7 +114,7 @@ fn last_of(schedule: &Schedule) -> Option<AccessRecord> {
 }
 
 /// Two deposits to one customer by two workers, of which the second goes first.
-fn two_workers(alloc: Global, plan: &Plan) -> io::Result<Seen> {
+fn two_workers(alloc: Global, schedule: &mut Schedule) -> io::Result<Option<Seen>> {
     let before = [
         Step(Event::Claim(0), true),
         Step(Event::Claim(1), true),
@@ -120,18 +133,17 @@ fn two_workers(alloc: Global, plan: &Plan) -> io::Result<Seen> {
         Step(Event::Note(0), true),
     ];
     let mut seen = Seen::nothing();
-    let mut schedule = opened(alloc, &plan.names, &plan.balances, &plan.batch, 2)?;
-    seen.want(carried(&mut schedule, &before), "worker 1 goes first");
+    seen.want(carried(schedule, &before), "worker 1 goes first");
     seen.want(!schedule.done(), "a request is left");
-    seen.want(carried(&mut schedule, &after), "worker 0 follows");
+    seen.want(carried(schedule, &after), "worker 0 follows");
     seen.want(schedule.done(), "all is noted");
-    let order = ordered(alloc, &schedule)?;
-    seen.want(order.as_slice() == [1, 0].as_slice(), "the order is 1, 0");
-    Ok(seen)
+    let is_order = has_order(alloc, schedule, &[1, 0])?;
+    seen.want(is_order, "the order is 1, 0");
+    Ok(Some(seen))
 }
 
 /// A request that touches no row locks no stripe.
-fn no_row(alloc: Global, plan: &Plan) -> io::Result<Seen> {
+fn no_row(schedule: &mut Schedule) -> Seen {
     let steps = [
         Step(Event::Claim(0), true),
         Step(Event::LockStripe(0), false),
@@ -140,20 +152,19 @@ fn no_row(alloc: Global, plan: &Plan) -> io::Result<Seen> {
         Step(Event::Note(0), true),
     ];
     let mut seen = Seen::nothing();
-    let mut schedule = opened(alloc, &plan.names, &plan.balances, &plan.batch, 1)?;
-    seen.want(carried(&mut schedule, &steps), "it locks nothing");
-    let is_told = match last_of(&schedule) {
+    seen.want(carried(schedule, &steps), "it locks nothing");
+    let is_told = match last_of(schedule) {
         Some(made) => {
             made.reply() == Reply::Aborted(Abort::BadAmount) && made.entries().is_empty()
         }
         None => false,
     };
     seen.want(is_told, "the reason is noted, and no entry");
-    Ok(seen)
+    seen
 }
 
 /// A request of a later parallelBatch waits until those before it are noted.
-fn later_group(alloc: Global, plan: &Plan) -> io::Result<Seen> {
+fn later_group(schedule: &mut Schedule) -> Seen {
     let steps = [
         Step(Event::Claim(0), true),
         Step(Event::Claim(1), false),
@@ -165,17 +176,13 @@ fn later_group(alloc: Global, plan: &Plan) -> io::Result<Seen> {
         Step(Event::Claim(1), true),
     ];
     let mut seen = Seen::nothing();
-    let mut schedule = opened(alloc, &plan.names, &plan.balances, &plan.batch, 2)?;
-    seen.want(
-        carried(&mut schedule, &steps),
-        "the second waits for the first",
-    );
+    seen.want(carried(schedule, &steps), "the second waits for the first");
     seen.want(!schedule.done(), "a request is left");
-    Ok(seen)
+    seen
 }
 
 /// A request of two stripes locks both before its tick.
-fn two_stripes(alloc: Global, plan: &Plan) -> io::Result<Seen> {
+fn two_stripes(schedule: &mut Schedule) -> Seen {
     let steps = [
         Step(Event::Claim(0), true),
         Step(Event::LockStripe(0), true),
@@ -189,31 +196,26 @@ fn two_stripes(alloc: Global, plan: &Plan) -> io::Result<Seen> {
         Step(Event::Note(0), true),
     ];
     let mut seen = Seen::nothing();
-    let mut schedule = opened(alloc, &plan.names, &plan.balances, &plan.batch, 1)?;
-    seen.want(
-        carried(&mut schedule, &steps),
-        "both are locked, and given back",
-    );
-    let is_made = match last_of(&schedule) {
+    seen.want(carried(schedule, &steps), "both are locked, and given back");
+    let is_made = match last_of(schedule) {
         Some(made) => made.reply() == Reply::Done && made.entries().len() == 3,
         None => false,
     };
     seen.want(is_made, "three rows are noted");
-    Ok(seen)
+    seen
 }
 
 /// A worker that isn't there may do nothing.
-fn nobody(alloc: Global, plan: &Plan) -> io::Result<Seen> {
+fn nobody(schedule: &mut Schedule) -> Seen {
     let steps = [Step(Event::Claim(1), false), Step(Event::Claim(0), true)];
     let mut seen = Seen::nothing();
-    let mut schedule = opened(alloc, &plan.names, &plan.balances, &plan.batch, 1)?;
-    seen.want(carried(&mut schedule, &steps), "the second isn't there");
+    seen.want(carried(schedule, &steps), "the second isn't there");
     seen.want(schedule.workers() == 1, "there is one");
-    Ok(seen)
+    seen
 }
 
-// What the schedule of that name begins with, None where none has it.
-fn setting_of(name: &str) -> Option<Setting> {
+/// What the schedule of that name begins with, None where none has it.
+pub fn setting_of(name: &str) -> Option<Setting> {
     match name {
         "schedule-two-workers" => Some(TWO_DEPOSITS),
         "schedule-no-row" => Some(BAD_AMOUNT),
@@ -225,22 +227,25 @@ fn setting_of(name: &str) -> Option<Setting> {
 }
 
 // What is seen of the schedule of that name, of those that `setting_of` knows.
-fn seen_of(alloc: Global, plan: &Plan, name: &str) -> io::Result<Seen> {
-    match name {
-        "schedule-two-workers" => two_workers(alloc, plan),
-        "schedule-no-row" => no_row(alloc, plan),
-        "schedule-later-group" => later_group(alloc, plan),
-        "schedule-two-stripes" => two_stripes(alloc, plan),
-        _ => nobody(alloc, plan),
-    }
+fn seen_of(alloc: Global, schedule: &mut Schedule, name: &str) -> io::Result<Option<Seen>> {
+    let seen = match name {
+        "schedule-two-workers" => return two_workers(alloc, schedule),
+        "schedule-no-row" => no_row(schedule),
+        "schedule-later-group" => later_group(schedule),
+        "schedule-two-stripes" => two_stripes(schedule),
+        _ => nobody(schedule),
+    };
+    Ok(Some(seen))
 }
 
-/// What is seen of the worked schedule of that name, None where none has it.
-pub fn scheduled(alloc: Global, random: RandomState, name: &str) -> io::Result<Option<Seen>> {
-    let Some(setting) = setting_of(name) else {
-        return Ok(None);
-    };
+/// What is seen of the worked schedule of that name, which begins so.
+pub fn scheduled(
+    alloc: Global,
+    random: RandomState,
+    setting: Setting,
+    name: &str,
+) -> io::Result<Option<Seen>> {
     let plan = planned(alloc, random, setting)?;
-    let seen = seen_of(alloc, &plan, name)?;
-    Ok(Some(seen))
+    let mut schedule = opened(alloc, &plan, setting.workers)?;
+    seen_of(alloc, &mut schedule, name)
 }
