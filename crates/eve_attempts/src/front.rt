@@ -3,7 +3,7 @@
 /// What stands at the front of an attempt.
 ///
 /// docs/MODEL.md, "Section state, fate".
-#[derive(Clone, Copy, Debug, PartialEq, Eq)]
+#[derive(Clone, Copy, PartialEq, Eq)]
 pub struct AttemptFront {
     /// The batch's number, from 1.
     pub seq: u32,

@@ -18,7 +18,7 @@ use std::thread;
 use std::thread::Threads;
 
 /// Which replicas are one worker's to judge: of as many as there are workers, every one whose number leaves its own.
-#[derive(Clone, Copy, Debug)]
+#[derive(Clone, Copy)]
 pub struct Share {
     worker: u8,
     workers: u8,

@@ -13,7 +13,7 @@ use eve_smallbank::Entry;
 /// An Access frame, where it stands.
 ///
 /// docs/TRACE.md, "Frames".
-#[derive(Clone, Copy, Debug)]
+#[derive(Clone, Copy)]
 pub struct AccessView<'a> {
     /// The byte of the trace at which it begins.
     pub offset: u64,

@@ -26,7 +26,7 @@ fn replies_of(frame: &[u8], count: usize) -> &[u8]
 /// An Attempt frame, where it stands. Its accesses have frames of their own after it.
 ///
 /// docs/TRACE.md, "Frames".
-#[derive(Clone, Copy, Debug)]
+#[derive(Clone, Copy)]
 pub struct AttemptView<'a> {
     /// The byte of the trace at which it begins.
     pub offset: u64,

@@ -13,7 +13,7 @@ use eve_smallbank::Request;
 /// A Batch frame, where it stands.
 ///
 /// docs/TRACE.md, "Frames".
-#[derive(Clone, Copy, Debug)]
+#[derive(Clone, Copy)]
 pub struct BatchView<'a> {
     /// The byte of the trace at which it begins.
     pub offset: u64,

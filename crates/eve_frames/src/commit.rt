@@ -7,7 +7,7 @@ ghost use Rattle.eve_frames.specs.Views.{body_in, has_commit_body, commit_in};
 use byteorder::{BigEndian, ByteOrder};
 
 /// A Commit frame, where it stands.
-#[derive(Clone, Copy, Debug)]
+#[derive(Clone, Copy)]
 pub struct CommitView<'a> {
     /// The byte of the trace at which it begins.
     pub offset: u64,

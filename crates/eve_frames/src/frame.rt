@@ -7,7 +7,7 @@ ghost use Rattle.eve_frames.specs.Kinds.{kind_name};
 use eve_grammar::FrameKind;
 
 /// A frame of any kind, where it stands.
-#[derive(Clone, Copy, Debug)]
+#[derive(Clone, Copy)]
 pub struct FrameView<'a> {
     /// The byte of the trace at which it begins.
     pub offset: u64,

@@ -11,7 +11,7 @@ use eve_grammar::{MOST_ROWS, Restore, restore_at};
 /// A Rollback frame, where it stands.
 ///
 /// docs/TRACE.md, "Frames".
-#[derive(Clone, Copy, Debug)]
+#[derive(Clone, Copy)]
 pub struct RollbackView<'a> {
     /// The byte of the trace at which it begins.
     pub offset: u64,

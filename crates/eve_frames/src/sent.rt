@@ -10,7 +10,7 @@ use eve_grammar::reply_at;
 use eve_smallbank::Reply;
 
 /// A Sent frame, where it stands.
-#[derive(Clone, Copy, Debug)]
+#[derive(Clone, Copy)]
 pub struct SentView<'a> {
     /// The byte of the trace at which it begins.
     pub offset: u64,

@@ -10,7 +10,7 @@ use byteorder::{BigEndian, ByteOrder};
 use eve_grammar::Choice;
 
 /// A Vote frame, where it stands.
-#[derive(Clone, Copy, Debug)]
+#[derive(Clone, Copy)]
 pub struct VoteView<'a> {
     /// The byte of the trace at which it begins.
     pub offset: u64,

@@ -3,7 +3,7 @@
 /// What a frame is, by the byte that it begins with.
 ///
 /// docs/TRACE.md, "Frames".
-#[derive(Clone, Copy, Debug, PartialEq, Eq)]
+#[derive(Clone, Copy, PartialEq, Eq)]
 pub enum FrameKind {
     /// A customer's name and opening balances.
     Customer = 1,

@@ -12,7 +12,7 @@ use crate::places::{u16_in, u24_in, u32_in};
 /// How many there are of what a trace speaks of.
 ///
 /// docs/TRACE.md, "Header".
-#[derive(Clone, Copy, Debug, PartialEq, Eq)]
+#[derive(Clone, Copy, PartialEq, Eq)]
 pub struct Head {
     /// Replicas, 1 to `MOST_REPLICAS`.
     pub replicas: u8,

@@ -3,7 +3,7 @@
 /// How many frames of each kind have come.
 ///
 /// docs/TRACE.md, "Order of frames".
-#[derive(Clone, Copy, Debug, PartialEq, Eq)]
+#[derive(Clone, Copy, PartialEq, Eq)]
 pub struct Place {
     /// Customers.
     pub customers: u32,

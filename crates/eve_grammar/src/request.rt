@@ -10,7 +10,7 @@ use eve_smallbank::Request;
 /// A request with who sent it and under which number.
 ///
 /// docs/TRACE.md, "Parts".
-#[derive(Clone, Copy, Debug, PartialEq, Eq)]
+#[derive(Clone, Copy, PartialEq, Eq)]
 pub struct Asked<'a> {
     /// The client.
     pub client: u32,

@@ -9,7 +9,7 @@ use crate::places::{bytes_from, i64_in, u32_in, u64_in};
 use eve_accounts::{Cents, Row};
 
 /// A row's version and value as they are committed.
-#[derive(Clone, Copy, Debug, PartialEq, Eq)]
+#[derive(Clone, Copy, PartialEq, Eq)]
 pub struct Restore {
     /// The row's version, from 0.
     pub version: u64,

@@ -10,7 +10,7 @@ pub trait Gate: Sync {
 }
 
 /// Lets everyone through.
-#[derive(Clone, Copy, Debug)]
+#[derive(Clone, Copy)]
 pub struct OpenGate;
 
 impl Gate for OpenGate {

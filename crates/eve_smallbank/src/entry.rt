@@ -5,7 +5,7 @@ ghost use Rattle.std.specs.Prelude.{◌≡◌};
 use eve_accounts::{Cents, Row};
 
 /// Whether a row was read or written.
-#[derive(Clone, Copy, Debug, PartialEq, Eq)]
+#[derive(Clone, Copy, PartialEq, Eq)]
 pub enum Kind {
     /// The row keeps its version and its value.
     Read,
@@ -28,7 +28,7 @@ impl Kind {
 }
 
 /// One row that a request read or wrote.
-#[derive(Clone, Copy, Debug, PartialEq, Eq)]
+#[derive(Clone, Copy, PartialEq, Eq)]
 pub struct Entry {
     /// The row's version before the request, from 0.
     pub version: u64,

@@ -6,7 +6,7 @@ use eve_accounts::Amount;
 ///
 /// docs/MODEL.md, "Transactions", has the effect of each. Contracts see it by `plain`, with each name
 /// as its list of bytes.
-#[derive(Clone, Copy, Debug, PartialEq, Eq)]
+#[derive(Clone, Copy, PartialEq, Eq)]
 pub enum Request<'a> {
     /// Both balances of the customer, added up.
     Balance(&'a [u8]),
@@ -21,7 +21,7 @@ pub enum Request<'a> {
 }
 
 /// What a client is answered.
-#[derive(Clone, Copy, Debug, PartialEq, Eq)]
+#[derive(Clone, Copy, PartialEq, Eq)]
 pub enum Reply {
     /// The transaction took effect.
     Done,
@@ -32,7 +32,7 @@ pub enum Reply {
 }
 
 /// Why a transaction changed nothing.
-#[derive(Clone, Copy, Debug, PartialEq, Eq)]
+#[derive(Clone, Copy, PartialEq, Eq)]
 pub enum Abort {
     /// No customer has the name.
     NoSuchName,

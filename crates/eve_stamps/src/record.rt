@@ -11,7 +11,7 @@ use std::marker::Model;
 /// `untouched` alone. Contracts see the fields (`Applied`).
 ///
 /// docs/MODEL.md, "Entries".
-#[derive(Clone, Copy, Debug, PartialEq, Eq)]
+#[derive(Clone, Copy, PartialEq, Eq)]
 pub struct AccessRecord {
     stamp: Stamp,
     reply: Reply,

@@ -3,7 +3,7 @@
 /// Who ran which request, and at which tick. Contracts see the same four numbers in its record (`Applied`).
 ///
 /// docs/MODEL.md, "Schedule".
-#[derive(Clone, Copy, Debug, PartialEq, Eq)]
+#[derive(Clone, Copy, PartialEq, Eq)]
 pub struct Stamp {
     /// The tick at which it was applied.
     pub tick: u64,

@@ -19,7 +19,7 @@ use std::marker::Model;
 ///
 /// docs/MODEL.md, "Stripe". Contracts see the committed rows, the journal and the greatest tick so far (`Stripe` of
 /// the specs); `rows_now` is what the rows have now.
-#[derive(Debug, Drop)]
+#[derive(Drop)]
 pub struct Stripe {
     pub(crate) base: Vec<HeldRow>,
     pub(crate) rows: Vec<HeldRow>,

@@ -17,7 +17,7 @@ use std::alloc::{AllocError, Global};
 use std::convert::AsStr;
 
 /// A call of the program, one for each subcommand.
-#[derive(Clone, Copy, Debug, PartialEq, Eq)]
+#[derive(Clone, Copy, PartialEq, Eq)]
 pub enum Call {
     /// Prints the verdict on a trace, found by this many workers.
     Audit(WorkerCount),
@@ -28,7 +28,7 @@ pub enum Call {
 }
 
 /// What the arguments of a command line come to.
-#[derive(Debug, Drop)]
+#[derive(Drop)]
 pub enum Asked {
     /// They are a call.
     Call(Call),

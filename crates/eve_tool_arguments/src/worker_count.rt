@@ -6,7 +6,7 @@ use eve_grammar::MOST_AUDIT_WORKERS;
 use std::marker::Model;
 
 /// How many workers judge the replicas of a trace: 1 to `MOST_AUDIT_WORKERS`. Contracts see it as a number.
-#[derive(Clone, Copy, Debug, PartialEq, Eq)]
+#[derive(Clone, Copy, PartialEq, Eq)]
 pub struct WorkerCount {
     count: u8,
 }

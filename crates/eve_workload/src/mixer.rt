@@ -19,7 +19,7 @@ use eve_write::{BatchData, RequestData};
 use std::alloc::{AllocError, Global};
 
 /// How a batch is cut into parallelBatches.
-#[derive(Clone, Copy, Debug, PartialEq, Eq)]
+#[derive(Clone, Copy, PartialEq, Eq)]
 pub enum Mixer {
     /// Each request goes to the end of the first parallelBatch that holds none in conflict with it, or opens a new
     /// one at the end.
