@@ -49,10 +49,10 @@ AreNoters recorder n seats =
 abbrev pub AreThere : ℕ → List (Option Drawer) → Type 0
 AreThere n seats = (k : ℕ) → k < n → IsSome (slice_index_or seats k None)
 
--- seats of this recorder and of these tickets, for the workers below this number and the taker
+-- seats of this recorder and of these tickets, for the workers below this number and the taker, which has taken nothing
 pub record AreSeatsAt (recorder : RecorderId) (tickets : TicketSource) (n : ℕ) (s : Seating) : Type 0 where
   pub noters : AreNoters recorder n s.places.seats
-  pub taker : s.taker.recorder ≡ recorder
+  pub taker : s.places.taker ≡ Some record { recorder = recorder; taken = [] }
   pub claims : s.claims.tickets ≡ tickets
   pub there : AreThere n s.claims.places
 

@@ -109,11 +109,13 @@ fn deal_all<'s, 'b>(
         turns: Vec::with_capacity(alloc, rooms.len())?,
         others: empty_hands(alloc, workers - 1, rooms.len())?,
     };
-    while let Some(seating) = seatings.pop() {
+    while let Some(mut seating) = seatings.pop() {
         let place = seatings.len();
         let room = &rooms[place];
         let shared = shared_of(floor, progress, room, requests_before(rooms, place));
-        deal(&shared, room.leg.crew, seating, &mut hands)?;
+        let dealt = deal(&shared, room.leg.crew, &mut seating, &mut hands);
+        drop(seating);
+        dealt?;
     }
     Ok(hands)
 }
@@ -152,7 +154,8 @@ fn empty_hands<'s>(
 {
     let mut hands = Vec::with_capacity(alloc, workers)?;
     for number in 0..workers {
-        hands.push(Vec::with_capacity(alloc, legs)?)?;
+        let shares = Vec::with_capacity(alloc, legs)?;
+        hands.push_reserved(shares);
     }
     Ok(hands)
 }
@@ -171,14 +174,15 @@ fn furnish<'b>(
     let count = count_of(leg.batch);
     let starts = starts_of(alloc, leg.batch.sizes.as_slice(), count as u16)?;
     let (claims, own) = Tickets::new(alloc, leg.crew, count as u64)?;
+    let Ok(spare) = stock.take(count) else {
+        drop(own);
+        return Err(AllocError);
+    };
     let Spare {
         recorder,
-        mut places,
+        places,
         ..
-    } = stock.take(count)?;
-    let Some(taker) = places.taker() else {
-        unreachable!()
-    };
+    } = spare;
     let room = Room {
         leg: *leg,
         recorder,
@@ -189,7 +193,6 @@ fn furnish<'b>(
         room,
         Seating {
             places,
-            taker,
             claims: own,
         },
     ))

@@ -66,29 +66,40 @@ pub fn crew_size(sizes: &[u16], workers: u8, serial: bool) -> u8
 pub(crate) fn deal<'s>(
     shared: &Shared<'s>,
     crew: u8,
-    mut seating: Seating,
+    seating: &mut Seating,
     hands: &mut Hands<'s>,
 ) -> Result<(), AllocError>
     requires set { IsSet shared.now }
     requires crew { (1 ≤ crew) × (crew ≤ MOST_WORKERS) × (crew ≤ vec_len hands.old.others + 1) }
-    requires seats { AreSeatsAt shared.now.recorder.now.recorder shared.now.claims.now crew seating }
-    ensures { vec_len hands.new.others ≡ vec_len hands.old.others }
+    requires seats { AreSeatsAt shared.now.recorder.now.recorder shared.now.claims.now crew seating.old }
+    requires room { vec_len hands.old.turns < vec_capacity hands.old.turns }
+    ensures others { vec_len hands.new.others ≡ vec_len hands.old.others }
+    ensures turns { OnOk result (vec_len hands.new.turns ≡ vec_len hands.old.turns + 1) }
+    ensures room { vec_capacity hands.new.turns ≡ vec_capacity hands.old.turns }
 {
-    deal_parts(shared, crew, &mut seating, &mut hands.others)?;
-    let Seating {
-        taker,
-        mut claims,
-        ..
-    } = seating;
-    let Some(claims) = claims.seat(0) else {
+    deal_parts(shared, crew, seating, &mut hands.others)?;
+    let turn = turn_of(shared, seating);
+    hands.turns.push_reserved(Part::Beside(turn));
+    Ok(())
+}
+
+// The part of the first worker, where its seats are there.
+fn turn_of<'s>(shared: &Shared<'s>, seating: &mut Seating) -> Turn<'s>
+    requires set { IsSet shared.now }
+    requires seats { AreSeatsAt shared.now.recorder.now.recorder shared.now.claims.now 1 seating.old }
+    ensures { result.shared ≡ shared.now }
+{
+    let Some(taker) = seating.places.taker() else {
         unreachable!()
     };
-    hands.turns.push(Part::Beside(Turn {
+    let Some(claims) = seating.claims.seat(0) else {
+        unreachable!()
+    };
+    Turn {
         shared: *shared,
         taker,
         claims,
-    }))?;
-    Ok(())
+    }
 }
 
 // The parts of the workers below this number but the first, where the seats up to it are there.

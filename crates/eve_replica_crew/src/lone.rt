@@ -43,7 +43,7 @@ pub(crate) fn lone_hands<'s>(
     while left > 0 {
         left -= 1;
         let leg = legs[left];
-        hands.turns.push(Part::Alone(Lone { floor, leg }))?;
+        hands.turns.push_reserved(Part::Alone(Lone { floor, leg }));
     }
     Ok(hands)
 }

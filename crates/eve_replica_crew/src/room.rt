@@ -1,7 +1,7 @@
 //! Where the workers of a batch note its records and claim its requests.
 
 use crate::leg::Leg;
-use eve_recorder::{Recorder, Seats, TakerSeat, TicketSeats, Tickets};
+use eve_recorder::{Recorder, Seats, TicketSeats, Tickets};
 
 /// Where the workers of a batch note its records and claim its requests.
 #[derive(Drop)]
@@ -18,7 +18,6 @@ pub(crate) struct Room<'b> {
 #[derive(Drop)]
 pub(crate) struct Seating {
     pub places: Seats,
-    pub taker: TakerSeat,
     pub claims: TicketSeats,
 }
 

@@ -60,6 +60,7 @@ impl Stock {
             if room <= spare.room {
                 return Ok(spare);
             }
+            drop(spare);
         }
         Spare::new(self.alloc, room)
     }
@@ -81,21 +82,18 @@ impl Stock {
     /// Makes what is lacking, as far as there is memory.
     pub(crate) fn fill(&mut self) {
         for number in self.spares.len()..self.wanted {
+            if self.spares.reserve(1).is_err() {
+                return;
+            }
             let Ok(spare) = Spare::new(self.alloc, self.room) else {
                 return;
             };
-            if self.spares.push(spare).is_err() {
-                return;
-            }
+            self.spares.push_reserved(spare);
         }
     }
 
-    /// Takes what another has, as far as there is memory.
-    pub(crate) fn absorb(&mut self, part: Stock) {
-        for spare in part.spares {
-            if self.spares.push(spare).is_err() {
-                return;
-            }
-        }
+    /// Takes what another has, where there is memory for it.
+    pub(crate) fn absorb(&mut self, mut part: Stock) {
+        let _ = self.spares.append(&mut part.spares);
     }
 }

@@ -1,4 +1,4 @@
-use Rattle.std.proofs.Common.{rules, ap, subst, sym, ◌∙◌, arith}
+use Rattle.std.proofs.Common.{ap, subst, sym, arith}
 use Rattle.eve_recorder.specs.Drawing.{Drawers}
 use Rattle.eve_recorder.specs.Seen.{Places, RecorderId}
 use Rattle.eve_replica_crew.specs.Sharing.{AreNoters, AreThere}
@@ -8,14 +8,13 @@ use Rattle.eve_replica_crew.proofs.batch.furnish.Goals as goal
 pub returns-clause-seating : goal.returns-clause-seating
 returns-clause-seating c =
     let few = c.requires.2.within in
-    let all = c.in_ok-recorder.field-0.many in
-    let seats = ap (λ (p : Places). p.seats) c.taker.ensures.rest
-    ∙ ap (λ (p : Places). p.seats) c.in_ok-recorder.field-0.fresh in
-    let recorder : RecorderId = c.in_ok-recorder.field-0.recorder.recorder in
+    let all = c.in-Ok.spare.many in
+    let fresh = c.in-Ok.spare.fresh in
+    let recorder : RecorderId = c.in-Ok.spare.recorder.recorder in
     record {
-      noters = subst (AreNoters recorder c.args.leg.now.crew) (sym seats)
+      noters = subst (AreNoters recorder c.args.leg.now.crew) (sym (ap (λ (p : Places). p.seats) fresh))
           (fresh_noters recorder c.args.leg.now.crew (omega arith) all);
-      taker = search rules;
+      taker = ap (λ (p : Places). p.taker) fresh;
       claims = ap (λ (d : Drawers). d.tickets) c.in_ok-claims.ensures.fresh;
       there = subst (AreThere c.args.leg.now.crew) (sym (ap (λ (d : Drawers). d.places) c.in_ok-claims.ensures.fresh))
           (fresh_there c.in_ok-claims.claims c.args.leg.now.crew c.in_ok-claims.ensures.seats (omega arith));
