@@ -55,10 +55,7 @@ impl<'n, 'b> RunState<'n, 'b> {
     {
         self.attempt(rt, alloc, gate)?;
         while self.standing.opened > 0 {
-            let Some(token) = decided(self.servers.as_slice()) else {
-                return Ok(self.roll_back(alloc)?);
-            };
-            self.commit(token)?;
+            self.decide(alloc)?;
         }
         Ok(())
     }
@@ -87,6 +84,24 @@ impl<'n, 'b> RunState<'n, 'b> {
         attempt_all(rt, alloc, self.servers.as_mut_slice(), window, gate)?;
         self.standing.opened = window.len() as u32;
         Ok(())
+    }
+
+    // The first open batch is committed where its token is decided, and rolled back else, with all others.
+    fn decide(&mut self, alloc: Global) -> Result<(), AllocError>
+        requires under_way { (p : RunPlan) × IsUnderWay p self.old }
+        requires open { 0 < self.old.standing.opened }
+        requires view { self.old.standing.view < MOST_VIEWS }
+        ensures under_way { (p : RunPlan) → IsUnderWay p self.old → OnOk result (IsUnderWay p self.new) }
+        ensures same { OnOk result (IsSameRun self.old self.new) }
+        ensures opened { OnOk result (self.new.standing.opened < self.old.standing.opened) }
+        ensures view { OnOk result (self.new.standing.view ≤ self.old.standing.view + 1) }
+        ensures same_view { 0 < self.new.standing.opened
+            → OnOk result (self.new.standing.view ≡ self.old.standing.view) }
+    {
+        match decided(self.servers.as_slice()) {
+            Some(token) => self.commit(token),
+            None => self.roll_back(alloc),
+        }
     }
 
     // Every verifier votes for the commit of the first open batch; who has the token commits it, and who hasn't stops.

@@ -1,11 +1,13 @@
 //! The run of a whole deployment.
 
-ghost use Rattle.std.specs.Prelude.{◌≡◌, ◌≤◌, ◌*◌, true, [], All, IfOk, length, map, vec_len};
-ghost use Rattle.eve_write.specs.Data.{batch as plain, customer, section};
+ghost use Rattle.std.specs.Prelude.{◌≡◌, ◌≤◌, ◌*◌, true, [], All, IfOk, OnOk, length, map, vec_len};
+ghost use Rattle.eve_grammar.specs.Trace.{opening_rows};
+ghost use Rattle.eve_write.specs.Data.{batch as plain, customer, section, sent};
 ghost use Rattle.eve_workload.specs.Workload.{customer_names};
 ghost use Rattle.eve_replica.specs.Run.{IsRunOf};
 ghost use Rattle.eve_replica.specs.Sections.{RunPlan};
-ghost use Rattle.eve_replica.specs.Serving.{IsRightMixed, IsPlanFor, Serves, IsUnderWay};
+ghost use Rattle.eve_replica.specs.Sending.{sent_from_on};
+ghost use Rattle.eve_replica.specs.Serving.{IsRightMixed, IsPlanFor, Serves, IsUnderWay, IsSameRun, AreReplies};
 ghost use Rattle.eve_replica.specs.Serving.{plan_with, first_standing};
 
 use crate::fault::RunFault;
@@ -16,10 +18,10 @@ use crate::sending::replies_of;
 use crate::server::Server;
 use crate::standing::Standing;
 use eve_accounts::{Balances, Names};
-use eve_grammar::{Head, MOST_BATCHES, MOST_WINDOW, MOST_WORKERS};
+use eve_grammar::{Head, MOST_BATCHES, MOST_CUSTOMERS, MOST_REPLICAS, MOST_WINDOW, MOST_WORKERS};
 use eve_recorder::Gate;
 use eve_workload::{MixedBatch, Mixer, Workload};
-use eve_write::{BatchData, CustomerData, Parts, Step, VoteData};
+use eve_write::{BatchData, CustomerData, Parts, SentData, Step, VoteData};
 use std::alloc::{AllocError, Global};
 use std::hash::RandomState;
 use std::sync::Wait;
@@ -58,7 +60,7 @@ pub fn run_consuming<R: Threads + Wait + Sync, G: Gate>(
 ) -> Result<Parts, RunFault>
     ensures { IfOk result (IsRunOf workload mixer) }
 {
-    let customers = copy_customers(alloc, workload.customers())?;
+    let customers = workload.customers().to_vec(alloc)?;
     let names = names_of(alloc, customers.as_slice(), random)?;
     run_named(rt, alloc, workload, mixer, &names, gate)
 }
@@ -76,65 +78,82 @@ fn run_named<R: Threads + Wait + Sync, G: Gate>(
     ensures { IfOk result (IsRunOf workload mixer) }
 {
     let head = workload.head();
-    let balances = balances_of(alloc, workload.customers())?;
     let (customers, listed) = workload.into_lists();
     let batches = batches_of(alloc, listed, names, mixer)?;
-    let RunState { servers, votes, .. } = run_windows(
-        rt,
+    let mut state = first_state(
         alloc,
         &head,
         names,
-        &balances,
+        customers.as_slice(),
         batches.as_slice(),
-        gate,
     )?;
-    let sent = replies_of(alloc, servers.as_slice(), batches.as_slice())?;
+    run_windows(rt, alloc, &mut state, gate)?;
+    let outcome = outcome_of(alloc, state)?;
+    let batches = plain_batches(alloc, batches)?;
     Ok(Parts {
         quorum: head.quorum,
         window: head.window,
         workers: head.workers,
         customers,
-        batches: plain_batches(alloc, batches)?,
-        sections: sections_of(alloc, servers)?,
-        verifiers: copies_of(alloc, votes.as_slice(), head.verifiers)?,
-        sent,
+        batches,
+        sections: outcome.sections,
+        verifiers: outcome.verifiers,
+        sent: outcome.sent,
     })
 }
 
-// Windows, until all batches are committed.
-fn run_windows<'n, 'b, R: Threads + Wait + Sync, G: Gate>(
-    rt: &R,
+// The state in which a run of these batches begins.
+fn first_state<'n, 'b>(
     alloc: Global,
     head: &Head,
     names: &'n Names<'n>,
-    balances: &Balances,
+    customers: &[CustomerData],
     batches: &'b [MixedBatch],
-    gate: &G,
-) -> Result<RunState<'n, 'b>, RunFault>
-    requires rows { length balances.now ≡ 2 * length names.now.items }
+) -> Result<RunState<'n, 'b>, AllocError>
+    requires named { names.now.items ≡ customer_names (map customer customers.now) }
+    requires customers { length customers.now ≡ head.now.customers }
+    requires known { length customers.now ≤ MOST_CUSTOMERS }
     requires workers { (1 ≤ head.now.workers) × (head.now.workers ≤ MOST_WORKERS) }
     requires window { (1 ≤ head.now.window) × (head.now.window ≤ MOST_WINDOW) }
+    requires replicas { 1 ≤ head.now.replicas }
     requires few { length batches.now ≤ MOST_BATCHES }
     requires mixed { All (IsRightMixed names.now.items) batches.now }
-    requires customers { length names.now.items ≡ head.now.customers }
-    requires replicas { 1 ≤ head.now.replicas }
-    ensures under_way { IfOk result (IsUnderWay (plan_with names.now.items balances.now head.now batches.now)) }
+    ensures under_way { let opened = opening_rows (map customer customers.now) in
+        IfOk result (IsUnderWay (plan_with names.now.items opened head.now batches.now)) }
     ensures head { IfOk result (λ d. d.head ≡ head.now) }
     ensures batches { IfOk result (λ d. d.batches.now ≡ batches.now) }
-    ensures done { IfOk result (λ d. d.standing.committed ≡ length batches.now) }
-    ensures view { IfOk result (λ d. d.standing.view ≤ 2 * length batches.now) }
+    ensures standing { IfOk result (λ d. d.standing ≡ first_standing) }
 {
-    let mut state = RunState {
+    let balances = balances_of(alloc, customers)?;
+    let servers = servers_of(alloc, head, names, &balances)?;
+    Ok(RunState {
         head: *head,
         batches,
-        servers: servers_of(alloc, head, names, balances)?,
+        servers,
         standing: Standing {
             view: 0,
             committed: 0,
             opened: 0,
         },
         votes: Vec::new(alloc),
-    };
+    })
+}
+
+// Windows, until all batches are committed.
+fn run_windows<R: Threads + Wait + Sync, G: Gate>(
+    rt: &R,
+    alloc: Global,
+    state: &mut RunState,
+    gate: &G,
+) -> Result<(), RunFault>
+    requires under_way { (p : RunPlan) × IsUnderWay p state.old }
+    requires first { state.old.standing ≡ first_standing }
+    ensures under_way { (p : RunPlan) → IsUnderWay p state.old → OnOk result (IsUnderWay p state.new) }
+    ensures same { OnOk result (IsSameRun state.old state.new) }
+    ensures done { OnOk result (state.new.standing.committed ≡ length state.old.batches.now) }
+    ensures view { OnOk result (state.new.standing.view ≤ 2 * length state.old.batches.now) }
+{
+    let batches = state.batches;
     for turn in 0..2 * batches.len() {
         if state.standing.committed as usize >= batches.len() {
             break;
@@ -144,7 +163,47 @@ fn run_windows<'n, 'b, R: Threads + Wait + Sync, G: Gate>(
     if (state.standing.committed as usize) < batches.len() {
         return Err(RunFault::Broken);
     }
-    Ok(state)
+    Ok(())
+}
+
+// What the replicas of a run did and sent, and what its verifiers gave.
+#[derive(Drop)]
+struct Outcome {
+    sections: Vec<Vec<Step>>,
+    verifiers: Vec<Vec<VoteData>>,
+    sent: Vec<SentData>,
+}
+
+// What a run gives that has come to this state.
+fn outcome_of(alloc: Global, state: RunState) -> Result<Outcome, AllocError>
+    requires few { vec_len state.servers ≤ MOST_REPLICAS }
+    ensures sections { IfOk result (λ o. map section o.sections.items
+        ≡ map (λ s. section s.steps) state.entry.servers.items) }
+    ensures many { IfOk result (λ o. vec_len o.verifiers ≡ state.entry.head.verifiers) }
+    ensures each { IfOk result (λ o. All (λ c. c.items ≡ state.entry.votes.items) o.verifiers.items) }
+    ensures limits { let servers = state.entry.servers.items in
+        IfOk result (λ o. AreReplies (length servers) (length state.entry.batches.now) o.sent.items) }
+    ensures sent { let batches = map (λ m. plain m.batch) state.entry.batches.now in
+        IfOk result (λ o. map sent o.sent.items
+        ≡ sent_from_on batches 0 (map (λ s. section s.steps) state.entry.servers.items)) }
+{
+    let sent = replies_of(alloc, state.servers.as_slice(), state.batches)?;
+    let verifiers = copies_of(alloc, state.votes.as_slice(), state.head.verifiers)?;
+    let sections = sections_of(alloc, servers_in(state))?;
+    Ok(Outcome {
+        sections,
+        verifiers,
+        sent,
+    })
+}
+
+// The replicas of the run.
+fn servers_in<'n>(state: RunState<'n, '_>) -> Vec<Server<'n>>
+    ensures { result ≡ state.entry.servers }
+{
+    let RunState { servers, votes, .. } = state;
+    drop(votes);
+    servers
 }
 
 fn servers_of<'n>(
@@ -166,16 +225,6 @@ fn servers_of<'n>(
         servers.push(server_of(alloc, head, names, balances)?)?;
     }
     Ok(servers)
-}
-
-fn copy_customers(
-    alloc: Global,
-    customers: &[CustomerData],
-) -> Result<Vec<CustomerData>, AllocError>
-    ensures { IfOk result (λ copies. map customer copies.items ≡ map customer customers.now) }
-{
-    let copies = customers.to_vec(alloc)?;
-    Ok(copies)
 }
 
 // A replica that has done nothing.

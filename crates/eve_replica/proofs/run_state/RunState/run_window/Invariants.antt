@@ -1,4 +1,4 @@
-use Rattle.std.proofs.Common.{◌≡◌}
+use Rattle.std.proofs.Common.{◌≡◌, ◌≤◌, ◌<◌, ◌+◌}
 use Rattle.eve_replica.specs.Sections.{RunPlan}
 use Rattle.eve_replica.specs.Serving.{IsSameRun, IsUnderWay}
 use Rattle.eve_replica.proofs.run_state.RunState.run_window.Given as goal
@@ -7,7 +7,8 @@ abbrev pub invariant-loop-self : goal.invariant-loop-self
 invariant-loop-self g l = record {
   under_way : (p : RunPlan) → IsUnderWay p l.fn.self → IsUnderWay p l.self;
   same : IsSameRun l.fn.self l.self;
-  view : l.self.standing.view ≡ l.fn.self.standing.view;
+  view : l.self.standing.view ≤ l.fn.self.standing.view + 1;
+  same_view : 0 < l.self.standing.opened → l.self.standing.view ≡ l.fn.self.standing.view;
 }
 
 abbrev pub decreases-loop-self : goal.decreases-loop-self

@@ -1,0 +1,49 @@
+use Rattle.std.proofs.Common.{◌≡◌, [], ℕ, ◌*◌, length, map, sym, refl, ap, ◌∙◌, arith}
+use Rattle.std.proofs.lemmas.List.{length-map}
+use Rattle.eve_grammar.specs.Trace.{opening_rows}
+use Rattle.eve_grammar.proofs.OpeningRows.{length-opening_rows}
+use Rattle.eve_write.specs.Data.{customer}
+use Rattle.eve_attempts.specs.Ledgers.{opening}
+use Rattle.eve_replica.specs.Serving.{plan_with}
+use Rattle.eve_replica.proofs.Beginning.{plan_begun, none_led, none_voted}
+use Rattle.eve_replica.proofs.Counting.{counted_all}
+use Rattle.eve_replica.proofs.Undecided.{begun_undecided}
+use Rattle.eve_replica.proofs.running.first_state.Goals as goal
+
+pub servers_of-requires-clause-rows : goal.servers_of-requires-clause-rows
+servers_of-requires-clause-rows c =
+    let customers = map customer c.args.customers.now in
+    ap length c.in_ok-balances.ensures ∙ length-opening_rows customers
+    ∙ ap (λ (n : ℕ). 2 * n) (sym (ap length c.requires.named ∙ length-map customers (λ x. x.name)))
+
+pub returns-clause-under_way : goal.returns-clause-under_way
+returns-clause-under_way c =
+    let opened = opening_rows (map customer c.args.customers.now) in
+    let p = plan_with c.args.names.now.items opened c.args.head.now c.args.batches.now in
+    let servers = c.in_ok-servers.servers in
+    let begun : p.first.opened ≡ [] =
+    plan_begun c.args.names.now.items opened c.args.head.now c.args.batches.now in
+    let first = ap (λ zs. opening zs c.args.head.now.workers c.args.head.now.window) (sym c.in_ok-balances.ensures) in
+    let serve = c.in_ok-servers.ensures.serve p (refl, first) in
+    record {
+      begun = begun;
+      customers = ap length c.requires.named ∙ length-map (map customer c.args.customers.now) (λ x. x.name)
+          ∙ length-map c.args.customers.now customer ∙ c.requires.customers;
+      window = refl;
+      batches = refl;
+      few = c.requires.few;
+      room = c.requires.window.0;
+      mixed = c.requires.mixed;
+      due = omega arith;
+      many = c.in_ok-servers.ensures.many;
+      servers = none_led p c.new.result.items servers.items c.new.ensures.items serve;
+      majority = omega (
+        arith,
+        counted_all (λ s. s.is_live) servers.items c.in_ok-servers.ensures.live,
+        c.in_ok-servers.ensures.many,
+        servers.ok.0,
+        c.requires.replicas,
+      );
+      undecided = begun_undecided p servers.items begun serve;
+      votes = none_voted (length c.args.batches.now) c.new.result.items c.new.ensures.items;
+    }
