@@ -66,7 +66,8 @@ pub(crate) fn batches_of(
 {
     let mut batches = Vec::with_capacity(alloc, listed.len())?;
     for requests in listed {
-        batches.push(cut_batch(alloc, requests, names, mixer)?)?;
+        let batch = cut_batch(alloc, requests, names, mixer)?;
+        batches.push_reserved(batch);
     }
     Ok(batches)
 }

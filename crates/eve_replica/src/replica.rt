@@ -313,13 +313,13 @@ fn legs_of<'b>(
     let mut legs = Vec::with_capacity(alloc, window.len())?;
     let mut is_serial = serial;
     for mixed in window {
-        legs.push(leg_of(
+        legs.push_reserved(leg_of(
             floor,
             workers,
             &mixed.batch,
             mixed.touched.as_slice(),
             is_serial,
-        ))?;
+        ));
         is_serial = false;
     }
     Ok(legs)

@@ -222,7 +222,8 @@ fn servers_of<'n>(
 {
     let mut servers = Vec::with_capacity(alloc, head.replicas as usize)?;
     for number in 0..head.replicas {
-        servers.push(server_of(alloc, head, names, balances)?)?;
+        let server = server_of(alloc, head, names, balances)?;
+        servers.push_reserved(server);
     }
     Ok(servers)
 }
@@ -255,7 +256,7 @@ fn plain_batches(alloc: Global, mixed: Vec<MixedBatch>) -> Result<Vec<BatchData>
     let mut batches = Vec::with_capacity(alloc, mixed.len())?;
     for one in mixed {
         let MixedBatch { batch, .. } = one;
-        batches.push(batch)?;
+        batches.push_reserved(batch);
     }
     Ok(batches)
 }
@@ -266,7 +267,7 @@ fn sections_of(alloc: Global, servers: Vec<Server>) -> Result<Vec<Vec<Step>>, Al
 {
     let mut sections = Vec::with_capacity(alloc, servers.len())?;
     for server in servers {
-        sections.push(steps_of(server))?;
+        sections.push_reserved(steps_of(server));
     }
     Ok(sections)
 }
@@ -286,7 +287,8 @@ fn copies_of(alloc: Global, votes: &[VoteData], count: u8) -> Result<Vec<Vec<Vot
 {
     let mut copies = Vec::with_capacity(alloc, count as usize)?;
     for number in 0..count {
-        copies.push(votes.to_vec(alloc)?)?;
+        let copy = votes.to_vec(alloc)?;
+        copies.push_reserved(copy);
     }
     Ok(copies)
 }

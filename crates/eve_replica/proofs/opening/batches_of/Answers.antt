@@ -1,4 +1,4 @@
-use Rattle.std.proofs.Common.{◌≡◌, All, IsTrue, List, Vec, ◌∷◌, [], ◌++◌, map, sym, subst, ap, ◌∙◌}
+use Rattle.std.proofs.Common.{◌≡◌, All, IsTrue, List, Vec, ◌∷◌, [], ◌++◌, length, map, sym, subst, ap, ◌∙◌, arith}
 use Rattle.std.specs.List.{list_all}
 use Rattle.std.specs.declared.alloc.Global.{Global}
 use Rattle.std.proofs.lemmas.Bool.{and_parts}
@@ -32,14 +32,21 @@ loop-requests-preserved c =
     let made : List Asked → Batch = λ requests. batch_with (cut names c.args.mixer requests) in
     let list : Vec RequestData Global → List Asked = λ one. map asked one.items in
     let plain : MixedBatch → Batch = λ m. batch m.batch in
-    let one : MixedBatch = c.in_ok-cut_batch.field-0 in
+    let one : MixedBatch = c.in_ok-batch.batch in
     record {
-      cut = ap (map plain) c.in_ok-push.ensures.items ∙ map_push plain c.loop-requests.batches.items one
-          ∙ (λ k. c.loop-requests.invariant.cut k ++ c.in_ok-cut_batch.ensures.cut k ∷ [])
+      cut = ap (map plain) c.push_reserved.ensures.items ∙ map_push plain c.loop-requests.batches.items one
+          ∙ (λ k. c.loop-requests.invariant.cut k ++ c.in_ok-batch.ensures.cut k ∷ [])
           ∙ sym (ap (map made) (map_push list c.loop-requests.yielded c.in-Some.requests)
           ∙ map_push made (asked_lists c.loop-requests.yielded) (list c.in-Some.requests));
-      mixed = subst (All (IsRightMixed names)) (sym c.in_ok-push.ensures.items)
+      mixed = subst (All (IsRightMixed names)) (sym c.push_reserved.ensures.items)
           (All-push (IsRightMixed names) c.loop-requests.batches.items one c.loop-requests.invariant.mixed
-          c.in_ok-cut_batch.ensures.mixed);
+          c.in_ok-batch.ensures.mixed);
+      room = omega (
+        arith,
+        c.loop-requests.invariant.room,
+        c.push_reserved.ensures.len,
+        c.push_reserved.ensures.capacity,
+        ap length c.in-Some.ensures.steps.0,
+      );
       left = (first_right c.in-Some.requests _ _ c.in-Some.ensures.steps.0 c.loop-requests.invariant.left).1;
     }

@@ -7,14 +7,15 @@ use Rattle.eve_replica.proofs.running.servers_of.Goals as goal
 pub loop-number-preserved : goal.loop-number-preserved
 loop-number-preserved c =
     let before : List Server = c.loop-number.servers.items in
-    let one : Server = c.in_ok-server_of.field-0 in
+    let one : Server = c.in_ok-server.server in
     record {
-      many = omega (arith, c.in_ok-push.ensures.len, c.loop-number.invariant.many);
+      many = omega (arith, c.push_reserved.ensures.len, c.loop-number.invariant.many);
+      room = omega (arith, c.push_reserved.ensures.capacity, c.loop-number.invariant.room);
       serve = λ p plan. subst (λ (servers : List Server). All (Serves p first_standing []) servers)
-          (sym {A = List Server} c.in_ok-push.ensures.items)
+          (sym {A = List Server} c.push_reserved.ensures.items)
           (All-push (Serves p first_standing []) before one (c.loop-number.invariant.serve p plan)
-          (c.in_ok-server_of.ensures.serve p plan));
+          (c.in_ok-server.ensures.serve p plan));
       live = subst (λ (servers : List Server). All (λ s. s.is_live ≡ true) servers)
-          (sym {A = List Server} c.in_ok-push.ensures.items)
-          (All-push (λ s. s.is_live ≡ true) before one c.loop-number.invariant.live c.in_ok-server_of.ensures.live);
+          (sym {A = List Server} c.push_reserved.ensures.items)
+          (All-push (λ s. s.is_live ≡ true) before one c.loop-number.invariant.live c.in_ok-server.ensures.live);
     }
