@@ -1,9 +1,11 @@
-//! What `eve` says of a trace.
+//! What `eve` says of a trace, and to which verdict its audit comes.
 
-use crate::texts::Text;
+use crate::texts::{Missing, Text};
+use eve_audit::{Verdict, audit, audit_one};
+use eve_recorder::Gate;
 use eve_streams::{SinkOf, SourceOf};
 use eve_tool::serve;
-use std::alloc::{AllocError, Global};
+use std::hash::RandomState;
 use std::random::RandomSource;
 use std::str;
 use std::sync::Wait;
@@ -39,26 +41,26 @@ fn push_line(text: &mut Text, sink: &SinkOf<Vec<u8>>) {
 }
 
 /// The exit status, and what is said on out and on the error stream.
-fn said<R: AllocGlobal + RandomSource + Threads + Wait + Sync>(
+fn push_said<R: AllocGlobal + RandomSource + Threads + Wait + Sync>(
+    text: &mut Text,
     rt: &R,
     arguments: &[&str],
     bytes: &[u8],
-) -> Result<String, AllocError> {
+) {
     let served = asked(rt, arguments, bytes);
-    let mut text = Text::new(rt.alloc());
     text.number("", u64::from(served.status));
     text.words(" ");
-    push_line(&mut text, &served.out);
-    push_line(&mut text, &served.err);
-    text.all()
+    push_line(text, &served.out);
+    push_line(text, &served.err);
 }
 
 /// What `eve audit` says.
-pub fn by_one<R: AllocGlobal + RandomSource + Threads + Wait + Sync>(
+pub fn push_by_one<R: AllocGlobal + RandomSource + Threads + Wait + Sync>(
+    text: &mut Text,
     rt: &R,
     bytes: &[u8],
-) -> Result<String, AllocError> {
-    said(rt, &["eve", "audit"], bytes)
+) {
+    push_said(text, rt, &["eve", "audit"], bytes);
 }
 
 /// What it says by so many workers.
@@ -66,32 +68,87 @@ fn by_workers<R: AllocGlobal + RandomSource + Threads + Wait + Sync>(
     rt: &R,
     bytes: &[u8],
     workers: u8,
-) -> Result<String, AllocError> {
-    let number = workers.to_string(rt.alloc())?;
-    said(rt, &["eve", "audit", "--workers", number.as_str()], bytes)
+) -> Text {
+    let mut text = Text::new(rt.alloc());
+    match workers.to_string(rt.alloc()) {
+        Ok(number) => {
+            push_said(
+                &mut text,
+                rt,
+                &["eve", "audit", "--workers", number.as_str()],
+                bytes,
+            );
+        }
+        Err(_) => text.miss(Missing::Memory),
+    }
+    text
 }
 
-/// What it says, and that it says something else by so many workers.
-fn unlike(alloc: Global, one: &str, workers: u8, more: &str) -> Result<String, AllocError> {
-    let mut text = Text::new(alloc);
-    text.words(one);
-    text.number(", but by ", u64::from(workers));
-    text.words(" workers ");
-    text.words(more);
-    text.all()
+/// That it says something else by so many workers, where it does.
+fn push_unlike(text: &mut Text, one: &str, workers: u8, more: &Text) {
+    text.miss_as(more);
+    if more.as_str() != one {
+        text.number(", but by ", u64::from(workers));
+        text.words(" workers ");
+        text.words(more.as_str());
+    }
 }
 
-/// What `eve audit` says, and what it says by a number of workers that changes it.
-pub fn by_all<R: AllocGlobal + RandomSource + Threads + Wait + Sync>(
+/// What `eve audit` says, and what it says by each number of workers that changes it.
+pub fn push_by_all<R: AllocGlobal + RandomSource + Threads + Wait + Sync>(
+    text: &mut Text,
     rt: &R,
     bytes: &[u8],
-) -> Result<String, AllocError> {
-    let one = by_one(rt, bytes)?;
+) {
+    let mut one = Text::new(rt.alloc());
+    push_by_one(&mut one, rt, bytes);
+    text.miss_as(&one);
+    text.words(one.as_str());
     for workers in 1..17 {
-        let more = by_workers(rt, bytes, workers)?;
-        if more != one {
-            return unlike(rt.alloc(), one.as_str(), workers, more.as_str());
+        push_unlike(text, one.as_str(), workers, &by_workers(rt, bytes, workers));
+    }
+}
+
+/// Random keys for a table.
+pub fn keys<R: RandomSource>(text: &mut Text, rt: &R) -> Option<RandomState> {
+    match RandomState::new(rt) {
+        Ok(keys) => Some(keys),
+        Err(_) => {
+            text.miss(Missing::Keys);
+            None
         }
     }
-    Ok(one)
+}
+
+/// The verdict of one thread.
+pub fn by_one_thread<R: AllocGlobal + RandomSource + Threads + Sync>(
+    text: &mut Text,
+    rt: &R,
+    bytes: &[u8],
+) -> Option<Verdict> {
+    let random = keys(text, rt)?;
+    match audit_one(rt, rt.alloc(), bytes, random) {
+        Ok(verdict) => Some(verdict),
+        Err(_) => {
+            text.miss(Missing::Memory);
+            None
+        }
+    }
+}
+
+/// The verdict of two workers, who enter this gate.
+pub fn by_two<R: AllocGlobal + RandomSource + Threads + Wait + Sync, G: Gate>(
+    text: &mut Text,
+    rt: &R,
+    bytes: &[u8],
+    gate: &G,
+) -> Option<Verdict> {
+    let random = keys(text, rt)?;
+    match audit(rt, rt.alloc(), bytes, 2, random, gate) {
+        Ok(verdict) => Some(verdict),
+        Err(_) => {
+            text.miss(Missing::Memory);
+            None
+        }
+    }
 }

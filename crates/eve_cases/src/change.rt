@@ -1,6 +1,5 @@
 //! Changes of a trace's bytes.
 
-use anyhow::{Context, Result};
 use std::alloc::Global;
 
 /// A change: the bytes from one place up to another become these.
@@ -24,11 +23,11 @@ fn range_of(place: &str, len: usize) -> Option<(usize, usize)> {
 
 /// The change of a word. `AT=HEX` puts its bytes in place of as many at AT; `FROM..TO=HEX` puts its bytes, of any
 /// number, in place of those from FROM up to TO. Places are those of the file, from 0.
-fn change_of(alloc: Global, word: &str) -> Result<Change> {
-    let (place, hex) = word.split_once('=').context("a change has =")?;
-    let bytes = hex::decode(alloc, hex)?;
-    let (from, to) = range_of(place, bytes.len()).context("places")?;
-    Ok(Change { from, to, bytes })
+fn change_of(alloc: Global, word: &str) -> Option<Change> {
+    let (place, hex) = word.split_once('=')?;
+    let bytes = hex::decode(alloc, hex).ok()?;
+    let (from, to) = range_of(place, bytes.len())?;
+    Some(Change { from, to, bytes })
 }
 
 /// Sets the total of a trace, of fewer than 65,536 bytes, to the number of its bytes.
@@ -40,8 +39,8 @@ pub fn set_total(bytes: &mut [u8]) {
 }
 
 /// Adds bytes that are kept, which are there if the change before them lies within the trace and before the next.
-fn push_kept(out: &mut Vec<u8>, kept: Option<&[u8]>) -> Result<()> {
-    Ok(out.extend_from_slice(kept.context("changes in their order, within the trace")?)?)
+fn push_kept(out: &mut Vec<u8>, kept: Option<&[u8]>) -> Option<()> {
+    out.extend_from_slice(kept?).ok()
 }
 
 /// Adds the bytes from a place on up to the change of a word, and those of the change. The place behind it.
@@ -51,33 +50,43 @@ fn push_change(
     bytes: &[u8],
     done: usize,
     word: &str,
-) -> Result<usize> {
+) -> Option<usize> {
     let change = change_of(alloc, word)?;
     push_kept(out, bytes.get(done..change.from))?;
-    out.extend_from_slice(change.bytes.as_slice())?;
-    Ok(change.to)
+    push_kept(out, Some(change.bytes.as_slice()))?;
+    Some(change.to)
 }
 
 /// Adds the bytes up to the last of the changes, with all of them. The place behind it.
-fn push_changes(out: &mut Vec<u8>, alloc: Global, bytes: &[u8], words: &str) -> Result<usize> {
+fn push_changes(out: &mut Vec<u8>, alloc: Global, bytes: &[u8], words: &str) -> Option<usize> {
     let mut done = 0;
     for word in words.split(' ') {
         done = push_change(out, alloc, bytes, done, word)?;
     }
-    Ok(done)
+    Some(done)
 }
 
-/// The bytes with all changes, which come in the order of their places. Where their number is another than before, the
-/// header gets it as its total.
-pub fn changed(alloc: Global, bytes: &[u8], changes: Option<&str>) -> Result<Vec<u8>> {
-    let mut out = Vec::new(alloc);
+/// Adds the bytes with all changes, which come in the order of their places.
+fn push_changed(
+    out: &mut Vec<u8>,
+    alloc: Global,
+    bytes: &[u8],
+    changes: Option<&str>,
+) -> Option<()> {
     let done = match changes {
-        Some(words) => push_changes(&mut out, alloc, bytes, words)?,
+        Some(words) => push_changes(out, alloc, bytes, words)?,
         None => 0,
     };
-    push_kept(&mut out, bytes.get(done..))?;
+    push_kept(out, bytes.get(done..))
+}
+
+/// The bytes with all changes. Where their number is another than before, the header gets it as its total. None where
+/// the changes aren't in their order, within the trace, or memory is refused.
+pub fn changed(alloc: Global, bytes: &[u8], changes: Option<&str>) -> Option<Vec<u8>> {
+    let mut out = Vec::new(alloc);
+    push_changed(&mut out, alloc, bytes, changes)?;
     if out.len() != bytes.len() {
         set_total(out.as_mut_slice());
     }
-    Ok(out)
+    Some(out)
 }

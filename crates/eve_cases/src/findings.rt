@@ -1,10 +1,10 @@
 //! All that the libraries lend and find of a trace.
 
+use crate::audits::keys;
 use crate::histories::{agreement, push_findings};
 use crate::one_thread::push_served_all;
 use crate::parts::{push_frames, push_parts};
-use crate::texts::Text;
-use anyhow::{Result, bail};
+use crate::texts::{Missing, Text};
 use eve_views::{CheckFault, Fault, Trace};
 use std::alloc::Global;
 use std::hash::RandomState;
@@ -31,28 +31,26 @@ fn push_fault(text: &mut Text, fault: Fault) {
     text.number(" at ", fault.offset);
 }
 
-/// The text, and the fault that was found, if any.
-fn with_found(mut text: Text, found: Result<(), CheckFault>) -> Result<String> {
+/// The fault that was found, if any.
+fn push_found(text: &mut Text, found: Result<(), CheckFault>) {
     match found {
         Ok(()) => {}
-        Err(CheckFault::Found(fault)) => push_fault(&mut text, fault),
-        Err(CheckFault::Memory) => bail!("out of memory"),
+        Err(CheckFault::Found(fault)) => push_fault(text, fault),
+        Err(CheckFault::Memory) => text.miss(Missing::Memory),
     }
-    Ok(text.all()?)
 }
 
 /// What the libraries lend and find of a trace.
-pub fn told<R: AllocGlobal + RandomSource>(rt: &R, bytes: &[u8]) -> Result<String> {
-    let random = RandomState::new(rt)?;
-    let mut text = Text::new(rt.alloc());
+pub fn push_told<R: AllocGlobal + RandomSource>(text: &mut Text, rt: &R, bytes: &[u8]) {
     text.words("what is lent and found");
-    let found = push_all(&mut text, rt.alloc(), bytes, random);
-    with_found(text, found)
+    if let Some(random) = keys(text, rt) {
+        let found = push_all(text, rt.alloc(), bytes, random);
+        push_found(text, found);
+    }
 }
 
 /// What two replicas come to together.
-pub fn agreed<R: AllocGlobal>(rt: &R, bytes: &[u8]) -> Result<String> {
-    let mut text = Text::new(rt.alloc());
+pub fn push_agreed(text: &mut Text, alloc: Global, bytes: &[u8]) {
     text.words("two replicas");
-    with_found(text, agreement(rt.alloc(), bytes))
+    push_found(text, agreement(alloc, bytes));
 }

@@ -3,7 +3,7 @@
 ghost use Rattle.std.specs.Prelude.{◌≡◌, ◌<◌, ◌≤◌, length};
 ghost use Rattle.eve_history.specs.SectionHistory.{section_history};
 
-use crate::texts::Text;
+use crate::texts::{Missing, Text};
 use eve_accounts::Balances;
 use eve_agree::equal_balances;
 use eve_chains::Settled;
@@ -12,13 +12,14 @@ use eve_grammar::Choice;
 use eve_history::History;
 use eve_views::{CheckFault, Trace};
 use eve_votes::Tally;
-use std::alloc::{AllocError, Global};
+use std::alloc::Global;
 
 /// A replica's attempts, with their fates.
 fn push_attempts(text: &mut Text, history: &History) {
     for i in 0..history.attempts() {
         let offset = history.attempt(i).offset();
-        text.numbers(&[("\n  attempt ", i as u64), (" at ", offset)]);
+        text.number("\n  attempt ", i as u64);
+        text.number(" at ", offset);
         text.fate(": ", history.fate(i));
     }
 }
@@ -35,7 +36,8 @@ fn push_commits(text: &mut Text, history: &History) {
 fn push_rollbacks(text: &mut Text, history: &History) {
     for i in 0..history.rollbacks() {
         let offset = history.rollback(i).offset();
-        text.numbers(&[("\n  rollback ", i as u64), (" at ", offset)]);
+        text.number("\n  rollback ", i as u64);
+        text.number(" at ", offset);
     }
 }
 
@@ -57,58 +59,47 @@ pub fn push_balances(text: &mut Text, words: &str, balances: &Balances) {
 }
 
 /// The balances after so many batches, at once.
-fn push_at_once(
-    text: &mut Text,
-    words: &str,
-    alloc: Global,
-    settled: &Settled,
-    n: u32,
-) -> Result<(), AllocError>
+fn push_at_once(text: &mut Text, words: &str, alloc: Global, settled: &Settled, n: u32)
     requires { n ≤ length settled.now.batches }
 {
-    let balances = settled.balances_after(alloc, n)?;
-    push_balances(text, words, &balances);
-    Ok(())
+    match settled.balances_after(alloc, n) {
+        Ok(balances) => push_balances(text, words, &balances),
+        Err(_) => text.miss(Missing::Memory),
+    }
 }
 
 /// The balances after a batch, by one batch from those after the batch before.
-fn push_advanced(
-    text: &mut Text,
-    alloc: Global,
-    settled: &Settled,
-    n: u32,
-) -> Result<(), AllocError>
+fn push_advanced(text: &mut Text, alloc: Global, settled: &Settled, n: u32)
     requires one { 1 ≤ n }
     requires there { n ≤ length settled.now.batches }
 {
-    let mut balances = settled.balances_after(alloc, n - 1)?;
-    settled.advance(n, &mut balances);
-    push_balances(text, ":", &balances);
-    Ok(())
+    match settled.balances_after(alloc, n - 1) {
+        Ok(mut balances) => {
+            settled.advance(n, &mut balances);
+            push_balances(text, ":", &balances);
+        }
+        Err(_) => text.miss(Missing::Memory),
+    }
 }
 
 /// The balances at the opening, and after each batch that was committed: by one batch, and at once.
-fn push_settled(text: &mut Text, alloc: Global, settled: &Settled) -> Result<(), AllocError> {
-    push_at_once(text, "\n  after 0:", alloc, settled, 0)?;
+fn push_settled(text: &mut Text, alloc: Global, settled: &Settled) {
+    push_at_once(text, "\n  after 0:", alloc, settled, 0);
     for n in 0..settled.committed() {
         text.number("\n  after ", u64::from(n + 1));
-        push_advanced(text, alloc, settled, n + 1)?;
-        push_at_once(text, ", at once", alloc, settled, n + 1)?;
+        push_advanced(text, alloc, settled, n + 1);
+        push_at_once(text, ", at once", alloc, settled, n + 1);
     }
-    Ok(())
 }
 
 /// The balances after each batch that a replica committed, of its history.
-fn push_settled_of<'a>(
-    text: &mut Text,
-    alloc: Global,
-    trace: &Trace<'a>,
-    history: &History<'a>,
-) -> Result<(), AllocError>
+fn push_settled_of<'a>(text: &mut Text, alloc: Global, trace: &Trace<'a>, history: &History<'a>)
     requires { history.now ≡ section_history trace.now history.now.replica }
 {
-    let settled = Settled::of(alloc, history, trace)?;
-    push_settled(text, alloc, &settled)
+    match Settled::of(alloc, history, trace) {
+        Ok(settled) => push_settled(text, alloc, &settled),
+        Err(_) => text.miss(Missing::Memory),
+    }
 }
 
 /// A replica's history, and the balances after each batch that it committed.
@@ -119,7 +110,7 @@ fn push_replica(text: &mut Text, alloc: Global, trace: &Trace, e: u8) -> Result<
     }
     let history = History::of(alloc, trace, e)?;
     push_history(text, &history);
-    push_settled_of(text, alloc, trace, &history)?;
+    push_settled_of(text, alloc, trace, &history);
     Ok(())
 }
 
@@ -129,12 +120,10 @@ fn push_backers(text: &mut Text, tally: &Tally, n: u32, view: u32, token: &[u8; 
     let next_view = tally.votes_for(n, view.saturating_add(1), token);
     let next_batch = tally.votes_for(n.saturating_add(1), view, token);
     let none = tally.votes_for(n, view, &[0; 32]);
-    text.numbers(&[
-        ("", u64::from(its)),
-        (" ", u64::from(next_view)),
-        (" ", u64::from(next_batch)),
-        (" ", u64::from(none)),
-    ]);
+    text.number("", u64::from(its));
+    text.number(" ", u64::from(next_view));
+    text.number(" ", u64::from(next_batch));
+    text.number(" ", u64::from(none));
     text.words(" ");
 }
 
@@ -142,7 +131,8 @@ fn push_backers(text: &mut Text, tally: &Tally, n: u32, view: u32, token: &[u8; 
 /// whether the view of its batch is rolled back.
 fn push_vote(text: &mut Text, tally: &Tally, view: VoteView) {
     let (n, at) = (view.seq(), view.view());
-    text.numbers(&[("\n  batch ", u64::from(n)), (" in view ", u64::from(at))]);
+    text.number("\n  batch ", u64::from(n));
+    text.number(" in view ", u64::from(at));
     text.words(": ");
     if let Choice::ForCommit(token) = view.choice() {
         if let Some(token) = token.first_chunk() {

@@ -28,72 +28,96 @@ mod ranges;
 mod sweeps;
 mod texts;
 
-use anyhow::{Context, Result, bail};
+use anyhow::Result;
 use std::fs;
 use std::fs::Files;
 use std::random::RandomSource;
 use std::sync::Wait;
 use std::thread::Threads;
+use texts::{Missing, Text};
 
 /// The bytes of a trace of `data`.
-fn bytes_of<R: AllocGlobal + Files>(rt: &R, file: &str) -> Result<Vec<u8>> {
-    let mut path = file.to_string(rt.alloc())?;
-    path.push_str(".trace")?;
-    Ok(fs::read(rt, path.as_str())?)
+fn bytes_of<R: AllocGlobal + Files>(text: &mut Text, rt: &R, file: &str) -> Option<Vec<u8>> {
+    let mut path = Text::new(rt.alloc());
+    path.words(file);
+    path.words(".trace");
+    match fs::read(rt, path.as_str()) {
+        Ok(bytes) => Some(bytes),
+        Err(_) => {
+            text.miss(Missing::Trace);
+            None
+        }
+    }
 }
 
 /// What is said of a trace that is changed first.
-fn changed_answer<R: AllocGlobal + RandomSource + Threads + Wait + Sync>(
+fn push_changed_answer<R: AllocGlobal + RandomSource + Threads + Wait + Sync>(
+    text: &mut Text,
     rt: &R,
     call: &str,
     bytes: &[u8],
     changes: Option<&str>,
-) -> Result<String> {
-    let bytes = change::changed(rt.alloc(), bytes, changes)?;
+) {
+    let Some(bytes) = change::changed(rt.alloc(), bytes, changes) else {
+        text.miss(Missing::Changes);
+        return;
+    };
     match call {
-        "audit" => Ok(audits::by_all(rt, bytes.as_slice())?),
-        "tell" => findings::told(rt, bytes.as_slice()),
-        _ => bail!("no such call"),
+        "audit" => audits::push_by_all(text, rt, bytes.as_slice()),
+        "tell" => findings::push_told(text, rt, bytes.as_slice()),
+        _ => text.miss(Missing::Call),
     }
 }
 
 /// What is said of a trace.
-fn answer_of<R: AllocGlobal + RandomSource + Threads + Wait + Sync>(
+fn push_answer<R: AllocGlobal + RandomSource + Threads + Wait + Sync>(
+    text: &mut Text,
     rt: &R,
     call: &str,
     bytes: &[u8],
     more: Option<&str>,
-) -> Result<String> {
+) {
     match call {
         "fronts" | "lengths" | "bytes" | "each-one-higher" => {
-            sweeps::swept(rt, call, bytes, more)
+            sweeps::push_swept(text, rt, call, bytes, more)
         }
-        "one" => sweeps::one(rt, bytes),
-        "agree" => findings::agreed(rt, bytes),
-        "meet" => meeting::meet(rt, bytes),
-        _ => changed_answer(rt, call, bytes, more),
+        "one" => sweeps::push_one(text, rt, bytes),
+        "agree" => findings::push_agreed(text, rt.alloc(), bytes),
+        "meet" => meeting::push_meeting(text, rt, bytes),
+        _ => push_changed_answer(text, rt, call, bytes, more),
     }
 }
 
-/// The answer to a line.
-fn answer_to<R: AllocGlobal + Files + RandomSource + Threads + Wait + Sync>(
+/// The first of some words, and the others, if there are more.
+fn parted(words: &str) -> (&str, Option<&str>) {
+    match words.split_once(' ') {
+        Some((first, others)) => (first, Some(others)),
+        None => (words, None),
+    }
+}
+
+/// A line, and the answer to it.
+fn answered<R: AllocGlobal + Files + RandomSource + Threads + Wait + Sync>(
     rt: &R,
     line: &str,
 ) -> Result<String> {
-    let (call, rest) = line.split_once(' ').context("a call and a file")?;
-    let (file, more) = match rest.split_once(' ') {
-        Some((file, more)) => (file, Some(more)),
-        None => (rest, None),
-    };
-    let bytes = bytes_of(rt, file)?;
-    answer_of(rt, call, bytes.as_slice(), more)
+    let (call, rest) = parted(line);
+    let (file, more) = parted(rest.unwrap_or(""));
+    let mut text = Text::new(rt.alloc());
+    text.words(line);
+    text.words(": ");
+    if let Some(bytes) = bytes_of(&mut text, rt, file) {
+        push_answer(&mut text, rt, call, bytes.as_slice(), more);
+    }
+    text.all()
 }
 
 fn main(rt: HostRuntime) -> Result<()> {
     for line in rt.lines(rt.alloc()) {
         let line = line?;
-        let answer = answer_to(&rt, line.as_str())?;
-        println!(rt; "{line}: {answer}")?;
+        let answered = answered(&rt, line.as_str())?;
+        drop(line);
+        println!(rt; "{answered}")?;
     }
     Ok(())
 }

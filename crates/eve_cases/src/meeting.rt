@@ -1,10 +1,9 @@
 //! Two workers that are at their replicas at the same time.
 
+use crate::audits::by_two;
 use crate::texts::Text;
-use anyhow::Result;
-use eve_audit::{Verdict, audit};
+use eve_audit::Verdict;
 use eve_recorder::Gate;
-use std::hash::RandomState;
 use std::random::RandomSource;
 use std::sync::Wait;
 use std::sync::atomic::{AtomicU64, Ordering};
@@ -36,21 +35,18 @@ impl Gate for Meeting {
 }
 
 /// An audit by two workers, each held at its replica until the other has come to its own.
-pub fn meet<R: AllocGlobal + RandomSource + Threads + Wait + Sync>(
+pub fn push_meeting<R: AllocGlobal + RandomSource + Threads + Wait + Sync>(
+    text: &mut Text,
     rt: &R,
     bytes: &[u8],
-) -> Result<String> {
+) {
     let gate = Meeting {
         wanted: 2,
         entered: AtomicU64::new(0),
         met: AtomicU64::new(0),
     };
-    let verdict = audit(rt, rt.alloc(), bytes, 2, RandomState::new(rt)?, &gate);
-    let entered = gate.entered.load(Ordering::SeqCst);
-    let met = gate.met.load(Ordering::SeqCst);
-    let mut text = Text::new(rt.alloc());
-    text.number("", entered);
-    text.number(" entered, ", met);
-    text.holds(" met, yes ", matches!(verdict, Ok(Verdict::Yes(_))));
-    Ok(text.all()?)
+    let verdict = by_two(text, rt, bytes, &gate);
+    text.number("", gate.entered.load(Ordering::SeqCst));
+    text.number(" entered, ", gate.met.load(Ordering::SeqCst));
+    text.holds(" met, yes ", matches!(verdict, Some(Verdict::Yes(_))));
 }

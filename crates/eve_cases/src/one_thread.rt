@@ -1,7 +1,7 @@
 //! What SmallBank on one thread makes of a trace's batches, request after request.
 
 use crate::histories::push_balances;
-use crate::texts::{Text, push_change, push_done, push_reply, push_request};
+use crate::texts::{Missing, Text, push_change, push_done, push_reply, push_request};
 use eve_accounts::{Balances, Cents, MOST_NAMES, Names, Row};
 use eve_history::orders;
 use eve_smallbank::{Effect, Kind, Request, Touched, UpToThree, apply, decide, touched};
@@ -89,17 +89,15 @@ fn push_batches(text: &mut Text, trace: &Trace, names: &Names, balances: &mut Ba
 }
 
 /// The balances at the opening, what is made of all requests, and the balances after them.
-fn push_run(
-    text: &mut Text,
-    alloc: Global,
-    trace: &Trace,
-    names: &Names,
-) -> Result<(), AllocError> {
-    let mut balances = opening_of(alloc, trace)?;
-    push_balances(text, "\n balances", &balances);
-    push_batches(text, trace, names, &mut balances);
-    push_balances(text, "\n balances", &balances);
-    Ok(())
+fn push_run(text: &mut Text, alloc: Global, trace: &Trace, names: &Names) {
+    match opening_of(alloc, trace) {
+        Ok(mut balances) => {
+            push_balances(text, "\n balances", &balances);
+            push_batches(text, trace, names, &mut balances);
+            push_balances(text, "\n balances", &balances);
+        }
+        Err(_) => text.miss(Missing::Memory),
+    }
 }
 
 /// The balances at the opening, all requests of all batches, one after another, and the balances after them.
@@ -110,6 +108,6 @@ pub fn push_served_all(
     random: RandomState,
 ) -> Result<(), CheckFault> {
     let names = orders(alloc, trace, random)?;
-    push_run(text, alloc, trace, &names)?;
+    push_run(text, alloc, trace, &names);
     Ok(())
 }

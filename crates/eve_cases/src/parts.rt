@@ -23,7 +23,8 @@ fn push_customer(text: &mut Text, view: CustomerView) {
 
 /// Who asks.
 fn push_client(text: &mut Text, client: u32, number: u64) {
-    text.numbers(&[("; ", u64::from(client)), ("/", number)]);
+    text.number("; ", u64::from(client));
+    text.number("/", number);
     text.words(" ");
 }
 
@@ -40,12 +41,20 @@ fn push_requests(text: &mut Text, view: BatchView) {
 
 /// A batch: its number, the sizes of its parallelBatches, and its requests.
 fn push_batch(text: &mut Text, view: BatchView) {
-    text.numbers(&[("\n  ", view.offset()), (" batch ", u64::from(view.seq()))]);
+    text.number("\n  ", view.offset());
+    text.number(" batch ", u64::from(view.seq()));
     text.words(", of");
     for group in 0..view.groups() {
         text.number(" ", u64::from(view.group(group)));
     }
     push_requests(text, view);
+}
+
+/// Where the frame of a batch is, its kind, the batch and the view.
+fn push_place(text: &mut Text, offset: u64, kind: &str, n: u32, view: u32) {
+    text.number("\n  ", offset);
+    text.number(kind, u64::from(n));
+    text.number(" in view ", u64::from(view));
 }
 
 /// An attempt's certificate.
@@ -71,11 +80,7 @@ fn push_replies(text: &mut Text, view: AttemptView) {
 
 /// An attempt: its batch, view and mode, its certificate, and its replies by request.
 fn push_attempt(text: &mut Text, view: AttemptView) {
-    text.numbers(&[
-        ("\n  ", view.offset()),
-        (" attempt ", u64::from(view.seq())),
-        (" in view ", u64::from(view.view())),
-    ]);
+    push_place(text, view.offset(), " attempt ", view.seq(), view.view());
     text.words(if view.is_serial() {
         ", serial, order"
     } else {
@@ -98,12 +103,10 @@ fn push_entries(text: &mut Text, view: AccessView) {
 
 /// An access record: its worker, the worker's place, its request's index, and its entries.
 fn push_access(text: &mut Text, view: AccessView) {
-    text.numbers(&[
-        ("\n  ", view.offset()),
-        (" access by worker ", u64::from(view.worker())),
-        (" at ", u64::from(view.place())),
-        (" of request ", u64::from(view.index())),
-    ]);
+    text.number("\n  ", view.offset());
+    text.number(" access by worker ", u64::from(view.worker()));
+    text.number(" at ", u64::from(view.place()));
+    text.number(" of request ", u64::from(view.index()));
     push_entries(text, view);
 }
 
@@ -114,19 +117,13 @@ fn push_accesses(text: &mut Text, accesses: &Accesses) {
 }
 
 fn push_commit(text: &mut Text, view: CommitView) {
-    text.numbers(&[
-        ("\n  ", view.offset()),
-        (" commit ", u64::from(view.seq())),
-        (" in view ", u64::from(view.view())),
-    ]);
+    push_place(text, view.offset(), " commit ", view.seq(), view.view());
     text.hex(", token ", view.token());
 }
 
 fn push_restore(text: &mut Text, restore: Restore) {
-    text.numbers(&[
-        (", row ", u64::from(restore.row.number())),
-        (" version ", restore.version),
-    ]);
+    text.number(", row ", u64::from(restore.row.number()));
+    text.number(" version ", restore.version);
     text.cents(" value ", restore.value.get());
 }
 
@@ -142,20 +139,14 @@ fn push_restores(text: &mut Text, view: RollbackView) {
 
 /// A rollback: to which batch, into which view, and what it restores.
 fn push_rollback(text: &mut Text, view: RollbackView) {
-    text.numbers(&[
-        ("\n  ", view.offset()),
-        (" rollback to ", u64::from(view.to())),
-        (" into view ", u64::from(view.view())),
-    ]);
+    text.number("\n  ", view.offset());
+    text.number(" rollback to ", u64::from(view.to()));
+    text.number(" into view ", u64::from(view.view()));
     push_restores(text, view);
 }
 
 fn push_vote(text: &mut Text, view: VoteView) {
-    text.numbers(&[
-        ("\n  ", view.offset()),
-        (" vote on ", u64::from(view.seq())),
-        (" in view ", u64::from(view.view())),
-    ]);
+    push_place(text, view.offset(), " vote on ", view.seq(), view.view());
     match view.choice() {
         Choice::ForRollback => text.words(" for rollback"),
         Choice::ForCommit(token) => text.hex(" for ", token),
@@ -163,13 +154,11 @@ fn push_vote(text: &mut Text, view: VoteView) {
 }
 
 fn push_sent(text: &mut Text, view: SentView) {
-    text.numbers(&[
-        ("\n  ", view.offset()),
-        (" sent to ", u64::from(view.client())),
-        ("/", view.number()),
-        (" by replica ", u64::from(view.replica())),
-        (" of batch ", u64::from(view.seq())),
-    ]);
+    text.number("\n  ", view.offset());
+    text.number(" sent to ", u64::from(view.client()));
+    text.number("/", view.number());
+    text.number(" by replica ", u64::from(view.replica()));
+    text.number(" of batch ", u64::from(view.seq()));
     text.words(": ");
     push_reply(text, view.reply());
 }
@@ -214,15 +203,13 @@ fn push_votes(text: &mut Text, trace: &Trace, verifier: u8) {
 /// The header's numbers.
 fn push_head(text: &mut Text, trace: &Trace) {
     let head = trace.head();
-    text.numbers(&[
-        ("\n ", u64::from(head.replicas)),
-        (" replicas, ", u64::from(head.verifiers)),
-        (" verifiers, quorum ", u64::from(head.quorum)),
-        (", window ", u64::from(head.window)),
-        (", workers ", u64::from(head.workers)),
-        (", ", u64::from(head.customers)),
-        (" customers, ", u64::from(head.batches)),
-    ]);
+    text.number("\n ", u64::from(head.replicas));
+    text.number(" replicas, ", u64::from(head.verifiers));
+    text.number(" verifiers, quorum ", u64::from(head.quorum));
+    text.number(", window ", u64::from(head.window));
+    text.number(", workers ", u64::from(head.workers));
+    text.number(", ", u64::from(head.customers));
+    text.number(" customers, ", u64::from(head.batches));
     text.words(" batches");
 }
 

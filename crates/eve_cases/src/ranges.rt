@@ -1,7 +1,7 @@
 //! What is said of many numbers, in few lines.
 
-use crate::texts::Text;
-use std::alloc::{AllocError, Global};
+use crate::texts::{Missing, Text};
+use std::alloc::Global;
 
 /// A text with a line for each range of numbers, which rise, of which the same is said.
 #[derive(Drop)]
@@ -10,7 +10,7 @@ pub struct Ranges {
     /// The range that isn't written yet, and what is said of it; nothing where there is none.
     from: usize,
     to: usize,
-    line: String,
+    line: Text,
 }
 
 impl Ranges {
@@ -19,7 +19,7 @@ impl Ranges {
             text: Text::new(alloc),
             from: 0,
             to: 0,
-            line: String::new(alloc),
+            line: Text::new(alloc),
         }
     }
 
@@ -30,30 +30,39 @@ impl Ranges {
         self.text.words(words);
     }
 
+    /// Keeps why something can't be said.
+    pub fn miss(&mut self, why: Missing) {
+        self.text.miss(why);
+    }
+
     /// Says something of the next number.
-    pub fn say(&mut self, number: usize, line: String) {
-        if self.line != line {
+    pub fn say(&mut self, number: usize, line: &Text) {
+        self.text.miss_as(line);
+        if self.line.as_str() != line.as_str() {
             self.end();
             self.from = number;
-            self.line = line;
+            self.line.clear();
+            self.line.words(line.as_str());
         }
         self.to = number;
     }
 
     fn end(&mut self) {
-        if self.line.is_empty() {
+        if self.line.as_str().is_empty() {
             return;
         }
         let (from, to) = (self.from as u64, self.to as u64);
-        self.text.numbers(&[("\n  ", from), (" to ", to)]);
+        self.text.number("\n  ", from);
+        self.text.number(" to ", to);
         self.text.words(": ");
         self.text.words(self.line.as_str());
     }
 
-    /// The text, with the last range.
-    pub fn all(mut self) -> Result<String, AllocError> {
+    /// Adds all of it to a text.
+    pub fn push_all(&mut self, text: &mut Text) {
         self.end();
-        let Ranges { text, .. } = self;
-        text.all()
+        text.miss_as(&self.line);
+        text.miss_as(&self.text);
+        text.words(self.text.as_str());
     }
 }

@@ -1,41 +1,45 @@
 //! The same trace, changed in every way of one kind.
 
-use crate::audits::by_one;
+use crate::audits::{by_one_thread, by_two, push_by_one};
 use crate::change::set_total;
 use crate::ranges::Ranges;
-use crate::texts::Text;
-use anyhow::{Context, Result, bail};
-use eve_audit::{Verdict, audit, audit_one};
+use crate::texts::{Missing, Text};
+use eve_audit::Verdict;
+use eve_grammar::u32_at;
 use eve_recorder::OpenGate;
 use std::alloc::{AllocError, Global};
-use std::hash::RandomState;
 use std::random::RandomSource;
 use std::sync::Wait;
 use std::thread::Threads;
 
 /// Whether the verdict is yes. If it is no, then at a place within the bytes or at their end.
-fn is_accepted<R: AllocGlobal + RandomSource + Threads + Wait + Sync>(
+fn is_accepted<R: AllocGlobal + RandomSource + Threads + Sync>(
+    text: &mut Text,
     rt: &R,
     bytes: &[u8],
-) -> Result<bool> {
-    match audit_one(rt, rt.alloc(), bytes, RandomState::new(rt)?) {
-        Ok(Verdict::Yes(_)) => Ok(true),
-        Ok(Verdict::No(fault)) if fault.offset <= bytes.len() as u64 => Ok(false),
-        _ => bail!("no verdict within the bytes"),
+) -> bool {
+    match by_one_thread(text, rt, bytes) {
+        Some(Verdict::Yes(_)) => true,
+        Some(Verdict::No(fault)) if fault.offset > bytes.len() as u64 => {
+            text.miss(Missing::Verdict);
+            false
+        }
+        _ => false,
     }
 }
 
 /// Whether one thread accepts the trace.
-pub fn one<R: AllocGlobal + RandomSource + Threads + Wait + Sync>(
+pub fn push_one<R: AllocGlobal + RandomSource + Threads + Sync>(
+    text: &mut Text,
     rt: &R,
     bytes: &[u8],
-) -> Result<String> {
-    let text = if is_accepted(rt, bytes)? {
+) {
+    let words = if is_accepted(text, rt, bytes) {
         "accepted"
     } else {
         "not accepted"
     };
-    Ok(text.to_string(rt.alloc())?)
+    text.words(words);
 }
 
 /// Values of a byte: how many, the first and the last of them.
@@ -59,65 +63,53 @@ impl Values {
 
 /// With which values of a byte the verdict is yes. With the others it is no, at a place within the bytes or at their
 /// end.
-fn accepted_values<R: AllocGlobal + RandomSource + Threads + Wait + Sync>(
+fn accepted_values<R: AllocGlobal + RandomSource + Threads + Sync>(
+    text: &mut Text,
     rt: &R,
     copy: &mut [u8],
     place: usize,
-) -> Result<Values> {
+) -> Values {
     let mut right = Values {
         count: 0,
         least: 0,
         greatest: 0,
     };
     for value in 0..=255u8 {
-        *copy.get_mut(place).context("a byte")? = value;
-        if is_accepted(rt, copy)? {
+        match copy.get_mut(place) {
+            Some(byte) => *byte = value,
+            None => text.miss(Missing::Place),
+        }
+        if is_accepted(text, rt, copy) {
             right = right.and(value);
         }
     }
-    Ok(right)
+    right
 }
 
 /// With how many values of the byte at a place the verdict is yes, and the first and the last of them.
-fn with_each_value<R: AllocGlobal + RandomSource + Threads + Wait + Sync>(
-    rt: &R,
-    copy: &mut [u8],
-    place: usize,
-) -> Result<String> {
-    let Values {
-        count,
-        least,
-        greatest,
-    } = accepted_values(rt, copy, place)?;
-    if count < 2 {
-        return Ok("yes with its own value alone".to_string(rt.alloc())?);
+fn push_values(text: &mut Text, values: Values) {
+    if values.count < 2 {
+        text.words("yes with its own value alone");
+    } else {
+        text.number("yes with ", u64::from(values.count));
+        text.number(" values from ", u64::from(values.least));
+        text.number(" to ", u64::from(values.greatest));
     }
-    let mut text = Text::new(rt.alloc());
-    text.numbers(&[
-        ("yes with ", u64::from(count)),
-        (" values from ", u64::from(least)),
-        (" to ", u64::from(greatest)),
-    ]);
-    Ok(text.all()?)
 }
 
 /// The verdict of one thread, where two workers come to the same.
-fn by_one_and_two<R: AllocGlobal + RandomSource + Threads + Wait + Sync>(
+fn push_by_one_and_two<R: AllocGlobal + RandomSource + Threads + Wait + Sync>(
+    text: &mut Text,
     rt: &R,
     bytes: &[u8],
-) -> Result<String> {
-    let alloc = rt.alloc();
-    let one = audit_one(rt, alloc, bytes, RandomState::new(rt)?);
-    let two = audit(rt, alloc, bytes, 2, RandomState::new(rt)?, &OpenGate);
-    let (Ok(one), Ok(two)) = (one, two) else {
-        bail!("out of memory");
-    };
-    let text = match one {
+) {
+    let one = by_one_thread(text, rt, bytes);
+    let two = by_two(text, rt, bytes, &OpenGate);
+    text.words(match one {
         _ if one != two => "two workers say something else",
-        Verdict::Yes(_) => "yes",
-        Verdict::No(_) => "no",
-    };
-    Ok(text.to_string(alloc)?)
+        Some(Verdict::Yes(_)) => "yes",
+        _ => "no",
+    });
 }
 
 /// How a trace is changed, by a number.
@@ -171,93 +163,116 @@ fn varied(alloc: Global, bytes: &[u8], way: Way, number: usize) -> Result<Vec<u8
 }
 
 /// What is said of the trace, changed in this way.
+fn push_varied<R: AllocGlobal + RandomSource + Threads + Wait + Sync>(
+    text: &mut Text,
+    rt: &R,
+    copy: &mut [u8],
+    way: Way,
+    number: usize,
+) {
+    match way {
+        Way::Values => {
+            let values = accepted_values(text, rt, copy, number);
+            push_values(text, values);
+        }
+        Way::Higher => push_by_one_and_two(text, rt, copy),
+        _ => push_by_one(text, rt, copy),
+    }
+}
+
+/// What is said of the trace, changed in this way by this number.
 fn said_of<R: AllocGlobal + RandomSource + Threads + Wait + Sync>(
     rt: &R,
     bytes: &[u8],
     way: Way,
     number: usize,
-) -> Result<String> {
-    let mut copy = varied(rt.alloc(), bytes, way, number)?;
-    match way {
-        Way::Values => with_each_value(rt, copy.as_mut_slice(), number),
-        Way::Higher => by_one_and_two(rt, copy.as_slice()),
-        _ => Ok(by_one(rt, copy.as_slice())?),
+) -> Text {
+    let mut text = Text::new(rt.alloc());
+    match varied(rt.alloc(), bytes, way, number) {
+        Ok(mut copy) => push_varied(&mut text, rt, copy.as_mut_slice(), way, number),
+        Err(_) => text.miss(Missing::Memory),
     }
+    text
 }
 
 /// What is said of the trace, changed in this way by each number from one up to another.
 fn say_each<R: AllocGlobal + RandomSource + Threads + Wait + Sync>(
+    ranges: &mut Ranges,
     rt: &R,
     bytes: &[u8],
     way: Way,
     numbers: (usize, usize),
-    ranges: &mut Ranges,
-) -> Result<()> {
+) {
     for number in numbers.0..numbers.1 {
-        ranges.say(number, said_of(rt, bytes, way, number)?);
+        let line = said_of(rt, bytes, way, number);
+        ranges.say(number, &line);
     }
-    Ok(())
 }
 
 /// What is said of each front of a trace but the whole, as it is; and of those with a header, with their own totals.
 fn say_fronts<R: AllocGlobal + RandomSource + Threads + Wait + Sync>(
+    ranges: &mut Ranges,
     rt: &R,
     bytes: &[u8],
-    ranges: &mut Ranges,
-) -> Result<()> {
+) {
     ranges.head("the first bytes");
-    say_each(rt, bytes, Way::Front, (0, bytes.len()), ranges)?;
+    say_each(ranges, rt, bytes, Way::Front, (0, bytes.len()));
     ranges.head("\n  and with their own total");
-    say_each(rt, bytes, Way::FrontWithTotal, (32, bytes.len()), ranges)
+    say_each(ranges, rt, bytes, Way::FrontWithTotal, (32, bytes.len()));
 }
 
-/// The length of its body that the frame at this place claims.
-fn length_at(bytes: &[u8], at: usize) -> Option<u32> {
-    let (_, length) = bytes.get(at..)?.split_first()?;
-    Some(u32::from_be_bytes(*length.first_chunk()?))
+/// The frame at a place, and the length of its body that it claims.
+fn frame_at(bytes: &[u8], place: Option<&str>) -> Option<(usize, u32)> {
+    let at: usize = place?.parse().ok()?;
+    let (length, _) = u32_at(bytes.get(at.saturating_add(1)..)?)?;
+    Some((at, length))
 }
 
 /// What is said where a frame claims another number of bytes for its body: from none to one more than it has.
 fn say_lengths<R: AllocGlobal + RandomSource + Threads + Wait + Sync>(
+    ranges: &mut Ranges,
     rt: &R,
     bytes: &[u8],
-    at: usize,
-    ranges: &mut Ranges,
-) -> Result<()> {
-    let length = length_at(bytes, at).context("a frame")? as usize;
+    place: Option<&str>,
+) {
+    let Some((at, length)) = frame_at(bytes, place) else {
+        ranges.miss(Missing::Place);
+        return;
+    };
     ranges.head("a body of so many bytes");
-    say_each(rt, bytes, Way::Length(at), (0, length + 2), ranges)
+    say_each(ranges, rt, bytes, Way::Length(at), (0, length as usize + 2));
 }
 
 fn say_all<R: AllocGlobal + RandomSource + Threads + Wait + Sync>(
+    ranges: &mut Ranges,
     rt: &R,
     call: &str,
     bytes: &[u8],
     more: Option<&str>,
-    ranges: &mut Ranges,
-) -> Result<()> {
+) {
     match call {
-        "fronts" => say_fronts(rt, bytes, ranges),
-        "lengths" => say_lengths(rt, bytes, more.context("a place")?.parse()?, ranges),
+        "fronts" => say_fronts(ranges, rt, bytes),
+        "lengths" => say_lengths(ranges, rt, bytes, more),
         "bytes" => {
             ranges.head("each byte");
-            say_each(rt, bytes, Way::Values, (0, bytes.len()), ranges)
+            say_each(ranges, rt, bytes, Way::Values, (0, bytes.len()));
         }
         _ => {
             ranges.head("each byte one higher");
-            say_each(rt, bytes, Way::Higher, (0, bytes.len()), ranges)
+            say_each(ranges, rt, bytes, Way::Higher, (0, bytes.len()));
         }
     }
 }
 
 /// What is said of the trace, changed in every way that the call names.
-pub fn swept<R: AllocGlobal + RandomSource + Threads + Wait + Sync>(
+pub fn push_swept<R: AllocGlobal + RandomSource + Threads + Wait + Sync>(
+    text: &mut Text,
     rt: &R,
     call: &str,
     bytes: &[u8],
     more: Option<&str>,
-) -> Result<String> {
+) {
     let mut ranges = Ranges::new(rt.alloc());
-    say_all(rt, call, bytes, more, &mut ranges)?;
-    Ok(ranges.all()?)
+    say_all(&mut ranges, rt, call, bytes, more);
+    ranges.push_all(text);
 }

@@ -1,28 +1,76 @@
 //! A text, and what a frame's fields hold.
 
+use anyhow::{Error, Result};
 use eve_accounts::{Amount, Cents, Row};
 use eve_history::Fate;
 use eve_smallbank::{Abort, Entry, Kind, Reply, Request};
 use std::alloc::{AllocError, Global};
 use std::fmt::Write;
 
-/// A text that is written piece by piece. Where memory is refused for one, `all` says so.
+/// Why a piece of a text can't be written.
+#[derive(Clone, Copy)]
+pub enum Missing {
+    /// Memory was refused for it.
+    Memory,
+    /// No random words were given for the keys of a table.
+    Keys,
+    /// The trace can't be read.
+    Trace,
+    /// The changes aren't in their order, or not within the trace, or memory was refused for them.
+    Changes,
+    /// No such call.
+    Call,
+    /// No such byte, or no such frame, in the trace.
+    Place,
+    /// The verdict is no, at a place beyond the bytes.
+    Verdict,
+}
+
+impl Missing {
+    fn words(self) -> &'static str {
+        match self {
+            Missing::Memory => "out of memory",
+            Missing::Keys => "no random words",
+            Missing::Trace => "the trace can't be read",
+            Missing::Changes => "changes in their order, within the trace, and memory for them",
+            Missing::Call => "no such call",
+            Missing::Place => "no such place in the trace",
+            Missing::Verdict => "no verdict within the bytes",
+        }
+    }
+}
+
+/// A text that is written piece by piece. Where one can't be, `all` says why.
 #[derive(Drop)]
 pub struct Text {
     text: String,
-    is_whole: bool,
+    missing: Option<Missing>,
 }
 
 impl Text {
     pub fn new(alloc: Global) -> Text {
         Text {
             text: String::new(alloc),
-            is_whole: true,
+            missing: None,
+        }
+    }
+
+    /// Keeps why a piece can't be written.
+    pub fn miss(&mut self, why: Missing) {
+        self.missing = Some(why);
+    }
+
+    /// Keeps why a piece of another text couldn't be written.
+    pub fn miss_as(&mut self, other: &Text) {
+        if other.missing.is_some() {
+            self.missing = other.missing;
         }
     }
 
     fn done(&mut self, written: Result<(), AllocError>) {
-        self.is_whole = self.is_whole && written.is_ok();
+        if written.is_err() {
+            self.missing = Some(Missing::Memory);
+        }
     }
 
     pub fn words(&mut self, words: &str) {
@@ -34,13 +82,6 @@ impl Text {
     pub fn number(&mut self, words: &str, number: u64) {
         let written = write!(self.text, "{words}{number}");
         self.done(written);
-    }
-
-    /// Numbers, each behind its words.
-    pub fn numbers(&mut self, all: &[(&str, u64)]) {
-        for (words, number) in all {
-            self.number(words, *number);
-        }
     }
 
     /// A number of cents, behind its words.
@@ -79,10 +120,22 @@ impl Text {
         }
     }
 
-    /// All that was written.
-    pub fn all(self) -> Result<String, AllocError> {
-        let Text { text, is_whole } = self;
-        if is_whole { Ok(text) } else { Err(AllocError) }
+    pub fn clear(&mut self) {
+        self.text.clear();
+    }
+
+    /// What was written up to now.
+    pub fn as_str(&self) -> &str {
+        self.text.as_str()
+    }
+
+    /// All that was to be written.
+    pub fn all(self) -> Result<String> {
+        let Text { text, missing } = self;
+        match missing {
+            None => Ok(text),
+            Some(why) => Err(Error::msg(why.words())),
+        }
     }
 }
 
