@@ -3,27 +3,31 @@
 //! requests of a batch conflict, so all replicas commit all batches; and a change is a fault there, or none.
 #![tactic(auto)]
 
+mod bytes;
 mod calls;
 mod lies;
+mod places;
 mod rerun;
 mod together;
 mod workload;
 
+use bytes::Bytes;
 use calls::{audited, ran};
-use eve_views::{CheckFault, Trace};
-use lies::{Place, altered, first_rollback, last_record, last_sent, sent_again};
-use rerun::rerun;
+use eve_views::CheckFault;
+use lies::{last_sent, sent_again};
+use places::Places;
+use rerun::{leave_out, rerun, trace_of};
 use std::alloc::Global;
 use std::io;
 use std::io::{ErrorKind, Write};
 use std::random::RandomSource;
 use std::sync::Wait;
 use std::thread::Threads;
-use together::{judge_outcomes, judge_replies};
+use together::{Matter, judge};
 use workload::{Clients, Size, workload};
 
 /// All that the header counts at its greatest but the batches, in batches of 256 requests.
-const GREATEST: Size = Size {
+static GREATEST: Size = Size {
     replicas: 8,
     verifiers: 16,
     quorum: 9,
@@ -36,7 +40,7 @@ const GREATEST: Size = Size {
 };
 
 /// More than a thousand batches, each decided by all verifiers.
-const LONGEST: Size = Size {
+static LONGEST: Size = Size {
     replicas: 8,
     verifiers: 16,
     quorum: 16,
@@ -49,7 +53,7 @@ const LONGEST: Size = Size {
 };
 
 /// A hundred batches, in the last third of which the numbers of the one client begin at 0.
-const FALLING: Size = Size {
+static FALLING: Size = Size {
     replicas: 2,
     verifiers: 1,
     quorum: 1,
@@ -62,7 +66,7 @@ const FALLING: Size = Size {
 };
 
 /// A client for each of 5,120 requests, past those of which the greatest numbers are kept.
-const CLIENTS: Size = Size {
+static CLIENTS: Size = Size {
     replicas: 1,
     verifiers: 1,
     quorum: 1,
@@ -75,7 +79,7 @@ const CLIENTS: Size = Size {
 };
 
 /// More than four megabytes, and more than fifty thousand replies sent.
-const WIDEST: Size = Size {
+static WIDEST: Size = Size {
     replicas: 8,
     verifiers: 16,
     quorum: 9,
@@ -88,7 +92,7 @@ const WIDEST: Size = Size {
 };
 
 /// One window of 256 requests a batch, over as many rows as there may be.
-const WINDOW: Size = Size {
+static WINDOW: Size = Size {
     replicas: 8,
     verifiers: 16,
     quorum: 9,
@@ -118,37 +122,11 @@ const THIRD_OF_CLIENT: usize = 5 + 4 + 2 + 2 + 2;
 /// How many bytes a Sent frame has in front of its last byte, the last of its reply.
 const LAST_OF_SENT: usize = 5 + 25;
 
-/// Where the record of a request stands in the last attempt of a replica.
-fn record_of<R: AllocGlobal>(rt: &R, trace: &[u8], replica: u8, index: u16) -> io::Result<Place> {
-    let found = match Trace::read(rt.alloc(), trace) {
-        Ok(trace) => last_record(&trace, replica, index),
-        Err(_) => None,
-    };
-    match found {
-        Some(place) => Ok(place),
-        None => Err(io::Error::from(ErrorKind::NotFound)),
-    }
-}
+/// Which request's records are looked for, by its index.
+const RECORDED: u16 = 252;
 
-/// Where a batch stands, by its number.
-fn batch_of<R: AllocGlobal>(rt: &R, trace: &[u8], n: u32) -> io::Result<u64> {
-    match Trace::read(rt.alloc(), trace) {
-        Ok(trace) if 1 <= n && n <= trace.batch_count() => Ok(trace.batch(n).offset()),
-        _ => Err(io::Error::from(ErrorKind::NotFound)),
-    }
-}
-
-/// Where the rollback of a replica stands.
-fn rollback_of<R: AllocGlobal>(rt: &R, trace: &[u8], replica: u8) -> io::Result<u64> {
-    let found = match Trace::read(rt.alloc(), trace) {
-        Ok(trace) => first_rollback(&trace, replica),
-        Err(_) => None,
-    };
-    match found {
-        Some(at) => Ok(at),
-        None => Err(io::Error::from(ErrorKind::NotFound)),
-    }
-}
+/// The last of eight replicas, by its number from 0.
+const LAST_REPLICA: u8 = 7;
 
 /// Where a fault has to be: its byte, and the replica in whose section that lies.
 #[derive(Clone, Copy)]
@@ -163,310 +141,308 @@ const NOWHERE: Spot = Spot {
     replica: None,
 };
 
-/// What the line of a no ends with where its fault is at a spot.
-fn ending(alloc: Global, spot: Spot) -> io::Result<Vec<u8>> {
-    let mut text = Vec::new(alloc);
-    match spot.replica {
-        Some(replica) => write!(text, " at byte {}, replica {}\n", spot.at, replica)?,
-        None => write!(text, " at byte {}\n", spot.at)?,
+/// The spot at a place that was looked for.
+fn spot_at(out: &mut Bytes, place: Option<u64>, replica: Option<u8>) -> Spot {
+    match place {
+        Some(at) => Spot { at, replica },
+        None => {
+            out.fail(ErrorKind::NotFound);
+            NOWHERE
+        }
     }
-    Ok(text)
 }
+
+/// What the line of a no ends with where its fault is at a spot.
+fn ending(alloc: Global, spot: Spot) -> Bytes {
+    let mut text = Bytes::none(alloc);
+    text.number(" at byte ", spot.at);
+    if let Some(replica) = spot.replica {
+        text.number(", replica ", u64::from(replica));
+    }
+    text.words("\n");
+    text
+}
+
+/// How many workers audit.
+static WORKERS: [&str; 3] = ["1", "3", "16"];
 
 /// Writes what an audit by so many workers says, with the word `there` where it names the spot that it has to.
 fn tell<R: AllocGlobal + RandomSource + Threads + Wait + Sync>(
     rt: &R,
-    out: &mut Vec<u8>,
+    out: &mut Bytes,
     name: &str,
-    trace: &[u8],
+    trace: &Bytes,
     spot: Spot,
-) -> io::Result<()> {
-    let place = ending(rt.alloc(), spot)?;
-    for workers in ["1", "3", "16"] {
-        write!(out, "{name}, by {workers}: ")?;
-        let line = audited(rt, trace, workers)?;
-        tell_line(out, line.as_slice(), place.as_slice())?;
+) {
+    out.fail_as(trace);
+    let place = ending(rt.alloc(), spot);
+    out.fail_as(&place);
+    for workers in &WORKERS {
+        out.words(name);
+        out.words(", by ");
+        out.words(workers);
+        out.words(": ");
+        let line = audited(rt, trace.written(), workers);
+        out.fail_as(&line);
+        tell_line(out, line.written(), place.written());
     }
-    Ok(())
 }
 
 /// Writes the line of an audit, with the word `there` where it ends with this place.
-fn tell_line(out: &mut Vec<u8>, line: &[u8], place: &[u8]) -> io::Result<()> {
+fn tell_line(out: &mut Bytes, line: &[u8], place: &[u8]) {
     match line.strip_suffix(place) {
         Some(front) => {
-            out.extend_from_slice(front)?;
-            out.extend_from_slice(b" there\n")?;
+            out.append(front);
+            out.words(" there\n");
         }
-        None => out.extend_from_slice(line)?,
+        None => out.append(line),
     }
-    Ok(())
 }
 
-/// Writes what a call that judges all replicas found, with the word `there` where it is at the spot that it has to be.
-fn tell_call(
-    out: &mut Vec<u8>,
-    name: &str,
-    found: &Result<(), CheckFault>,
+/// What a call is asked that judges all replicas, and where it has to find its fault.
+#[derive(Clone, Copy)]
+struct Asked {
+    name: &'static str,
+    matter: Matter,
     spot: Spot,
-) -> io::Result<()> {
-    let (what, place) = match found {
-        Ok(()) => ("no fault", ""),
+}
+
+/// Writes what such a call finds, with the word `there` where it is at the spot that it has to be.
+fn tell_call(alloc: Global, out: &mut Bytes, trace: &Bytes, asked: &Asked) {
+    let Asked { name, matter, spot } = *asked;
+    let (what, place) = match judge(alloc, trace.written(), matter) {
+        Ok(()) => ("no fault", "\n"),
         Err(CheckFault::Found(fault)) => {
             let is_there = fault.offset == spot.at && fault.replica == spot.replica;
-            let place = if is_there { " there" } else { " elsewhere" };
+            let place = if is_there { " there\n" } else { " elsewhere\n" };
             (fault.code.name(), place)
         }
-        Err(CheckFault::Memory) => ("no memory", ""),
+        Err(CheckFault::Memory) => ("no memory", "\n"),
     };
-    write!(out, "{name}: {what}{place}\n")
+    out.words(name);
+    out.words(": ");
+    out.words(what);
+    out.words(place);
 }
 
 /// The trace of a run of this size.
 fn run_of<R: AllocGlobal + RandomSource + Threads + Wait + Sync>(
     rt: &R,
+    out: &mut Bytes,
     size: &Size,
-) -> io::Result<Vec<u8>> {
-    let text = workload(rt.alloc(), size)?;
-    ran(rt, text.as_slice())
+) -> Bytes {
+    let text = workload(rt.alloc(), size);
+    out.fail_as(&text);
+    ran(rt, text.written())
 }
 
-/// Runs at the greatest sizes, and one in which a client's numbers fall.
-fn tell_runs<R: AllocGlobal + RandomSource + Threads + Wait + Sync>(
+/// The trace of a run of this size, once it is written what audits say of it.
+fn tell_run<R: AllocGlobal + RandomSource + Threads + Wait + Sync>(
     rt: &R,
-    out: &mut Vec<u8>,
-) -> io::Result<()> {
-    for (name, size) in [
-        ("greatest", GREATEST),
-        ("longest", LONGEST),
-        ("falling", FALLING),
-    ] {
-        let trace = run_of(rt, &size)?;
-        tell(rt, out, name, trace.as_slice(), NOWHERE)?;
-    }
-    Ok(())
+    out: &mut Bytes,
+    name: &str,
+    size: &Size,
+) -> Bytes {
+    let trace = run_of(rt, out, size);
+    tell(rt, out, name, &trace, NOWHERE);
+    trace
 }
 
-/// The request of batch 774, of client 773, gets the client of batch 518: both have the number 0, and lie in the parts
-/// of two of the threads that judge the orders.
+/// A change of a byte of a frame's body: a fault stands at the frame.
+#[derive(Clone, Copy)]
+struct Change {
+    name: &'static str,
+    frame: Spot,
+    // How many bytes the frame has in front of the one that is changed.
+    behind: usize,
+    asked: Option<Asked>,
+}
+
+/// Writes what is said of a trace with this change, which is taken back then.
+fn tell_changed<R: AllocGlobal + RandomSource + Threads + Wait + Sync>(
+    rt: &R,
+    out: &mut Bytes,
+    trace: &mut Bytes,
+    change: &Change,
+) {
+    let at = (change.frame.at as usize).saturating_add(change.behind);
+    trace.flip(at);
+    tell(rt, out, change.name, trace, change.frame);
+    if let Some(asked) = &change.asked {
+        tell_call(rt.alloc(), out, trace, asked);
+    }
+    trace.flip(at);
+}
+
+/// The first request of a batch gets the client of an earlier request with its number.
 fn tell_asked_again<R: AllocGlobal + RandomSource + Threads + Wait + Sync>(
     rt: &R,
-    out: &mut Vec<u8>,
-) -> io::Result<()> {
-    let trace = run_of(rt, &LONGEST)?;
-    let batch = batch_of(rt, trace.as_slice(), 774)?;
-    tell_changed(
-        rt,
-        out,
-        "a request asked again",
-        trace.as_slice(),
-        batch,
-        THIRD_OF_CLIENT,
-    )
+    out: &mut Bytes,
+    name: &'static str,
+    trace: &mut Bytes,
+    batch: u32,
+) {
+    let places = Places::of(rt.alloc(), trace.written(), batch, RECORDED);
+    let change = Change {
+        name,
+        frame: spot_at(out, places.batch, None),
+        behind: THIRD_OF_CLIENT,
+        asked: None,
+    };
+    tell_changed(rt, out, trace, &change);
+}
+
+/// Runs at the greatest sizes, and one in which a client's numbers fall. Then the request of batch 774 of the longest,
+/// of client 773, gets the client of batch 518: both have the number 0, and lie in the parts of two of the threads that
+/// judge the orders.
+fn tell_runs<R: AllocGlobal + RandomSource + Threads + Wait + Sync>(rt: &R, out: &mut Bytes) {
+    tell_run(rt, out, "greatest", &GREATEST);
+    let mut longest = tell_run(rt, out, "longest", &LONGEST);
+    tell_run(rt, out, "falling", &FALLING);
+    tell_asked_again(rt, out, "a request asked again", &mut longest, 774);
 }
 
 /// The first request of the last batch gets the client of the batch before's first, among more clients than those of
 /// which the greatest numbers are kept.
 fn tell_many_clients<R: AllocGlobal + RandomSource + Threads + Wait + Sync>(
     rt: &R,
-    out: &mut Vec<u8>,
-) -> io::Result<()> {
-    let trace = run_of(rt, &CLIENTS)?;
-    tell(rt, out, "many clients", trace.as_slice(), NOWHERE)?;
-    let batch = batch_of(rt, trace.as_slice(), CLIENTS.batches)?;
-    tell_changed(
-        rt,
-        out,
-        "a request of many clients asked again",
-        trace.as_slice(),
-        batch,
-        THIRD_OF_CLIENT,
-    )
+    out: &mut Bytes,
+) {
+    let mut trace = tell_run(rt, out, "many clients", &CLIENTS);
+    let name = "a request of many clients asked again";
+    tell_asked_again(rt, out, name, &mut trace, CLIENTS.batches);
 }
 
 /// All batches rolled back and executed again, on all replicas; and a restore left out on the last.
-fn tell_reruns<R: AllocGlobal + RandomSource + Threads + Wait + Sync>(
-    rt: &R,
-    out: &mut Vec<u8>,
-) -> io::Result<()> {
-    let text = workload(rt.alloc(), &WINDOW)?;
-    tell_right(rt, out, text.as_slice())?;
-    tell_left_out(rt, out, text.as_slice())
-}
-
-fn tell_right<R: AllocGlobal + RandomSource + Threads + Wait + Sync>(
-    rt: &R,
-    out: &mut Vec<u8>,
-    text: &[u8],
-) -> io::Result<()> {
-    let right = rerun(rt, text, 7, 0)?;
-    tell(rt, out, "rolled back", right.as_slice(), NOWHERE)
+fn tell_reruns<R: AllocGlobal + RandomSource + Threads + Wait + Sync>(rt: &R, out: &mut Bytes) {
+    let text = workload(rt.alloc(), &WINDOW);
+    out.fail_as(&text);
+    match rerun(rt, text.written()) {
+        Ok(mut parts) => {
+            let right = trace_of(rt.alloc(), &parts);
+            leave_out(&mut parts, LAST_REPLICA as usize);
+            let wrong = trace_of(rt.alloc(), &parts);
+            drop(parts);
+            tell(rt, out, "rolled back", &right, NOWHERE);
+            tell_left_out(rt, out, &wrong);
+        }
+        Err(kind) => out.fail(kind),
+    }
 }
 
 fn tell_left_out<R: AllocGlobal + RandomSource + Threads + Wait + Sync>(
     rt: &R,
-    out: &mut Vec<u8>,
-    text: &[u8],
-) -> io::Result<()> {
-    let wrong = rerun(rt, text, 7, 1)?;
-    let at = rollback_of(rt, wrong.as_slice(), 7)?;
-    let spot = Spot {
-        at,
-        replica: Some(7),
-    };
-    tell(rt, out, "a restore left out", wrong.as_slice(), spot)
+    out: &mut Bytes,
+    trace: &Bytes,
+) {
+    let places = Places::of(rt.alloc(), trace.written(), 1, RECORDED);
+    let spot = spot_at(out, places.rollback, Some(LAST_REPLICA));
+    tell(rt, out, "a restore left out", trace, spot);
 }
 
-/// A balance of the last replica's last batch is changed in a trace of several megabytes.
-fn tell_balances<R: AllocGlobal + RandomSource + Threads + Wait + Sync>(
+/// A balance of the last replica's last batch is changed in a trace of several megabytes; the last batch and one of the
+/// last access records get a wrong body, where the last of the threads judges that judge bodies; the last reply is
+/// changed.
+fn tell_changes<R: AllocGlobal + RandomSource + Threads + Wait + Sync>(
     rt: &R,
-    out: &mut Vec<u8>,
-    trace: &[u8],
-) -> io::Result<()> {
-    let found = judge_outcomes(rt.alloc(), trace);
-    tell_call(out, "the same balances, by themselves", &found, NOWHERE)?;
-    let place = record_of(rt, trace, 7, 252)?;
-    let Some(at) = usize::try_from(place.access)
-        .ok()
-        .and_then(|at| at.checked_add(LAST_OF_AFTER))
-    else {
-        return Ok(());
-    };
-    let other = altered(rt.alloc(), trace, at)?;
-    tell_other_balance(rt, out, other.as_slice(), place)
+    out: &mut Bytes,
+    trace: &mut Bytes,
+) {
+    let places = Places::of(rt.alloc(), trace.written(), WIDEST.batches, RECORDED);
+    let batch = spot_at(out, places.batch, None);
+    let attempt = spot_at(out, places.attempt, Some(LAST_REPLICA));
+    let access = spot_at(out, places.access, Some(LAST_REPLICA));
+    let sent = spot_at(out, Some(last_sent(trace.written())), None);
+    let changes = [
+        Change {
+            name: "another balance",
+            frame: access,
+            behind: LAST_OF_AFTER,
+            asked: Some(Asked {
+                name: "another balance, by itself",
+                matter: Matter::Outcomes,
+                spot: attempt,
+            }),
+        },
+        Change {
+            name: "another count of groups",
+            frame: batch,
+            behind: GROUP_COUNT,
+            asked: None,
+        },
+        Change {
+            name: "another count of entries",
+            frame: Spot {
+                at: access.at,
+                replica: None,
+            },
+            behind: ENTRY_COUNT,
+            asked: None,
+        },
+        Change {
+            name: "another reply",
+            frame: sent,
+            behind: LAST_OF_SENT,
+            asked: Some(Asked {
+                name: "another reply, by itself",
+                matter: Matter::Replies,
+                spot: sent,
+            }),
+        },
+    ];
+    for change in &changes {
+        tell_changed(rt, out, trace, change);
+    }
 }
 
-/// A balance is changed in the record at this place.
-fn tell_other_balance<R: AllocGlobal + RandomSource + Threads + Wait + Sync>(
+/// The last reply is sent again, and all of them, in a trace of several megabytes.
+fn tell_sent_again<R: AllocGlobal + RandomSource + Threads + Wait + Sync>(
     rt: &R,
-    out: &mut Vec<u8>,
-    other: &[u8],
-    place: Place,
-) -> io::Result<()> {
-    let record = Spot {
-        at: place.access,
-        replica: Some(7),
-    };
-    let attempt = Spot {
-        at: place.attempt,
-        replica: Some(7),
-    };
-    tell(rt, out, "another balance", other, record)?;
-    let found = judge_outcomes(rt.alloc(), other);
-    tell_call(out, "another balance, by itself", &found, attempt)
+    out: &mut Bytes,
+    trace: &Bytes,
+) {
+    let twice = sent_again(rt.alloc(), trace.written(), 1);
+    tell(rt, out, "a reply sent twice", &twice, NOWHERE);
+    let all = sent_again(rt.alloc(), trace.written(), 8 * 28 * 256);
+    tell(rt, out, "all replies sent twice", &all, NOWHERE);
+    tell_call(rt.alloc(), out, &all, &ALL_TWICE);
 }
 
-/// A byte of a body is changed, at so many bytes behind the frame's first one: a fault stands at the frame.
-fn tell_changed<R: AllocGlobal + RandomSource + Threads + Wait + Sync>(
-    rt: &R,
-    out: &mut Vec<u8>,
-    name: &str,
-    trace: &[u8],
-    frame: u64,
-    behind: usize,
-) -> io::Result<()> {
-    let at = usize::try_from(frame).unwrap_or(usize::MAX);
-    let other = altered(rt.alloc(), trace, at.saturating_add(behind))?;
-    let spot = Spot {
-        at: frame,
-        replica: None,
-    };
-    tell(rt, out, name, other.as_slice(), spot)
-}
+/// What is asked of the widest trace as it is.
+static AS_IT_IS: Asked = Asked {
+    name: "the same balances, by themselves",
+    matter: Matter::Outcomes,
+    spot: NOWHERE,
+};
 
-/// The last batch and one of the last access records have a wrong body, where the last of the threads judges that judge
-/// bodies.
-fn tell_wrong_bodies<R: AllocGlobal + RandomSource + Threads + Wait + Sync>(
-    rt: &R,
-    out: &mut Vec<u8>,
-    trace: &[u8],
-) -> io::Result<()> {
-    let batch = batch_of(rt, trace, WIDEST.batches)?;
-    tell_changed(
-        rt,
-        out,
-        "another count of groups",
-        trace,
-        batch,
-        GROUP_COUNT,
-    )?;
-    let access = record_of(rt, trace, 7, 252)?.access;
-    tell_changed(
-        rt,
-        out,
-        "another count of entries",
-        trace,
-        access,
-        ENTRY_COUNT,
-    )
-}
-
-/// The last reply is changed, in a trace of several megabytes.
-fn tell_other_reply<R: AllocGlobal + RandomSource + Threads + Wait + Sync>(
-    rt: &R,
-    out: &mut Vec<u8>,
-    trace: &[u8],
-) -> io::Result<()> {
-    let at = last_sent(trace);
-    let spot = Spot {
-        at: at as u64,
-        replica: None,
-    };
-    let other = altered(rt.alloc(), trace, at.saturating_add(LAST_OF_SENT))?;
-    tell(rt, out, "another reply", other.as_slice(), spot)?;
-    let found = judge_replies(rt.alloc(), other.as_slice());
-    tell_call(out, "another reply, by itself", &found, spot)
-}
-
-/// The last reply is sent again, in a trace of several megabytes.
-fn tell_twice<R: AllocGlobal + RandomSource + Threads + Wait + Sync>(
-    rt: &R,
-    out: &mut Vec<u8>,
-    trace: &[u8],
-) -> io::Result<()> {
-    let twice = sent_again(rt.alloc(), trace, 1)?;
-    tell(rt, out, "a reply sent twice", twice.as_slice(), NOWHERE)
-}
-
-/// All replies are sent again, in a trace of several megabytes.
-fn tell_all_twice<R: AllocGlobal + RandomSource + Threads + Wait + Sync>(
-    rt: &R,
-    out: &mut Vec<u8>,
-    trace: &[u8],
-) -> io::Result<()> {
-    let all = sent_again(rt.alloc(), trace, 8 * 28 * 256)?;
-    tell(rt, out, "all replies sent twice", all.as_slice(), NOWHERE)?;
-    let found = judge_replies(rt.alloc(), all.as_slice());
-    let name = "all replies sent twice, by themselves";
-    tell_call(out, name, &found, NOWHERE)
-}
+/// What is asked of the widest trace with all replies sent twice.
+static ALL_TWICE: Asked = Asked {
+    name: "all replies sent twice, by themselves",
+    matter: Matter::Replies,
+    spot: NOWHERE,
+};
 
 /// What is said of a trace of several megabytes, and of what is changed in it.
-fn tell_widest<R: AllocGlobal + RandomSource + Threads + Wait + Sync>(
-    rt: &R,
-    out: &mut Vec<u8>,
-    trace: &[u8],
-) -> io::Result<()> {
-    let size = if trace.len() > 4 << 20 {
-        "more than"
+fn tell_widest<R: AllocGlobal + RandomSource + Threads + Wait + Sync>(rt: &R, out: &mut Bytes) {
+    let mut trace = run_of(rt, out, &WIDEST);
+    let size = if trace.written().len() > 4 << 20 {
+        "widest: more than 4 MiB\n"
     } else {
-        "no"
+        "widest: no 4 MiB\n"
     };
-    write!(out, "widest: {size} 4 MiB\n")?;
-    tell(rt, out, "widest", trace, NOWHERE)?;
-    tell_balances(rt, out, trace)?;
-    tell_wrong_bodies(rt, out, trace)?;
-    tell_other_reply(rt, out, trace)?;
-    tell_twice(rt, out, trace)?;
-    tell_all_twice(rt, out, trace)
+    out.words(size);
+    tell(rt, out, "widest", &trace, NOWHERE);
+    tell_call(rt.alloc(), out, &trace, &AS_IT_IS);
+    tell_changes(rt, out, &mut trace);
+    tell_sent_again(rt, out, &trace);
 }
 
 fn main(rt: HostRuntime) -> io::Result<()> {
-    let mut out = Vec::new(rt.alloc());
-    tell_runs(&rt, &mut out)?;
-    tell_asked_again(&rt, &mut out)?;
-    tell_many_clients(&rt, &mut out)?;
-    tell_reruns(&rt, &mut out)?;
-    let trace = run_of(&rt, &WIDEST)?;
-    tell_widest(&rt, &mut out, trace.as_slice())?;
-    io::writer(&rt).write_all(out.as_slice())
+    let mut out = Bytes::none(rt.alloc());
+    tell_runs(&rt, &mut out);
+    tell_many_clients(&rt, &mut out);
+    tell_reruns(&rt, &mut out);
+    tell_widest(&rt, &mut out);
+    let all = out.all()?;
+    io::writer(&rt).write_all(all.as_slice())
 }

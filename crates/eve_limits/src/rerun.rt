@@ -1,5 +1,6 @@
 //! A run whose first window is rolled back and then executed again, made of the parts of two runs of one workload.
 
+use crate::bytes::Bytes;
 use eve_grammar::{MOST_BYTES, Restore};
 use eve_recorder::OpenGate;
 use eve_replica::eve_workload::{Mixer, Workload};
@@ -8,8 +9,8 @@ use eve_streams::SinkOf;
 use eve_write::{AttemptData, ChoiceData, Parts, RollbackData, Step, VoteData, gather};
 use std::alloc::{AllocError, Global};
 use std::hash::RandomState;
-use std::io;
 use std::io::ErrorKind;
+use std::mem;
 use std::random::RandomSource;
 use std::sync::Wait;
 use std::thread::Threads;
@@ -20,16 +21,15 @@ const LONGEST: u64 = MOST_BYTES as u64;
 /// The parts of a run of the workload.
 fn parts_of<R: AllocGlobal + RandomSource + Threads + Wait + Sync>(
     rt: &R,
-    workload: &[u8],
-) -> io::Result<Parts> {
-    let alloc = rt.alloc();
-    let Ok(workload) = Workload::read(alloc, workload) else {
-        return Err(io::Error::from(ErrorKind::InvalidData));
+    workload: &Workload,
+) -> Result<Parts, ErrorKind> {
+    let random = match RandomState::new(rt) {
+        Ok(random) => random,
+        Err(why) => return Err(why.kind()),
     };
-    let random = RandomState::new(rt)?;
-    match run(rt, alloc, &workload, Mixer::Whole, random, &OpenGate) {
+    match run(rt, rt.alloc(), workload, Mixer::Whole, random, &OpenGate) {
         Ok(parts) => Ok(parts),
-        Err(_) => Err(io::Error::from(ErrorKind::Other)),
+        Err(_) => Err(ErrorKind::Other),
     }
 }
 
@@ -47,136 +47,124 @@ fn note_restores(restores: &mut Vec<Restore>, attempt: &AttemptData) -> Result<(
     Ok(())
 }
 
-/// The step in view 1, the first attempt in serial mode.
-fn in_view_1(step: Step) -> Step {
+/// What the rows go back to that a section's attempts write.
+fn restores_of(alloc: Global, steps: &[Step]) -> Result<Vec<Restore>, AllocError> {
+    let mut restores = Vec::new(alloc);
+    for step in steps {
+        if let Step::Attempt(attempt) = step {
+            note_restores(&mut restores, attempt)?;
+        }
+    }
+    Ok(restores)
+}
+
+/// Puts a step into view 1, whose first attempt is in serial mode.
+fn enter_view_1(step: &mut Step) {
     match step {
-        Step::Attempt(mut attempt) => {
+        Step::Attempt(attempt) => {
             attempt.view = 1;
             attempt.serial = attempt.seq == 1;
-            Step::Attempt(attempt)
         }
-        Step::Commit(mut commit) => {
-            commit.view = 1;
-            Step::Commit(commit)
-        }
-        Step::Rollback(rollback) => Step::Rollback(rollback),
+        Step::Commit(commit) => commit.view = 1,
+        Step::Rollback(_) => {}
     }
 }
 
-/// A section whose attempts are discarded, and then executed and committed in view 1. So many of the restores are left
-/// out.
-fn rerun_section(
-    alloc: Global,
-    discarded: Vec<Step>,
-    committed: Vec<Step>,
-    left_out: usize,
-) -> Result<Vec<Step>, AllocError> {
-    let mut steps = Vec::new(alloc);
-    let mut restores = Vec::new(alloc);
-    for step in discarded {
-        if let Step::Attempt(attempt) = step {
-            note_restores(&mut restores, &attempt)?;
-            steps.push(Step::Attempt(attempt))?;
-        }
-    }
-    for _ in 0..left_out {
-        restores.pop();
-    }
+/// Discards the attempts of a section, of whose batches none is committed then.
+fn discard(alloc: Global, steps: &mut Vec<Step>) -> Result<(), AllocError> {
+    let restores = restores_of(alloc, steps.as_slice())?;
+    steps.retain(|step| matches!(step, Step::Attempt(_)));
     steps.push(Step::Rollback(RollbackData {
         to: 0,
         view: 1,
         restores,
     }))?;
-    for step in committed {
-        steps.push(in_view_1(step))?;
-    }
-    Ok(steps)
+    Ok(())
 }
 
-/// A verifier's votes for the rollback, and for the commits in view 1.
-fn rerun_votes(alloc: Global, votes: Vec<VoteData>) -> Result<Vec<VoteData>, AllocError> {
-    let mut again = Vec::new(alloc);
-    again.push(VoteData {
-        seq: 1,
-        view: 0,
-        choice: ChoiceData::ForRollback,
-        token: [0; 32],
-    })?;
-    for mut vote in votes {
+/// Appends the steps of another section, in view 1.
+fn go_on(steps: &mut Vec<Step>, committed: &mut Vec<Step>) -> Result<(), AllocError> {
+    for step in committed.iter_mut() {
+        enter_view_1(step);
+    }
+    steps.append(committed)
+}
+
+/// Lets a verifier vote for the rollback, and for the commits in view 1.
+fn vote_again(votes: &mut Vec<VoteData>) -> Result<(), AllocError> {
+    for vote in votes.iter_mut() {
         vote.view = 1;
-        again.push(vote)?;
     }
-    Ok(again)
+    votes.insert(
+        0,
+        VoteData {
+            seq: 1,
+            view: 0,
+            choice: ChoiceData::ForRollback,
+            token: [0; 32],
+        },
+    )?;
+    Ok(())
 }
 
-/// The sections of all replicas; one of them leaves so many of its restores out.
-fn rerun_sections(
-    alloc: Global,
-    discarded: Vec<Vec<Step>>,
-    committed: Vec<Vec<Step>>,
-    wrong: usize,
-    left_out: usize,
-) -> Result<Vec<Vec<Step>>, AllocError> {
-    let mut sections = Vec::new(alloc);
-    for (e, (first, again)) in discarded.into_iter().zip(committed).enumerate() {
-        let left_out = if e == wrong { left_out } else { 0 };
-        sections.push(rerun_section(alloc, first, again, left_out)?)?;
+/// Puts the attempts of a run in front of the parts of another one, which is committed: they are discarded.
+fn discard_all(alloc: Global, first: &mut Parts, parts: &mut Parts) -> Result<(), AllocError> {
+    for (steps, committed) in first.sections.iter_mut().zip(parts.sections.iter_mut()) {
+        discard(alloc, steps)?;
+        go_on(steps, committed)?;
     }
-    Ok(sections)
-}
-
-/// The votes of all verifiers.
-fn rerun_verifiers(
-    alloc: Global,
-    verifiers: Vec<Vec<VoteData>>,
-) -> Result<Vec<Vec<VoteData>>, AllocError> {
-    let mut again = Vec::new(alloc);
-    for votes in verifiers {
-        again.push(rerun_votes(alloc, votes)?)?;
+    for votes in parts.verifiers.iter_mut() {
+        vote_again(votes)?;
     }
-    Ok(again)
+    mem::swap(&mut first.sections, &mut parts.sections);
+    Ok(())
 }
 
-/// The bytes of a trace's parts.
-fn bytes_of(alloc: Global, parts: &Parts) -> io::Result<Vec<u8>> {
-    let mut out = SinkOf::new(Vec::new(alloc));
-    match gather(parts, LONGEST, &mut out) {
-        Ok(_) => Ok(out.writer().clone()?),
-        Err(_) => Err(io::Error::from(ErrorKind::InvalidData)),
+/// The parts of two runs of the workload, the first of which is discarded.
+fn rerun_of<R: AllocGlobal + RandomSource + Threads + Wait + Sync>(
+    rt: &R,
+    workload: &Workload,
+) -> Result<Parts, ErrorKind> {
+    let mut first = parts_of(rt, workload)?;
+    let mut parts = parts_of(rt, workload)?;
+    let discarded = discard_all(rt.alloc(), &mut first, &mut parts);
+    drop(first);
+    match discarded {
+        Ok(()) => Ok(parts),
+        Err(_) => Err(ErrorKind::OutOfMemory),
     }
 }
 
-/// The parts of a run, after one whose sections were discarded.
-fn rerun_parts(
-    alloc: Global,
-    discarded: Vec<Vec<Step>>,
-    parts: Parts,
-    wrong: usize,
-    left_out: usize,
-) -> Result<Parts, AllocError> {
-    let sections = rerun_sections(alloc, discarded, parts.sections, wrong, left_out)?;
-    let verifiers = rerun_verifiers(alloc, parts.verifiers)?;
-    Ok(Parts {
-        sections,
-        verifiers,
-        ..parts
-    })
-}
-
-/// The trace of a run of the workload, whose batches are one window: all replicas roll back, and execute and commit all
-/// batches after that. One replica leaves so many of its restores out.
+/// The parts of a run of the workload, whose batches are one window: all replicas roll back, and execute and commit all
+/// batches after that.
 pub fn rerun<R: AllocGlobal + RandomSource + Threads + Wait + Sync>(
     rt: &R,
     workload: &[u8],
-    wrong: usize,
-    left_out: usize,
-) -> io::Result<Vec<u8>> {
-    let alloc = rt.alloc();
-    let Parts {
-        sections: discarded,
-        ..
-    } = parts_of(rt, workload)?;
-    let parts = parts_of(rt, workload)?;
-    let again = rerun_parts(alloc, discarded, parts, wrong, left_out)?;
-    bytes_of(alloc, &again)
+) -> Result<Parts, ErrorKind> {
+    match Workload::read(rt.alloc(), workload) {
+        Ok(workload) => rerun_of(rt, &workload),
+        Err(_) => Err(ErrorKind::InvalidData),
+    }
+}
+
+/// Leaves the last restore of a replica's rollbacks out.
+pub fn leave_out(parts: &mut Parts, replica: usize) {
+    if let Some(steps) = parts.sections.get_mut(replica) {
+        for step in steps.iter_mut() {
+            if let Step::Rollback(rollback) = step {
+                rollback.restores.pop();
+            }
+        }
+    }
+}
+
+/// The trace of these parts.
+pub fn trace_of(alloc: Global, parts: &Parts) -> Bytes {
+    let mut out = SinkOf::new(Vec::new(alloc));
+    let mut trace = Bytes::none(alloc);
+    if gather(parts, LONGEST, &mut out).is_err() {
+        trace.fail(ErrorKind::InvalidData);
+    }
+    trace.append(out.writer().as_slice());
+    trace
 }

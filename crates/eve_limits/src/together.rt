@@ -35,24 +35,25 @@ fn read_replicas<'a>(alloc: Global, trace: &Trace<'a>) -> Result<Replicas<'a>, C
     Ok(Replicas { histories, settled })
 }
 
-/// Whether the replicas agree.
-pub fn judge_outcomes(alloc: Global, bytes: &[u8]) -> Result<(), CheckFault> {
+/// What is judged of all replicas together.
+#[derive(Clone, Copy)]
+pub enum Matter {
+    /// Whether they agree.
+    Outcomes,
+    /// Whether the replies that were sent are those that were committed.
+    Replies,
+}
+
+/// Judges a trace by itself.
+pub fn judge(alloc: Global, bytes: &[u8], matter: Matter) -> Result<(), CheckFault> {
     let trace = Trace::read(alloc, bytes)?;
-    judge_balances_of(alloc, &trace)
+    judge_trace(alloc, &trace, matter)
 }
 
-fn judge_balances_of(alloc: Global, trace: &Trace) -> Result<(), CheckFault> {
+fn judge_trace(alloc: Global, trace: &Trace, matter: Matter) -> Result<(), CheckFault> {
     let told = read_replicas(alloc, trace)?;
-    equal_balances(alloc, trace, &told.histories, &told.settled)
-}
-
-/// Whether the replies that were sent are those that were committed.
-pub fn judge_replies(alloc: Global, bytes: &[u8]) -> Result<(), CheckFault> {
-    let trace = Trace::read(alloc, bytes)?;
-    judge_replies_of(alloc, &trace)
-}
-
-fn judge_replies_of(alloc: Global, trace: &Trace) -> Result<(), CheckFault> {
-    let told = read_replicas(alloc, trace)?;
-    replies(trace, &told.histories)
+    match matter {
+        Matter::Outcomes => equal_balances(alloc, trace, &told.histories, &told.settled),
+        Matter::Replies => replies(trace, &told.histories),
+    }
 }

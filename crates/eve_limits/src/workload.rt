@@ -1,9 +1,8 @@
 //! Workloads as large as is wanted, in which no two requests of a batch conflict: so every replica does the same,
 //! however its threads run.
 
+use crate::bytes::Bytes;
 use std::alloc::Global;
-use std::io;
-use std::io::Write;
 
 /// How large a workload is.
 #[derive(Clone, Copy)]
@@ -56,60 +55,55 @@ impl Size {
 }
 
 /// The text of a workload: each request is of the customer after the one before, and the kinds take turns.
-pub fn workload(alloc: Global, size: &Size) -> io::Result<Vec<u8>> {
-    let mut text = Vec::new(alloc);
-    write_head(&mut text, size)?;
-    write_batches(&mut text, size)?;
-    Ok(text)
+pub fn workload(alloc: Global, size: &Size) -> Bytes {
+    let mut text = Bytes::none(alloc);
+    write_head(&mut text, size);
+    write_batches(&mut text, size);
+    text
 }
 
 /// Writes the numbers of a workload, and its customers.
-fn write_head(text: &mut Vec<u8>, size: &Size) -> io::Result<()> {
-    let Size {
-        replicas,
-        verifiers,
-        quorum,
-        window,
-        workers,
-        ..
-    } = *size;
-    write!(
-        text,
-        "eve {replicas} {verifiers} {quorum} {window} {workers}\n"
-    )?;
-    for customer in 0..size.customers {
-        write!(
-            text,
-            "customer c{customer} {customer} -{}\n",
-            u64::from(customer) + 1
-        )?;
+fn write_head(text: &mut Bytes, size: &Size) {
+    text.number("eve ", u64::from(size.replicas));
+    text.number(" ", u64::from(size.verifiers));
+    text.number(" ", u64::from(size.quorum));
+    text.number(" ", u64::from(size.window));
+    text.number(" ", u64::from(size.workers));
+    text.words("\n");
+    for customer in 0..u64::from(size.customers) {
+        text.number("customer c", customer);
+        text.number(" ", customer);
+        text.number(" -", customer + 1);
+        text.words("\n");
     }
-    Ok(())
 }
 
 /// Writes the batches of a workload.
-fn write_batches(text: &mut Vec<u8>, size: &Size) -> io::Result<()> {
+fn write_batches(text: &mut Bytes, size: &Size) {
     let mut customer = 0;
     for batch in 0..size.batches {
-        text.write_all(b"batch\n")?;
+        text.words("batch\n");
         for request in 0..size.requests {
             let (client, number) = size.id_of(batch, request);
-            write_request(text, client, number, customer)?;
+            write_request(text, client, number, customer);
             customer = customer.saturating_add(1);
             if customer >= size.customers {
                 customer = 0;
             }
         }
     }
-    Ok(())
 }
 
 /// Writes a request of a customer.
-fn write_request(text: &mut Vec<u8>, client: u32, number: u32, customer: u32) -> io::Result<()> {
-    match number % 4 {
-        0 => write!(text, "deposit {client} {number} c{customer} 5\n"),
-        1 => write!(text, "transact {client} {number} c{customer} 7\n"),
-        2 => write!(text, "check {client} {number} c{customer} 3\n"),
-        _ => write!(text, "balance {client} {number} c{customer}\n"),
-    }
+fn write_request(text: &mut Bytes, client: u32, number: u32, customer: u32) {
+    let (kind, amount) = match number % 4 {
+        0 => ("deposit ", " 5\n"),
+        1 => ("transact ", " 7\n"),
+        2 => ("check ", " 3\n"),
+        _ => ("balance ", "\n"),
+    };
+    text.number(kind, u64::from(client));
+    text.number(" ", u64::from(number));
+    text.number(" c", u64::from(customer));
+    text.words(amount);
 }
