@@ -12,7 +12,7 @@ use crate::{Abort, Kind, PENALTY, Reply, Request, Touched, UpToThree};
 use eve_accounts::{Amount, Cents};
 
 /// What becomes of one row.
-#[derive(Clone, Copy, PartialEq, Eq)]
+#[derive(Clone, Copy)]
 pub struct Effect {
     /// Whether the row is read or written.
     pub kind: Kind,
@@ -21,7 +21,7 @@ pub struct Effect {
 }
 
 /// What a request is answered, and what becomes of each row that it touches, in their order.
-#[derive(Clone, Copy, PartialEq, Eq)]
+#[derive(Clone, Copy)]
 pub struct Decision {
     /// The reply.
     pub reply: Reply,

@@ -2,20 +2,37 @@
 
 ghost use Rattle.std.specs.Prelude.{◌≡◌, ◌<◌, ◌≤◌, ◌↔◌, IsTrue, [], ◌∷◌, ◌++◌, length, slice_get};
 
+use std::alloc::AllocError;
 use std::marker::Model;
 
 /// At most three items, in order, with no memory of their own. Contracts see them as a list.
-#[derive(Clone, Copy, PartialEq, Eq)]
+#[derive(PartialEq, Eq)]
 pub struct UpToThree<T> {
     places: Places<T>,
 }
 
-#[derive(Clone, Copy, PartialEq, Eq)]
+#[derive(PartialEq, Eq)]
 enum Places<T> {
     Zero,
     One(T),
     Two(T, T),
     Three(T, T, T),
+}
+
+impl<T: Copy> Copy for Places<T> {}
+
+impl<T: Copy> Clone for Places<T> {
+    fn clone(&self) -> Result<Places<T>, AllocError> {
+        Ok(*self)
+    }
+}
+
+impl<T: Copy> Copy for UpToThree<T> {}
+
+impl<T: Copy> Clone for UpToThree<T> {
+    fn clone(&self) -> Result<UpToThree<T>, AllocError> {
+        Ok(*self)
+    }
 }
 
 impl<T> Model for UpToThree<T> {

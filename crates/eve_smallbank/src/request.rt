@@ -6,7 +6,7 @@ use eve_accounts::Amount;
 ///
 /// docs/MODEL.md, "Transactions", has the effect of each. Contracts see it by `plain`, with each name
 /// as its list of bytes.
-#[derive(Clone, Copy, PartialEq, Eq)]
+#[derive(Clone, Copy)]
 pub enum Request<'a> {
     /// Both balances of the customer, added up.
     Balance(&'a [u8]),

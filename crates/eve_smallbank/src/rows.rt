@@ -6,7 +6,7 @@ use crate::{Abort, Kind, UpToThree};
 use eve_accounts::Row;
 
 /// What a request touches, before any row is read.
-#[derive(Clone, Copy, PartialEq, Eq)]
+#[derive(Clone, Copy)]
 pub enum Touched {
     /// The request is refused for this reason, `NoSuchName` or `BadAmount`, and touches no row.
     Refused(Abort),
