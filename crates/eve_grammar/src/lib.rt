@@ -23,6 +23,7 @@ mod restore;
 mod rollback;
 mod sent;
 mod vote;
+mod worker_count;
 
 pub use access::is_access_body;
 pub use attempt::certificate_len;
@@ -47,3 +48,4 @@ pub use restore::{Restore, restore_at};
 pub use rollback::is_rollback_body;
 pub use sent::is_sent_body;
 pub use vote::{Choice, is_vote_body, is_zeros};
+pub use worker_count::WorkerCount;

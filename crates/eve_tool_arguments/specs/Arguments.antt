@@ -9,7 +9,7 @@ use Rattle.clap.specs.declared.builder.value_parser.ValueParser.TheVariants as v
 use Rattle.clap.specs.declared.error.kind.ErrorKind.TheVariants as kind
 use Rattle.clap.specs.declared.error.kind.ErrorKind.{ErrorKind}
 use Rattle.eve_workload.specs.declared.mixer.Mixer.{Mixer}
-use Rattle.eve_workload.specs.declared.mixer.Mixer.TheVariants.{First, Whole}
+use Rattle.eve_workload.specs.Mixing.{mixer_named}
 use Rattle.eve_tool_arguments.specs.declared.arguments.Call.{Call}
 use Rattle.eve_tool_arguments.specs.declared.arguments.Call.TheVariants as call
 use Rattle.eve_tool_arguments.specs.declared.arguments.Asked.{Asked}
@@ -59,10 +59,6 @@ pub data Subcommand : Type 0 where
 -- the first value of an argument among what was found
 abbrev pub value_given : Text → List Row → Option Text
 value_given id rows = option_and_then (λ r. slice_get r.values 0) (find (λ r. bytes_eq r.id id) rows)
-
-abbrev pub mixer_named : Text → Option Mixer
-mixer_named name = if bytes_eq name (codes "first") then Some First else
-    (if bytes_eq name (codes "whole") then Some Whole else None)
 
 -- the mixer that is named among what was found
 abbrev pub mixer_in : List Row → Option Mixer

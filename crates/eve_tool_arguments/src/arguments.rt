@@ -4,20 +4,19 @@ ghost use Rattle.std.specs.Prelude.{◌≡◌, false, IfOk, IfSome, Some, map, o
 ghost use Rattle.clap.specs.Words.{app_of, found_of, kind_of, rule_of, shape_of, subcommand_rows_of};
 ghost use Rattle.clap.specs.Walk.{rows_of};
 ghost use Rattle.eve_tool_arguments.specs.Arguments.{Answers, HasWorkers, SaysOf, audit, eve, mixer, mixer_in};
-ghost use Rattle.eve_tool_arguments.specs.Arguments.{mixer_named, program, run_shape, show, subcommand_named};
+ghost use Rattle.eve_tool_arguments.specs.Arguments.{program, run_shape, show, subcommand_named};
 ghost use Rattle.eve_tool_arguments.specs.Arguments.{subcommand_of_call, workers, workers_behind, workers_in};
 
-use crate::worker_count::WorkerCount;
 use clap::builder::ValueParser;
 use clap::error::ErrorKind;
 use clap::{Arg, ArgMatches, Command, Error, value_parser};
-use eve_grammar::MOST_AUDIT_WORKERS;
+use eve_grammar::{MOST_AUDIT_WORKERS, WorkerCount};
 use eve_workload::Mixer;
 use std::alloc::{AllocError, Global};
 use std::convert::AsStr;
 
 /// A call of the program, one for each subcommand.
-#[derive(Clone, Copy, PartialEq, Eq)]
+#[derive(Clone, Copy)]
 pub enum Call {
     /// Prints the verdict on a trace, found by this many workers.
     Audit(WorkerCount),
@@ -157,25 +156,12 @@ fn workers_of(found: &ArgMatches<'_>) -> WorkerCount
     WorkerCount::nearest(named)
 }
 
-// The mixer of that name.
-fn mixer_named(name: &str) -> Option<Mixer>
-    ensures { result ≡ mixer_named name.now }
-{
-    if name == "first" {
-        Some(Mixer::First)
-    } else if name == "whole" {
-        Some(Mixer::Whole)
-    } else {
-        None
-    }
-}
-
 // The mixer that was named.
 fn mixer_of(found: &ArgMatches<'_>) -> Option<Mixer>
     ensures { result ≡ mixer_in (rows_of (found_of found.now)) }
 {
     match found.get_str("mixer") {
-        Some(name) => mixer_named(name),
+        Some(name) => Mixer::named(name),
         None => None,
     }
 }

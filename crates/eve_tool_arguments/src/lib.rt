@@ -2,7 +2,6 @@
 #![tactic(auto)]
 
 mod arguments;
-mod worker_count;
 
 pub use arguments::{Asked, Call, read_arguments};
-pub use worker_count::WorkerCount;
+pub use eve_grammar::WorkerCount;

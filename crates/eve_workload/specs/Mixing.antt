@@ -1,14 +1,21 @@
 -- How the requests of a batch are cut into parallelBatches.
 -- docs/MODEL.md, "Workload"; docs/TRACE.md, "The deployment's procedure", Mixer.
 use Rattle.std.specs.Prelude.{ℕ, ◌==◌, Bool, ◌&&◌, ◌||◌, IsFalse, if◌then◌else◌, List, [], ◌∷◌, ◌++◌, map, length}
-use Rattle.std.specs.Prelude.{AllPairs}
+use Rattle.std.specs.Prelude.{AllPairs, Option, Some, None, codes}
 use Rattle.std.specs.List.{list_any, flat_map}
+use Rattle.std.specs.Str.{bytes_eq}
 use Rattle.eve_smallbank.specs.declared.entry.Kind.{Kind}
 use Rattle.eve_smallbank.specs.Access.{is_write, RowKinds}
 use Rattle.eve_smallbank.specs.Touch.{touched_of, rows_in}
 use Rattle.eve_grammar.specs.Trace.{Asked, Batch}
 use Rattle.eve_workload.specs.declared.mixer.Mixer.{Mixer}
 use Rattle.eve_workload.specs.declared.mixer.Mixer.TheVariants.{First, Whole}
+
+-- ---- the mixers
+
+abbrev pub mixer_named : List ℕ → Option Mixer
+mixer_named name = if bytes_eq name (codes "first") then Some First else
+    (if bytes_eq name (codes "whole") then Some Whole else None)
 
 -- ---- conflicts
 

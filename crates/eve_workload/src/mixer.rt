@@ -6,7 +6,7 @@ ghost use Rattle.eve_smallbank.specs.Touch.{touched_of};
 ghost use Rattle.eve_grammar.specs.Limits.{is_asked, is_batch};
 ghost use Rattle.eve_write.specs.Data.{asked, batch};
 ghost use Rattle.eve_workload.specs.declared.mixer.Mixer.TheVariants.{First};
-ghost use Rattle.eve_workload.specs.Mixing.{cut, batch_with};
+ghost use Rattle.eve_workload.specs.Mixing.{cut, batch_with, mixer_named};
 ghost use Rattle.eve_workload.specs.Mixed.{touched_by, IsMixed};
 
 use crate::groups::first_fit;
@@ -19,13 +19,28 @@ use eve_write::{BatchData, RequestData};
 use std::alloc::{AllocError, Global};
 
 /// How a batch is cut into parallelBatches.
-#[derive(Clone, Copy, PartialEq, Eq)]
+#[derive(Clone, Copy)]
 pub enum Mixer {
     /// Each request goes to the end of the first parallelBatch that holds none in conflict with it, or opens a new
     /// one at the end.
     First,
     /// All requests are one parallelBatch.
     Whole,
+}
+
+impl Mixer {
+    /// The mixer of that name: `first` or `whole`.
+    pub fn named(name: &str) -> Option<Self>
+        ensures { result ≡ mixer_named name.now }
+    {
+        if name == "first" {
+            Some(Mixer::First)
+        } else if name == "whole" {
+            Some(Mixer::Whole)
+        } else {
+            None
+        }
+    }
 }
 
 /// A batch that was cut, with what each of its requests touches.

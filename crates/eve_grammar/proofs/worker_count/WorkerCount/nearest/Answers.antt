@@ -1,6 +1,6 @@
 -- Written, so that a wrong body fails soon.
 use Rattle.std.proofs.Common.{rules}
-use Rattle.eve_tool_arguments.proofs.worker_count.WorkerCount.nearest.Goals as goal
+use Rattle.eve_grammar.proofs.worker_count.WorkerCount.nearest.Goals as goal
 
 pub returns : goal.returns
 returns c = search rules

@@ -1,6 +1,6 @@
 -- Written, so that a wrong body fails soon.
 use Rattle.std.proofs.Common.{rules}
-use Rattle.eve_tool_arguments.proofs.arguments.mixer_named.Goals as goal
+use Rattle.eve_workload.proofs.mixer.Mixer.named.Goals as goal
 
 pub returns-then-eq-2 : goal.returns-then-eq-2
 returns-then-eq-2 c = search rules

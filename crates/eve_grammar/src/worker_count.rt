@@ -2,11 +2,11 @@
 
 ghost use Rattle.std.specs.Prelude.{◌≡◌, ◌≤◌, max, min};
 
-use eve_grammar::MOST_AUDIT_WORKERS;
+use crate::limits::MOST_AUDIT_WORKERS;
 use std::marker::Model;
 
 /// How many workers judge the replicas of a trace: 1 to `MOST_AUDIT_WORKERS`. Contracts see it as a number.
-#[derive(Clone, Copy, PartialEq, Eq)]
+#[derive(Clone, Copy)]
 pub struct WorkerCount {
     count: u8,
 }
