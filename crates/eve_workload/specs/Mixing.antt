@@ -13,6 +13,7 @@ use Rattle.eve_workload.specs.declared.mixer.Mixer.TheVariants.{First, Whole}
 
 -- ---- the mixers
 
+-- the mixer of that name
 abbrev pub mixer_named : List ℕ → Option Mixer
 mixer_named name = if bytes_eq name (codes "first") then Some First else
     (if bytes_eq name (codes "whole") then Some Whole else None)
