@@ -30,7 +30,9 @@ fn pass_entries(rows: u32, bytes: &[u8]) -> Option<&[u8]>
     requires { rows ≤ MOST_NAMED_ROWS }
     ensures { Passes (λ x. x.now) result (entries_at rows bytes.now) }
 {
-    let (count, entries) = u8_at(bytes)?;
+    let Some((count, entries)) = u8_at(bytes) else {
+        return None;
+    };
     if count > MOST_ENTRIES {
         return None;
     }

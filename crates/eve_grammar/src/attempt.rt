@@ -2,7 +2,8 @@
 
 ghost use Rattle.std.specs.Prelude.{◌≡◌, length, is_some};
 ghost use Rattle.std.specs.Option.{option_map};
-ghost use Rattle.eve_grammar.specs.Reading.{many_at, reply_at, serial_from, certified_at, attempt_of};
+ghost use Rattle.eve_grammar.specs.Reading.{both, whole, many_at, reply_at, token_at, serial_from, certified_at};
+ghost use Rattle.eve_grammar.specs.Reading.{attempt_of};
 ghost use Rattle.eve_grammar.specs.Scanning.{Passes, Measures};
 
 use crate::fields::{token_at, u8_at, u16_at, u32_at};
@@ -37,7 +38,9 @@ fn pass_replies(count: u16, bytes: &[u8]) -> Option<&[u8]>
 fn pass_certified(bytes: &[u8]) -> Option<(u16, &[u8])>
     ensures { Measures (λ x. (x.0, x.1.now)) (λ c. length c.0) result (certified_at bytes.now) }
 {
-    let (count, rest) = u16_at(bytes)?;
+    let Some((count, rest)) = u16_at(bytes) else {
+        return None;
+    };
     if count == 0 || count as usize > MOST_REQUESTS || rest.len() < 2 * count as usize {
         return None;
     }
@@ -45,6 +48,19 @@ fn pass_certified(bytes: &[u8]) -> Option<(u16, &[u8])>
         return None;
     };
     Some((count, behind))
+}
+
+/// How many indexes the certificate has in what stands after the mode, with replies and a token, and no more.
+fn certified_len(bytes: &[u8]) -> Option<u16>
+    ensures { result ≡ option_map (λ x. length x.0.0) (whole (both certified_at token_at) bytes.now) }
+{
+    let Some((count, rest)) = pass_certified(bytes) else {
+        return None;
+    };
+    let Some((_token, rest)) = token_at(rest) else {
+        return None;
+    };
+    if rest.is_empty() { Some(count) } else { None }
 }
 
 /// How many indexes the certificate has in the body of an Attempt frame that these bytes are, and no more; `None`
@@ -55,13 +71,18 @@ fn pass_certified(bytes: &[u8]) -> Option<(u16, &[u8])>
 pub fn certificate_len(body: &[u8]) -> Option<u16>
     ensures { result ≡ option_map (λ a. length a.certificate) (attempt_of body.now) }
 {
-    let (_seq, rest) = u32_at(body)?;
-    let (_view, rest) = u32_at(rest)?;
-    let (mode, rest) = u8_at(rest)?;
-    if !is_mode(mode) {
+    let Some((_seq, rest)) = u32_at(body) else {
         return None;
+    };
+    let Some((_view, rest)) = u32_at(rest) else {
+        return None;
+    };
+    let Some((mode, rest)) = u8_at(rest) else {
+        return None;
+    };
+    if is_mode(mode) {
+        certified_len(rest)
+    } else {
+        None
     }
-    let (count, rest) = pass_certified(rest)?;
-    let (_token, rest) = token_at(rest)?;
-    if rest.is_empty() { Some(count) } else { None }
 }

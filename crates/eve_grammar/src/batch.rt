@@ -17,7 +17,9 @@ fn total_at(count: u16, bytes: &[u8]) -> Option<(u32, &[u8])>
     let mut total: u32 = 0;
     let mut rest = bytes;
     for _ in 0..count {
-        let (size, more) = u16_at(rest)?;
+        let Some((size, more)) = u16_at(rest) else {
+            return None;
+        };
         if size == 0 {
             return None;
         }
@@ -47,7 +49,9 @@ fn pass_requests(count: u32, bytes: &[u8]) -> Option<&[u8]>
 fn pass_sizes(bytes: &[u8]) -> Option<(u32, &[u8])>
     ensures { Measures (λ x. (x.0, x.1.now)) sum result (sizes_at bytes.now) }
 {
-    let (count, rest) = u16_at(bytes)?;
+    let Some((count, rest)) = u16_at(bytes) else {
+        return None;
+    };
     let Some((total, behind)) = total_at(count, rest) else {
         return None;
     };
@@ -65,8 +69,14 @@ fn pass_sizes(bytes: &[u8]) -> Option<(u32, &[u8])>
 pub fn batch_number(body: &[u8]) -> Option<u32>
     ensures { result ≡ option_map (λ b. b.0) (batch_of body.now) }
 {
-    let (number, rest) = u32_at(body)?;
-    let (total, rest) = pass_sizes(rest)?;
-    let rest = pass_requests(total, rest)?;
+    let Some((number, rest)) = u32_at(body) else {
+        return None;
+    };
+    let Some((total, rest)) = pass_sizes(rest) else {
+        return None;
+    };
+    let Some(rest) = pass_requests(total, rest) else {
+        return None;
+    };
     if rest.is_empty() { Some(number) } else { None }
 }

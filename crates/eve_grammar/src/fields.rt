@@ -66,7 +66,9 @@ pub fn number_of(body: &[u8]) -> Option<u8>
 pub fn name_at(bytes: &[u8]) -> Option<(&[u8], &[u8])>
     ensures { Gives (λ x. (x.0.now, x.1.now)) result (name_at bytes.now) }
 {
-    let (len, rest) = u8_at(bytes)?;
+    let Some((len, rest)) = u8_at(bytes) else {
+        return None;
+    };
     let len = len as usize;
     if rest.len() < len {
         return None;
@@ -87,7 +89,9 @@ pub fn balance_at(bytes: &[u8]) -> Option<(Cents, &[u8])>
     if bytes.len() < 8 {
         return None;
     }
-    let cents = Cents::new(BigEndian::read_i64(bytes))?;
+    let Some(cents) = Cents::new(BigEndian::read_i64(bytes)) else {
+        return None;
+    };
     Some((cents, &bytes[8..]))
 }
 
@@ -114,7 +118,9 @@ pub fn amount_at(bytes: &[u8]) -> Option<(Amount, &[u8])>
     if bytes.len() < 8 {
         return None;
     }
-    let amount = Amount::new(BigEndian::read_i64(bytes))?;
+    let Some(amount) = Amount::new(BigEndian::read_i64(bytes)) else {
+        return None;
+    };
     Some((amount, &bytes[8..]))
 }
 
@@ -123,7 +129,9 @@ pub fn amount_at(bytes: &[u8]) -> Option<(Amount, &[u8])>
 pub fn move_at(bytes: &[u8]) -> Option<((&[u8], Amount), &[u8])>
     ensures { Gives (λ x. ((x.0.0.now, x.0.1), x.1.now)) result (move_at bytes.now) }
 {
-    let (name, rest) = name_at(bytes)?;
+    let Some((name, rest)) = name_at(bytes) else {
+        return None;
+    };
     let Some((amount, rest)) = amount_at(rest) else {
         return None;
     };

@@ -35,19 +35,19 @@ impl Head {
     pub fn is_right(&self) -> bool
         ensures { result ≡ is_head self.now }
     {
-        1 <= self.replicas
-            && self.replicas <= MOST_REPLICAS
-            && 1 <= self.verifiers
-            && self.verifiers <= MOST_VERIFIERS
-            && self.quorum <= self.verifiers
-            && (self.verifiers as u32) < 2 * self.quorum as u32
-            && 1 <= self.window
-            && self.window <= MOST_WINDOW
-            && 1 <= self.workers
-            && self.workers <= MOST_WORKERS
-            && 1 <= self.customers
-            && self.customers <= MOST_CUSTOMERS
-            && self.batches <= MOST_BATCHES
+        (1 <= self.replicas)
+            & (self.replicas <= MOST_REPLICAS)
+            & (1 <= self.verifiers)
+            & (self.verifiers <= MOST_VERIFIERS)
+            & (self.quorum <= self.verifiers)
+            & ((self.verifiers as u32) < 2 * self.quorum as u32)
+            & (1 <= self.window)
+            & (self.window <= MOST_WINDOW)
+            & (1 <= self.workers)
+            & (self.workers <= MOST_WORKERS)
+            & (1 <= self.customers)
+            & (self.customers <= MOST_CUSTOMERS)
+            & (self.batches <= MOST_BATCHES)
     }
 
     /// The limits in the 18 bytes of a header from the version to the batches; `None` where they aren't

@@ -36,7 +36,9 @@ fn pass_restores(rows: u32, bytes: &[u8]) -> Option<&[u8]>
     requires { rows ≤ MOST_NAMED_ROWS }
     ensures { Passes (λ x. x.now) result (restores_at rows bytes.now) }
 {
-    let (count, restores) = u32_at(bytes)?;
+    let Some((count, restores)) = u32_at(bytes) else {
+        return None;
+    };
     pass_rising(rows, count, restores)
 }
 

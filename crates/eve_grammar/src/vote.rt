@@ -7,7 +7,7 @@ ghost use Rattle.eve_grammar.specs.Reading.{choice_from, vote_of};
 use crate::fields::{token_at, u8_at, u32_at};
 
 /// What a verifier votes for.
-#[derive(Clone, Copy, PartialEq, Eq)]
+#[derive(Clone, Copy)]
 pub enum Choice<'a> {
     /// That the batch is rolled back in this view.
     ForRollback,
