@@ -87,6 +87,16 @@ pub batch_refused : (d : Draft) (before : List Line) → 65535 ≤ length d.batc
 batch_refused d before full keeps right =
     omega (arith, ltb-true (batches_in before) 65535 right.room, batches_kept d before keeps)
 
+pub customer_refused : (d : Draft) (c : Customer) (before : List Line) → 4096 ≤ length d.customers.items → Keeps d before
+    → ¬ IsRightBehind before (CustomerLine c)
+customer_refused d c before full keeps right =
+    omega (
+      arith,
+      ltb-true (length (customers_in before)) 4096 right.room,
+      ap length keeps.customers,
+      length-map d.customers.items customer,
+    )
+
 no_requests : (before : List Line) (c : Customer) → IsTrue (may_follow before (CustomerLine c)) → last_requests before
     ≡ 0
 no_requests [] c follows = cc

@@ -1,10 +1,10 @@
 -- Rows that are marked, and what the marks of the others still say.
 use Rattle.std.proofs.Common.{◌≡◌, ◌≢◌, ℕ, zero, suc, ◌≤◌, Bool, true, false, List, [], ◌∷◌, ◌++◌, length}
-use Rattle.std.proofs.Common.{take, take_all, Some, inl, inr, refl, sym, ap, ◌∙◌, arith}
+use Rattle.std.proofs.Common.{get_or, take, take_all, Some, inl, inr, refl, sym, ap, ◌∙◌, arith}
 use Rattle.std.specs.Prelude.{◌==◌, ◌&&◌, ◌||◌, replicate, slice_get, slice_set, slice_index_or}
 use Rattle.std.proofs.lemmas.Bool.{cases_eq, eq-eqb, ne_eqb}
 use Rattle.std.proofs.Math.Bool.{or-false}
-use Rattle.std.proofs.lemmas.Option.{same_Some, slice_get_within}
+use Rattle.std.proofs.lemmas.Option.{same_Some, slice_get_within, slice_get_past, get_or_from_slice_get}
 use Rattle.eve_smallbank.specs.declared.entry.Kind.{Kind}
 use Rattle.eve_smallbank.specs.declared.entry.Kind.TheVariants.{Read, Write}
 use Rattle.eve_smallbank.specs.Access.{is_write}
@@ -23,6 +23,33 @@ own it row group is = ap (λ b. b && has (groups_barred it row.1) group) (eq-eqb
 -- marks of another row bar nothing
 not_own : (it : Marks) (row : ℕ × Kind) (group : ℕ) → it.row ≢ row.0 → bars (Some it) row group ≡ false
 not_own it row group apart = ap (λ b. b && has (groups_barred it row.1) group) (ne_eqb it.row row.0 apart)
+
+-- ---- what the marks at a row's place say
+
+-- they are the row's
+pub barred_by : (m : RowMarks) (row : ℕ) (kind : Kind) (place : ℕ) (it : Marks) → HasMarksAt m row place
+    → it ≡ get_or m.marks.items place it → (group : ℕ)
+    → is_barred m (row, kind) group ≡ has (groups_barred it kind) group
+barred_by m row kind place it stands is group =
+    ap (λ p. bars (slice_get m.marks.items p) (row, kind) group) stands.found
+    ∙ ap (λ o. bars o (row, kind) group) stands.own.1
+    ∙ own stands.own.0 (row, kind) group stands.own.2
+    ∙ ap (λ (marks : Marks). has (groups_barred marks kind) group)
+    (sym (is ∙ get_or_from_slice_get m.marks.items place stands.own.0 it stands.own.1))
+
+-- there are none
+pub none_past : (m : RowMarks) (row : ℕ) (kind : Kind) (place group : ℕ) → place_of m row ≡ place
+    → length m.marks.items ≤ place → is_barred m (row, kind) group ≡ false
+none_past m row kind place group found past =
+    ap (λ p. bars (slice_get m.marks.items p) (row, kind) group) found
+    ∙ ap (λ o. bars o (row, kind) group) (slice_get_past m.marks.items place past)
+
+-- they are another row's
+pub none_of_another : (m : RowMarks) (row : ℕ) (kind : Kind) (place group : ℕ) (it : Marks) → place_of m row ≡ place
+    → slice_get m.marks.items place ≡ Some it → it.row ≢ row → is_barred m (row, kind) group ≡ false
+none_of_another m row kind place group it found is apart =
+    ap (λ p. bars (slice_get m.marks.items p) (row, kind) group) found
+    ∙ ap (λ o. bars o (row, kind) group) is ∙ not_own it (row, kind) group apart
 
 -- ---- one row more has marks
 

@@ -9,7 +9,7 @@ use eve_grammar::Head;
 /// The numbers of a workload's first line.
 ///
 /// docs/TRACE.md, "Workload"; their ranges are those of "Header".
-#[derive(Clone, Copy, PartialEq, Eq)]
+#[derive(Clone, Copy)]
 pub struct Deployment {
     /// Replicas, 1 to 8.
     pub replicas: u8,

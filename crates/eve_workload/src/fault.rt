@@ -7,7 +7,7 @@ use std::alloc::AllocError;
 use thiserror::Error;
 
 /// Why a text was not read.
-#[derive(Clone, Copy, Debug, PartialEq, Eq, Error)]
+#[derive(Clone, Copy, Debug, Error)]
 pub enum WorkloadFault {
     /// The line with this number, counted from 1, is the first that isn't right.
     #[error("line {0} of the workload is not right")]

@@ -172,7 +172,7 @@ fn copies_of(
 {
     let mut copies = Vec::with_capacity(alloc, batches.len())?;
     for batch in batches {
-        copies.push(batch.to_vec(alloc)?)?;
+        copies.push_reserved(batch.to_vec(alloc)?);
     }
     Ok(copies)
 }

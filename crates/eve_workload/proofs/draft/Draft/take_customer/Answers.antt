@@ -1,7 +1,12 @@
 use Rattle.std.proofs.Common.{◌≡◌, length, sym, ◌∙◌, arith, rules}
 use Rattle.eve_workload.specs.Said.{borrowed_customer}
-use Rattle.eve_workload.proofs.Drafting.{customer_taken, name_refused, is_known, is_fresh}
+use Rattle.eve_workload.proofs.Drafting.{customer_taken, customer_refused, name_refused, is_known, is_fresh}
 use Rattle.eve_workload.proofs.draft.Draft.take_customer.Goals as goal
+
+pub returns-then-len : goal.returns-then-len
+returns-then-len c = λ before keeps.
+    let count : c.len.result ≡ length c.args.self.now.customers.items = search rules in
+    customer_refused c.args.self.now (borrowed_customer c.args.customer.now) before (omega arith) keeps
 
 pub returns-then-not-branch : goal.returns-then-not-branch
 returns-then-not-branch c = λ before keeps.
