@@ -92,11 +92,40 @@ pub(crate) fn tell(
     said: &mut Said,
 ) -> io::Result<()> {
     write!(said, "{line}:");
-    match (what, words) {
-        ("write-to", [turns, bytes]) => tell_write(alloc, turns, bytes, said),
-        ("tries", [count, turns, bytes]) => tell_tries(alloc, count, turns, bytes, said),
-        ("read-from", [turns, limit]) => tell_device_read(alloc, turns, limit, said),
-        ("reads", [count, turns, limit]) => tell_reads(alloc, count, turns, limit, said),
+    match words {
+        [turns, last] => tell_device(alloc, what, turns, last, said),
+        [count, turns, last] => tell_within(alloc, what, number_of(count)?, turns, last, said),
+        _ => Err(ErrorKind::InvalidData)?,
+    }
+}
+
+/// Tells what is asked of a device with these turns; the last word has bytes, or a limit.
+fn tell_device(
+    alloc: Global,
+    what: &str,
+    turns: &str,
+    last: &str,
+    said: &mut Said,
+) -> io::Result<()> {
+    match what {
+        "write-to" => tell_write(alloc, turns, last, said),
+        "read-from" => tell_device_read(alloc, turns, last, said),
+        _ => Err(ErrorKind::InvalidData)?,
+    }
+}
+
+/// The same, of one that is called so often at most.
+fn tell_within(
+    alloc: Global,
+    what: &str,
+    count: u32,
+    turns: &str,
+    last: &str,
+    said: &mut Said,
+) -> io::Result<()> {
+    match what {
+        "tries" => tell_tries(alloc, count, turns, last, said),
+        "reads" => tell_reads(alloc, count, turns, last, said),
         _ => Err(ErrorKind::InvalidData)?,
     }
 }
@@ -135,12 +164,11 @@ fn tell_write(alloc: Global, turns: &str, bytes: &str, said: &mut Said) -> io::R
 /// Sends bytes once to a device, which is called so often at most.
 fn tell_tries(
     alloc: Global,
-    count: &str,
+    count: u32,
     turns: &str,
     bytes: &str,
     said: &mut Said,
 ) -> io::Result<()> {
-    let count = number_of(count)?;
     let given = given_by(alloc, turns, bytes)?;
     let mut sink = SinkOf::new(Device::of(given.turns.as_slice()));
     let sent = sink.send_within(given.bytes.as_slice(), count);
@@ -160,19 +188,19 @@ fn tell_device_read(alloc: Global, turns: &str, limit: &str, said: &mut Said) ->
 /// Reads a device to its end, or to a limit, calling it so often at most.
 fn tell_reads(
     alloc: Global,
-    count: &str,
+    count: u32,
     turns: &str,
     limit: &str,
     said: &mut Said,
 ) -> io::Result<()> {
-    let (count, limit) = (number_of(count)?, number_of(limit)?);
+    let limit = number_of(limit)?;
     let turns = turns_of(alloc, turns)?;
     let mut source = SourceOf::within(Device::of(turns.as_slice()), count);
     Ok(tell_source(alloc, &mut source, limit, said)?)
 }
 
 /// Tells how many bytes were read, or that the device failed.
-fn tell_length(read: &Option<Vec<u8>>, said: &mut Said) {
+fn tell_length(read: Option<Vec<u8>>, said: &mut Said) {
     match read {
         Some(bytes) => write!(said, " {} bytes,", bytes.len()),
         None => said.words(" Read,"),
@@ -186,7 +214,7 @@ fn tell_source(
     limit: u32,
     said: &mut Said,
 ) -> Result<(), AllocError> {
-    tell_length(&read_of(alloc, source, limit)?, said);
+    tell_length(read_of(alloc, source, limit)?, said);
     let (failed, moved) = (source.failures(), source.reader().moved);
     write!(said, " {failed} failed, {moved} moved");
     write!(said, "; {:?}", source.fetch(&mut [0; 1]));

@@ -51,22 +51,19 @@ pub(crate) fn tell(
     said: &mut Said,
 ) -> io::Result<()> {
     write!(said, "{line}:");
-    match (what, words) {
-        ("send", [call, parts @ ..]) => tell_send(alloc, call, parts, line.len(), said),
-        ("fetch", [call, limit, bytes]) => tell_fetch(alloc, call, limit, bytes, said),
-        ("read", [limit, bytes]) => tell_read(alloc, limit, bytes, said),
+    match what {
+        "send" => tell_send(alloc, words, line.len(), said),
+        "fetch" => tell_fetch(alloc, words, said),
+        "read" => tell_read(alloc, words, said),
         _ => Err(ErrorKind::InvalidData)?,
     }
 }
 
 /// Sends each part to a sink with so much room, of which one call fails.
-fn tell_send(
-    alloc: Global,
-    call: &str,
-    parts: &[&str],
-    room: usize,
-    said: &mut Said,
-) -> io::Result<()> {
+fn tell_send(alloc: Global, words: &[&str], room: usize, said: &mut Said) -> io::Result<()> {
+    let Some((call, parts)) = words.split_first() else {
+        return Err(ErrorKind::InvalidData)?;
+    };
     let call = call_of(call)?;
     let mut sink = FailsAt::new(OneByte::new(memory(alloc, room)?), call);
     send_parts(alloc, &mut sink, parts, said)?;
@@ -96,7 +93,7 @@ fn send_part<S: Sink>(alloc: Global, sink: &mut S, part: &str, said: &mut Said) 
 }
 
 /// Tells the bytes that were read, or that the source failed.
-fn tell_bytes(read: &Option<Vec<u8>>, said: &mut Said) {
+fn tell_bytes(read: Option<Vec<u8>>, said: &mut Said) {
     match read {
         Some(bytes) => write!(said, " read {},", Shown(bytes.as_slice())),
         None => said.words(" Read,"),
@@ -104,47 +101,46 @@ fn tell_bytes(read: &Option<Vec<u8>>, said: &mut Said) {
 }
 
 /// Reads a source of which one call fails.
-fn tell_fetch(
-    alloc: Global,
-    call: &str,
-    limit: &str,
-    bytes: &str,
-    said: &mut Said,
-) -> io::Result<()> {
+fn tell_fetch(alloc: Global, words: &[&str], said: &mut Said) -> io::Result<()> {
+    let [call, limit, bytes] = words else {
+        return Err(ErrorKind::InvalidData)?;
+    };
+    let (call, limit) = (call_of(call)?, number_of(limit)?);
     let bytes = bytes_of(alloc, bytes)?;
-    let source = FailsAt::new(
-        OneByte::new(SourceOf::new(bytes.as_slice())),
-        call_of(call)?,
-    );
-    Ok(tell_failing(alloc, source, number_of(limit)?, said)?)
+    let mut source = FailsAt::new(OneByte::new(SourceOf::new(bytes.as_slice())), call);
+    Ok(tell_failing(alloc, &mut source, limit, said)?)
 }
 
 fn tell_failing(
     alloc: Global,
-    mut source: FailsAt<OneByte<SourceOf<&[u8]>>>,
+    source: &mut FailsAt<OneByte<SourceOf<&[u8]>>>,
     limit: u32,
     said: &mut Said,
 ) -> Result<(), AllocError> {
-    tell_bytes(&read_of(alloc, &mut source, limit)?, said);
+    tell_bytes(read_of(alloc, source, limit)?, said);
     let left = Shown(*source.stream().stream().reader());
     write!(said, " {} failed, left {left}", source.failures());
     Ok(())
 }
 
 /// Reads a source.
-fn tell_read(alloc: Global, limit: &str, bytes: &str, said: &mut Said) -> io::Result<()> {
+fn tell_read(alloc: Global, words: &[&str], said: &mut Said) -> io::Result<()> {
+    let [limit, bytes] = words else {
+        return Err(ErrorKind::InvalidData)?;
+    };
     let limit = number_of(limit)?;
     let bytes = bytes_of(alloc, bytes)?;
-    Ok(tell_whole(alloc, SourceOf::new(bytes.as_slice()), limit, said)?)
+    let mut source = SourceOf::new(bytes.as_slice());
+    Ok(tell_whole(alloc, &mut source, limit, said)?)
 }
 
 fn tell_whole(
     alloc: Global,
-    mut source: SourceOf<&[u8]>,
+    source: &mut SourceOf<&[u8]>,
     limit: u32,
     said: &mut Said,
 ) -> Result<(), AllocError> {
-    tell_bytes(&read_of(alloc, &mut source, limit)?, said);
+    tell_bytes(read_of(alloc, source, limit)?, said);
     let left = Shown(*source.reader());
     write!(said, " {} failed, left {left}", source.failures());
     Ok(())
