@@ -58,6 +58,21 @@ ahead_start t e n bytes records spelled same ordered all none nothing_back is = 
       omega arith);
 }
 
+-- ---- a commit or a rollback
+
+-- it was taken
+pub ahead_other : (t : Trace) (e : ℕ) (next : ℕ × Step) (rest : List (ℕ × Step)) (from : ℕ) (n after : Notes)
+    → attempts_among (next ∷ rest) ≡ attempts_among rest → IsKeptAhead t e (next ∷ rest) from n
+    → HasCome t e rest (kept_section after) → AreNotesOf t after → after.records.items ≡ n.records.items
+    → IsKeptAhead t e rest from after
+ahead_other t e next rest from n after none ahead come notes same = record {
+  come = come;
+  notes = notes;
+  all = subst (AreOrdered t (attempts_among (steps_at t e))) (sym same) ahead.all;
+  place = ap (λ (xs : List (ℕ × Attempt)). from + length (flat_map tell xs)) (sym none) ∙ ahead.place
+      ∙ ap length (sym same);
+}
+
 -- ---- an attempt
 
 pub some_weaker : {T E : Type 0} (r : Result (Option T) E) (P Q : T → Type 0) → ((x : T) → P x → Q x)

@@ -1,15 +1,49 @@
 -- Clients' greatest numbers: a number above its client's greatest was not noted before.
 use Rattle.std.proofs.Common.{◌≡◌, ℕ, ◌+◌, ◌≤◌, List, [], ◌∷◌, ◌++◌, length}
-use Rattle.std.proofs.Common.{slice_get, Contains, Option, Some, refl, subst, rules}
+use Rattle.std.proofs.Common.{slice_get, Contains, Option, Some, refl, sym, ap, subst, ◌∙◌, rules, inl, inr, ◌<◌, ◌==◌}
+use Rattle.std.proofs.Common.{if◌then◌else◌, arith}
+use Rattle.std.proofs.lemmas.Bool.{cases_eq, cond-true, cond-false, eq-eqb, ne_eqb}
+use Rattle.std.proofs.lemmas.List.Elements.{All-push, All-weaker, All-contains}
 use Rattle.eve_grammar.specs.Trace.{Trace, Batch}
 use Rattle.eve_grammar.specs.Spelling.{batches_at}
 use Rattle.eve_history.specs.Faults.{request_ids_at, IsAskedAgain}
 use Rattle.eve_grammar.specs.Trace.{RequestId}
 use Rattle.eve_history.specs.Notes.{HasDistinctRequests}
-use Rattle.eve_history.specs.Rising.{AreReached, HaveRisen}
+use Rattle.eve_history.specs.Rising.{HasReached, AreReached, HaveRisen}
 use Rattle.eve_history.proofs.Places.{no_place}
 use Rattle.eve_history.proofs.RequestIds.{Noting, noting_start, noting_more, noting_end}
 use Rattle.eve_history.proofs.OrderLaws.{Asking, asking_more, asking_apart}
+
+-- ---- one request
+
+-- A number above the client's greatest was not noted before, and is then its greatest.
+pub reached_more : (greatest after : ℕ → Option ℕ) (client number before : ℕ) → Some before ≡ greatest client
+    → before < number → ((other : ℕ) → after other ≡ (if other == client then Some number else greatest other))
+    → (noted : List RequestId) → AreReached greatest noted
+    → (¬ Contains noted (client, number)) × AreReached after (noted ++ (client, number) ∷ [])
+reached_more greatest after client number before had lt kept noted reached = (
+  λ there.
+      let old : HasReached (greatest client) number =
+      All-contains (λ t. HasReached (greatest t.0) t.1) noted (client, number) reached there in
+      let le : number ≤ before = subst (λ (g : Option ℕ). HasReached g number) (sym had) old in
+      absurd (omega arith),
+  All-push (λ t. HasReached (after t.0) t.1) noted (client, number)
+      (All-weaker (λ t. HasReached (greatest t.0) t.1) (λ t. HasReached (after t.0) t.1) (λ t. stays t.0 t.1)
+      noted reached)
+      (subst (λ (g : Option ℕ). HasReached g number) (sym own) (omega arith)),
+)
+  where
+    own : after client ≡ Some number
+    own = kept client ∙ cond-true (client == client) (Some number) (greatest client) (eq-eqb client client refl)
+
+    stays : (c n : ℕ) → HasReached (greatest c) n → HasReached (after c) n
+    stays c n old = elim (cases_eq c client) [
+      | inl same ↦
+          let le : n ≤ before = subst (λ (g : Option ℕ). HasReached g n) (ap greatest same ∙ sym had) old in
+          subst (λ (g : Option ℕ). HasReached g n) (sym (ap after same ∙ own)) (omega arith)
+      | inr other ↦ subst (λ (g : Option ℕ). HasReached g n)
+          (sym (kept c ∙ cond-false (c == client) (Some number) (greatest c) (ne_eqb c client other))) old
+    ]
 
 -- ---- the requests of a batch, one after another
 

@@ -61,3 +61,21 @@ overflow_add-self c =
     let small = few_places c.args.self.now c.requires.marked.0 c.worker-worker.result c.requires.marked.1 (omega arith)
     c.requires.marked.2 in
     record { fits = omega (arith, small) }
+
+pub bounds-self-index : goal.bounds-self-index
+bounds-self-index c = let few : c.args.count ≤ 256 = c.requires.count in omega arith
+
+pub bounds-self-worker : goal.bounds-self-worker
+bounds-self-worker c = let few : c.args.workers ≤ 8 = c.requires.workers in omega arith
+
+pub bounds-self-index-2 : goal.bounds-self-index-2
+bounds-self-index-2 c = let few : c.args.count ≤ 256 = c.requires.count in omega arith
+
+pub bounds-self-index-3 : goal.bounds-self-index-3
+bounds-self-index-3 c = let few : c.args.count ≤ 256 = c.requires.count in omega arith
+
+pub bounds-self-worker-2 : goal.bounds-self-worker-2
+bounds-self-worker-2 c = let few : c.args.workers ≤ 8 = c.requires.workers in omega arith
+
+pub bounds-self-worker-3 : goal.bounds-self-worker-3
+bounds-self-worker-3 c = let few : c.args.workers ≤ 8 = c.requires.workers in omega arith
