@@ -21,8 +21,8 @@ use eve_history::History;
 use eve_token::token_of_spelled;
 use eve_views::{CheckFault, Code, Fault, Trace};
 use std::alloc::{AllocError, Global};
-use std::thread;
 use std::thread::Threads;
+use std::{mem, thread};
 
 /// Whether the attempt has the token of these balances and of its replies.
 fn is_due(attempt: &AttemptView<'_>, balances: &Balances) -> bool
@@ -112,27 +112,51 @@ fn judge(trace: &Trace<'_>, history: &History<'_>, settled: &Settled<'_>, stretc
     );
 }
 
-/// Appends the stretch of the batches after the first `before`, which leave these balances, up to the last.
+/// Appends a stretch that follows the others.
 fn append(
     settled: &Settled<'_>,
-    before: u32,
-    balances: Balances,
-    last: u32,
+    stretch: Stretch,
     stretches: &mut Vec<Stretch>,
 ) -> Result<(), AllocError>
-    requires rising { before ≤ last }
-    requires there { last ≤ length settled.now.batches }
-    requires balances { IsAfter settled.now before balances }
-    requires ready { AreReadyStretches settled.now before stretches.old.items }
-    ensures { OnOk result (AreReadyStretches settled.now last stretches.new.items) }
+    requires stretch { IsReadyStretch settled.now stretch }
+    requires ready { AreReadyStretches settled.now stretch.before stretches.old.items }
+    ensures { OnOk result (AreReadyStretches settled.now stretch.last stretches.new.items) }
 {
-    stretches.push(Stretch {
-        before,
-        last,
+    stretches.push(stretch)?;
+    Ok(())
+}
+
+/// Cuts the stretch that is still to come, where balances are at hand under that place: what comes before them is
+/// appended.
+fn cut_at(
+    alloc: Global,
+    settled: &Settled<'_>,
+    place: usize,
+    rest: &mut Stretch,
+    stretches: &mut Vec<Stretch>,
+) -> Result<(), AllocError>
+    requires last { rest.old.last ≡ length settled.now.batches }
+    requires rest { IsReadyStretch settled.now rest.old }
+    requires ready { AreReadyStretches settled.now rest.old.before stretches.old.items }
+    ensures last { rest.new.last ≡ rest.old.last }
+    ensures rest { OnOk result (IsReadyStretch settled.now rest.new) }
+    ensures ready { OnOk result (AreReadyStretches settled.now rest.new.before stretches.new.items) }
+{
+    let Some((after, balances)) = settled.mark(alloc, place)? else {
+        return Ok(());
+    };
+    if after <= rest.before {
+        return Ok(());
+    }
+    let mut next = Stretch {
+        before: after,
+        last: rest.last,
         balances,
         wrong: None,
-    })?;
-    Ok(())
+    };
+    mem::swap(rest, &mut next);
+    next.last = after;
+    append(settled, next, stretches)
 }
 
 /// Cuts a replica's committed batches into stretches, no more than there are jobs: each begins where balances are at
@@ -142,25 +166,16 @@ fn cut(alloc: Global, settled: &Settled<'_>, jobs: u8) -> Result<Vec<Stretch>, A
     ensures { IfOk result (λ stretches. AreReadyStretches settled.now (length settled.now.batches) stretches.items) }
 {
     let mut stretches = Vec::new(alloc);
-    let mut before = 0;
-    let mut balances = settled.balances_after(alloc, 0)?;
+    let mut rest = Stretch {
+        before: 0,
+        last: settled.committed(),
+        balances: settled.balances_after(alloc, 0)?,
+        wrong: None,
+    };
     for place in 0..jobs - 1 {
-        let Some((after, marked)) = settled.mark(alloc, place as usize)? else {
-            break;
-        };
-        if before < after {
-            append(settled, before, balances, after, &mut stretches)?;
-            before = after;
-            balances = marked;
-        }
+        cut_at(alloc, settled, place as usize, &mut rest, &mut stretches)?;
     }
-    append(
-        settled,
-        before,
-        balances,
-        settled.committed(),
-        &mut stretches,
-    )?;
+    append(settled, rest, &mut stretches)?;
     Ok(stretches)
 }
 

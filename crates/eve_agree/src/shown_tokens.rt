@@ -126,8 +126,37 @@ fn wrong_beside(
     wrong_at(trace, history, settled, n, balances)
 }
 
-/// The offset of the first of a replica's attempts with a token that is not due, of all its committed batches.
+/// The offset of the first of a replica's attempts with a token that is not due, of all its committed batches, from the
+/// opening balances of both replicas.
 #[tactic(auto, using(crate::proofs::Stretched::one_more, crate::proofs::Stretched::wrong_first))]
+fn first_wrong_beside(
+    trace: &Trace<'_>,
+    history: &History<'_>,
+    settled: &Settled<'_>,
+    peer: Peer<'_, '_>,
+    balances: &mut Balances,
+    others: &mut Balances,
+) -> Option<u64>
+    requires section { AreOfSection trace.now history.now settled.now }
+    requires peer { IsDueReplica trace.now peer.history.now peer.settled.now }
+    requires balances { IsAfter settled.now 0 balances.old }
+    requires others { IsAfter peer.settled.now 0 others.old }
+    ensures { IsFirstWrong trace.now history.now.replica 0 (length settled.now.batches) result }
+{
+    let mut same = true;
+    for n in 0..settled.committed() {
+        settled.advance(n + 1, balances);
+        advance(peer.settled, n + 1, others);
+        same = is_shown(trace, history, settled, n + 1, balances, peer, others, same);
+        let wrong = wrong_beside(trace, history, settled, n + 1, balances, same);
+        if wrong.is_some() {
+            return wrong;
+        }
+    }
+    None
+}
+
+/// The offset of the first of a replica's attempts with a token that is not due, of all its committed batches.
 fn first_beside(
     alloc: Global,
     trace: &Trace<'_>,
@@ -141,26 +170,7 @@ fn first_beside(
 {
     let mut balances = settled.balances_after(alloc, 0)?;
     let mut others = peer.settled.balances_after(alloc, 0)?;
-    let mut same = true;
-    for n in 0..settled.committed() {
-        settled.advance(n + 1, &mut balances);
-        advance(peer.settled, n + 1, &mut others);
-        same = is_shown(
-            trace,
-            history,
-            settled,
-            n + 1,
-            &balances,
-            peer,
-            &others,
-            same,
-        );
-        let wrong = wrong_beside(trace, history, settled, n + 1, &balances, same);
-        if wrong.is_some() {
-            return Ok(wrong);
-        }
-    }
-    Ok(None)
+    Ok(first_wrong_beside(trace, history, settled, peer, &mut balances, &mut others))
 }
 
 /// Judges the tokens of a replica's committed attempts, as `tokens` does, beside another replica whose tokens are due:

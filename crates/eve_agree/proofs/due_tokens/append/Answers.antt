@@ -1,4 +1,4 @@
-use Rattle.std.proofs.Common.{List, None, sym, subst, refl}
+use Rattle.std.proofs.Common.{List, sym, subst, refl}
 use Rattle.std.proofs.lemmas.List.Elements.{All-push}
 use Rattle.eve_agree.specs.Stretches.{IsReadyStretch, AreReadyStretches}
 use Rattle.eve_agree.specs.declared.due_tokens.Stretch.{Stretch}
@@ -9,14 +9,8 @@ pub returns : goal.returns
 returns c =
     let s = c.args.settled.now in
     let xs = c.args.stretches.now.items in
-    let x : Stretch =
-    record { before = c.args.before; last = c.args.last; balances = c.args.balances; wrong = None } in
-    let ready : IsReadyStretch s x = record {
-      rising = c.requires.rising;
-      there = c.requires.there;
-      balances = c.requires.balances;
-    } in
-    subst (AreReadyStretches s c.args.last) (sym {A = List Stretch} c.in_ok-push.ensures.items) (record {
-      reaches = reaches_more 0 c.args.before xs x c.requires.ready.reaches refl;
-      ready = All-push (IsReadyStretch s) xs x c.requires.ready.ready ready;
+    let x = c.args.stretch in
+    subst (AreReadyStretches s x.last) (sym {A = List Stretch} c.in_ok-push.ensures.items) (record {
+      reaches = reaches_more 0 x.before xs x c.requires.ready.reaches refl;
+      ready = All-push (IsReadyStretch s) xs x c.requires.ready.ready c.requires.stretch;
     })

@@ -2,7 +2,7 @@ use Rattle.std.proofs.Common.{None, IsTrue}
 use Rattle.eve_chains.specs.Settling.{HaveSameBalances}
 use Rattle.eve_agree.specs.Judging.{IsAfter}
 use Rattle.eve_agree.specs.DueTokens.{IsFirstWrong}
-use Rattle.eve_agree.proofs.shown_tokens.first_beside.Given as goal
+use Rattle.eve_agree.proofs.shown_tokens.first_wrong_beside.Given as goal
 
 abbrev pub invariant-loop-n : goal.invariant-loop-n
 invariant-loop-n l = record {
