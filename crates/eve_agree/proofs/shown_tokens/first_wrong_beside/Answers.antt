@@ -1,4 +1,5 @@
-use Rattle.std.proofs.Common.{arith}
+use Rattle.std.proofs.Common.{◌≡◌, ◌+◌, ◌-◌, ℕ, IsTrue, subst, arith}
+use Rattle.eve_chains.specs.Settling.{HaveSameBalances}
 use Rattle.eve_agree.proofs.SameBefore.{same_opening}
 use Rattle.eve_agree.proofs.shown_tokens.first_wrong_beside.Goals as goal
 
@@ -10,3 +11,10 @@ loop-n-init c = record {
       c.args.settled.now c.args.peer.settled.now c.requires.section.settled c.requires.peer.settled;
   due = λ n above below p at. absurd (omega arith);
 }
+
+pub is_shown-same-requires-clause-before : goal.is_shown-same-requires-clause-before
+is_shown-same-requires-clause-before c =
+    let n = c.loop-n.n in
+    let last : n ≡ n + 1 - 1 = omega arith in
+    subst (λ (m : ℕ). IsTrue c.loop-n.same → HaveSameBalances c.args.settled.now c.args.peer.settled.now m) last
+    c.loop-n.invariant.same
