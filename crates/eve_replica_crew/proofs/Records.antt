@@ -1,8 +1,12 @@
--- One more record that the first worker keeps.
-use Rattle.std.proofs.Common.{◌≡◌, ℕ, ◌+◌, List, [], ◌∷◌, ◌++◌, length, subst, sym, arith}
+-- One more record that the first worker keeps, and its seat where it keeps none.
+use Rattle.std.proofs.Common.{◌≡◌, ℕ, ap, ◌∙◌, ◌+◌, List, [], ◌∷◌, ◌++◌, length, subst, sym, arith}
 use Rattle.eve_stamps.specs.Applied.{Applied}
 use Rattle.eve_grammar.specs.Trace.{Batch, request_with}
+use Rattle.eve_recorder.specs.Drawing.{Drawer, TicketSource}
+use Rattle.eve_floor.specs.Applying.{Refuses}
 use Rattle.eve_floor.specs.Executing.{IsRecordOf}
+use Rattle.eve_floor.specs.declared.fault.ExecFault.{ExecFault}
+use Rattle.eve_floor.specs.declared.fault.ExecFault.TheVariants as fault
 use Rattle.eve_replica_crew.specs.Recording.{AreKeptFrom, AreRecordsFrom}
 
 -- of a worker alone: that of the request after those that have one
@@ -27,3 +31,13 @@ kept_push names b place [] r index next all at own =
     (subst (λ (k : ℕ). IsRecordOf names (request_with b k) k 0 place r) (sym there.0) there, record {})
 kept_push names b place (q ∷ records) r index next all at own =
     (all.0, kept_push names b (place + 1) records r index next all.1 (omega (arith, at)) own)
+
+-- whatever was drawn where no record was made, the seat is at the tickets at which it was
+pub refused_at : (why : ExecFault) (old new : Drawer) (t : TicketSource) → Refuses why old new → old.tickets ≡ t
+    → new.tickets ≡ t
+refused_at fault.Full old new t drew at = absurd drew
+refused_at fault.Spent old new t drew at = ap (λ (d : Drawer). d.tickets) drew.0 ∙ at
+refused_at fault.NoRow old new t drew at = ap (λ (d : Drawer). d.tickets) drew.1 ∙ at
+refused_at fault.TickOrder old new t drew at = ap (λ (d : Drawer). d.tickets) drew.1 ∙ at
+refused_at fault.Worn old new t drew at = ap (λ (d : Drawer). d.tickets) drew.1 ∙ at
+refused_at fault.Memory old new t drew at = ap (λ (d : Drawer). d.tickets) drew.1 ∙ at

@@ -1,10 +1,12 @@
--- The seats of rooms, pushed and popped.
+-- The seats of rooms, pushed and popped; seats at tickets.
 use Rattle.std.proofs.Common.{◌≡◌, ℕ, ◌<◌, List, [], ◌∷◌, ◌++◌, length, slice_index_or, subst, sym, ap, ◌∙◌, arith}
 use Rattle.std.proofs.Common.{◌≤◌, rules}
-use Rattle.eve_recorder.specs.Drawing.{TicketSource, fresh_seats}
+use Rattle.std.proofs.lemmas.List.Elements.{All-push}
+use Rattle.eve_recorder.specs.Drawing.{Drawer, TicketSource, fresh_seats}
 use Rattle.eve_recorder.specs.Seen.{Desk, RecorderId, fresh_places}
 use Rattle.eve_replica_crew.specs.declared.room.Room.{Room}
 use Rattle.eve_replica_crew.specs.declared.room.Seating.{Seating}
+use Rattle.eve_replica_crew.specs.Crews.{AreTickets}
 use Rattle.eve_replica_crew.specs.Sharing.{AreNoters, AreSeatingsOf, AreSeatsAt, AreThere, IsSeatingOf}
 
 -- one more room with its seats
@@ -54,3 +56,9 @@ fresh_noters recorder n few all = search rules
 -- and all seats at tickets
 pub fresh_there : (t : TicketSource) (n : ℕ) → t.seats ≡ n → n ≤ 8 → AreThere n (fresh_seats t).places
 fresh_there t n same few = search rules
+
+-- one more seat at these tickets
+pub tickets_push : (t : TicketSource) (before after : List Drawer) (d : Drawer) → AreTickets t before → d.tickets ≡ t
+    → after ≡ before ++ d ∷ [] → AreTickets t after
+tickets_push t before after d all own pushed =
+    subst (AreTickets t) (sym pushed) (All-push (λ (e : Drawer). e.tickets ≡ t) before d all own)

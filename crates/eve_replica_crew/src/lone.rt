@@ -1,6 +1,8 @@
 //! Batches that one worker runs alone.
 
-ghost use Rattle.std.specs.Prelude.{◌≡◌, ◌≤◌, All, IfOk, IfErr, OnOk, length, vec_len, vec_capacity};
+ghost use Rattle.std.specs.Prelude.{◌≡◌, ◌<◌, ◌≤◌, All, IfOk, IfErr, OnOk, length, vec_len, vec_capacity};
+ghost use Rattle.eve_smallbank.specs.Touch.{touched_of};
+ghost use Rattle.eve_grammar.specs.Trace.{request_with};
 ghost use Rattle.eve_write.specs.Data.{batch as plain};
 ghost use Rattle.eve_recorder.specs.Drawing.{Drawer};
 ghost use Rattle.eve_floor.specs.Applying.{Refuses};
@@ -12,6 +14,7 @@ use crate::share::{Hands, Part};
 use eve_floor::{ExecFault, Floor, execute_kept};
 use eve_grammar::MOST_REQUESTS;
 use eve_recorder::{Gate, TicketSeat, Tickets};
+use eve_smallbank::Touched;
 use eve_stamps::AccessRecord;
 use std::alloc::{AllocError, Global};
 use std::sync::Wait;
@@ -66,14 +69,22 @@ pub(crate) fn run_lone<R: Wait, G: Gate>(
     ensures all { OnOk result (vec_len records.new ≡ length lone.now.leg.batch.now.requests.items) }
     ensures refused { IfErr result (λ why. (before : Drawer) × Refuses why before tick.new) }
 {
-    let Leg { batch, touched, .. } = lone.leg;
+    let batch = lone.leg.batch;
     for index in 0..batch.requests.len() {
-        let reached = &touched[index];
+        let reached = touched_at(lone, index);
         let number = index as u16;
         let record = execute_kept(
-            rt, lone.floor, ticks, tick, batch, reached, number, number, gate,
+            rt, lone.floor, ticks, tick, batch, &reached, number, number, gate,
         )?;
         records.push_reserved(record);
     }
     Ok(())
+}
+
+// What the request with this index touches.
+fn touched_at(lone: &Lone<'_>, index: usize) -> Touched
+    requires { index < length lone.now.leg.batch.now.requests.items }
+    ensures { result ≡ touched_of lone.now.floor.now (request_with (plain lone.now.leg.batch.now) index) }
+{
+    lone.leg.touched[index]
 }
