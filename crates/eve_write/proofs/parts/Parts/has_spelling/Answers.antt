@@ -1,3 +1,4 @@
+use Rattle.std.proofs.Common.{rules}
 use Rattle.eve_write.proofs.Sound.{tested, passed}
 use Rattle.eve_write.proofs.parts.Parts.has_spelling.Goals as goal
 
@@ -7,3 +8,6 @@ returns-in-Some c = (
       c.are_right.ensures,
   passed c.args.self.now c.in-Some.head c.are_right.result c.in-Some.ensures.head c.are_right.ensures,
 )
+
+pub returns-in-None : goal.returns-in-None
+returns-in-None c = search rules
