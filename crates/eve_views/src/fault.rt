@@ -9,7 +9,7 @@ use std::alloc::{AllocError, AllocFailed};
 /// What can be wrong with a trace, in the order of the numbers.
 ///
 /// docs/MODEL.md, "Faults", says where each stands.
-#[derive(Clone, Copy, Debug, PartialEq, Eq, PartialOrd, Ord)]
+#[derive(Clone, Copy, Debug, PartialEq, Eq)]
 pub enum Code {
     /// The bytes are too few, too many, or not as many as the header says.
     Length,
@@ -159,7 +159,7 @@ pub struct Fault {
 }
 
 /// Why a check doesn't answer Ok: what it looks for was found, or memory was refused.
-#[derive(Debug, Drop, PartialEq, Eq)]
+#[derive(Debug, Drop)]
 pub enum CheckFault {
     /// The first fault of those that the check looks for.
     Found(Fault),

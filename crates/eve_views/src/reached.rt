@@ -8,7 +8,7 @@ ghost use Rattle.eve_views.specs.Places.{place_after};
 use eve_grammar::{FrameKind, Head, Place};
 
 /// How far the frames of a trace with this head have come.
-#[derive(Clone, Copy, PartialEq, Eq)]
+#[derive(Clone, Copy)]
 pub struct Reached {
     /// The limits.
     pub head: Head,

@@ -12,7 +12,7 @@ const SECTIONS: usize = MOST_REPLICAS as usize;
 const VERIFIERS: usize = MOST_VERIFIERS as usize;
 
 /// The frames that begin the sections, the verifiers' parts and what comes after them, by number from 0.
-#[derive(Clone, Copy, PartialEq, Eq)]
+#[derive(Clone, Copy)]
 pub struct Starts {
     /// The frame of each replica.
     pub sections: [u32; SECTIONS],

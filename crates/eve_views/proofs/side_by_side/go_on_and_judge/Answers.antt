@@ -1,8 +1,8 @@
-use Rattle.std.proofs.Common.{◌≡◌, ◌∙◌, ap, subst, Option, IfOk, IfSome, drop}
+use Rattle.std.proofs.Common.{◌≡◌, ◌∙◌, ap, subst, Option, IfOk, IfSome, drop, length, length-append, arith}
 use Rattle.std.specs.Prelude.{Result}
 use Rattle.std.specs.declared.alloc.AllocError.{AllocError}
 use Rattle.eve_grammar.specs.Limits.{row_count}
-use Rattle.eve_views.specs.SideBySide.{WalksOn}
+use Rattle.eve_views.specs.SideBySide.{IsWalkedUnjudged, WalksOn}
 use Rattle.eve_views.specs.declared.progress.Progress.{Progress}
 use Rattle.eve_views.proofs.Unjudged.{right_whole, right_front}
 use Rattle.eve_views.proofs.side_by_side.go_on_and_judge.Goals as goal
@@ -22,3 +22,22 @@ returns-then-right-clause-judged g c =
     right_front rows bytes before.offsets.items goes.more c.in-Some.on.offsets.items goes.offsets
     (right_whole rows bytes before.offsets.items c.in_ok-last.last.items c.args.judged last c.requires.judged
     (both.ensures.right c.if-right.true))
+
+pub judge_and_go_on-right-requires-clause-walked : goal.judge_and_go_on-right-requires-clause-walked
+judge_and_go_on-right-requires-clause-walked g c = λ _ _. c.requires.walked
+
+pub returns-then-right-clause-walked : goal.returns-then-right-clause-walked
+returns-then-right-clause-walked g c =
+    let P = IsWalkedUnjudged c.args.head c.args.bytes.now in
+    let found = subst (λ (r : Result (Option Progress) AllocError). IfOk r (λ o. IfSome o P)) c.in_ok-on.was
+    c.judge_and_go_on-right.ensures.walked in
+    subst (λ (o : Option Progress). IfSome o P) c.in-Some.is found
+
+pub returns-then-right-clause-there : goal.returns-then-right-clause-there
+returns-then-right-clause-there g c =
+    let before = c.args.walked in
+    let found = subst (λ (r : Result (Option Progress) AllocError). IfOk r (λ o. IfSome o (WalksOn before)))
+    c.in_ok-on.was c.judge_and_go_on-right.ensures.kept in
+    let goes : WalksOn before c.in-Some.on = subst (λ (o : Option Progress). IfSome o (WalksOn before)) c.in-Some.is
+    found in
+    omega (arith, ap length goes.offsets, length-append before.offsets.items goes.more)

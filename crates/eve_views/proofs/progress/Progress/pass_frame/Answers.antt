@@ -3,6 +3,8 @@ use Rattle.std.proofs.lemmas.List.{length-append, length-drop, length-take}
 use Rattle.eve_grammar.specs.Kinds.{kind_byte}
 use Rattle.eve_grammar.specs.Limits.{row_count}
 use Rattle.eve_grammar.specs.declared.place.Place.{Place}
+use Rattle.eve_grammar.specs.declared.head.Head.{Head}
+use Rattle.eve_grammar.proofs.FrameLaws.{small_head}
 use Rattle.eve_views.specs.Starting.{noted}
 use Rattle.eve_views.specs.Indexing.{kept_in}
 use Rattle.eve_views.specs.SideBySide.{AreRightFrames}
@@ -10,6 +12,11 @@ use Rattle.eve_views.specs.Walking.{Walking}
 use Rattle.eve_views.specs.declared.starts.Starts.{Starts}
 use Rattle.eve_views.proofs.Unjudged.{walking_unjudged}
 use Rattle.eve_views.proofs.progress.Progress.pass_frame.Goals as goal
+
+pub frame_unjudged-requires : goal.frame_unjudged-requires
+frame_unjudged-requires c =
+    let small = (small_head c.args.head c.requires.says.limits).customers in
+    omega (arith, small, ap (λ (h : Head). h.customers) c.requires.walked.head)
 
 pub returns-clause-walked : goal.returns-clause-walked
 returns-clause-walked c = λ _.
