@@ -13,7 +13,7 @@ use itoa::Buffer;
 use std::alloc::AllocError;
 
 /// Why the program ends without an answer.
-#[derive(Clone, Copy, Debug, PartialEq, Eq)]
+#[derive(Clone, Copy, Debug)]
 pub enum ToolFault {
     /// The input can't be read, or it was read 2^31 times without an end.
     Read,
