@@ -9,7 +9,7 @@ use std::marker::Model;
 /// A balance in cents, within 10^15 of zero.
 ///
 /// docs/MODEL.md, "Money". Contracts see it as a whole number.
-#[derive(Clone, Copy, PartialEq, Eq, PartialOrd, Ord)]
+#[derive(Clone, Copy, PartialEq, Eq)]
 pub struct Cents {
     value: i64,
 }
@@ -62,7 +62,7 @@ impl Cents {
 /// What a transaction moves, in cents, within 10^12 of zero.
 ///
 /// docs/MODEL.md, "Money". Contracts see it as a whole number.
-#[derive(Clone, Copy, PartialEq, Eq, PartialOrd, Ord)]
+#[derive(Clone, Copy)]
 pub struct Amount {
     cents: i64,
 }

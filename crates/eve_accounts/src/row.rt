@@ -9,7 +9,7 @@ use std::marker::Model;
 /// The row of one balance: customer c, counted from 0, has the saving row 2c and the checking row 2c + 1.
 ///
 /// docs/MODEL.md, "Rows". Contracts see it as its number.
-#[derive(Clone, Copy, PartialEq, Eq, PartialOrd, Ord)]
+#[derive(Clone, Copy, PartialEq, Eq)]
 pub struct Row {
     number: u32,
 }
