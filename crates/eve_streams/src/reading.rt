@@ -9,7 +9,7 @@ use crate::Source;
 use std::alloc::Global;
 
 /// Why a source was not read.
-#[derive(Clone, Copy, Debug, PartialEq, Eq)]
+#[derive(Clone, Copy, Debug)]
 pub enum ReadFault {
     /// The source failed.
     Read,
