@@ -42,7 +42,8 @@ returns-in-TransactSaving-len1 c =
 
 pub returns-in-Amalgamate-len2 : goal.returns-in-Amalgamate-len2
 returns-in-Amalgamate-len2 c =
-    let seen = two_seen c.args.seen.now c.saving-item-then-this-lt3-2.result c.checking-item-then-this-lt3-2.result (omega arith)
+    let seen = two_seen c.args.seen.now c.saving-item-then-this-lt3-2.result
+    c.checking-item-then-this-lt3-2.result (omega arith)
     c.saving-item-then-this-lt3-2.is c.checking-item-then-this-lt3-2.is in
     rw (c.in-Amalgamate-len2.is-0, seen) (ap Some (sym c.amalgamate_itself.ensures))
 
@@ -55,6 +56,7 @@ returns-in-Amalgamate-len3 c =
 
 pub returns-in-WriteCheck-len2 : goal.returns-in-WriteCheck-len2
 returns-in-WriteCheck-len2 c =
-    let seen = two_seen c.args.seen.now c.saving-item-then-this-lt3-3.result c.checking-item-then-this-lt3-3.result (omega arith)
+    let seen = two_seen c.args.seen.now c.saving-item-then-this-lt3-3.result
+    c.checking-item-then-this-lt3-3.result (omega arith)
     c.saving-item-then-this-lt3-3.is c.checking-item-then-this-lt3-3.is in
     rw (c.in-WriteCheck-len2.is-0, seen) (ap Some (sym c.write_check.ensures))
