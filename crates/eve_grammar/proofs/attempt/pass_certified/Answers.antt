@@ -38,6 +38,7 @@ returns c =
     let low : 1 ≤ count = omega (arith, c.if-count-eq0.false) in
     let replies = c.in-Some-pass_replies.ensures in
     let some : many_at reply_at count (drop (2 * count) c.in-Some.rest.now)
-    ≡ Some (replies.0, c.in-Some-pass_replies.behind.now) = ap (many_at reply_at count) (sym c.bytes_from.ensures) ∙ replies.1 in
+    ≡ Some (replies.0, c.in-Some-pass_replies.behind.now) =
+    ap (many_at reply_at count) (sym c.bytes_from.ensures) ∙ replies.1 in
     certified_passed count c.args.bytes.now c.in-Some.rest.now c.in-Some-pass_replies.behind.now replies.0
     c.in-Some.ensures low c.if-count-gt-MOST_REQUESTS.false c.if-rest-count.false some

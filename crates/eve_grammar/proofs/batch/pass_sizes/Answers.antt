@@ -28,5 +28,6 @@ returns-then-count-eq0 c =
 pub returns : goal.returns
 returns c =
     let some : 1 ≤ c.in-Some.count = omega (arith, c.if-count-eq0.false) in
-    sizes_passed c.in-Some.count c.in-Some-total_at.total c.args.bytes.now c.in-Some.rest.now c.in-Some-total_at.behind.now
+    sizes_passed c.in-Some.count c.in-Some-total_at.total c.args.bytes.now c.in-Some.rest.now
+    c.in-Some-total_at.behind.now
     c.in-Some.ensures some c.if-total-gt-MOST_REQUESTS.false c.in-Some-total_at.ensures
