@@ -5,7 +5,7 @@ use eve_stamps::AccessRecord;
 /// How far a worker is with its request.
 ///
 /// docs/MODEL.md, "Schedule".
-#[derive(Clone, Copy, PartialEq, Eq)]
+#[derive(Clone, Copy)]
 pub enum Stage {
     /// It has no request.
     Idle,

@@ -1,11 +1,33 @@
 use Rattle.std.proofs.Common.{◌≡◌, ◌<◌, ◌++◌, List, get_or, set, length, subst, arith}
+use Rattle.std.specs.Prelude.{IfOk}
+use Rattle.eve_smallbank.specs.SmallBank.{plain}
+use Rattle.eve_smallbank.specs.Execution.{executed_on}
 use Rattle.eve_smallbank.specs.Touch.{rows_in}
-use Rattle.eve_stamps.specs.Applied.{Applied}
+use Rattle.eve_stamps.specs.Applied.{Applied, noted_of}
 use Rattle.eve_stamps.specs.Stripes.{Stripe, stripe_with}
-use Rattle.eve_stamps.specs.Stamping.{entries_within, entries_outside, refusal_of_two, IsRefusedFor}
+use Rattle.eve_stamps.specs.Stamping.{rows_in_two, entries_within, entries_outside, refusal_of_two, IsRefusedFor}
 use Rattle.eve_stamps_schedule.specs.Schedule.{stripe_at}
 use Rattle.eve_stamps_schedule.proofs.Applications.{if_ok_both, two_written, in_front, in_back, both_noted}
 use Rattle.eve_stamps_schedule.proofs.applying.on_two.Goals as goal
+
+pub returns-clause-exact : goal.returns-clause-exact
+returns-clause-exact c = λ names is.
+    let here : List Stripe = c.args.stripes.now in
+    let front : List Stripe = c.split_at_mut-front.result.0.now in
+    let back : List Stripe = c.split_at_mut-front.result.1.now in
+    let cut = c.split_at_mut-front.ensures in
+    let within : c.args.span.first < length front = omega (arith, cut.front_len) in
+    let some : 0 < length back = omega (arith, cut.front_len, cut.back_len) in
+    let first = in_front here front back c.args.span.first c.index-front-span.result cut.value within in
+    let last = in_back here front back c.args.span.last c.index-back-0.result cut.value cut.front_len some in
+    subst (λ (s : Stripe). IfOk c.apply_two.result (λ (r : Applied). r ≡ noted_of c.args.stamp.worker c.args.stamp.place
+    c.args.stamp.index c.args.stamp.tick
+    (executed_on names (rows_in_two s (stripe_at here c.args.span.last)) (plain c.args.request.now)))) first
+    (subst (λ (u : Stripe). IfOk c.apply_two.result (λ (r : Applied). r ≡ noted_of c.args.stamp.worker
+    c.args.stamp.place c.args.stamp.index c.args.stamp.tick
+    (executed_on names (rows_in_two (get_or front c.args.span.first c.index-front-span.result) u)
+    (plain c.args.request.now)))) last
+    (c.apply_two.ensures.exact names is))
 
 pub returns-clause-journals : goal.returns-clause-journals
 returns-clause-journals c =

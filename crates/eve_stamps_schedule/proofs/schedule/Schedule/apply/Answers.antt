@@ -1,4 +1,4 @@
-use Rattle.std.proofs.Common.{◌≡◌, ℕ, ◌<◌, true, List, length, set, refl, sym, subst, ap, ◌∙◌, arith}
+use Rattle.std.proofs.Common.{◌≡◌, ℕ, ◌<◌, true, List, length, set, refl, sym, subst, ap, ◌∙◌, arith, rules}
 use Rattle.eve_stamps_schedule.specs.declared.event.Event.TheVariants.{Apply}
 use Rattle.eve_stamps_schedule.specs.declared.stage.Stage.TheVariants as at
 use Rattle.eve_stamps_schedule.specs.Events.{happens}
@@ -112,6 +112,14 @@ pub insert-requires-clause-rises : goal.insert-requires-clause-rises
 insert-requires-clause-rises c =
     subst (EachBefore (λ (x y : Applied). x.tick < y.tick)) (sym c.reserve.ensures.items)
     (ticks_rise (schedule_of c.self.inside) c.self.inside.noted_count c.self.invariant)
+
+pub returns-then-is_err : goal.returns-then-is_err
+returns-then-is_err c =
+    let ticked : In-Ticked = (goal.at.returns-then-is_err c).In-Ticked in (
+      ap (λ (t : Schedule). allows t (Apply c.args.worker)) (sym c.self.view_is) ∙ allowed ticked,
+      refl,
+      search rules,
+    )
 
 pub invariant_of-self-in-Ok : goal.invariant_of-self-in-Ok
 invariant_of-self-in-Ok c =
