@@ -3,7 +3,7 @@
 use eve_smallbank::{Entry, UpToThree};
 
 /// What a request read and wrote in a stripe, at its tick.
-#[derive(Clone, Copy, PartialEq, Eq)]
+#[derive(Clone, Copy)]
 pub struct Journaled {
     /// The tick at which it was applied.
     pub tick: u64,

@@ -18,7 +18,7 @@ fn stripe_of(row: Row) -> usize
 }
 
 /// The first and the last of the stripes that a request locks. They are one where its rows lie in one stripe.
-#[derive(Clone, Copy, PartialEq, Eq)]
+#[derive(Clone, Copy)]
 pub struct Span {
     /// The stripe that is locked first.
     pub first: usize,
