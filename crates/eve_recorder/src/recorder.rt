@@ -22,7 +22,7 @@ use std::marker::Model;
 use std::sync::Wait;
 
 /// Why a record was not noted.
-#[derive(Clone, Copy, PartialEq, Eq)]
+#[derive(Clone, Copy)]
 pub enum NoteFault {
     /// The queue was full at one moment. The record comes back.
     Full(AccessRecord),
