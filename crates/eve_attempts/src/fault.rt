@@ -1,7 +1,7 @@
 //! Why an attempt is refused, and a commit.
 
 /// Why the records of a batch are no attempt.
-#[derive(Clone, Copy, Debug, PartialEq, Eq)]
+#[derive(Clone, Copy, Debug)]
 pub enum CloseFault {
     /// Memory ran out.
     Memory,
@@ -10,5 +10,5 @@ pub enum CloseFault {
 }
 
 /// No attempt is open, or the first open one is of another batch.
-#[derive(Clone, Copy, Debug, PartialEq, Eq)]
+#[derive(Clone, Copy, Debug)]
 pub struct NotOpen;

@@ -3,7 +3,7 @@
 /// What stands at the front of an attempt.
 ///
 /// docs/MODEL.md, "Section state, fate".
-#[derive(Clone, Copy, PartialEq, Eq)]
+#[derive(Clone, Copy)]
 pub struct AttemptFront {
     /// The batch's number, from 1.
     pub seq: u32,
