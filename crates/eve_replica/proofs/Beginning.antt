@@ -1,13 +1,15 @@
 -- How replicas of a run begin.
 use Rattle.std.proofs.Common.{◌≡◌, ℕ, ℤ, ◌-◌, ◌*◌, true, false, List, [], All, length, map, refl, sym, ap, ◌∙◌}
-use Rattle.std.proofs.Common.{subst, arith}
+use Rattle.std.proofs.Common.{rules, ◌≤◌, IsTrue, subst, arith}
 use Rattle.std.proofs.lemmas.Bool.{false≢true}
 use Rattle.std.proofs.lemmas.List.{append-nil}
 use Rattle.std.proofs.lemmas.List.Elements.{All-nil}
 use Rattle.std.specs.List.{list_all}
 use Rattle.eve_grammar.specs.Trace.{Step}
 use Rattle.eve_grammar.specs.declared.head.Head.{Head}
-use Rattle.eve_grammar.specs.Limits.{is_step}
+use Rattle.eve_grammar.specs.declared.limits.TheConstants.{MOST_REPLICAS, MOST_WINDOW, MOST_WORKERS}
+use Rattle.eve_grammar.specs.declared.limits.TheConstants.{MOST_CUSTOMERS}
+use Rattle.eve_grammar.specs.Limits.{is_head, is_step}
 use Rattle.eve_write.specs.declared.vote.VoteData.{VoteData}
 use Rattle.eve_write.specs.Data.{section, vote}
 use Rattle.eve_workload.specs.declared.mixer.MixedBatch.{MixedBatch}
@@ -18,6 +20,21 @@ use Rattle.eve_replica.specs.Sections.{RunPlan, GoesThrough, votes_along}
 use Rattle.eve_replica.specs.Serving.{IsPlanFor, Serves, AreVotesOn, AreOfItsView, plan_with}
 use Rattle.eve_replica.specs.Serving.{standing_of, first_standing, ComesTo, window_at}
 use Rattle.eve_replica.specs.Windows.{WindowState, window_with}
+
+-- the numbers of a head with which replicas begin lie within their limits
+pub record IsWithin (h : Head) : Type 0 where
+  pub replicas : (1 ≤ h.replicas) × (h.replicas ≤ MOST_REPLICAS)
+  pub workers : (1 ≤ h.workers) × (h.workers ≤ MOST_WORKERS)
+  pub window : (1 ≤ h.window) × (h.window ≤ MOST_WINDOW)
+  pub customers : h.customers ≤ MOST_CUSTOMERS
+
+pub head_within : (h : Head) → IsTrue (is_head h) → IsWithin h
+head_within h right = record {
+  replicas = search rules;
+  workers = search rules;
+  window = search rules;
+  customers = search rules;
+}
 
 -- a replica with the opening balances that has done nothing
 pub begins : (p : RunPlan) (names : List (List ℕ)) (balances : List ℤ) (h : Head) (s : Server)

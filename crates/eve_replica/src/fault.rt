@@ -51,7 +51,7 @@ pub enum CommitFault {
 }
 
 /// Why a workload was not run.
-#[derive(Clone, Copy, Debug, PartialEq, Eq, Error)]
+#[derive(Clone, Copy, Debug, Error)]
 pub enum RunFault {
     /// Memory ran out.
     #[error("out of memory")]

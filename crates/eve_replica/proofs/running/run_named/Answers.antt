@@ -1,10 +1,9 @@
-use Rattle.std.proofs.Common.{rules, ◌≡◌, ◌≤◌, All, IsTrue, List, length, map, sym, ◌∙◌, ap, subst, arith}
+use Rattle.std.proofs.Common.{◌≡◌, All, IsTrue, List, length, map, sym, ◌∙◌, ap, subst, arith}
 use Rattle.std.proofs.lemmas.List.{length-map}
 use Rattle.std.specs.List.{list_all}
 use Rattle.eve_grammar.specs.Trace.{Customer, Vote, head_of, opening_rows}
 use Rattle.eve_grammar.specs.declared.head.Head as header
 use Rattle.eve_grammar.specs.Limits.{is_customer}
-use Rattle.eve_grammar.specs.declared.limits.TheConstants.{MOST_REPLICAS}
 use Rattle.eve_grammar.specs.declared.head.Head.{Head}
 use Rattle.eve_write.specs.declared.parts.Parts.{Parts}
 use Rattle.eve_write.specs.declared.customer.CustomerData.{CustomerData}
@@ -18,6 +17,7 @@ use Rattle.eve_workload.specs.Mixing.{cut, batch_with}
 use Rattle.eve_workload.specs.Workload.{customer_names, head_asked, is_listed}
 use Rattle.eve_replica.specs.Run.{batches_cut, run_plan}
 use Rattle.eve_replica.specs.Sending.{sent_from_on}
+use Rattle.eve_replica.proofs.Beginning.{head_within}
 use Rattle.eve_replica.proofs.Parts.{same_head, spelled}
 use Rattle.eve_replica.proofs.Sectioned.{run_of, plan_is, copies_gave}
 use Rattle.eve_replica.proofs.running.run_named.Goals as goal
@@ -118,6 +118,23 @@ first_state-requires-clause-customers g c =
     ∙ ap length (ap (map customer) c.as_slice.ensures.value ∙ c.into_lists-customers.ensures.customers)
     ∙ sym (ap (λ (h : Head). h.customers) c.head-head.ensures.head)
 
+pub first_state-requires-clause-known : goal.first_state-requires-clause-known
+first_state-requires-clause-known g c =
+    omega (
+      arith,
+      first_state-requires-clause-customers g c,
+      (head_within c.head-head.result c.head-head.ensures.right).customers,
+    )
+
+pub first_state-requires-clause-workers : goal.first_state-requires-clause-workers
+first_state-requires-clause-workers g c = (head_within c.head-head.result c.head-head.ensures.right).workers
+
+pub first_state-requires-clause-window : goal.first_state-requires-clause-window
+first_state-requires-clause-window g c = (head_within c.head-head.result c.head-head.ensures.right).window
+
+pub first_state-requires-clause-replicas : goal.first_state-requires-clause-replicas
+first_state-requires-clause-replicas g c = (head_within c.head-head.result c.head-head.ensures.right).replicas.0
+
 pub first_state-requires-clause-mixed : goal.first_state-requires-clause-mixed
 first_state-requires-clause-mixed g c =
     subst (All (IsRightMixed c.args.names.now.items)) (sym c.as_slice-2.ensures.value) c.in_ok-batches.ensures.mixed
@@ -135,5 +152,11 @@ outcome_of-requires g c =
     let last : RunState = c.run_windows.new.state in
     let under : IsUnderWay plan last = c.in_ok-run_windows.ensures.under_way plan c.in_ok-state.ensures.under_way in
     let same : last.head ≡ h = c.in_ok-run_windows.ensures.same.0 ∙ c.in_ok-state.ensures.head in
-    let few : h.replicas ≤ MOST_REPLICAS = search rules in
-    omega (arith, few, under.many, ap (λ (x : header.Head). x.replicas) same)
+    omega (arith, (head_within h c.head-head.ensures.right).replicas, under.many, ap (λ (x : header.Head). x.replicas) same)
+
+pub run_windows-requires-clause-under_way : goal.run_windows-requires-clause-under_way
+run_windows-requires-clause-under_way g c κs within =
+    let opened = opening_rows (map customer c.as_slice.result.now) in (
+      plan_with c.args.names.now.items opened c.head-head.result c.as_slice-2.result.now,
+      c.in_ok-state.ensures.under_way,
+    )

@@ -36,9 +36,7 @@ returns-clause-many g c =
 
 pub returns-clause-standing : goal.returns-clause-standing
 returns-clause-standing g c =
-    let d = c.args.self.now in
-    let many = window_len d.batches.now d.standing.committed c.min-end.result (omega arith) (omega arith) in
-    window_open _ d.standing c.requires.none_open
+    window_open _ c.args.self.now.standing c.requires.none_open
 
 pub returns-clause-under_way : goal.returns-clause-under_way
 returns-clause-under_way g c = λ p was.
