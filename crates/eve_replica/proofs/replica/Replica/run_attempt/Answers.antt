@@ -1,4 +1,4 @@
-use Rattle.std.proofs.Common.{ℕ, Bool, IfOk, sym, subst}
+use Rattle.std.proofs.Common.{rules, ℕ, Bool, IfOk, sym, subst}
 use Rattle.eve_write.specs.declared.batch.BatchData.{BatchData}
 use Rattle.eve_write.specs.Data.{batch, attempt}
 use Rattle.eve_replica.specs.Replicas.{Replica, Attempts}
@@ -15,3 +15,6 @@ returns-clause-attempted g c =
     subst (λ (v : ℕ). Made v c.args.serial old c.args.batch.now) (sym c.requires.view)
     (subst (λ (s : Bool). Made old.ledger.view s old c.args.batch.now) (sym c.requires.serial)
     (subst (λ (b : BatchData). Made old.ledger.view old.ledger.is_next_serial old b) c.leg_of-leg.ensures.batch due))
+
+pub attempt_one-requires-clause-due : goal.attempt_one-requires-clause-due
+attempt_one-requires-clause-due g c = search rules
