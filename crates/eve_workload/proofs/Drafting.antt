@@ -87,8 +87,8 @@ pub batch_refused : (d : Draft) (before : List Line) → 65535 ≤ length d.batc
 batch_refused d before full keeps right =
     omega (arith, ltb-true (batches_in before) 65535 right.room, batches_kept d before keeps)
 
-pub customer_refused : (d : Draft) (c : Customer) (before : List Line) → 4096 ≤ length d.customers.items → Keeps d before
-    → ¬ IsRightBehind before (CustomerLine c)
+pub customer_refused : (d : Draft) (c : Customer) (before : List Line) → 4096 ≤ length d.customers.items
+    → Keeps d before → ¬ IsRightBehind before (CustomerLine c)
 customer_refused d c before full keeps right =
     omega (
       arith,

@@ -152,7 +152,12 @@ outcome_of-requires g c =
     let last : RunState = c.run_windows.new.state in
     let under : IsUnderWay plan last = c.in_ok-run_windows.ensures.under_way plan c.in_ok-state.ensures.under_way in
     let same : last.head ≡ h = c.in_ok-run_windows.ensures.same.0 ∙ c.in_ok-state.ensures.head in
-    omega (arith, (head_within h c.head-head.ensures.right).replicas, under.many, ap (λ (x : header.Head). x.replicas) same)
+    omega (
+      arith,
+      (head_within h c.head-head.ensures.right).replicas,
+      under.many,
+      ap (λ (x : header.Head). x.replicas) same,
+    )
 
 pub run_windows-requires-clause-under_way : goal.run_windows-requires-clause-under_way
 run_windows-requires-clause-under_way g c κs within =

@@ -9,7 +9,9 @@ pub returns-in-Ok-clause-there : goal.returns-in-Ok-clause-there
 returns-in-Ok-clause-there c = search rules
 
 pub returns-in-Ok-clause-broken : goal.returns-in-Ok-clause-broken
-returns-in-Ok-clause-broken c = let now = ap (λ (r : Replica). r.is_broken) c.self.view_is in (λ same. cc, λ broken. cc)
+returns-in-Ok-clause-broken c =
+    let now = ap (λ (r : Replica). r.is_broken) c.self.view_is in (λ same. cc, λ broken. cc)
 
 pub returns-in-Err-clause-broken : goal.returns-in-Err-clause-broken
-returns-in-Err-clause-broken c = let now = ap (λ (r : Replica). r.is_broken) c.self.view_is in (λ same. cc, λ broken. cc)
+returns-in-Err-clause-broken c =
+    let now = ap (λ (r : Replica). r.is_broken) c.self.view_is in (λ same. cc, λ broken. cc)
