@@ -203,9 +203,10 @@ fn roll_back_all(servers: &mut [Server], alloc: Global) -> Result<(), AllocError
 fn decided(servers: &[Server]) -> Option<[u8; 32]>
     ensures { IsDecision result servers.now }
 {
+    let half = servers.len() / 2;
     for server in servers {
         if let Some(token) = server.next_token() {
-            if count_with(servers, token) > servers.len() / 2 {
+            if count_with(servers, token) > half {
                 return Some(token);
             }
         }
