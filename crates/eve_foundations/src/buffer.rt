@@ -1,83 +1,78 @@
 //! Many small parts that are sent through a buffer.
 
-use crate::cases::call_of;
+use crate::cases::{last_at, number_of};
 use crate::said::Said;
 use crate::streams::memory;
 use eve_streams::failing::FailsAt;
 use eve_streams::{Buffered, SendFault, SinkOf, send_all};
-use std::alloc::{AllocError, Global};
-use std::io;
-use std::io::ErrorKind;
+use std::alloc::Global;
 
 /// A buffer before a sink in memory, of which one call fails.
 type Tried = Buffered<FailsAt<SinkOf<Vec<u8>>>>;
 
-/// Tells what a line about a buffer asks for.
-pub(crate) fn tell(alloc: Global, line: &str, words: &[&str], said: &mut Said) -> io::Result<()> {
-    write!(said, "{line}:");
-    let bytes = numbers(alloc)?;
-    match words {
-        [call] => tell_buffer(alloc, call_of(call)?, bytes.as_slice(), said),
-        _ => Err(ErrorKind::InvalidData)?,
+/// Tells what comes of 100,000 numbers where a call fails; false where the line asks for something else.
+pub(crate) fn tell(alloc: Global, what: &str, words: &[&str], said: &mut Said) -> bool {
+    if what != "buffer" {
+        return false;
     }
+    let call = number_of(last_at(words, 1, said), said);
+    let bytes = numbers(alloc, said);
+    let sink = FailsAt::new(memory(alloc, bytes.len(), said), call as u64);
+    match Buffered::new(alloc, sink) {
+        Ok(out) => tell_sent(out, bytes.as_slice(), said),
+        Err(_) => said.refused(),
+    }
+    true
 }
 
 /// 100,000 numbers of four bytes.
-fn numbers(alloc: Global) -> Result<Vec<u8>, AllocError> {
+fn numbers(alloc: Global, said: &mut Said) -> Vec<u8> {
     let mut bytes = Vec::new(alloc);
     for n in 0..100_000u32 {
-        bytes.extend_from_slice(&n.to_be_bytes())?;
+        said.kept(bytes.extend_from_slice(&n.to_be_bytes()));
     }
-    Ok(bytes)
+    bytes
+}
+
+/// Sends the bytes in parts, then what is left of them, and flushes twice.
+fn tell_sent(mut out: Tried, bytes: &[u8], said: &mut Said) {
+    said.answer(" ", send_parts(&mut out, bytes));
+    let rest = tell_state(&out, bytes, said);
+    said.answer("; the rest ", send_all(&mut out, rest));
+    said.answer(", ", out.flush());
+    said.answer(", ", out.flush());
+    tell_state(&out, bytes, said);
 }
 
 /// Sends bytes in parts of 40 until one fails.
 fn send_parts(out: &mut Tried, bytes: &[u8]) -> Result<(), SendFault> {
     for part in bytes.chunks_exact(40) {
-        send_all(out, part)?;
+        let sent = send_all(out, part);
+        if sent.is_err() {
+            return sent;
+        }
     }
     Ok(())
-}
-
-/// The bytes behind so many.
-fn behind(bytes: &[u8], count: usize) -> io::Result<&[u8]> {
-    match bytes.get(count..) {
-        Some(rest) => Ok(rest),
-        None => Err(ErrorKind::InvalidData)?,
-    }
-}
-
-/// Tells how many bytes were sent on and how many are held.
-fn tell_counts(sent: usize, held: usize, said: &mut Said) {
-    write!(said, " {sent} sent, {held} held,");
 }
 
 /// Tells what was sent on and what is held, whether both are in order, and how often the sink failed. Gives the bytes
-/// that come after.
-fn tell_state<'b>(out: &Tried, bytes: &'b [u8], said: &mut Said) -> io::Result<&'b [u8]> {
-    let (sent, held) = (out.sink().stream().writer().as_slice(), out.held());
-    tell_counts(sent.len(), held.len(), said);
-    let rest = behind(bytes, sent.len())?;
-    let in_order = bytes.starts_with(sent) && rest.starts_with(held);
-    let failed = out.sink().failures();
-    write!(said, " in order {in_order}, {failed} failed");
-    behind(rest, held.len())
+/// that come after, if they are in order.
+fn tell_state<'b>(out: &Tried, bytes: &'b [u8], said: &mut Said) -> &'b [u8] {
+    let sent = out.sink().stream().writer().as_slice();
+    let held = out.held();
+    said.value(", ", sent.len());
+    said.value(" sent, ", held.len());
+    let rest = behind(bytes, sent, held);
+    said.value(" held, in order ", rest.is_some());
+    said.value(", ", out.sink().failures());
+    said.words(" failed");
+    rest.unwrap_or(&[])
 }
 
-/// Sends the bytes in parts, then what is left of them, and flushes twice.
-fn tell_sent(out: &mut Tried, bytes: &[u8], said: &mut Said) -> io::Result<()> {
-    write!(said, " {:?},", send_parts(out, bytes));
-    let rest = tell_state(out, bytes, said)?;
-    write!(said, "; the rest {:?},", send_all(out, rest));
-    let (first, second) = (out.flush(), out.flush());
-    write!(said, " {first:?}, {second:?},");
-    tell_state(out, bytes, said)?;
-    Ok(())
-}
-
-/// The same with a buffer of its own, behind which one call fails.
-fn tell_buffer(alloc: Global, call: u64, bytes: &[u8], said: &mut Said) -> io::Result<()> {
-    let sink = FailsAt::new(memory(alloc, bytes.len())?, call);
-    let mut out = Buffered::new(alloc, sink)?;
-    tell_sent(&mut out, bytes, said)
+/// The bytes behind those that were sent and those that are held, if all bytes are in order.
+fn behind<'b>(bytes: &'b [u8], sent: &[u8], held: &[u8]) -> Option<&'b [u8]> {
+    match bytes.strip_prefix(sent) {
+        Some(rest) => rest.strip_prefix(held),
+        None => None,
+    }
 }

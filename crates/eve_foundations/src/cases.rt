@@ -1,124 +1,157 @@
-//! How the lines of the input say bytes, numbers, balances and replies.
+//! How the lines of the input say bytes, numbers, balances and replies. Where a word isn't as it must be, what is said
+//! of the line keeps that, and something goes in its place.
 
+ghost use Rattle.std.specs.Prelude.{◌<◌, length, IfSome};
+
+use crate::said::Said;
 use eve_accounts::{Balances, Cents, MOST_NAMES, Row};
 use eve_smallbank::{Abort, Reply};
 use std::alloc::Global;
-use std::io;
-use std::io::ErrorKind;
+
+/// The word at this place, which must be there.
+pub(crate) fn word_at<'a>(words: &[&'a str], at: usize, said: &mut Said) -> &'a str {
+    match words.get(at) {
+        Some(word) => *word,
+        None => {
+            said.needs(false);
+            ""
+        }
+    }
+}
+
+/// The word at this place, which must be the last.
+pub(crate) fn last_at<'a>(words: &[&'a str], at: usize, said: &mut Said) -> &'a str {
+    said.needs(words.len().wrapping_sub(at) == 1);
+    word_at(words, at, said)
+}
+
+/// The number at this place, which must be there, and not negative.
+pub(crate) fn number_at(words: &[&str], at: usize, said: &mut Said) -> u32 {
+    number_of(word_at(words, at, said), said)
+}
+
+/// The bytes of the word at this place, which must be the last.
+pub(crate) fn bytes_at(alloc: Global, words: &[&str], at: usize, said: &mut Said) -> Vec<u8> {
+    bytes_of(alloc, last_at(words, at, said), said)
+}
+
+/// The words from this place on, if there are some.
+pub(crate) fn words_from<'a>(words: &'a [&'a str], at: usize) -> &'a [&'a str] {
+    words.get(at..).unwrap_or(&[])
+}
+
+/// A whole number of 64 bits.
+pub(crate) fn whole_of(word: &str, said: &mut Said) -> i64 {
+    let number = word.parse::<i64>();
+    said.needs(number.is_ok());
+    number.unwrap_or(0)
+}
 
 /// A number that isn't negative.
-pub(crate) fn number_of(word: &str) -> io::Result<u32> {
-    Ok(word.parse().ok().ok_or(ErrorKind::InvalidData)?)
+pub(crate) fn number_of(word: &str, said: &mut Said) -> u32 {
+    let number = word.parse::<u32>();
+    said.needs(number.is_ok());
+    number.unwrap_or(0)
 }
 
-/// The number of a call, from 1; 0 is none.
-pub(crate) fn call_of(word: &str) -> io::Result<u64> {
-    Ok(word.parse().ok().ok_or(ErrorKind::InvalidData)?)
-}
-
-/// Bytes as they are written: those in braces are in hexadecimal.
-pub(crate) fn bytes_of(alloc: Global, written: &str) -> io::Result<Vec<u8>> {
+/// The bytes of a word as they are written, but for one in braces, which is written in hexadecimal.
+pub(crate) fn bytes_of(alloc: Global, written: &str, said: &mut Said) -> Vec<u8> {
     let mut bytes = Vec::new(alloc);
-    let mut at = Place::Outside;
-    for byte in written.as_bytes() {
-        let (next, done) = after(at, *byte)?;
-        at = next;
-        if let Some(byte) = done {
-            bytes.push(byte)?;
+    for part in written.split('{') {
+        let (digits, plain) = part.split_once('}').unwrap_or(("", part));
+        match u8::from_str_radix(digits, 16) {
+            Ok(byte) => said.kept(bytes.push(byte)),
+            Err(_) => said.needs(digits.is_empty()),
         }
+        said.kept(bytes.extend_from_slice(plain.as_bytes()));
     }
-    Ok(bytes)
-}
-
-/// Where in a word a byte stands: outside of braces, inside of them, or after the first digit of a byte.
-#[derive(Clone, Copy)]
-enum Place {
-    Outside,
-    Inside,
-    After(u8),
-}
-
-/// Where the next byte of a word stands, and the byte that ends with this one, if one does.
-fn after(at: Place, byte: u8) -> io::Result<(Place, Option<u8>)> {
-    Ok(match (at, byte) {
-        (Place::Outside, b'{') => (Place::Inside, None),
-        (Place::Outside, byte) => (Place::Outside, Some(byte)),
-        (Place::Inside, b'}') => (Place::Outside, None),
-        (Place::Inside, digit) => (Place::After(digit_of(digit)?), None),
-        (Place::After(high), digit) => {
-            let low = digit_of(digit)?;
-            (Place::Inside, Some(high.wrapping_mul(16).wrapping_add(low)))
-        }
-    })
-}
-
-/// What a hexadecimal digit stands for.
-fn digit_of(digit: u8) -> io::Result<u8> {
-    match digit {
-        b'0'..=b'9' => Ok(digit - b'0'),
-        b'a'..=b'f' => Ok(digit - b'a' + 10),
-        _ => Err(ErrorKind::InvalidData)?,
-    }
+    bytes
 }
 
 /// A balance: so many cents.
-pub(crate) fn cents_of(word: &str) -> io::Result<Cents> {
-    let cents = word.parse().ok().ok_or(ErrorKind::InvalidData)?;
-    Ok(Cents::new(cents).ok_or(ErrorKind::InvalidData)?)
+pub(crate) fn cents_of(word: &str, said: &mut Said) -> Cents {
+    let cents = Cents::new(whole_of(word, said));
+    said.needs(cents.is_some());
+    cents.unwrap_or(Cents::ZERO)
 }
 
-/// A row of the customer with this number, if one can have it.
-fn row_of(customer: u32, is_checking: bool) -> Option<Row> {
-    if customer >= MOST_NAMES {
+/// The row with this number, if it is there.
+pub(crate) fn row_in(balances: &Balances, number: u32) -> Option<Row>
+    ensures { IfSome result (λ row. row < length balances.now) }
+{
+    let customer = number / 2;
+    if customer >= MOST_NAMES || number as usize >= balances.len() {
         None
-    } else if is_checking {
-        Some(Row::checking(customer))
-    } else {
+    } else if number % 2 == 0 {
         Some(Row::saving(customer))
+    } else {
+        Some(Row::checking(customer))
     }
 }
 
-/// The row with this number, if one can have it.
-pub(crate) fn row_at(number: u32) -> Option<Row> {
-    row_of(number / 2, number % 2 == 1)
+/// The new balance of the row with this number.
+#[derive(Clone, Copy)]
+pub(crate) struct Change {
+    pub row: u32,
+    pub balance: Cents,
 }
 
-/// Sets the balance of the row with this number, which must be there.
-pub(crate) fn set_row(balances: &mut Balances, number: u32, cents: &str) -> io::Result<()> {
-    let row = row_at(number).ok_or(ErrorKind::InvalidData)?;
-    if row.number() as usize >= balances.len() {
-        return Err(ErrorKind::InvalidData)?;
+/// What a word changes: `ROW=CENTS`.
+pub(crate) fn change_of(word: &str, said: &mut Said) -> Change {
+    let (row, cents) = word.split_once('=').unwrap_or(("", ""));
+    Change {
+        row: number_of(row, said),
+        balance: cents_of(cents, said),
     }
-    balances.set(row, cents_of(cents)?);
-    Ok(())
+}
+
+/// Changes the balance of a row, which must be there.
+pub(crate) fn set_row(balances: &mut Balances, change: Change, said: &mut Said) {
+    match row_in(balances, change.row) {
+        Some(row) => balances.set(row, change.balance),
+        None => said.needs(false),
+    }
 }
 
 /// The balances of all rows, separated by commas.
-pub(crate) fn balances_of(alloc: Global, words: &str) -> io::Result<Balances> {
-    let mut balances = Balances::new(alloc, words.split(',').count())?;
-    for (number, word) in (0..).zip(words.split(',')) {
-        set_row(&mut balances, number, word)?;
+pub(crate) fn balances_of(alloc: Global, words: &str, said: &mut Said) -> Option<Balances>
+    ensures { IfSome result (λ balances. 0 < length balances) }
+{
+    let Ok(mut balances) = Balances::new(alloc, words.split(',').count()) else {
+        said.refused();
+        return None;
+    };
+    let mut row = 0u32;
+    for word in words.split(',') {
+        let balance = cents_of(word, said);
+        set_row(&mut balances, Change { row, balance }, said);
+        row = row.wrapping_add(1);
     }
-    Ok(balances)
+    if balances.is_empty() {
+        None
+    } else {
+        Some(balances)
+    }
 }
 
 /// A reply: its kind, or the cents of a total.
-fn reply_of(word: &str) -> io::Result<Reply> {
-    Ok(match word {
+fn reply_of(word: &str, said: &mut Said) -> Reply {
+    match word {
         "Done" => Reply::Done,
         "NoSuchName" => Reply::Aborted(Abort::NoSuchName),
         "BadAmount" => Reply::Aborted(Abort::BadAmount),
         "Insufficient" => Reply::Aborted(Abort::Insufficient),
         "OutOfRange" => Reply::Aborted(Abort::OutOfRange),
-        total => Reply::Total(total.parse().ok().ok_or(ErrorKind::InvalidData)?),
-    })
+        total => Reply::Total(whole_of(total, said)),
+    }
 }
 
 /// Replies, separated by commas.
-pub(crate) fn replies_of(alloc: Global, words: &str) -> io::Result<Vec<Reply>> {
+pub(crate) fn replies_of(alloc: Global, words: &str, said: &mut Said) -> Vec<Reply> {
     let mut replies = Vec::new(alloc);
     for word in words.split(',') {
-        replies.push(reply_of(word)?)?;
+        let reply = reply_of(word, said);
+        said.kept(replies.push(reply));
     }
-    Ok(replies)
+    replies
 }

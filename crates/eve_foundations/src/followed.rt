@@ -2,21 +2,33 @@
 
 ghost use Rattle.std.specs.Prelude.{◌≡◌, ◌<◌, length, slice_set, IfOk};
 
-use crate::cases::row_at;
+use crate::cases::{Change, balances_of, row_in};
+use crate::said::Said;
 use eve_accounts::{Balances, Cents, Row, SetRow};
 use eve_token::RowTree;
 use std::alloc::{AllocError, Global};
-use std::io;
-use std::io::ErrorKind;
 
 /// A new tree. Where memory is refused once, the tree can be made then.
-pub(crate) fn tree_over(alloc: Global, balances: &Balances) -> Result<RowTree, AllocError>
+fn tree_over(alloc: Global, balances: &Balances) -> Result<RowTree, AllocError>
     requires some { 0 < length balances.now }
     ensures { IfOk result (λ tree. tree ≡ balances.now) }
 {
     match RowTree::new(alloc, balances) {
         Err(AllocError) => RowTree::new(alloc, balances),
         made => made,
+    }
+}
+
+/// The root that a new tree gives.
+pub(crate) fn new_root(alloc: Global, balances: &Balances, said: &mut Said) -> [u8; 32]
+    requires some { 0 < length balances.now }
+{
+    match tree_over(alloc, balances) {
+        Ok(mut tree) => tree.root(),
+        Err(AllocError) => {
+            said.refused();
+            [0; 32]
+        }
     }
 }
 
@@ -39,12 +51,17 @@ pub(crate) struct Followed {
 
 impl Followed {
     /// A new tree over these balances, of which there must be some.
-    pub(crate) fn new(alloc: Global, balances: Balances) -> io::Result<Followed> {
-        if balances.is_empty() {
-            return Err(ErrorKind::InvalidData)?;
+    pub(crate) fn new(alloc: Global, words: &str, said: &mut Said) -> Option<Followed> {
+        let Some(balances) = balances_of(alloc, words, said) else {
+            return None;
+        };
+        match tree_over(alloc, &balances) {
+            Ok(tree) => Some(Followed { balances, tree }),
+            Err(AllocError) => {
+                said.refused();
+                None
+            }
         }
-        let tree = tree_over(alloc, &balances)?;
-        Ok(Followed { balances, tree })
     }
 
     /// How many rows there are.
@@ -54,15 +71,15 @@ impl Followed {
         self.balances.len()
     }
 
-    /// Changes the balance of the row with this number, which must be there, in both.
-    pub(crate) fn set(&mut self, number: u32, balance: Cents) -> io::Result<()> {
-        let row = row_at(number).ok_or(ErrorKind::InvalidData)?;
-        if row.number() as usize >= self.balances.len() {
-            return Err(ErrorKind::InvalidData)?;
+    /// Changes the balance of a row, which must be there, in both.
+    pub(crate) fn set(&mut self, change: Change, said: &mut Said) {
+        match row_in(&self.balances, change.row) {
+            Some(row) => {
+                write(&mut self.balances, row, change.balance);
+                write(&mut self.tree, row, change.balance);
+            }
+            None => said.needs(false),
         }
-        write(&mut self.balances, row, balance);
-        write(&mut self.tree, row, balance);
-        Ok(())
     }
 
     /// The root that the tree gives.
@@ -70,8 +87,8 @@ impl Followed {
         self.tree.root()
     }
 
-    /// The root that a new tree gives.
-    pub(crate) fn new_root(&self, alloc: Global) -> Result<[u8; 32], AllocError> {
-        Ok(tree_over(alloc, &self.balances)?.root())
+    /// Whether that is the root that a new tree gives.
+    pub(crate) fn is_as_new(&mut self, alloc: Global, said: &mut Said) -> bool {
+        self.tree.root() == new_root(alloc, &self.balances, said)
     }
 }

@@ -1,6 +1,6 @@
 //! Tries the calls of the lowest crates. A line of the input says by its first word what is done, and what came of it
-//! is printed after the line, or after the name that it gives. Bytes are written as they are, but for those in braces,
-//! which are written in hexadecimal: `an{20}n` has a space, and `{}` is no byte at all.
+//! is printed after the line, or after the name that it gives. Bytes are written as they are, but for one in braces,
+//! which is written in hexadecimal: `an{20}n` has a space, and `{}` is no byte at all.
 //!
 //! - `names LIMIT NAME..`: each name is added, and what that answers, its number and how many there are is printed;
 //!   then the number of each name. Where memory is refused, nothing may have changed, and the name is added once more
@@ -10,14 +10,16 @@
 //! - `send CALL PART..`: the parts are sent a byte a call, and one call fails, counted from 1
 //! - `fetch CALL LIMIT BYTES`: the bytes are read a byte a call, and one call fails; `read LIMIT BYTES`: none fails
 //! - `write-to TURNS BYTES`, `read-from TURNS LIMIT`: the same with a device that takes turns at each call: a number of
-//!   bytes that it moves, `again` for an interruption, or `fails`; after its last turn it moves nothing
+//!   bytes that it moves, `again` for an interruption, or `fails`, as any other word does; after its last turn it moves
+//!   nothing
 //! - `reads COUNT TURNS LIMIT`, `tries COUNT TURNS BYTES`: the same where the device is called so often at most
 //! - `buffer CALL`: 100,000 numbers are sent in parts of ten through a buffer, behind which one call fails
 //! - `token NAME VERSION NUMBER BALANCES REPLIES`: the token; in version 2 also the root that a tree gives, with its
 //!   token
 //! - `writes NAME BALANCES ROW=CENTS..`: the root that a tree gives at first and after each write
-//! - `random NAME COUNT BALANCES`: whether after each of so many random writes the root is that of a new tree
+//! - `random NAME COUNT BALANCES`: after how many of so many random writes the root is that of a new tree
 //!
+//! Where a word isn't as it must be, or memory is refused, nothing is printed of the line, and the program ends there.
 //! What must be printed is what table.py, beside the input, answers to the same lines.
 #![tactic(auto)]
 
@@ -31,40 +33,45 @@ mod roots;
 mod said;
 mod streams;
 
+use crate::cases::word_at;
 use crate::said::Said;
 use std::io;
-use std::io::ErrorKind;
 
 /// Tells what came of a line with these words.
-fn tell(rt: &HostRuntime, line: &str, words: &[&str], said: &mut Said) -> io::Result<()> {
-    let Some((what, words)) = words.split_first() else {
-        return Err(ErrorKind::InvalidData)?;
-    };
-    match *what {
-        "token" | "writes" | "random" => roots::tell(rt, what, words, said),
-        "names" | "name" => names::tell(rt, line, what, words, said),
-        "cents" | "amount" | "rows" | "balances" => {
-            money::tell(rt.alloc(), line, what, words, said)
-        }
-        "buffer" => buffer::tell(rt.alloc(), line, words, said),
-        "send" | "fetch" | "read" => streams::tell(rt.alloc(), line, what, words, said),
-        _ => device::tell(rt.alloc(), line, what, words, said),
+fn tell(rt: &HostRuntime, line: &str, words: &[&str], said: &mut Said) {
+    let alloc = rt.alloc();
+    let what = word_at(words, 0, said);
+    if roots::tell(rt, what, words, said) {
+        return;
     }
+    said.words(line);
+    said.words(":");
+    let is_told = names::tell(rt, what, words, said)
+        || money::tell(alloc, what, words, said)
+        || streams::tell(alloc, line, what, words, said)
+        || device::tell(alloc, what, words, said)
+        || buffer::tell(alloc, what, words, said);
+    said.needs(is_told);
 }
 
-/// What is said of a line.
-fn said_of(rt: &HostRuntime, line: &str) -> io::Result<String> {
-    let words: Vec<&str> = line.split(' ').collect(rt.alloc())?;
-    let mut said = Said::nothing(rt.alloc());
-    tell(rt, line, words.as_slice(), &mut said)?;
-    Ok(said.all()?)
+/// Prints what is said of a line.
+fn answer(rt: &HostRuntime, line: String) -> io::Result<()> {
+    let alloc = rt.alloc();
+    let line = line.as_str();
+    let mut said = Said::nothing(alloc);
+    match line.split(' ').collect::<Vec<&str>>(alloc) {
+        Ok(words) => tell(rt, line, words.as_slice(), &mut said),
+        Err(_) => said.refused(),
+    }
+    match said.all() {
+        Ok(said) => rt.println(said),
+        Err(why) => Err(why),
+    }
 }
 
 fn main(rt: HostRuntime) -> io::Result<()> {
     for line in rt.lines(rt.alloc()) {
-        let line = line?;
-        let said = said_of(&rt, line.as_str())?;
-        println!(rt; "{said}")?;
+        answer(&rt, line?)?;
     }
     Ok(())
 }

@@ -1,127 +1,91 @@
 //! Money, rows and balances.
 
-ghost use Rattle.std.specs.Prelude.{◌<◌};
-
-use crate::cases::{number_of, row_at, set_row};
+use crate::cases::{
+    change_of, last_at, number_at, number_of, row_in, set_row, whole_of, word_at, words_from,
+};
 use crate::said::Said;
 use eve_accounts::{Amount, Balances, Cents, MOST_NAMES, Row};
 use std::alloc::Global;
-use std::io;
-use std::io::ErrorKind;
 
-/// Tells what a line about money asks for.
-pub(crate) fn tell(
-    alloc: Global,
-    line: &str,
-    what: &str,
-    words: &[&str],
-    said: &mut Said,
-) -> io::Result<()> {
-    let Some((first, rest)) = words.split_first() else {
-        return Err(ErrorKind::InvalidData)?;
-    };
-    write!(said, "{line}: ");
+/// Tells what a line about money asks for; false where it asks for something else.
+pub(crate) fn tell(alloc: Global, what: &str, words: &[&str], said: &mut Said) -> bool {
     match what {
-        "cents" => tell_cents(first, said),
-        "amount" => tell_amount(first, said),
-        "rows" => tell_rows(first, said),
-        _ => tell_balances(alloc, first, rest, said),
+        "cents" => tell_money(false, last_at(words, 1, said), said),
+        "amount" => tell_money(true, last_at(words, 1, said), said),
+        "rows" => tell_rows(last_at(words, 1, said), said),
+        "balances" => tell_balances(alloc, words, said),
+        _ => return false,
     }
+    true
 }
 
-/// A whole number of 64 bits.
-fn whole_of(word: &str) -> io::Result<i64> {
-    Ok(word.parse().ok().ok_or(ErrorKind::InvalidData)?)
-}
-
-/// Tells so many cents, if so many may be.
-fn tell_money(cents: Option<i64>, said: &mut Said) {
+/// Tells so many cents, if a balance may be so many, or an amount.
+fn tell_money(is_amount: bool, number: &str, said: &mut Said) {
+    let number = whole_of(number, said);
+    let cents = if is_amount {
+        match Amount::new(number) {
+            Some(amount) => Some(amount.get()),
+            None => None,
+        }
+    } else {
+        match Cents::new(number) {
+            Some(cents) => Some(cents.get()),
+            None => None,
+        }
+    };
     match cents {
-        Some(cents) => write!(said, "{cents} cents"),
-        None => said.words("out of range"),
+        Some(cents) => {
+            said.value(" ", cents);
+            said.words(" cents");
+        }
+        None => said.words(" out of range"),
     }
 }
 
-fn tell_cents(number: &str, said: &mut Said) -> io::Result<()> {
-    let cents = match Cents::new(whole_of(number)?) {
-        Some(cents) => Some(cents.get()),
-        None => None,
-    };
-    tell_money(cents, said);
-    Ok(())
-}
-
-fn tell_amount(number: &str, said: &mut Said) -> io::Result<()> {
-    let cents = match Amount::new(whole_of(number)?) {
-        Some(amount) => Some(amount.get()),
-        None => None,
-    };
-    tell_money(cents, said);
-    Ok(())
-}
-
-fn tell_rows(customer: &str, said: &mut Said) -> io::Result<()> {
-    let customer = number_of(customer)?;
+/// Tells the numbers of a customer's rows.
+fn tell_rows(customer: &str, said: &mut Said) {
+    let customer = number_of(customer, said);
     if customer >= MOST_NAMES {
-        return Err(ErrorKind::InvalidData)?;
+        return said.needs(false);
     }
-    let (saving, checking) = (Row::saving(customer), Row::checking(customer));
-    write!(
-        said,
-        "saving {}, checking {}",
-        saving.number(),
-        checking.number()
-    );
-    Ok(())
-}
-
-/// Sets the balance that a word says: `ROW=CENTS`.
-fn set(balances: &mut Balances, word: &str) -> io::Result<()> {
-    let (row, cents) = word.split_once('=').ok_or(ErrorKind::InvalidData)?;
-    set_row(balances, number_of(row)?, cents)
-}
-
-/// So many balances, of which some are set.
-fn balances_of(alloc: Global, count: u32, sets: &[&str]) -> io::Result<Balances> {
-    let mut balances = Balances::new(alloc, count as usize)?;
-    for word in sets {
-        set(&mut balances, word)?;
-    }
-    Ok(balances)
+    said.value(" saving ", Row::saving(customer).number());
+    said.value(", checking ", Row::checking(customer).number());
 }
 
 /// Tells of so many balances, of which some are set, and of a copy of them.
-fn tell_balances(alloc: Global, count: &str, sets: &[&str], said: &mut Said) -> io::Result<()> {
-    let balances = balances_of(alloc, number_of(count)?, sets)?;
+fn tell_balances(alloc: Global, words: &[&str], said: &mut Said) {
+    let count = number_at(words, 1, said);
+    let Ok(mut balances) = Balances::new(alloc, count as usize) else {
+        return said.refused();
+    };
+    for word in words_from(words, 2) {
+        set_row(&mut balances, change_of(word, said), said);
+    }
     tell_all(&balances, said);
-    said.words("; copied ");
-    tell_all(&balances.copy(alloc)?, said);
-    Ok(())
-}
-
-/// Tells the balance of the row with this number, if it is there.
-fn tell_row(balances: &Balances, number: u32, said: &mut Said) {
-    match row_at(number) {
-        Some(row) if (row.number() as usize) < balances.len() => {
-            write!(said, ", {}", balances.get(row).get());
-        }
-        _ => {}
+    said.words("; copied");
+    match balances.copy(alloc) {
+        Ok(copy) => tell_all(&copy, said),
+        Err(_) => said.refused(),
     }
 }
 
-/// Tells each balance in the slice of all.
-fn tell_slice(balances: &Balances, said: &mut Said) {
-    said.words(", all");
-    for cents in balances.as_slice() {
-        write!(said, " {}", cents.get());
+/// Tells the balance of each row.
+fn tell_each(balances: &Balances, said: &mut Said) {
+    for number in 0..u32::MAX {
+        let Some(row) = row_in(balances, number) else {
+            break;
+        };
+        said.value(", ", balances.get(row).get());
     }
 }
 
 /// Tells each balance, by its row and in the slice of all.
 fn tell_all(balances: &Balances, said: &mut Said) {
-    write!(said, "{}, empty {}", balances.len(), balances.is_empty());
-    for (number, _) in (0..).zip(balances.as_slice()) {
-        tell_row(balances, number, said);
+    said.value(" ", balances.len());
+    said.value(", empty ", balances.is_empty());
+    tell_each(balances, said);
+    said.words(", all");
+    for cents in balances.as_slice() {
+        said.value(" ", cents.get());
     }
-    tell_slice(balances, said);
 }

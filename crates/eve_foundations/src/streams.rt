@@ -1,147 +1,96 @@
 //! Sinks and sources that move a byte a call, or fail at one.
 
-use crate::cases::{bytes_of, call_of, number_of};
+use crate::cases::{bytes_at, bytes_of, number_at, word_at, words_from};
 use crate::said::Said;
 use eve_streams::failing::FailsAt;
 use eve_streams::one_byte::OneByte;
 use eve_streams::{ReadFault, Sink, SinkOf, Source, SourceOf, read_all, send_all};
-use std::alloc::{AllocError, Global};
-use std::io::ErrorKind;
-use std::{fmt, io};
+use std::alloc::Global;
 
-/// Bytes, which are printed as the characters that they are, in quotes.
-#[derive(Clone, Copy)]
-pub(crate) struct Shown<'a>(pub &'a [u8]);
-
-impl fmt::Display for Shown<'_> {
-    fn fmt<W: fmt::Write>(&self, f: &mut fmt::Formatter<W>) -> fmt::Result {
-        write!(f, "\"")?;
-        for byte in self.0 {
-            write!(f, "{}", char::from(*byte))?;
-        }
-        write!(f, "\"")
-    }
+/// A sink in memory that has room for so many bytes: where there is none, that is noted here, and isn't told as a fault
+/// of the sink.
+pub(crate) fn memory(alloc: Global, room: usize, said: &mut Said) -> SinkOf<Vec<u8>> {
+    let mut bytes = Vec::new(alloc);
+    said.kept(bytes.reserve(room));
+    SinkOf::new(bytes)
 }
 
-/// A sink in memory that has room for so many bytes: where there is none, that is told here, and not as a fault of the
-/// sink.
-pub(crate) fn memory(alloc: Global, room: usize) -> Result<SinkOf<Vec<u8>>, AllocError> {
-    Ok(SinkOf::new(Vec::with_capacity(alloc, room)?))
-}
-
-/// All that is read of a source up to a limit; None where the source fails.
+/// All that is read of a source up to a limit. Tells that the source fails, where it does.
 pub(crate) fn read_of<S: Source>(
     alloc: Global,
     source: &mut S,
     limit: u32,
-) -> Result<Option<Vec<u8>>, AllocError> {
+    said: &mut Said,
+) -> Option<Vec<u8>> {
     match read_all(alloc, source, limit) {
-        Ok(bytes) => Ok(Some(bytes)),
-        Err(ReadFault::Read) => Ok(None),
-        Err(ReadFault::Memory) => Err(AllocError),
+        Ok(bytes) => return Some(bytes),
+        Err(ReadFault::Read) => said.words(" Read"),
+        Err(ReadFault::Memory) => said.refused(),
     }
+    None
 }
 
-/// Tells what a line about streams asks for.
-pub(crate) fn tell(
-    alloc: Global,
-    line: &str,
-    what: &str,
-    words: &[&str],
-    said: &mut Said,
-) -> io::Result<()> {
-    write!(said, "{line}:");
+/// Tells what a line about streams asks for; false where it asks for something else.
+pub(crate) fn tell(alloc: Global, line: &str, what: &str, words: &[&str], said: &mut Said) -> bool {
     match what {
-        "send" => tell_send(alloc, words, line.len(), said),
+        "send" => tell_send(alloc, line.len(), words, said),
         "fetch" => tell_fetch(alloc, words, said),
         "read" => tell_read(alloc, words, said),
-        _ => Err(ErrorKind::InvalidData)?,
+        _ => return false,
     }
+    true
 }
 
 /// Sends each part to a sink with so much room, of which one call fails.
-fn tell_send(alloc: Global, words: &[&str], room: usize, said: &mut Said) -> io::Result<()> {
-    let Some((call, parts)) = words.split_first() else {
-        return Err(ErrorKind::InvalidData)?;
-    };
-    let call = call_of(call)?;
-    let mut sink = FailsAt::new(OneByte::new(memory(alloc, room)?), call);
-    send_parts(alloc, &mut sink, parts, said)?;
-    let taken = Shown(sink.stream().stream().writer().as_slice());
-    write!(said, " {} failed, taken {taken}", sink.failures());
-    Ok(())
+fn tell_send(alloc: Global, room: usize, words: &[&str], said: &mut Said) {
+    let call = number_at(words, 1, said);
+    let mut sink = FailsAt::new(OneByte::new(memory(alloc, room, said)), call as u64);
+    send_parts(alloc, &mut sink, words_from(words, 2), said);
+    said.value(" ", sink.failures());
+    said.quoted(
+        " failed, taken ",
+        sink.stream().stream().writer().as_slice(),
+    );
 }
 
 /// Sends each part, and tells what that answers.
-fn send_parts<S: Sink>(
-    alloc: Global,
-    sink: &mut S,
-    parts: &[&str],
-    said: &mut Said,
-) -> io::Result<()> {
+fn send_parts<S: Sink>(alloc: Global, sink: &mut S, parts: &[&str], said: &mut Said) {
     for part in parts {
-        send_part(alloc, sink, part, said)?;
-    }
-    Ok(())
-}
-
-fn send_part<S: Sink>(alloc: Global, sink: &mut S, part: &str, said: &mut Said) -> io::Result<()> {
-    let bytes = bytes_of(alloc, part)?;
-    let sent = send_all(sink, bytes.as_slice());
-    write!(said, " {sent:?},");
-    Ok(())
-}
-
-/// Tells the bytes that were read, or that the source failed.
-fn tell_bytes(read: Option<Vec<u8>>, said: &mut Said) {
-    match read {
-        Some(bytes) => write!(said, " read {},", Shown(bytes.as_slice())),
-        None => said.words(" Read,"),
+        let bytes = bytes_of(alloc, part, said);
+        said.answer(" ", send_all(sink, bytes.as_slice()));
+        said.words(",");
     }
 }
 
 /// Reads a source of which one call fails.
-fn tell_fetch(alloc: Global, words: &[&str], said: &mut Said) -> io::Result<()> {
-    let [call, limit, bytes] = words else {
-        return Err(ErrorKind::InvalidData)?;
-    };
-    let (call, limit) = (call_of(call)?, number_of(limit)?);
-    let bytes = bytes_of(alloc, bytes)?;
-    let mut source = FailsAt::new(OneByte::new(SourceOf::new(bytes.as_slice())), call);
-    Ok(tell_failing(alloc, &mut source, limit, said)?)
-}
-
-fn tell_failing(
-    alloc: Global,
-    source: &mut FailsAt<OneByte<SourceOf<&[u8]>>>,
-    limit: u32,
-    said: &mut Said,
-) -> Result<(), AllocError> {
-    tell_bytes(read_of(alloc, source, limit)?, said);
-    let left = Shown(*source.stream().stream().reader());
-    write!(said, " {} failed, left {left}", source.failures());
-    Ok(())
+fn tell_fetch(alloc: Global, words: &[&str], said: &mut Said) {
+    let call = number_at(words, 1, said);
+    let limit = number_at(words, 2, said);
+    let bytes = bytes_at(alloc, words, 3, said);
+    let source = OneByte::new(SourceOf::new(bytes.as_slice()));
+    let mut source = FailsAt::new(source, call as u64);
+    tell_bytes(alloc, &mut source, limit, said);
+    tell_left(source.failures(), source.stream().stream().reader(), said);
 }
 
 /// Reads a source.
-fn tell_read(alloc: Global, words: &[&str], said: &mut Said) -> io::Result<()> {
-    let [limit, bytes] = words else {
-        return Err(ErrorKind::InvalidData)?;
-    };
-    let limit = number_of(limit)?;
-    let bytes = bytes_of(alloc, bytes)?;
+fn tell_read(alloc: Global, words: &[&str], said: &mut Said) {
+    let limit = number_at(words, 1, said);
+    let bytes = bytes_at(alloc, words, 2, said);
     let mut source = SourceOf::new(bytes.as_slice());
-    Ok(tell_whole(alloc, &mut source, limit, said)?)
+    tell_bytes(alloc, &mut source, limit, said);
+    tell_left(source.failures(), source.reader(), said);
 }
 
-fn tell_whole(
-    alloc: Global,
-    source: &mut SourceOf<&[u8]>,
-    limit: u32,
-    said: &mut Said,
-) -> Result<(), AllocError> {
-    tell_bytes(read_of(alloc, source, limit)?, said);
-    let left = Shown(*source.reader());
-    write!(said, " {} failed, left {left}", source.failures());
-    Ok(())
+/// Reads a source up to a limit, and tells the bytes.
+fn tell_bytes<S: Source>(alloc: Global, source: &mut S, limit: u32, said: &mut Said) {
+    if let Some(bytes) = read_of(alloc, source, limit, said) {
+        said.quoted(" read ", bytes.as_slice());
+    }
+}
+
+/// Tells how often a source failed, and what is left of its bytes.
+fn tell_left(failures: u64, left: &[u8], said: &mut Said) {
+    said.value(", ", failures);
+    said.quoted(" failed, left ", left);
 }
