@@ -46,13 +46,13 @@ impl Counter {
         is_there_once && drawn == due
     }
 
-    /// How many numbers were drawn, None where a seat is missing.
-    fn close(self) -> Option<u64> {
-        let Counter { tickets, seats } = self;
-        if !seats.whole() {
-            return None;
+    /// Whether so many numbers were drawn; false where a seat is missing.
+    fn has_drawn(self, due: u64) -> bool {
+        if !self.seats.whole() {
+            return false;
         }
-        Some(tickets.close(seats))
+        let Counter { tickets, seats } = self;
+        tickets.close(seats) == due
     }
 }
 
@@ -69,7 +69,7 @@ pub fn eight_seats(alloc: Global) -> Result<Seen, AllocError> {
         );
     }
     seen.want(!counter.draws(8, None), "there is no ninth seat");
-    seen.want(counter.close() == Some(8), "eight numbers were drawn");
+    seen.want(counter.has_drawn(8), "eight numbers were drawn");
     Ok(seen)
 }
 
@@ -79,7 +79,7 @@ pub fn limit_zero(alloc: Global) -> Result<Seen, AllocError> {
     let mut counter = counter_of(alloc, 1, 0)?;
     seen.want(counter.draws(0, None), "the first draw is none");
     seen.want(!counter.draws(1, None), "there is no second seat");
-    seen.want(counter.close() == Some(0), "no number was drawn");
+    seen.want(counter.has_drawn(0), "no number was drawn");
     Ok(seen)
 }
 
@@ -182,6 +182,6 @@ pub fn two_seats<R: Threads + Sync>(rt: &R, alloc: Global) -> Result<Seen, Alloc
     seen.want(counter.draws_by_two(rt), "each number is drawn once");
     seen.want(counter.draws(0, None), "there is no more on the first seat");
     seen.want(counter.draws(1, None), "nor on the second");
-    seen.want(counter.close() == Some(6), "six numbers were drawn");
+    seen.want(counter.has_drawn(6), "six numbers were drawn");
     Ok(seen)
 }

@@ -6,15 +6,9 @@ use eve_stamps_schedule::Schedule;
 use eve_write::{BatchData, RequestData, TransactionData};
 use std::alloc::{AllocError, Global};
 use std::hash::RandomState;
-use std::io;
 
 /// The names of all customers, one letter each.
 const LETTERS: &[u8] = b"abcdefghijklmnopqrst";
-
-/// Why a case can't go on, where it isn't for lack of memory.
-pub(crate) fn stopped() -> io::Error {
-    io::Error::other("the case can't go on")
-}
 
 /// The name of a customer, by number; past the last customer one that nobody has.
 pub(crate) fn name_of(customer: u8) -> &'static [u8] {
@@ -26,46 +20,33 @@ pub(crate) fn name_of(customer: u8) -> &'static [u8] {
     }
 }
 
-/// So many customers.
-pub(crate) fn names(
-    alloc: Global,
-    random: RandomState,
-    customers: u8,
-) -> io::Result<Names<'static>> {
+/// So many customers; fewer where memory is refused.
+pub(crate) fn names(alloc: Global, random: RandomState, customers: u8) -> Names<'static> {
     let mut names = Names::new(alloc, random, 100);
     for customer in 0..customers {
         if names.add(name_of(customer)).is_err() {
-            return Err(stopped());
+            break;
         }
     }
-    Ok(names)
+    names
 }
 
-/// So many cents.
-pub(crate) fn cents(value: i64) -> io::Result<Cents> {
+/// The row with this number: each customer's saving row comes before the checking row.
+pub(crate) fn row_of(number: u16) -> Row {
+    let customer = u32::from(number) / 2;
+    if number % 2 == 0 {
+        Row::saving(customer)
+    } else {
+        Row::checking(customer)
+    }
+}
+
+/// So many cents; none where no balance is so great.
+pub(crate) fn cents(value: i64) -> Cents {
     match Cents::new(value) {
-        Some(cents) => Ok(cents),
-        None => Err(stopped()),
+        Some(cents) => cents,
+        None => Cents::ZERO,
     }
-}
-
-/// The balance of a row, from the list of all.
-fn set_from(balances: &mut Balances, row: Row, values: &[i64]) -> io::Result<()> {
-    let place = row.number() as usize;
-    let value = values.get(place).copied().unwrap_or(0);
-    if place < balances.len() {
-        balances.set(row, cents(value)?);
-    }
-    Ok(())
-}
-
-/// The balances of 20 customers at most, from the list of all.
-fn set_all(balances: &mut Balances, values: &[i64]) -> io::Result<()> {
-    for customer in 0..20 {
-        set_from(balances, Row::saving(customer), values)?;
-        set_from(balances, Row::checking(customer), values)?;
-    }
-    Ok(())
 }
 
 /// What is asked for, with customers by number.
@@ -78,98 +59,133 @@ pub(crate) enum Ask {
     Check(u8, i64),
 }
 
-/// What is asked for, as a transaction, None where a name or an amount is none.
-fn transaction(ask: Ask) -> Option<TransactionData> {
-    Some(match ask {
-        Ask::Balance(customer) => TransactionData::Balance(name(customer)?),
+/// What is asked for, as a transaction.
+fn transaction(ask: Ask) -> TransactionData {
+    match ask {
+        Ask::Balance(customer) => TransactionData::Balance(name(customer)),
         Ask::Deposit(customer, value) => {
-            TransactionData::DepositChecking(name(customer)?, Amount::new(value)?)
+            TransactionData::DepositChecking(name(customer), amount(value))
         }
         Ask::Saving(customer, value) => {
-            TransactionData::TransactSaving(name(customer)?, Amount::new(value)?)
+            TransactionData::TransactSaving(name(customer), amount(value))
         }
-        Ask::Amalgamate(from, to) => { TransactionData::Amalgamate(name(from)?, name(to)?) }
-        Ask::Check(customer, value) => {
-            TransactionData::WriteCheck(name(customer)?, Amount::new(value)?)
-        }
-    })
-}
-
-fn name(customer: u8) -> Option<Name> {
-    Name::new(name_of(customer))
-}
-
-/// Adds what is asked for, numbered from 0.
-fn push_requests(requests: &mut Vec<RequestData>, asks: &[Ask]) -> io::Result<()> {
-    for (place, ask) in asks.iter().enumerate() {
-        let Some(transaction) = transaction(*ask) else {
-            return Err(stopped());
-        };
-        requests.push(RequestData {
-            client: 7,
-            number: place as u64,
-            transaction,
-        })?;
+        Ask::Amalgamate(from, to) => TransactionData::Amalgamate(name(from), name(to)),
+        Ask::Check(customer, value) => TransactionData::WriteCheck(name(customer), amount(value)),
     }
-    Ok(())
 }
 
-/// Customers with their balances, and a batch.
+fn name(customer: u8) -> Name {
+    match Name::new(name_of(customer)) {
+        Some(name) => name,
+        None => Name::of(b"nobody"),
+    }
+}
+
+/// The amount of so many cents; none where no amount is so great.
+fn amount(value: i64) -> Amount {
+    match Amount::new(value) {
+        Some(amount) => amount,
+        None => Amount::of(0),
+    }
+}
+
+/// What a schedule begins with: so many customers, the balances by row, the sizes of the parallelBatches, what is asked
+/// for, and how many workers there are.
+#[derive(Clone, Copy)]
+pub(crate) struct Given<'a> {
+    pub customers: u8,
+    pub workers: u8,
+    pub values: &'a [i64],
+    pub sizes: &'a [u16],
+    pub asks: &'a [Ask],
+}
+
+/// Customers with their balances, and a batch. Where memory is refused for the batch, `is_whole` says so.
 #[derive(Drop)]
 pub(crate) struct Plan {
     names: Names<'static>,
     balances: Balances,
     batch: BatchData,
+    is_whole: bool,
 }
 
 impl Plan {
-    /// Sets these balances, by row, and adds these parallelBatches.
-    fn fill(&mut self, values: &[i64], sizes: &[u16], asks: &[Ask]) -> io::Result<()> {
-        set_all(&mut self.balances, values)?;
-        self.batch.sizes.extend_from_slice(sizes)?;
-        push_requests(&mut self.batch.requests, asks)
+    /// Sets these balances, by row.
+    fn set_all(&mut self, values: &[i64]) {
+        let mut number: u16 = 0;
+        for value in values {
+            let row = row_of(number);
+            if (row.number() as usize) < self.balances.len() {
+                self.balances.set(row, cents(*value));
+            }
+            number = number.wrapping_add(1);
+        }
+    }
+
+    /// Adds what is asked for, numbered from 0.
+    fn push_requests(&mut self, asks: &[Ask]) -> Result<(), AllocError> {
+        let mut number: u64 = 0;
+        for ask in asks {
+            self.batch.requests.push(RequestData {
+                client: 7,
+                number,
+                transaction: transaction(*ask),
+            })?;
+            number = number.wrapping_add(1);
+        }
+        Ok(())
+    }
+
+    /// Sets the balances, and adds the parallelBatches.
+    fn fill(&mut self, given: Given<'_>) -> Result<(), AllocError> {
+        self.set_all(given.values);
+        self.batch.sizes.extend_from_slice(given.sizes)?;
+        self.push_requests(given.asks)
     }
 }
 
-/// These customers with these balances, by row, and a batch with these parallelBatches.
+/// The customers, with their balances and their batch.
 pub(crate) fn plan_of(
     alloc: Global,
-    names: Names<'static>,
-    values: &[i64],
-    sizes: &[u16],
-    asks: &[Ask],
-) -> io::Result<Plan> {
-    let balances = Balances::new(alloc, values.len())?;
-    let batch = BatchData {
-        sizes: Vec::new(alloc),
-        requests: Vec::new(alloc),
-    };
+    random: RandomState,
+    given: Given<'_>,
+) -> Result<Plan, AllocError> {
+    let balances = Balances::new(alloc, given.values.len())?;
     let mut plan = Plan {
-        names,
+        names: names(alloc, random, given.customers),
         balances,
-        batch,
+        batch: BatchData {
+            sizes: Vec::new(alloc),
+            requests: Vec::new(alloc),
+        },
+        is_whole: false,
     };
-    plan.fill(values, sizes, asks)?;
+    plan.is_whole = plan.fill(given).is_ok();
     Ok(plan)
 }
 
 /// The plan's batch, to be executed by so many workers.
-fn begun<'s>(alloc: Global, plan: &'s Plan, workers: u8) -> io::Result<Schedule<'s>> {
+fn begun<'s>(alloc: Global, plan: &'s Plan, workers: u8) -> Result<Schedule<'s>, AllocError> {
     let Plan {
         names,
         balances,
         batch,
+        is_whole,
     } = plan;
-    if MOST_PLACES <= batch.requests.len() || balances.len() != 2 * names.len() {
-        return Err(stopped());
+    if !*is_whole || MOST_PLACES <= batch.requests.len() || balances.len() != 2 * names.len() {
+        return Err(AllocError);
     }
-    Ok(Schedule::new(alloc, names, balances, batch, workers)?)
+    Schedule::new(alloc, names, balances, batch, workers)
 }
 
 /// The same; where no memory was left, once more.
-pub(crate) fn opened<'s>(alloc: Global, plan: &'s Plan, workers: u8) -> io::Result<Schedule<'s>> {
+pub(crate) fn opened<'s>(
+    alloc: Global,
+    plan: &'s Plan,
+    workers: u8,
+) -> Result<Schedule<'s>, AllocError> {
     match begun(alloc, plan, workers) {
-        Err(_) => begun(alloc, plan, workers),
+        Err(AllocError) => begun(alloc, plan, workers),
         schedule => schedule,
     }
 }

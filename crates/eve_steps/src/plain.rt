@@ -1,11 +1,9 @@
 //! A schedule written as lists: rows, owners, stages and records, with SmallBank on plain numbers.
 
-use crate::parts::{Ask, cents};
-use eve_accounts::Row;
+use crate::parts::{Ask, Given, cents, row_of};
 use eve_smallbank::{Abort, Entry, Kind, Reply, UpToThree};
 use eve_stamps_schedule::Event;
 use std::alloc::{AllocError, Global};
-use std::io;
 
 /// How many customers there are.
 pub(crate) const CUSTOMERS: u8 = 20;
@@ -23,33 +21,49 @@ pub(crate) struct Made {
 
 #[derive(Clone, Copy)]
 enum At {
+    /// There is no such worker.
+    Nowhere,
     Idle,
     Claimed(u16),
     Ticked(u16, u64),
     Applied(Made),
 }
 
-/// What a request makes of the rows that it meets: its reply, and the rows with what they hold afterwards, where they
-/// are written.
+/// A row's version and value.
+#[derive(Clone, Copy)]
+struct Held {
+    version: u64,
+    value: i64,
+}
+
+/// A row that a request meets, whether it is written, and what it holds afterwards.
+#[derive(Clone, Copy)]
+struct Touch {
+    row: u16,
+    kind: Kind,
+    after: i64,
+}
+
+/// What a request makes of the rows that it meets, and its reply.
 #[derive(Clone, Copy)]
 struct Done {
     reply: Reply,
-    rows: [Option<(u16, Option<i64>)>; 3],
+    touches: UpToThree<Touch>,
 }
 
-/// The world, as lists.
+/// The world, as lists. Where memory is refused for one of them, `is_whole` says so.
 #[derive(Drop)]
 pub(crate) struct Plain<'a> {
-    sizes: &'a [u16],
-    asks: &'a [Ask],
-    rows: Vec<(u64, i64)>,
-    owners: Vec<Option<u8>>,
+    given: Given<'a>,
+    rows: Vec<Held>,
+    owners: [Option<u8>; 16],
     claimed: u16,
-    counter: u64,
     stages: Vec<At>,
-    /// What each worker has noted.
-    pub noted: Vec<Vec<Made>>,
-    applied: Vec<(u64, u16)>,
+    /// For each tick the request that was applied at it, None until one was.
+    ticks: Vec<Option<u16>>,
+    /// What the workers have noted.
+    pub noted: Vec<Made>,
+    pub is_whole: bool,
 }
 
 fn saving(customer: u8) -> u16 {
@@ -58,15 +72,6 @@ fn saving(customer: u8) -> u16 {
 
 fn checking(customer: u8) -> u16 {
     2 * u16::from(customer) + 1
-}
-
-fn row_of(row: u16) -> Row {
-    let customer = u32::from(row) / 2;
-    if row % 2 == 0 {
-        Row::saving(customer)
-    } else {
-        Row::checking(customer)
-    }
 }
 
 /// Whether the customers that it names are there.
@@ -82,99 +87,78 @@ fn is_known(ask: Ask) -> bool {
 fn refused(why: Abort) -> Done {
     Done {
         reply: Reply::Aborted(why),
-        rows: [None, None, None],
+        touches: UpToThree::new(),
     }
 }
 
-/// What is done to a row with this version and value: it is read, or gets the value after it.
-fn entry_of(row: u16, held: (u64, i64), after: Option<i64>) -> io::Result<Entry> {
-    let (version, seen) = held;
-    let (kind, after) = match after {
-        Some(after) => (Kind::Write, after),
-        None => (Kind::Read, seen),
-    };
-    Ok(Entry {
-        row: row_of(row),
-        kind,
-        version,
-        seen: cents(seen)?,
-        after: cents(after)?,
-    })
-}
-
-fn one(row: u16, value: i64) -> Done {
+fn effective(touches: UpToThree<Touch>) -> Done {
     Done {
         reply: Reply::Done,
-        rows: [Some((row, Some(value))), None, None],
+        touches,
     }
 }
 
-/// These values, by row, at version 0.
-fn rows_of(alloc: Global, values: &[i64]) -> Result<Vec<(u64, i64)>, AllocError> {
-    let mut rows = Vec::new(alloc);
-    for value in values {
-        rows.push((0, *value))?;
+fn write(row: u16, after: i64) -> Touch {
+    Touch {
+        row,
+        kind: Kind::Write,
+        after,
     }
-    Ok(rows)
-}
-
-/// For each worker no records.
-fn none_noted(alloc: Global, workers: u8) -> Result<Vec<Vec<Made>>, AllocError> {
-    let mut noted = Vec::new(alloc);
-    for _ in 0..workers {
-        noted.push(Vec::new(alloc))?;
-    }
-    Ok(noted)
 }
 
 impl<'a> Plain<'a> {
-    pub(crate) fn new(
-        alloc: Global,
-        values: &[i64],
-        sizes: &'a [u16],
-        asks: &'a [Ask],
-        workers: u8,
-    ) -> Result<Plain<'a>, AllocError> {
-        let rows = rows_of(alloc, values)?;
-        let noted = none_noted(alloc, workers)?;
-        let owners = vec![in alloc; None; 16]?;
-        let stages = vec![in alloc; At::Idle; workers as usize]?;
-        Ok(Plain {
-            sizes,
-            asks,
-            rows,
-            owners,
+    pub(crate) fn new(alloc: Global, given: Given<'a>) -> Plain<'a> {
+        let mut plain = Plain {
+            given,
+            rows: Vec::new(alloc),
+            owners: [None; 16],
             claimed: 0,
-            counter: 0,
-            stages,
-            noted,
-            applied: Vec::new(alloc),
-        })
+            stages: Vec::new(alloc),
+            ticks: Vec::new(alloc),
+            noted: Vec::new(alloc),
+            is_whole: true,
+        };
+        plain.is_whole = plain.open().is_ok();
+        plain
     }
 
-    fn noted_count(&self) -> usize {
-        let mut count: usize = 0;
-        for noted in self.noted.as_slice() {
-            count = count.wrapping_add(noted.len());
+    /// Each row is at version 0, and each worker is idle.
+    fn open(&mut self) -> Result<(), AllocError> {
+        for value in self.given.values {
+            self.rows.push(Held {
+                version: 0,
+                value: *value,
+            })?;
         }
-        count
+        for _ in 0..self.given.workers {
+            self.stages.push(At::Idle)?;
+        }
+        Ok(())
     }
 
     fn group_of(&self, index: usize) -> usize {
         let mut end: usize = 0;
-        for (group, size) in self.sizes.iter().enumerate() {
+        for (group, size) in self.given.sizes.iter().enumerate() {
             end = end.wrapping_add(*size as usize);
             if index < end {
                 return group;
             }
         }
-        self.sizes.len()
+        self.given.sizes.len()
     }
 
-    fn value(&self, row: u16) -> i64 {
-        match self.rows.get(row as usize) {
-            Some((_, value)) => *value,
-            None => 0,
+    fn held(&self, row: u16) -> Held {
+        self.rows.get(row as usize).copied().unwrap_or(Held {
+            version: 0,
+            value: 0,
+        })
+    }
+
+    fn read(&self, row: u16) -> Touch {
+        Touch {
+            row,
+            kind: Kind::Read,
+            after: self.held(row).value,
         }
     }
 
@@ -191,11 +175,17 @@ impl<'a> Plain<'a> {
         }
     }
 
+    /// All that the customer has.
+    fn total(&self, c: u8) -> i64 {
+        self.held(saving(c))
+            .value
+            .wrapping_add(self.held(checking(c)).value)
+    }
+
     fn balance(&self, c: u8) -> Done {
-        let (saving, checking) = (saving(c), checking(c));
         Done {
-            reply: Reply::Total(self.value(saving).wrapping_add(self.value(checking))),
-            rows: [Some((saving, None)), Some((checking, None)), None],
+            reply: Reply::Total(self.total(c)),
+            touches: UpToThree::two(self.read(saving(c)), self.read(checking(c))),
         }
     }
 
@@ -203,79 +193,56 @@ impl<'a> Plain<'a> {
         if amount < 0 {
             return refused(Abort::BadAmount);
         }
-        one(checking(c), self.value(checking(c)).wrapping_add(amount))
+        let after = self.held(checking(c)).value.wrapping_add(amount);
+        effective(UpToThree::one(write(checking(c), after)))
     }
 
     fn save(&self, c: u8, amount: i64) -> Done {
-        let after = self.value(saving(c)).wrapping_add(amount);
+        let after = self.held(saving(c)).value.wrapping_add(amount);
         if after < 0 {
             return Done {
                 reply: Reply::Aborted(Abort::Insufficient),
-                rows: [Some((saving(c), None)), None, None],
+                touches: UpToThree::one(self.read(saving(c))),
             };
         }
-        one(saving(c), after)
+        effective(UpToThree::one(write(saving(c), after)))
     }
 
     fn amalgamate(&self, from: u8, to: u8) -> Done {
-        let sum = self
-            .value(saving(from))
-            .wrapping_add(self.value(checking(from)));
+        let sum = self.total(from);
+        let saved = write(saving(from), 0);
         if from == to {
-            return Done {
-                reply: Reply::Done,
-                rows: [
-                    Some((saving(from), Some(0))),
-                    Some((checking(from), Some(sum))),
-                    None,
-                ],
-            };
+            return effective(UpToThree::two(saved, write(checking(from), sum)));
         }
-        let after = self.value(checking(to)).wrapping_add(sum);
-        Done {
-            reply: Reply::Done,
-            rows: [
-                Some((saving(from), Some(0))),
-                Some((checking(from), Some(0))),
-                Some((checking(to), Some(after))),
-            ],
-        }
+        let after = self.held(checking(to)).value.wrapping_add(sum);
+        effective(UpToThree::three(saved, write(checking(from), 0), write(checking(to), after)))
     }
 
     fn check(&self, c: u8, amount: i64) -> Done {
         if amount < 0 {
             return refused(Abort::BadAmount);
         }
-        let held = self.value(checking(c));
-        let penalty = if self.value(saving(c)).wrapping_add(held) < amount {
-            100
-        } else {
-            0
-        };
-        let left = held.wrapping_sub(amount).wrapping_sub(penalty);
-        Done {
-            reply: Reply::Done,
-            rows: [
-                Some((saving(c), None)),
-                Some((checking(c), Some(left))),
-                None,
-            ],
+        let penalty = if self.total(c) < amount { 100 } else { 0 };
+        let left = self
+            .held(checking(c))
+            .value
+            .wrapping_sub(amount)
+            .wrapping_sub(penalty);
+        effective(UpToThree::two(self.read(saving(c)), write(checking(c), left)))
+    }
+
+    fn does_at(&self, index: u16) -> Done {
+        match self.given.asks.get(index as usize) {
+            Some(ask) => self.does(*ask),
+            None => refused(Abort::NoSuchName),
         }
     }
 
-    fn ask_at(&self, index: u16) -> Ask {
-        self.asks
-            .get(index as usize)
-            .copied()
-            .unwrap_or(Ask::Balance(CUSTOMERS))
-    }
-
     fn needs(&self, index: u16, stripe: usize) -> bool {
-        for row in self.does(self.ask_at(index)).rows {
-            if let Some((row, _)) = row {
-                if (row / 2 % 16) as usize == stripe {
-                    return true;
-                }
+        let touches = self.does_at(index).touches;
+        for place in 0..touches.len() {
+            if (touches.at(place).row / 2 % 16) as usize == stripe {
+                return true;
             }
         }
         false
@@ -283,6 +250,12 @@ impl<'a> Plain<'a> {
 
     fn owner(&self, stripe: usize) -> Option<u8> {
         self.owners.get(stripe).copied().unwrap_or(None)
+    }
+
+    fn own(&mut self, stripe: usize, worker: Option<u8>) {
+        if let Some(owner) = self.owners.get_mut(stripe) {
+            *owner = worker;
+        }
     }
 
     fn next_stripe(&self, worker: u8, index: u16) -> Option<usize> {
@@ -304,148 +277,180 @@ impl<'a> Plain<'a> {
         last
     }
 
-    /// Reads the row, or writes this into it, and adds what was done. Whether there is such a row.
-    fn enter(
-        &mut self,
-        entries: &mut UpToThree<Entry>,
-        row: u16,
-        after: Option<i64>,
-    ) -> io::Result<bool> {
-        let Some(held) = self.rows.get_mut(row as usize) else {
-            return Ok(false);
-        };
-        let entry = entry_of(row, *held, after)?;
-        if let Some(after) = after {
-            *held = (held.0.wrapping_add(1), after);
+    /// Reads the row, or writes it. What was done to it.
+    fn enter(&mut self, touch: Touch) -> Entry {
+        let held = self.held(touch.row);
+        if let Some(place) = self.rows.get_mut(touch.row as usize) {
+            *place = Held {
+                version: held
+                    .version
+                    .wrapping_add(u64::from(touch.kind == Kind::Write)),
+                value: touch.after,
+            };
         }
-        if entries.len() < 3 {
-            entries.push(entry);
+        Entry {
+            row: row_of(touch.row),
+            kind: touch.kind,
+            version: held.version,
+            seen: cents(held.value),
+            after: cents(touch.after),
         }
-        Ok(true)
     }
 
-    /// Reads and writes these rows, up to the first that is none. What was done to them.
-    fn enter_all(&mut self, rows: &[Option<(u16, Option<i64>)>]) -> io::Result<UpToThree<Entry>> {
+    /// Reads and writes these rows. What was done to them.
+    fn enter_all(&mut self, touches: UpToThree<Touch>) -> UpToThree<Entry> {
         let mut entries = UpToThree::new();
-        for row in rows {
-            let Some((row, after)) = *row else {
-                break;
-            };
-            if !self.enter(&mut entries, row, after)? {
-                break;
+        for place in 0..touches.len() {
+            let entry = self.enter(touches.at(place));
+            if entries.len() < 3 {
+                entries.push(entry);
             }
         }
-        Ok(entries)
+        entries
     }
 
-    fn made(&mut self, worker: u8, index: u16, tick: u64) -> io::Result<Made> {
-        let done = self.does(self.ask_at(index));
-        let entries = self.enter_all(&done.rows)?;
-        let place = match self.noted.get(worker as usize) {
-            Some(noted) => noted.len(),
-            None => 0,
-        };
-        Ok(Made {
-            worker,
-            place,
-            index,
-            tick,
-            reply: done.reply,
-            entries,
-        })
+    /// How many records the worker has noted.
+    fn noted_by(&self, worker: u8) -> usize {
+        let mut count: usize = 0;
+        for made in self.noted.as_slice() {
+            if made.worker == worker {
+                count = count.wrapping_add(1);
+            }
+        }
+        count
+    }
+
+    /// Where the worker stands.
+    fn stage(&self, worker: u8) -> At {
+        self.stages
+            .get(worker as usize)
+            .copied()
+            .unwrap_or(At::Nowhere)
+    }
+
+    /// The worker goes on to there.
+    fn stand(&mut self, worker: u8, at: At) -> bool {
+        if let Some(stage) = self.stages.get_mut(worker as usize) {
+            *stage = at;
+        }
+        true
     }
 
     /// Whether the event is allowed. If it is, it happens.
-    pub(crate) fn step(&mut self, event: Event) -> io::Result<bool> {
-        let worker = event.worker();
-        let Some(stage) = self.stages.get(worker as usize).copied() else {
-            return Ok(false);
-        };
-        let next = match (event, stage) {
-            (Event::Claim(_), At::Idle) => self.claim(),
-            (Event::LockStripe(_), At::Claimed(index)) => self.lock(worker, index),
-            (Event::Tick(_), At::Claimed(index)) => self.tick(worker, index),
-            (Event::Apply(_), At::Ticked(index, tick)) => {
-                self.applied.push((tick, index))?;
-                Some(At::Applied(self.made(worker, index, tick)?))
-            }
-            (Event::Unlock(_), At::Applied(made)) => self.unlock(worker, made),
-            (Event::Note(_), At::Applied(made)) => self.note(worker, made)?,
-            _ => None,
-        };
-        let Some(next) = next else {
-            return Ok(false);
-        };
-        if let Some(stage) = self.stages.get_mut(worker as usize) {
-            *stage = next;
+    pub(crate) fn step(&mut self, event: Event) -> bool {
+        match event {
+            Event::Claim(worker) => self.claim(worker),
+            Event::LockStripe(worker) => self.lock(worker),
+            Event::Tick(worker) => self.tick(worker),
+            Event::Apply(worker) => self.apply(worker),
+            Event::Unlock(worker) => self.unlock(worker),
+            Event::Note(worker) => self.note(worker),
         }
-        Ok(true)
     }
 
-    fn claim(&mut self) -> Option<At> {
+    fn claim(&mut self, worker: u8) -> bool {
+        let At::Idle = self.stage(worker) else {
+            return false;
+        };
         let index = self.claimed;
-        if self.asks.len() <= index as usize
-            || self.group_of(index as usize) != self.group_of(self.noted_count())
+        if self.given.asks.len() <= index as usize
+            || self.group_of(index as usize) != self.group_of(self.noted.len())
         {
-            return None;
+            return false;
         }
         self.claimed = index.wrapping_add(1);
-        Some(At::Claimed(index))
+        self.stand(worker, At::Claimed(index))
     }
 
-    fn lock(&mut self, worker: u8, index: u16) -> Option<At> {
-        let stripe = self.next_stripe(worker, index)?;
+    fn lock(&mut self, worker: u8) -> bool {
+        let At::Claimed(index) = self.stage(worker) else {
+            return false;
+        };
+        let Some(stripe) = self.next_stripe(worker, index) else {
+            return false;
+        };
         if self.owner(stripe).is_some() {
-            return None;
+            return false;
         }
-        if let Some(owner) = self.owners.get_mut(stripe) {
-            *owner = Some(worker);
-        }
-        Some(At::Claimed(index))
+        self.own(stripe, Some(worker));
+        true
     }
 
-    fn tick(&mut self, worker: u8, index: u16) -> Option<At> {
+    fn tick(&mut self, worker: u8) -> bool {
+        let At::Claimed(index) = self.stage(worker) else {
+            return false;
+        };
         if self.next_stripe(worker, index).is_some() {
-            return None;
+            return false;
         }
-        let tick = self.counter;
-        self.counter = tick.wrapping_add(1);
-        Some(At::Ticked(index, tick))
+        let tick = self.ticks.len() as u64;
+        let pushed = self.ticks.push(None);
+        self.is_whole = self.is_whole && pushed.is_ok();
+        self.stand(worker, At::Ticked(index, tick))
     }
 
-    fn unlock(&mut self, worker: u8, made: Made) -> Option<At> {
-        let stripe = self.last_stripe(worker)?;
-        if let Some(owner) = self.owners.get_mut(stripe) {
-            *owner = None;
+    fn apply(&mut self, worker: u8) -> bool {
+        let At::Ticked(index, tick) = self.stage(worker) else {
+            return false;
+        };
+        if let Some(applied) = self.ticks.get_mut(tick as usize) {
+            *applied = Some(index);
         }
-        Some(At::Applied(made))
+        let made = self.made(worker, index, tick);
+        self.stand(worker, At::Applied(made))
     }
 
-    fn note(&mut self, worker: u8, made: Made) -> Result<Option<At>, AllocError> {
+    fn made(&mut self, worker: u8, index: u16, tick: u64) -> Made {
+        let done = self.does_at(index);
+        Made {
+            worker,
+            place: self.noted_by(worker),
+            index,
+            tick,
+            reply: done.reply,
+            entries: self.enter_all(done.touches),
+        }
+    }
+
+    fn unlock(&mut self, worker: u8) -> bool {
+        let At::Applied(_) = self.stage(worker) else {
+            return false;
+        };
+        let Some(stripe) = self.last_stripe(worker) else {
+            return false;
+        };
+        self.own(stripe, None);
+        true
+    }
+
+    fn note(&mut self, worker: u8) -> bool {
+        let At::Applied(made) = self.stage(worker) else {
+            return false;
+        };
         if self.last_stripe(worker).is_some() {
-            return Ok(None);
+            return false;
         }
-        if let Some(noted) = self.noted.get_mut(worker as usize) {
-            noted.push(made)?;
-        }
-        Ok(Some(At::Idle))
+        let pushed = self.noted.push(made);
+        self.is_whole = self.is_whole && pushed.is_ok();
+        self.stand(worker, At::Idle)
     }
 
     /// Whether every request is noted.
     pub(crate) fn done(&self) -> bool {
-        self.noted_count() == self.asks.len()
+        self.noted.len() == self.given.asks.len()
     }
 
-    /// The indexes that are applied, by rising tick.
-    pub(crate) fn order(&self, alloc: Global) -> Result<Vec<u16>, AllocError> {
-        let mut order = Vec::new(alloc);
-        for tick in 0..self.counter {
-            for applied in self.applied.as_slice() {
-                if applied.0 == tick {
-                    order.push(applied.1)?;
+    /// Whether these are the indexes that are applied, by rising tick.
+    pub(crate) fn has_order(&self, order: &[u16]) -> bool {
+        let mut place: usize = 0;
+        for applied in self.ticks.as_slice() {
+            if let Some(index) = *applied {
+                if order.get(place).copied() != Some(index) {
+                    return false;
                 }
+                place = place.wrapping_add(1);
             }
         }
-        Ok(order)
+        place == order.len()
     }
 }

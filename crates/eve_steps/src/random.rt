@@ -2,19 +2,16 @@
 
 ghost use Rattle.std.specs.Prelude.{◌<◌};
 
-use crate::parts::{Ask, names, opened, plan_of};
+use crate::parts::{Ask, Given, Plan, opened, plan_of};
 use crate::plain::{CUSTOMERS, Made, Plain};
 use crate::seen::Seen;
 use crate::worked::{ordered, stepped};
-use eve_accounts::Names;
 use eve_stamps::AccessRecord;
-use eve_stamps_schedule::{Event, Schedule, StepFault};
+use eve_stamps_schedule::{Event, Schedule};
 use rand_core::Rng;
 use rand_pcg::Pcg32;
 use std::alloc::{AllocError, Global};
 use std::hash::RandomState;
-use std::io;
-use std::random::RandomSource;
 
 /// A number below the limit.
 fn below(rng: &mut Pcg32, limit: u32) -> u32
@@ -65,19 +62,6 @@ fn is_due(record: &AccessRecord, due: &Made) -> bool {
     has_stamp && record.reply() == due.reply && *record.entries() == due.entries
 }
 
-/// Whether the records are those that are due.
-fn are_due(records: &[AccessRecord], due: &[Made]) -> bool {
-    if records.len() != due.len() {
-        return false;
-    }
-    for (record, due) in records.iter().zip(due) {
-        if !is_due(record, due) {
-            return false;
-        }
-    }
-    true
-}
-
 /// What a schedule begins with.
 #[derive(Drop)]
 struct Drawn {
@@ -119,58 +103,95 @@ fn draw(alloc: Global, rng: &mut Pcg32) -> Result<Drawn, AllocError> {
         sizes: Vec::new(alloc),
         asks: Vec::new(alloc),
     };
-    drawn.draw_all(rng)?;
-    Ok(drawn)
+    match drawn.draw_all(rng) {
+        Ok(()) => Ok(drawn),
+        Err(AllocError) => Err(AllocError),
+    }
 }
 
-/// Draws 600 events. What differs, step by step, if anything does.
-fn compare_steps(
+/// Draws 600 events. Whether both take the same steps.
+fn takes_same_steps(
     rng: &mut Pcg32,
     schedule: &mut Schedule,
     plain: &mut Plain,
     workers: u8,
-) -> io::Result<Option<&'static str>> {
+) -> Result<bool, AllocError> {
+    let mut is_same = true;
     for _ in 0..600 {
         let event = event(rng, workers);
-        let answer = stepped(schedule, event);
-        let wanted = if plain.step(event)? {
-            Ok(())
-        } else {
-            Err(StepFault::NotAllowed)
-        };
-        if answer != wanted || schedule.done() != plain.done() {
-            return Ok(Some("a step differs"));
+        let is_allowed = stepped(schedule, event)?;
+        if is_allowed != plain.step(event) || schedule.done() != plain.done() {
+            is_same = false;
+            break;
         }
     }
-    Ok(None)
+    if plain.is_whole {
+        Ok(is_same)
+    } else {
+        Err(AllocError)
+    }
 }
 
-/// What of the workers' notes differs, if anything does.
-fn compare_noted(schedule: &Schedule, plain: &Plain) -> Option<&'static str> {
-    let mut worker: u8 = 0;
-    for due in plain.noted.as_slice() {
-        if schedule.workers() <= worker as usize {
-            return Some("no such worker");
+/// How many records the workers have noted.
+fn noted_count(schedule: &Schedule, workers: u8) -> usize {
+    let mut count: usize = 0;
+    for worker in 0..workers {
+        if (worker as usize) < schedule.workers() {
+            count = count.wrapping_add(schedule.noted(worker).len());
         }
-        if !are_due(schedule.noted(worker), due.as_slice()) {
-            return Some("what a worker noted differs");
-        }
-        worker = worker.wrapping_add(1);
     }
-    None
+    count
+}
+
+/// Whether the worker has noted the record at its place.
+fn has_noted(schedule: &Schedule, due: &Made) -> bool {
+    if schedule.workers() <= due.worker as usize {
+        return false;
+    }
+    match schedule.noted(due.worker).get(due.place) {
+        Some(record) => is_due(record, due),
+        None => false,
+    }
+}
+
+/// Whether the workers have noted these records, and no more.
+fn have_noted(schedule: &Schedule, dues: &[Made], workers: u8) -> bool {
+    for due in dues {
+        if !has_noted(schedule, due) {
+            return false;
+        }
+    }
+    noted_count(schedule, workers) == dues.len()
 }
 
 /// Whether both have applied the same in the same order.
 fn has_same_order(alloc: Global, schedule: &Schedule, plain: &Plain) -> Result<bool, AllocError> {
     let order = ordered(alloc, schedule)?;
-    Ok(order == plain.order(alloc)?)
+    Ok(plain.has_order(order.as_slice()))
 }
 
-/// What comes of a batch and a list of events: whether every request is noted at the end, and what differs.
+/// What comes of a batch and a list of events: whether every request is noted at the end, and what both schedules have
+/// in common.
 #[derive(Clone, Copy)]
 struct Outcome {
     is_done: bool,
-    differs: Option<&'static str>,
+    has_steps: bool,
+    has_noted: bool,
+    has_order: bool,
+}
+
+impl Outcome {
+    /// Looks whether nothing differs.
+    fn look(&self, seen: &mut Seen) {
+        let due = if !self.has_steps {
+            "the steps are the same"
+        } else if !self.has_noted {
+            "each worker notes the same"
+        } else {
+            "the order is the same"
+        };
+        seen.want(self.has_steps && self.has_noted && self.has_order, due);
+    }
 }
 
 /// Draws events, and compares.
@@ -180,59 +201,79 @@ fn compare(
     schedule: &mut Schedule,
     plain: &mut Plain,
     workers: u8,
-) -> io::Result<Outcome> {
-    let mut differs = compare_steps(rng, schedule, plain, workers)?;
-    if differs.is_none() {
-        differs = compare_noted(schedule, plain);
-    }
-    if !has_same_order(alloc, schedule, plain)? {
-        differs = Some("the order differs");
-    }
+) -> Result<Outcome, AllocError> {
+    let has_steps = takes_same_steps(rng, schedule, plain, workers)?;
+    let has_order = has_same_order(alloc, schedule, plain)?;
     Ok(Outcome {
         is_done: schedule.done(),
-        differs,
+        has_steps,
+        has_noted: have_noted(schedule, plain.noted.as_slice(), workers),
+        has_order,
     })
 }
 
-/// Draws events for a batch, and compares.
+/// Draws events for the schedule, and compares it with one that is written as lists.
+fn compared_with_plain(
+    alloc: Global,
+    rng: &mut Pcg32,
+    schedule: &mut Schedule,
+    given: Given<'_>,
+) -> Result<Outcome, AllocError> {
+    let mut plain = Plain::new(alloc, given);
+    compare(alloc, rng, schedule, &mut plain, given.workers)
+}
+
+/// Draws events for the plan, and compares.
 fn compared(
     alloc: Global,
     rng: &mut Pcg32,
-    names: Names<'static>,
-    drawn: &Drawn,
-    workers: u8,
-) -> io::Result<Outcome> {
-    let values = drawn.values.as_slice();
-    let sizes = drawn.sizes.as_slice();
-    let asks = drawn.asks.as_slice();
-    let plan = plan_of(alloc, names, values, sizes, asks)?;
-    let mut plain = Plain::new(alloc, values, sizes, asks, workers)?;
-    let mut schedule = opened(alloc, &plan, workers)?;
-    compare(alloc, rng, &mut schedule, &mut plain, workers)
+    plan: &Plan,
+    given: Given<'_>,
+) -> Result<Outcome, AllocError> {
+    let mut schedule = opened(alloc, plan, given.workers)?;
+    compared_with_plain(alloc, rng, &mut schedule, given)
+}
+
+/// Draws events for a batch, and compares.
+fn planned_and_compared(
+    alloc: Global,
+    random: RandomState,
+    rng: &mut Pcg32,
+    given: Given<'_>,
+) -> Result<Outcome, AllocError> {
+    let plan = plan_of(alloc, random, given)?;
+    compared(alloc, rng, &plan, given)
 }
 
 /// Draws a batch and a list of events, and compares.
-fn drawn_and_compared(alloc: Global, random: RandomState, seed: u64) -> io::Result<Outcome> {
+fn drawn_and_compared(
+    alloc: Global,
+    random: RandomState,
+    seed: u64,
+) -> Result<Outcome, AllocError> {
     let mut rng = Pcg32::new(seed, 54);
     let workers = 1 + below(&mut rng, 4) as u8;
     let drawn = draw(alloc, &mut rng)?;
-    let names = names(alloc, random, CUSTOMERS)?;
-    compared(alloc, &mut rng, names, &drawn, workers)
+    let given = Given {
+        customers: CUSTOMERS,
+        workers,
+        values: drawn.values.as_slice(),
+        sizes: drawn.sizes.as_slice(),
+        asks: drawn.asks.as_slice(),
+    };
+    planned_and_compared(alloc, random, &mut rng, given)
 }
 
 /// What is seen of so many lists of events. They come far enough: more than half of the schedules are carried out
 /// whole.
-pub fn random_events<R: AllocGlobal + RandomSource>(
-    rt: &R,
-    count: u32,
-) -> io::Result<Option<Seen>> {
+pub fn random_events(alloc: Global, random: RandomState, count: u32) -> Result<Seen, AllocError> {
     let mut seen = Seen::nothing();
     let mut done: u32 = 0;
     for seed in 0..u64::from(count) {
-        let compared = drawn_and_compared(rt.alloc(), RandomState::new(rt)?, seed)?;
+        let compared = drawn_and_compared(alloc, random, seed)?;
         done = done.wrapping_add(u32::from(compared.is_done));
-        seen.want(compared.differs.is_none(), compared.differs.unwrap_or(""));
+        compared.look(&mut seen);
     }
     seen.want(count / 2 < done, "half are carried out whole");
-    Ok(Some(seen))
+    Ok(seen)
 }

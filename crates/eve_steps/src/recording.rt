@@ -3,7 +3,7 @@
 ghost use Rattle.std.specs.Prelude.{◌≡◌, ◌≤◌, ◌∷◌, ◌++◌, [], All, IfOk, IfSome, length};
 
 use crate::seen::Seen;
-use eve_recorder::{MOST_QUEUED, MOST_SEATS, Recorder, Seats, Taken, TakerSeat, WorkerSeat};
+use eve_recorder::{MOST_QUEUED, MOST_SEATS, Recorder, Seats, TakerSeat, WorkerSeat};
 use eve_smallbank::Abort;
 use eve_stamps::{AccessRecord, Stamp, untouched};
 use std::alloc::{AllocError, Global};
@@ -62,48 +62,30 @@ impl Desk {
         record
     }
 
-    /// Whether the first worker's seat is there, once, and the seats aren't whole without it.
-    fn has_first_once(&mut self) -> bool {
+    /// Whether the first worker's seat and the taker's are there, each once, and the seats aren't whole without it.
+    fn has_each_seat_once(&mut self) -> bool {
         let Some(worker) = self.seats.worker(0) else {
             return false;
         };
-        let is_lent_once = self.seats.worker(0).is_none() && !self.seats.whole();
+        let is_first_once = self.seats.worker(0).is_none() && !self.seats.whole();
         self.seats.give_back(worker);
-        is_lent_once
-    }
-
-    /// Whether the taker's seat is there, once, and the seats aren't whole without it.
-    fn has_taker_once(&mut self) -> bool {
         let Some(taker) = self.seats.taker() else {
             return false;
         };
-        let is_lent_once = self.seats.taker().is_none() && !self.seats.whole();
+        let is_taker_once = self.seats.taker().is_none() && !self.seats.whole();
         self.seats.give_taker(taker);
-        is_lent_once
+        is_first_once && is_taker_once && self.seats.whole()
     }
 
-    /// Whether the first worker's seat and the taker's are there, each once, and the seats aren't whole without it.
-    fn has_each_seat_once(&mut self) -> bool {
-        let has_first_once = self.has_first_once();
-        let has_taker_once = self.has_taker_once();
-        has_first_once && has_taker_once && self.seats.whole()
-    }
-
-    /// What is left in the queue when the recorder ends, first to last, two at most; None where a seat is missing.
-    fn finish<R: Wait>(self, rt: &R) -> Option<Left> {
-        let Desk { recorder, seats } = self;
-        if !seats.whole() {
-            return None;
+    /// Whether that record alone is left in the queue when the recorder ends, or none; false where a seat is missing.
+    fn leaves<R: Wait>(self, rt: &R, due: &Option<AccessRecord>) -> bool {
+        if !self.seats.whole() {
+            return false;
         }
-        Some(left_in(rt, recorder.finish(seats)))
+        let Desk { recorder, seats } = self;
+        let mut taken = recorder.finish(seats);
+        taken.next(rt) == *due && taken.next(rt).is_none()
     }
-}
-
-/// The first two of what can still be taken.
-fn left_in<R: Wait>(rt: &R, mut taken: Taken) -> Left {
-    let first = taken.next(rt);
-    let second = taken.next(rt);
-    Left { first, second }
 }
 
 /// The record that may be noted next on a seat.
@@ -118,13 +100,6 @@ fn next_record(seat: &WorkerSeat) -> Option<AccessRecord>
         tick: u64::from(place),
     };
     Some(untouched(Abort::NoSuchName, stamp))
-}
-
-/// What is left in a queue, first to last.
-#[derive(Clone, Copy)]
-struct Left {
-    first: Option<AccessRecord>,
-    second: Option<AccessRecord>,
 }
 
 /// A record, and whether it was noted.
@@ -153,18 +128,8 @@ fn record_of(noted: &Option<Noted>) -> Option<AccessRecord> {
     }
 }
 
-/// Whether that is what is left.
-fn is_left(left: &Option<Left>, first: &Option<AccessRecord>) -> bool {
-    match left {
-        Some(left) => left.first == *first && left.second.is_none(),
-        None => false,
-    }
-}
-
-/// A queue with room for one record, which is filled, drained and filled again.
-pub fn full_and_drained<R: Wait>(rt: &R, alloc: Global) -> Result<Seen, AllocError> {
-    let mut seen = Seen::nothing();
-    let mut desk = desk_of(alloc, 1, 1)?;
+/// Fills the desk's queue, which has room for one record, drains it and fills it again. What is queued at the end.
+fn fill_and_drain<R: Wait>(rt: &R, desk: &mut Desk, seen: &mut Seen) -> Option<AccessRecord> {
     seen.want(desk.has_each_seat_once(), "each seat is there once");
     seen.want(desk.take(rt).is_none(), "nothing is queued");
     let first = desk.note(rt, 0);
@@ -176,8 +141,15 @@ pub fn full_and_drained<R: Wait>(rt: &R, alloc: Global) -> Result<Seen, AllocErr
     seen.want(taken == record_of(&first), "the first is taken");
     let again = desk.note(rt, 0);
     seen.want(is_at(&again, 1, true), "the second is noted");
-    let left = desk.finish(rt);
-    seen.want(is_left(&left, &record_of(&second)), "it is left");
+    record_of(&second)
+}
+
+/// A queue with room for one record, which is filled, drained and filled again.
+pub fn full_and_drained<R: Wait>(rt: &R, alloc: Global) -> Result<Seen, AllocError> {
+    let mut seen = Seen::nothing();
+    let mut desk = desk_of(alloc, 1, 1)?;
+    let second = fill_and_drain(rt, &mut desk, &mut seen);
+    seen.want(desk.leaves(rt, &second), "it is left");
     Ok(seen)
 }
 
@@ -196,6 +168,25 @@ impl Tally {
             return;
         }
         self.due[w] = self.due[w].wrapping_add(1);
+    }
+
+    /// Whether 30 records came of each worker.
+    fn has_all(&self) -> bool {
+        for due in &self.due {
+            if *due != 30 {
+                return false;
+            }
+        }
+        true
+    }
+
+    /// What is seen of it, and whether no record is left.
+    fn seen(&self, is_drained: bool) -> Seen {
+        let mut seen = Seen::nothing();
+        seen.want(self.in_order, "each record comes at its place");
+        seen.want(self.has_all(), "all records come");
+        seen.want(is_drained, "none is left");
+        seen
     }
 }
 
@@ -362,12 +353,8 @@ impl Desk {
 
 /// Each of eight workers notes 30 records in a queue with room for 16, while another thread takes all.
 pub fn eight_threads<R: Threads + Wait + Sync>(rt: &R, alloc: Global) -> Result<Seen, AllocError> {
-    let mut seen = Seen::nothing();
     let mut desk = desk_of(alloc, 8, 16)?;
-    let tally = desk.meet(rt, alloc)?;
-    seen.want(tally.in_order, "each record comes at its place");
-    seen.want(tally.due == [30; 8], "all records come");
-    let left = desk.finish(rt);
-    seen.want(is_left(&left, &None), "none is left");
-    Ok(seen)
+    let tally = desk.meet(rt, alloc);
+    let is_drained = desk.leaves(rt, &None);
+    Ok(tally?.seen(is_drained))
 }

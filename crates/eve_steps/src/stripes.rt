@@ -1,43 +1,351 @@
 //! Stripes: what is noted, settled, undone and gone back from, and what is refused. Where memory is refused, each call
 //! is made once more.
 
-use crate::parts::name_of;
+use crate::parts::{name_of, names, row_of};
 use crate::seen::Seen;
-use eve_accounts::{Amount, Cents, Names, Row};
+use eve_accounts::{Amount, Cents, Names};
 use eve_grammar::MOST_VERSIONS;
 use eve_smallbank::{Abort, Entry, Kind, Reply, Request, UpToThree, touched};
 use eve_stamps::{AccessRecord, HeldRow, Stamp, StampFault, Stripe, apply, apply_two, untouched};
 use std::alloc::{AllocError, Global};
+use std::hash::RandomState;
+
+/// A row, its version, and so many cents in it.
+#[derive(Clone, Copy)]
+struct Held(u16, u64, u16);
+
+/// A row that is written, the version and the cents that it had, and the cents that it has afterwards.
+#[derive(Clone, Copy)]
+struct Written(u16, u64, u16, u16);
+
+/// Both rows of a customer.
+#[derive(Clone, Copy)]
+struct Opening {
+    saving: Held,
+    checking: Held,
+}
+
+/// Which of the two stripes are lent to a request.
+#[derive(Clone, Copy)]
+enum Lent {
+    First,
+    Second,
+    Both,
+}
+
+/// What is done, or looked at.
+#[derive(Clone, Copy)]
+enum Step {
+    /// Deposits 500 cents in the first customer's checking row, at this tick.
+    Deposit(Lent, u64),
+    /// Moves all that the first customer has to the second's checking row, at this tick.
+    Amalgamate(Lent, u64),
+    /// Notes a deposit below 0, which touches no row, at this tick.
+    BadDeposit(u64),
+    /// Settles the first stripe up to this tick.
+    Settle(u64),
+    /// The first stripe goes back.
+    GoBack,
+    /// Undoes the first stripe; whether there is room for what is told.
+    Undo(bool, &'static str),
+    /// Looks whether that is so.
+    Want(Due, &'static str),
+}
+
+/// What has to be so.
+#[derive(Clone, Copy)]
+enum Due {
+    /// The last request was done at this tick, by worker 1, at place 2, with index 3, and wrote these rows.
+    Made(u64, &'static [Written]),
+    /// The last request was refused by the stripes for that reason.
+    Refused(StampFault),
+    /// The last request was replied to so.
+    Replied(Reply),
+    /// The last request wrote these rows.
+    Wrote(&'static [Written]),
+    /// That row was told by the undo, and no other.
+    Told(Held),
+    /// No row was told by it.
+    NoneTold,
+    /// The row of the first stripe is so.
+    First(Held),
+    /// The row of the second stripe is so.
+    Second(Held),
+    /// The row isn't in the first stripe.
+    Lacks(u16),
+}
+
+/// What is done with two stripes, step by step, and how much room there is for what an undo tells.
+#[derive(Clone, Copy)]
+pub struct Case {
+    name: &'static str,
+    first: Opening,
+    second: Opening,
+    room: usize,
+    steps: &'static [Step],
+}
+
+/// The first customer's rows.
+const SAVING: u16 = 0;
+
+const CHECKING: u16 = 1;
+
+/// The second customer's checking row.
+const OTHERS: u16 = 3;
+
+/// The first customer without cents.
+const EMPTY: Opening = Opening {
+    saving: Held(SAVING, 0, 0),
+    checking: Held(CHECKING, 0, 0),
+};
+
+/// The second customer without cents.
+const OTHER: Opening = Opening {
+    saving: Held(2, 0, 0),
+    checking: Held(OTHERS, 0, 0),
+};
+
+/// The first customer with so many cents in the checking row.
+const SEVEN: Opening = Opening {
+    saving: Held(SAVING, 0, 0),
+    checking: Held(CHECKING, 0, 7),
+};
+
+const NINE: Opening = Opening {
+    saving: Held(SAVING, 0, 0),
+    checking: Held(CHECKING, 0, 9),
+};
+
+/// The first customer with cents in both rows.
+const FIVE_AND_SEVEN: Opening = Opening {
+    saving: Held(SAVING, 0, 5),
+    checking: Held(CHECKING, 0, 7),
+};
+
+/// The first customer, whose checking row is at the greatest version, or one before it.
+const WORN: Opening = Opening {
+    saving: Held(SAVING, 0, 0),
+    checking: Held(CHECKING, MOST_VERSIONS, 0),
+};
+
+const NEARLY_WORN: Opening = Opening {
+    saving: Held(SAVING, 0, 0),
+    checking: Held(CHECKING, MOST_VERSIONS - 1, 0),
+};
+
+/// A deposit is noted once at its tick; undone, the row is told as it was.
+const DEPOSIT_AND_UNDO: Case = Case {
+    name: "stripe-deposit-and-undo",
+    first: EMPTY,
+    second: OTHER,
+    room: 1,
+    steps: &[
+        Step::Deposit(Lent::First, 5),
+        Step::Want(
+            Due::Made(5, &[Written(CHECKING, 0, 0, 500)]),
+            "the deposit is noted",
+        ),
+        Step::Deposit(Lent::First, 5),
+        Step::Want(Due::Refused(StampFault::TickOrder), "the tick was had"),
+        Step::Undo(true, "there is room"),
+        Step::Want(Due::Told(Held(CHECKING, 0, 0)), "the row is told"),
+        Step::Want(Due::First(Held(CHECKING, 0, 0)), "the row is as it was"),
+        Step::Deposit(Lent::First, 5),
+        Step::Want(Due::Refused(StampFault::TickOrder), "the tick stays"),
+        Step::Deposit(Lent::First, 6),
+        Step::Want(
+            Due::Made(6, &[Written(CHECKING, 0, 0, 500)]),
+            "the deposit is noted anew",
+        ),
+    ],
+};
+
+/// Nothing is undone where the rows can't be told.
+const TOO_LITTLE_ROOM: Case = Case {
+    name: "stripe-too-little-room",
+    first: EMPTY,
+    second: OTHER,
+    room: 0,
+    steps: &[
+        Step::Deposit(Lent::First, 5),
+        Step::Want(
+            Due::Made(5, &[Written(CHECKING, 0, 0, 500)]),
+            "the deposit is noted",
+        ),
+        Step::Undo(false, "there is no room"),
+        Step::Want(Due::NoneTold, "no row is told"),
+        Step::Want(
+            Due::First(Held(CHECKING, 1, 500)),
+            "the row is as it is now",
+        ),
+    ],
+};
+
+/// To go back needs no room, and reaches what isn't settled alone.
+const SETTLED_AND_WENT_BACK: Case = Case {
+    name: "stripe-settled-and-went-back",
+    first: EMPTY,
+    second: OTHER,
+    room: 0,
+    steps: &[
+        Step::Deposit(Lent::First, 5),
+        Step::Want(
+            Due::Made(5, &[Written(CHECKING, 0, 0, 500)]),
+            "the first is noted",
+        ),
+        Step::Settle(5),
+        Step::GoBack,
+        Step::Want(Due::First(Held(CHECKING, 1, 500)), "what is settled stays"),
+        Step::Deposit(Lent::First, 6),
+        Step::Want(
+            Due::Made(6, &[Written(CHECKING, 1, 500, 1000)]),
+            "the second is noted",
+        ),
+        Step::Settle(5),
+        Step::Want(
+            Due::First(Held(CHECKING, 2, 1000)),
+            "settled rows stay as they are",
+        ),
+        Step::GoBack,
+        Step::Want(Due::First(Held(CHECKING, 1, 500)), "the second is gone"),
+        Step::Deposit(Lent::First, 6),
+        Step::Want(Due::Refused(StampFault::TickOrder), "the tick stays"),
+        Step::Want(Due::Lacks(OTHERS), "another's row isn't there"),
+    ],
+};
+
+/// A row at the greatest version isn't written, and a request that touches no row is noted as it is told.
+const WORN_AND_UNTOUCHED: Case = Case {
+    name: "stripe-worn-and-untouched",
+    first: WORN,
+    second: NEARLY_WORN,
+    room: 0,
+    steps: &[
+        Step::Deposit(Lent::First, 5),
+        Step::Want(Due::Refused(StampFault::Worn), "the row is worn"),
+        Step::Deposit(Lent::Second, 5),
+        Step::Want(
+            Due::Made(5, &[Written(CHECKING, MOST_VERSIONS - 1, 0, 500)]),
+            "a version before, it isn't",
+        ),
+        Step::BadDeposit(6),
+        Step::Want(
+            Due::Replied(Reply::Aborted(Abort::BadAmount)),
+            "the reason is told",
+        ),
+        Step::Want(Due::Wrote(&[]), "no row is touched"),
+    ],
+};
+
+/// All that one customer has is moved over two stripes; one alone has too few rows.
+const TWO_STRIPES: Case = Case {
+    name: "stripes-amalgamate",
+    first: FIVE_AND_SEVEN,
+    second: OTHER,
+    room: 0,
+    steps: &[
+        Step::Amalgamate(Lent::First, 5),
+        Step::Want(Due::Refused(StampFault::NoRow), "a row isn't there"),
+        Step::Amalgamate(Lent::Both, 5),
+        Step::Want(
+            Due::Made(
+                5,
+                &[
+                    Written(SAVING, 0, 5, 0),
+                    Written(CHECKING, 0, 7, 0),
+                    Written(OTHERS, 0, 0, 12),
+                ],
+            ),
+            "it is noted",
+        ),
+        Step::Want(Due::First(Held(CHECKING, 1, 0)), "the first gave"),
+        Step::Want(Due::Second(Held(OTHERS, 1, 12)), "the second got"),
+    ],
+};
+
+/// A row that lies in both stripes is seen and written in the first; the second has had the tick too.
+const SHARED_ROW: Case = Case {
+    name: "stripes-that-share-a-row",
+    first: SEVEN,
+    second: NINE,
+    room: 0,
+    steps: &[
+        Step::Deposit(Lent::Both, 5),
+        Step::Want(Due::Made(5, &[Written(CHECKING, 0, 7, 507)]), "it is noted"),
+        Step::Want(
+            Due::First(Held(CHECKING, 1, 507)),
+            "the first's row is written",
+        ),
+        Step::Want(Due::Second(Held(CHECKING, 0, 9)), "the second's isn't"),
+        Step::Deposit(Lent::Second, 5),
+        Step::Want(
+            Due::Refused(StampFault::TickOrder),
+            "the second had the tick",
+        ),
+    ],
+};
+
+/// Two stripes that share a row, of which the second alone is past the tick: nothing is done in either.
+const SECOND_PAST: Case = Case {
+    name: "stripes-the-second-past",
+    first: FIVE_AND_SEVEN,
+    second: NINE,
+    room: 0,
+    steps: &[
+        Step::Deposit(Lent::Second, 7),
+        Step::Want(
+            Due::Made(7, &[Written(CHECKING, 0, 9, 509)]),
+            "the second is at 7",
+        ),
+        Step::Deposit(Lent::Both, 6),
+        Step::Want(Due::Refused(StampFault::TickOrder), "6 is past"),
+        Step::Want(Due::First(Held(CHECKING, 0, 7)), "the first is as it was"),
+        Step::Want(Due::Second(Held(CHECKING, 1, 509)), "the second too"),
+        Step::Deposit(Lent::First, 1),
+        Step::Want(
+            Due::Made(1, &[Written(CHECKING, 0, 7, 507)]),
+            "the first had no tick",
+        ),
+    ],
+};
+
+static CASES: [Case; 7] = [
+    DEPOSIT_AND_UNDO,
+    TOO_LITTLE_ROOM,
+    SETTLED_AND_WENT_BACK,
+    WORN_AND_UNTOUCHED,
+    TWO_STRIPES,
+    SHARED_ROW,
+    SECOND_PAST,
+];
+
+/// The case of that name, None where none has it.
+pub fn case_of(name: &str) -> Option<&'static Case> {
+    for case in &CASES {
+        if case.name == name {
+            return Some(case);
+        }
+    }
+    None
+}
 
 /// So many cents.
 fn cents(value: u16) -> Cents {
     Cents::of(i64::from(value))
 }
 
-/// A row at this version, with so many cents.
-fn held(row: Row, version: u64, value: u16) -> HeldRow {
+fn held_row(held: Held) -> HeldRow {
     HeldRow {
-        row,
-        version,
-        value: cents(value),
+        row: row_of(held.0),
+        version: held.1,
+        value: cents(held.2),
     }
 }
 
-/// A stripe with both rows of a customer, the checking row at this version.
-fn of_one(
-    alloc: Global,
-    customer: u8,
-    saving: u16,
-    checking: u16,
-    version: u64,
-) -> Result<Stripe, AllocError> {
-    let customer = u32::from(customer);
-    let saving = held(Row::saving(customer), 0, saving);
-    let checking = held(Row::checking(customer), version, checking);
-    stripe_of(alloc, saving, checking)
-}
-
-fn stripe_of(alloc: Global, saving: HeldRow, checking: HeldRow) -> Result<Stripe, AllocError> {
+/// A stripe with both rows of a customer.
+fn stripe_of(alloc: Global, opening: Opening) -> Result<Stripe, AllocError> {
+    let saving = held_row(opening.saving);
+    let checking = held_row(opening.checking);
     if checking.row.number() <= saving.row.number()
         || MOST_VERSIONS < saving.version
         || MOST_VERSIONS < checking.version
@@ -61,234 +369,158 @@ fn stamp_at(tick: u64) -> Stamp {
     }
 }
 
-/// Runs the request at this tick.
-fn apply_at(
-    stripe: &mut Stripe,
-    names: &Names,
-    request: &Request,
-    tick: u64,
-) -> Result<AccessRecord, StampFault> {
-    apply(stripe, request, &touched(request, names), stamp_at(tick))
-}
-
-/// The same; where no memory was left, once more.
-fn run(
-    stripe: &mut Stripe,
-    names: &Names,
-    request: &Request,
-    tick: u64,
-) -> Result<AccessRecord, StampFault> {
-    match apply_at(stripe, names, request, tick) {
-        Err(StampFault::Memory) => apply_at(stripe, names, request, tick),
-        answer => answer,
+/// These rows, as a record has them.
+fn entries_of(written: &[Written]) -> UpToThree<Entry> {
+    let mut entries = UpToThree::new();
+    for row in written {
+        if entries.len() < 3 {
+            entries.push(Entry {
+                row: row_of(row.0),
+                kind: Kind::Write,
+                version: row.1,
+                seen: cents(row.2),
+                after: cents(row.3),
+            });
+        }
     }
-}
-
-/// Runs the request at this tick, on both stripes.
-fn apply_two_at(
-    first: &mut Stripe,
-    second: &mut Stripe,
-    names: &Names,
-    request: &Request,
-    tick: u64,
-) -> Result<AccessRecord, StampFault> {
-    let touched = touched(request, names);
-    apply_two(first, second, request, &touched, stamp_at(tick))
-}
-
-/// The same; where no memory was left, once more.
-fn run_two(
-    first: &mut Stripe,
-    second: &mut Stripe,
-    names: &Names,
-    request: &Request,
-    tick: u64,
-) -> Result<AccessRecord, StampFault> {
-    match apply_two_at(first, second, names, request, tick) {
-        Err(StampFault::Memory) => apply_two_at(first, second, names, request, tick),
-        answer => answer,
-    }
-}
-
-/// A deposit of 500 cents to the first customer's checking row.
-fn deposit() -> Request<'static> {
-    Request::DepositChecking(name_of(0), Amount::of(500))
-}
-
-/// Runs the deposit at this tick.
-fn deposited(stripe: &mut Stripe, names: &Names, tick: u64) -> Result<AccessRecord, StampFault> {
-    run(stripe, names, &deposit(), tick)
-}
-
-fn written(row: Row, version: u64, seen: u16, after: u16) -> Entry {
-    Entry {
-        row,
-        kind: Kind::Write,
-        version,
-        seen: cents(seen),
-        after: cents(after),
-    }
+    entries
 }
 
 /// Whether that is the record of worker 1, at place 2, with index 3, which did these things at this tick.
-fn is_made(made: Result<AccessRecord, StampFault>, tick: u64, entries: UpToThree<Entry>) -> bool {
-    let Ok(made) = made else {
-        return false;
-    };
+fn is_made(made: AccessRecord, tick: u64, written: &[Written]) -> bool {
     let is_its = made.worker() == 1 && made.place() == 2 && made.index() == 3;
-    is_its && made.tick() == tick && made.reply() == Reply::Done && *made.entries() == entries
+    is_its && made.tick() == tick && made.reply() == Reply::Done && has_written(made, written)
 }
 
-/// Whether it was refused for that reason.
-fn is_refused(answer: Result<AccessRecord, StampFault>, why: StampFault) -> bool {
+fn has_written(made: AccessRecord, written: &[Written]) -> bool {
+    *made.entries() == entries_of(written)
+}
+
+/// Whether the row is so.
+fn has_now(stripe: &Stripe, held: Held) -> bool {
+    let row = row_of(held.0);
+    stripe.has(row) && stripe.get(row) == held_row(held)
+}
+
+/// Two stripes, what came of the last request, and what is seen.
+#[derive(Drop)]
+struct Stripes {
+    first: Stripe,
+    second: Stripe,
+    restores: Vec<HeldRow>,
+    answer: Result<AccessRecord, StampFault>,
+    seen: Seen,
+}
+
+impl Stripes {
+    /// Runs the request at this tick.
+    fn apply(
+        &mut self,
+        names: &Names,
+        request: &Request,
+        lent: Lent,
+        tick: u64,
+    ) -> Result<AccessRecord, StampFault> {
+        let touched = touched(request, names);
+        let stamp = stamp_at(tick);
+        match lent {
+            Lent::First => apply(&mut self.first, request, &touched, stamp),
+            Lent::Second => apply(&mut self.second, request, &touched, stamp),
+            Lent::Both => apply_two(&mut self.first, &mut self.second, request, &touched, stamp),
+        }
+    }
+
+    /// The same; where no memory was left, once more.
+    fn run(&mut self, names: &Names, request: &Request, lent: Lent, tick: u64) {
+        self.answer = match self.apply(names, request, lent, tick) {
+            Err(StampFault::Memory) => self.apply(names, request, lent, tick),
+            answer => answer,
+        };
+    }
+
+    /// Does what the step says, or looks.
+    fn take(&mut self, names: &Names, step: Step) {
+        match step {
+            Step::Deposit(lent, tick) => {
+                let deposit = Request::DepositChecking(name_of(0), Amount::of(500));
+                self.run(names, &deposit, lent, tick);
+            }
+            Step::Amalgamate(lent, tick) => {
+                let amalgamate = Request::Amalgamate(name_of(0), name_of(1));
+                self.run(names, &amalgamate, lent, tick);
+            }
+            Step::BadDeposit(tick) => {
+                self.answer = Ok(untouched(Abort::BadAmount, stamp_at(tick)));
+            }
+            Step::Settle(tick) => self.first.settle(tick),
+            Step::GoBack => self.first.go_back(),
+            Step::Undo(has_room, what) => {
+                let is_undone = self.first.undo(&mut self.restores).is_ok();
+                self.seen.want(is_undone == has_room, what);
+            }
+            Step::Want(due, what) => {
+                let is_so = self.is_so(due);
+                self.seen.want(is_so, what);
+            }
+        }
+    }
+
+    /// Whether it is as it is due.
+    fn is_so(&self, due: Due) -> bool {
+        match due {
+            Due::Told(held) => self.restores.as_slice() == [held_row(held)].as_slice(),
+            Due::NoneTold => self.restores.is_empty(),
+            Due::First(held) => has_now(&self.first, held),
+            Due::Second(held) => has_now(&self.second, held),
+            Due::Lacks(row) => !self.first.has(row_of(row)),
+            of_answer => is_answer(self.answer, of_answer),
+        }
+    }
+
+    /// Plays the case.
+    fn play(&mut self, names: &Names, case: &Case) -> Result<Seen, AllocError> {
+        self.restores.reserve_exact(case.room)?;
+        for step in case.steps {
+            self.take(names, *step);
+        }
+        Ok(self.seen)
+    }
+}
+
+/// Whether the last request was answered so.
+fn is_answer(answer: Result<AccessRecord, StampFault>, due: Due) -> bool {
     match answer {
-        Ok(_) => false,
-        Err(told) => told == why,
+        Ok(made) => match due {
+            Due::Made(tick, written) => is_made(made, tick, written),
+            Due::Replied(reply) => made.reply() == reply,
+            Due::Wrote(written) => has_written(made, written),
+            _ => false,
+        },
+        Err(told) => match due {
+            Due::Refused(why) => told == why,
+            _ => false,
+        },
     }
 }
 
-/// Whether the row has that version and so many cents.
-fn has_now(stripe: &Stripe, row: Row, version: u64, value: u16) -> bool {
-    if !stripe.has(row) {
-        return false;
+/// What is seen of the case, which both customers' names are lent to.
+fn played_with(alloc: Global, names: &Names, case: &Case) -> Result<Seen, AllocError> {
+    if names.len() != 2 {
+        return Err(AllocError);
     }
-    let now = stripe.get(row);
-    now.row == row && now.version == version && now.value == cents(value)
+    let first = stripe_of(alloc, case.first)?;
+    let mut stripes = Stripes {
+        first,
+        second: stripe_of(alloc, case.second)?,
+        restores: Vec::new(alloc),
+        answer: Err(StampFault::Memory),
+        seen: Seen::nothing(),
+    };
+    stripes.play(names, case)
 }
 
-/// Undoes the stripe, which adds the rows that it tells of. Whether there was room for them.
-fn is_undone(stripe: &mut Stripe, restores: &mut Vec<HeldRow>) -> bool {
-    stripe.undo(restores).is_ok()
-}
-
-/// A deposit is noted once at its tick; undone, the row is told as it was.
-pub fn deposit_and_undo(alloc: Global, names: &Names) -> Result<Seen, AllocError> {
-    let mut seen = Seen::nothing();
-    let row = Row::checking(0);
-    let wanted = UpToThree::one(written(row, 0, 0, 500));
-    let mut restores = Vec::with_capacity(alloc, 1)?;
-    let mut stripe = of_one(alloc, 0, 0, 0, 0)?;
-    let made = deposited(&mut stripe, names, 5);
-    seen.want(is_made(made, 5, wanted), "the deposit is noted");
-    let again = deposited(&mut stripe, names, 5);
-    seen.want(is_refused(again, StampFault::TickOrder), "the tick was had");
-    seen.want(is_undone(&mut stripe, &mut restores), "there is room");
-    let is_told = restores.as_slice() == [held(row, 0, 0)].as_slice();
-    seen.want(is_told, "the row is told");
-    seen.want(has_now(&stripe, row, 0, 0), "the row is as it was");
-    let again = deposited(&mut stripe, names, 5);
-    seen.want(is_refused(again, StampFault::TickOrder), "the tick stays");
-    let made = deposited(&mut stripe, names, 6);
-    seen.want(is_made(made, 6, wanted), "the deposit is noted anew");
-    Ok(seen)
-}
-
-/// Nothing is undone where the rows can't be told.
-pub fn undo_with_too_little_room(alloc: Global, names: &Names) -> Result<Seen, AllocError> {
-    let mut seen = Seen::nothing();
-    let row = Row::checking(0);
-    let mut stripe = of_one(alloc, 0, 0, 0, 0)?;
-    let made = deposited(&mut stripe, names, 5);
-    seen.want(made.is_ok(), "the deposit is noted");
-    let mut restores = Vec::new(alloc);
-    let is_undone = is_undone(&mut stripe, &mut restores);
-    seen.want(!is_undone, "there is no room");
-    seen.want(restores.is_empty(), "no row is told");
-    seen.want(has_now(&stripe, row, 1, 500), "the row is as it is now");
-    Ok(seen)
-}
-
-/// To go back needs no room, and reaches what isn't settled alone.
-pub fn settled_and_went_back(alloc: Global, names: &Names) -> Result<Seen, AllocError> {
-    let mut seen = Seen::nothing();
-    let row = Row::checking(0);
-    let mut stripe = of_one(alloc, 0, 0, 0, 0)?;
-    let made = deposited(&mut stripe, names, 5);
-    seen.want(made.is_ok(), "the first is noted");
-    stripe.settle(5);
-    stripe.go_back();
-    seen.want(has_now(&stripe, row, 1, 500), "what is settled stays");
-    let made = deposited(&mut stripe, names, 6);
-    seen.want(made.is_ok(), "the second is noted");
-    stripe.settle(5);
-    let has_both = has_now(&stripe, row, 2, 1000);
-    seen.want(has_both, "settled rows stay as they are");
-    stripe.go_back();
-    seen.want(has_now(&stripe, row, 1, 500), "the second is gone");
-    let again = deposited(&mut stripe, names, 6);
-    seen.want(is_refused(again, StampFault::TickOrder), "the tick stays");
-    seen.want(!stripe.has(Row::checking(1)), "another's row isn't there");
-    Ok(seen)
-}
-
-/// A row at the greatest version isn't written, and a request that touches no row is noted as it is told.
-pub fn worn_and_untouched(alloc: Global, names: &Names) -> Result<Seen, AllocError> {
-    let mut seen = Seen::nothing();
-    let mut worn = of_one(alloc, 0, 0, 0, MOST_VERSIONS)?;
-    let mut last = of_one(alloc, 0, 0, 0, MOST_VERSIONS - 1)?;
-    let answer = deposited(&mut worn, names, 5);
-    seen.want(is_refused(answer, StampFault::Worn), "the row is worn");
-    let wanted = UpToThree::one(written(Row::checking(0), MOST_VERSIONS - 1, 0, 500));
-    let made = deposited(&mut last, names, 5);
-    seen.want(is_made(made, 5, wanted), "a version before, it isn't");
-    let refused = untouched(Abort::BadAmount, stamp_at(6));
-    let reply = Reply::Aborted(Abort::BadAmount);
-    seen.want(refused.reply() == reply, "the reason is told");
-    seen.want(refused.entries().is_empty(), "no row is touched");
-    Ok(seen)
-}
-
-/// All that one customer has is moved over two stripes; one alone has too few rows.
-pub fn two_stripes_amalgamate(alloc: Global, names: &Names) -> Result<Seen, AllocError> {
-    let mut seen = Seen::nothing();
-    let amalgamate = Request::Amalgamate(name_of(0), name_of(1));
-    let wanted = UpToThree::three(
-        written(Row::saving(0), 0, 5, 0),
-        written(Row::checking(0), 0, 7, 0),
-        written(Row::checking(1), 0, 0, 12),
-    );
-    let mut first = of_one(alloc, 0, 5, 7, 0)?;
-    let mut second = of_one(alloc, 1, 0, 0, 0)?;
-    let alone = run(&mut first, names, &amalgamate, 5);
-    seen.want(is_refused(alone, StampFault::NoRow), "a row isn't there");
-    let made = run_two(&mut first, &mut second, names, &amalgamate, 5);
-    seen.want(is_made(made, 5, wanted), "it is noted");
-    seen.want(has_now(&first, Row::checking(0), 1, 0), "the first gave");
-    seen.want(has_now(&second, Row::checking(1), 1, 12), "the second got");
-    Ok(seen)
-}
-
-/// A row that lies in both stripes is seen and written in the first; the second has had the tick too.
-pub fn a_row_in_both_is_the_firsts(alloc: Global, names: &Names) -> Result<Seen, AllocError> {
-    let mut seen = Seen::nothing();
-    let row = Row::checking(0);
-    let wanted = UpToThree::one(written(row, 0, 7, 507));
-    let mut first = of_one(alloc, 0, 0, 7, 0)?;
-    let mut second = of_one(alloc, 0, 0, 9, 0)?;
-    let made = run_two(&mut first, &mut second, names, &deposit(), 5);
-    seen.want(is_made(made, 5, wanted), "it is noted");
-    seen.want(has_now(&first, row, 1, 507), "the first's row is written");
-    seen.want(has_now(&second, row, 0, 9), "the second's isn't");
-    let alone = deposited(&mut second, names, 5);
-    let is_late = is_refused(alone, StampFault::TickOrder);
-    seen.want(is_late, "the second had the tick");
-    Ok(seen)
-}
-
-/// Two stripes that share a row, of which the second alone is past the tick: nothing is done in either.
-pub fn the_second_alone_is_past_the_tick(alloc: Global, names: &Names) -> Result<Seen, AllocError> {
-    let mut seen = Seen::nothing();
-    let row = Row::checking(0);
-    let wanted = UpToThree::one(written(row, 0, 7, 507));
-    let mut first = of_one(alloc, 0, 5, 7, 0)?;
-    let mut second = of_one(alloc, 0, 0, 9, 0)?;
-    let made = deposited(&mut second, names, 7);
-    seen.want(made.is_ok(), "the second is at 7");
-    let both = run_two(&mut first, &mut second, names, &deposit(), 6);
-    seen.want(is_refused(both, StampFault::TickOrder), "6 is past");
-    seen.want(has_now(&first, row, 0, 7), "the first is as it was");
-    seen.want(has_now(&second, row, 1, 509), "the second too");
-    let alone = deposited(&mut first, names, 1);
-    seen.want(is_made(alone, 1, wanted), "the first had no tick");
-    Ok(seen)
+/// What is seen of the case.
+pub fn played(alloc: Global, random: RandomState, case: &Case) -> Result<Seen, AllocError> {
+    let names = names(alloc, random, 2);
+    played_with(alloc, &names, case)
 }
