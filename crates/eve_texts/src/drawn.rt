@@ -1,15 +1,33 @@
 //! Batches that are drawn, cut and compared with the definition.
 
-use crate::model::{Drawn, DrawnKind, Member, cut_of};
-use crate::texts::add;
-use eve_accounts::{Amount, Name, Names};
+use crate::model::{Drawn, Member};
+use crate::said::Said;
+use crate::texts::names_of;
+use eve_accounts::{Amount, Cents, Name, Names};
 use eve_workload::{Mixer, mix};
-use eve_write::{BatchData, RequestData, TransactionData};
-use std::alloc::{AllocError, Global};
+use eve_write::{BatchData, CustomerData, RequestData, TransactionData};
+use std::alloc::Global;
 use std::hash::RandomState;
 use std::io;
-use std::io::Write;
+use std::io::ErrorKind;
 use std::slice::Iter;
+
+/// 64 customers, and one who is none.
+type Listed = [CustomerData; 65];
+
+fn listed() -> Option<Listed> {
+    let first = CustomerData {
+        name: Name::new(b"c00")?,
+        saving: Cents::ZERO,
+        checking: Cents::ZERO,
+    };
+    let mut listed = [first; 65];
+    for place in 0..65u8 {
+        let name = [b'c', b'0' + place / 10, b'0' + place % 10];
+        listed[usize::from(place)].name = Name::new(&name)?;
+    }
+    Some(listed)
+}
 
 /// Numbers that are drawn one after another, always the same.
 #[derive(Drop)]
@@ -29,19 +47,23 @@ impl Draws {
     }
 
     // A request of one of so many customers, seldom of none.
-    fn request(&mut self, customers: u32) -> Drawn {
-        let kind = match self.below(5) {
-            0 => DrawnKind::Balance,
-            1 => DrawnKind::DepositChecking,
-            2 => DrawnKind::TransactSaving,
-            3 => DrawnKind::Amalgamate,
-            _ => DrawnKind::WriteCheck,
+    fn request(&mut self, listed: &Listed, customers: u32) -> Drawn {
+        let kind = self.below(5);
+        let customer = self.customer(customers);
+        let other = self.customer(customers);
+        let amount = Amount::new(i64::from(self.below(20)) - 2).unwrap_or(Amount::of(0));
+        let name = name_of(listed, customer);
+        let transaction = match kind {
+            0 => TransactionData::Balance(name),
+            1 => TransactionData::DepositChecking(name, amount),
+            2 => TransactionData::TransactSaving(name, amount),
+            3 => TransactionData::Amalgamate(name, name_of(listed, other)),
+            _ => TransactionData::WriteCheck(name, amount),
         };
         Drawn {
-            kind,
-            customer: self.customer(customers),
-            other: self.customer(customers),
-            amount: i64::from(self.below(20)) - 2,
+            transaction,
+            customer,
+            other,
         }
     }
 
@@ -54,145 +76,102 @@ impl Draws {
     }
 }
 
+fn name_of(listed: &Listed, customer: u32) -> Name {
+    listed[(customer as usize).min(64)].name
+}
+
 /// Cuts so many batches, and says how many aren't cut as the definition says.
-pub fn drawn<W: Write>(rt: &HostRuntime, out: &mut W, count: &str) -> io::Result<()> {
-    let alloc = rt.alloc();
+pub fn drawn(rt: &HostRuntime, count: &str, said: &mut Said) -> io::Result<()> {
     let count = count.parse::<u32>().unwrap_or(0);
-    let listed = names_of(alloc)?;
+    let Some(listed) = listed() else {
+        return Err(ErrorKind::InvalidData.into());
+    };
     let mut draws = Draws { state: 1 };
     let mut wrong = 0u32;
     for _ in 0..count {
-        let customers = draws.below(64).saturating_add(1);
-        let requests = draws.below(256).saturating_add(1);
-        if !is_as_defined(rt, &mut draws, listed.as_slice(), customers, requests)? {
+        let keys = RandomState::new(rt)?;
+        if !is_as_defined(rt.alloc(), keys, &mut draws, &listed, said) {
             wrong = wrong.saturating_add(1);
         }
     }
-    writeln!(out, "{count} batches drawn: {wrong} cut otherwise")
+    said.number("", u64::from(count));
+    said.number(" batches drawn: ", u64::from(wrong));
+    said.words(" cut otherwise\n");
+    Ok(())
 }
 
-// The names of 64 customers, and of one who is none.
-fn names_of(alloc: Global) -> Result<Vec<Name>, AllocError> {
-    let mut names = Vec::new(alloc);
-    for customer in 0..65u32 {
-        let name = format!(in alloc; "c{customer}")?;
-        names.push(Name::new(name.as_bytes()).ok_or(AllocError)?)?;
-    }
-    Ok(names)
-}
-
-// Draws a batch of so many customers and requests, and says whether it is cut as the definition says.
+// Draws a batch, and says whether it is cut as the definition says.
 fn is_as_defined(
-    rt: &HostRuntime,
-    draws: &mut Draws,
-    listed: &[Name],
-    customers: u32,
-    count: u32,
-) -> io::Result<bool> {
-    let names = first_of(rt, listed, customers)?;
-    let asked = asked_of(rt.alloc(), draws, customers, count)?;
-    Ok(is_cut_as_defined(rt.alloc(), asked.as_slice(), customers, listed, &names)?)
-}
-
-// So many of the names.
-fn first_of<'a>(rt: &HostRuntime, listed: &'a [Name], customers: u32) -> io::Result<Names<'a>> {
-    let mut names = Names::new(rt.alloc(), RandomState::new(rt)?, 64);
-    for customer in 0..customers {
-        add(&mut names, name_at(listed, customer)?)?;
-    }
-    Ok(names)
-}
-
-// Draws so many requests.
-fn asked_of(
     alloc: Global,
+    keys: RandomState,
     draws: &mut Draws,
-    customers: u32,
-    count: u32,
-) -> Result<Vec<Drawn>, AllocError> {
-    let mut asked = Vec::new(alloc);
-    for _ in 0..count {
-        asked.push(draws.request(customers))?;
+    listed: &Listed,
+    said: &mut Said,
+) -> bool {
+    let customers = draws.below(64).saturating_add(1);
+    let names = names_of(alloc, keys, &listed[..(customers as usize).min(64)], said);
+    let mut requests = Vec::new(alloc);
+    let mut members = Vec::new(alloc);
+    for number in 0..draws.below(256).saturating_add(1) {
+        let drawn = draws.request(listed, customers);
+        let request = RequestData {
+            client: 7,
+            number: u64::from(number),
+            transaction: drawn.transaction,
+        };
+        said.needs(requests.push(request).is_ok());
+        let member = Member::behind(members.as_slice(), &drawn, customers);
+        said.needs(members.push(member).is_ok());
     }
-    Ok(asked)
+    is_cut_as_defined(alloc, requests.as_slice(), &names, members.as_slice(), said)
 }
 
-// Whether the first mixer cuts these requests as it is defined.
+// Whether the first mixer cuts these requests into the groups of these members.
 fn is_cut_as_defined(
     alloc: Global,
-    asked: &[Drawn],
-    customers: u32,
-    listed: &[Name],
+    requests: &[RequestData],
     names: &Names,
-) -> Result<bool, AllocError> {
-    let requests = requests_of(alloc, asked, listed)?;
+    members: &[Member],
+    said: &mut Said,
+) -> bool {
     if requests.is_empty() || requests.len() > 256 {
-        return Ok(false);
-    }
-    let batch = mix(alloc, requests.as_slice(), names, Mixer::First)?;
-    let groups = cut_of(alloc, asked, customers)?;
-    Ok(are_same(&batch, groups.as_slice()))
-}
-
-// The requests, each with its index as its number.
-fn requests_of(
-    alloc: Global,
-    asked: &[Drawn],
-    listed: &[Name],
-) -> Result<Vec<RequestData>, AllocError> {
-    let mut requests = Vec::new(alloc);
-    for index in 0..asked.len() {
-        requests.push(RequestData {
-            client: 7,
-            number: index as u64,
-            transaction: transaction_of(&asked[index], listed)?,
-        })?;
-    }
-    Ok(requests)
-}
-
-fn transaction_of(request: &Drawn, listed: &[Name]) -> Result<TransactionData, AllocError> {
-    let name = *name_at(listed, request.customer)?;
-    let Some(amount) = Amount::new(request.amount) else {
-        return Ok(TransactionData::Balance(name));
-    };
-    Ok(match request.kind {
-        DrawnKind::Balance => TransactionData::Balance(name),
-        DrawnKind::DepositChecking => TransactionData::DepositChecking(name, amount),
-        DrawnKind::TransactSaving => TransactionData::TransactSaving(name, amount),
-        DrawnKind::Amalgamate => {
-            TransactionData::Amalgamate(name, *name_at(listed, request.other)?)
-        }
-        DrawnKind::WriteCheck => TransactionData::WriteCheck(name, amount),
-    })
-}
-
-fn name_at(listed: &[Name], place: u32) -> Result<&Name, AllocError> {
-    listed.get(place as usize).ok_or(AllocError)
-}
-
-// Whether the batch lists the requests of these groups; a request's number is its index.
-fn are_same(batch: &BatchData, groups: &[Vec<Member>]) -> bool {
-    if batch.sizes.len() != groups.len() {
         return false;
     }
+    match mix(alloc, requests, names, Mixer::First) {
+        Ok(batch) => has_groups(&batch, members),
+        Err(_) => {
+            said.needs(false);
+            false
+        }
+    }
+}
+
+// Whether the batch lists the requests of one group after another; a request's number is its place among the members.
+fn has_groups(batch: &BatchData, members: &[Member]) -> bool {
     let mut requests = batch.requests.iter();
-    for place in 0..groups.len() {
-        let group = groups[place].as_slice();
-        if usize::from(batch.sizes[place]) != group.len() || !come_next(group, &mut requests) {
+    for group in 0..batch.sizes.len() {
+        if !come_next(&mut requests, batch.sizes[group], members, group) {
             return false;
         }
     }
-    requests.next().is_none()
+    requests.next().is_none() && batch.requests.len() == members.len()
 }
 
-// Whether the next requests are those of this group.
-fn come_next(group: &[Member], requests: &mut Iter<RequestData>) -> bool {
-    for member in group {
-        match requests.next() {
-            Some(request) if request.number == member.index as u64 => {}
-            _ => return false,
+// Whether the next requests, so many and not none, are those of this group.
+fn come_next(
+    requests: &mut Iter<RequestData>,
+    size: u16,
+    members: &[Member],
+    group: usize,
+) -> bool {
+    let mut count = 0u16;
+    for place in 0..members.len() {
+        if members[place].group == group {
+            match requests.next() {
+                Some(request) if request.number == place as u64 => count = count.saturating_add(1),
+                _ => return false,
+            }
         }
     }
-    true
+    count == size && count > 0
 }

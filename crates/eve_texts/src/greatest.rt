@@ -1,118 +1,141 @@
 //! Texts with as many customers, requests and batches as there may be.
 
 use crate::said::Said;
-use crate::texts::{names_of, told};
+use crate::texts::{names_of, read};
 use eve_workload::{Mixer, Workload, mix};
-use std::alloc::{AllocError, Global};
-use std::io;
-use std::io::Write;
+use std::alloc::Global;
+use std::hash::RandomState;
 
-/// How a text is made.
-#[derive(Clone, Copy)]
-enum Made {
-    /// With so many customers.
-    Customers(u32),
-    /// One batch of 256 requests of one customer: the word of each, and what follows its name.
-    Requests(&'static str, &'static str),
-    /// So many batches of one request, and what follows them.
-    Batches(u32, &'static str),
+/// A text, and how it is made: between a front and an end so many times the same with another number.
+struct Made {
+    name: &'static str,
+    front: &'static str,
+    count: u32,
+    before_number: &'static str,
+    behind_number: &'static str,
+    end: &'static str,
+    is_cut: bool,
 }
+
+/// Texts that are read, at a limit and one past it; and two of one batch, which is cut.
+static MADE: [Made; 7] = [
+    Made {
+        name: "4096 customers",
+        front: "eve 1 1 1 1 1\n",
+        count: 4096,
+        before_number: "customer c",
+        behind_number: " 0 0\n",
+        end: "",
+        is_cut: false,
+    },
+    Made {
+        name: "256 requests",
+        front: ONE_BATCH,
+        count: 256,
+        before_number: "balance 7 ",
+        behind_number: " ann\n",
+        end: "",
+        is_cut: false,
+    },
+    Made {
+        name: "65535 batches",
+        front: ONE_CUSTOMER,
+        count: 65535,
+        before_number: BATCH,
+        behind_number: " ann\n",
+        end: "",
+        is_cut: false,
+    },
+    Made {
+        name: "65536 batches",
+        front: ONE_CUSTOMER,
+        count: 65535,
+        before_number: BATCH,
+        behind_number: " ann\n",
+        end: "batch\n",
+        is_cut: false,
+    },
+    Made {
+        name: "65535 batches and the first request again",
+        front: ONE_CUSTOMER,
+        count: 65535,
+        before_number: BATCH,
+        behind_number: " ann\n",
+        end: "balance 7 0 ann\n",
+        is_cut: false,
+    },
+    Made {
+        name: "256 deposits of one customer",
+        front: ONE_BATCH,
+        count: 256,
+        before_number: "deposit 7 ",
+        behind_number: " ann 5\n",
+        end: "",
+        is_cut: true,
+    },
+    Made {
+        name: "256 balances of one customer",
+        front: ONE_BATCH,
+        count: 256,
+        before_number: "balance 7 ",
+        behind_number: " ann\n",
+        end: "",
+        is_cut: true,
+    },
+];
+
+const ONE_CUSTOMER: &str = "eve 1 1 1 1 1\ncustomer ann 0 0\n";
+
+const ONE_BATCH: &str = "eve 1 1 1 1 1\ncustomer ann 0 0\nbatch\n";
+
+const BATCH: &str = "batch\nbalance 7 ";
 
 /// Says what texts at the limits come to, and one past them.
-pub fn greatest<W: Write>(rt: &HostRuntime, out: &mut W) -> io::Result<()> {
-    let read = [
-        ("4096 customers", Made::Customers(4096)),
-        ("256 requests", Made::Requests("balance", "")),
-        ("65535 batches", Made::Batches(65535, "")),
-        ("65536 batches", Made::Batches(65535, "batch\n")),
-        (
-            "65535 batches and the first request again",
-            Made::Batches(65535, "balance 7 0 ann\n"),
-        ),
-    ];
-    for (name, made) in &read {
-        say(rt.alloc(), out, name, *made)?;
-    }
-    let cut = [
-        (
-            "256 deposits of one customer",
-            Made::Requests("deposit", " 5"),
-        ),
-        (
-            "256 balances of one customer",
-            Made::Requests("balance", ""),
-        ),
-    ];
-    for (name, made) in &cut {
-        say_cut(rt, out, name, *made)?;
-    }
-    Ok(())
-}
-
-fn text_of(alloc: Global, made: Made) -> Result<String, AllocError> {
-    match made {
-        Made::Customers(count) => with_customers(alloc, count),
-        Made::Requests(kind, rest) => with_requests(alloc, kind, rest),
-        Made::Batches(count, rest) => with_batches(alloc, count, rest),
+pub fn greatest(alloc: Global, keys: RandomState, said: &mut Said) {
+    for made in &MADE {
+        tell(alloc, keys, made, said);
     }
 }
 
-// Says what a text comes to.
-fn say<W: Write>(alloc: Global, out: &mut W, name: &str, made: Made) -> io::Result<()> {
-    let text = text_of(alloc, made)?;
-    let said = told(alloc, text.as_bytes())?;
-    writeln!(out, "{name}: {said}")
+// Says what a text comes to, or how it is cut.
+fn tell(alloc: Global, keys: RandomState, made: &Made, said: &mut Said) {
+    let text = text_of(alloc, made);
+    said.needs(text.is_whole());
+    if made.is_cut {
+        tell_cut(alloc, keys, made.name, text.as_bytes(), said);
+    } else {
+        read(alloc, made.name, text.as_bytes(), said);
+    }
+}
+
+fn text_of(alloc: Global, made: &Made) -> Said {
+    let mut text = Said::nothing(alloc);
+    text.words(made.front);
+    for number in 0..made.count {
+        text.number(made.before_number, u64::from(number));
+        text.words(made.behind_number);
+    }
+    text.words(made.end);
+    text
 }
 
 // Says into how many parallelBatches the first mixer cuts the first batch of a text.
-fn say_cut<W: Write>(rt: &HostRuntime, out: &mut W, name: &str, made: Made) -> io::Result<()> {
-    let text = text_of(rt.alloc(), made)?;
-    let count = parallel_batches(rt, text.as_bytes())?;
-    writeln!(out, "{name}: {count} parallelBatches")
-}
-
-fn with_customers(alloc: Global, count: u32) -> Result<String, AllocError> {
-    let mut text = Said::nothing(alloc);
-    write!(text, "eve 1 1 1 1 1\n");
-    for customer in 0..count {
-        write!(text, "customer c{customer} 0 0\n");
+fn tell_cut(alloc: Global, keys: RandomState, name: &str, text: &[u8], said: &mut Said) {
+    said.words(name);
+    match Workload::read(alloc, text) {
+        Ok(workload) => tell_parallel_batches(alloc, keys, &workload, said),
+        Err(_) => said.needs(false),
     }
-    text.all()
+    said.words(" parallelBatches\n");
 }
 
-// One batch of 256 such requests of one customer.
-fn with_requests(alloc: Global, kind: &str, rest: &str) -> Result<String, AllocError> {
-    let mut text = Said::nothing(alloc);
-    write!(text, "eve 1 1 1 1 1\ncustomer ann 0 0\nbatch\n");
-    for number in 0..256u32 {
-        write!(text, "{kind} 7 {number} ann{rest}\n");
-    }
-    text.all()
-}
-
-// So many batches of one request, and what follows them.
-fn with_batches(alloc: Global, count: u32, rest: &str) -> Result<String, AllocError> {
-    let mut text = Said::nothing(alloc);
-    write!(text, "eve 1 1 1 1 1\ncustomer ann 0 0\n");
-    for number in 0..count {
-        write!(text, "batch\nbalance 7 {number} ann\n");
-    }
-    write!(text, "{rest}");
-    text.all()
-}
-
-fn parallel_batches(rt: &HostRuntime, text: &[u8]) -> io::Result<usize> {
-    match Workload::read(rt.alloc(), text) {
-        Ok(workload) => parallel_batches_of(rt, &workload),
-        Err(_) => Err(AllocError.into()),
-    }
-}
-
-fn parallel_batches_of(rt: &HostRuntime, workload: &Workload) -> io::Result<usize> {
+fn tell_parallel_batches(alloc: Global, keys: RandomState, workload: &Workload, said: &mut Said) {
     if workload.batches() == 0 {
-        return Ok(0);
+        return;
     }
-    let names = names_of(rt, workload.customers())?;
-    let batch = mix(rt.alloc(), workload.batch(1), &names, Mixer::First)?;
-    Ok(batch.sizes.len())
+    let names = names_of(alloc, keys, workload.customers(), said);
+    match mix(alloc, workload.batch(1), &names, Mixer::First) {
+        Ok(batch) => said.number(": ", batch.sizes.len() as u64),
+        Err(_) => said.needs(false),
+    }
 }

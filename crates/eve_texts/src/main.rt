@@ -14,38 +14,52 @@ mod texts;
 
 use crate::drawn::drawn;
 use crate::greatest::greatest;
+use crate::said::Said;
 use crate::texts::{bytes_of, cut, mixed, read};
+use std::hash::RandomState;
 use std::io;
-use std::io::Write;
 
 /// Does what a line asks for.
-fn act(rt: &HostRuntime, line: &str) -> io::Result<()> {
-    let alloc = rt.alloc();
+fn act(rt: &HostRuntime, line: &str, said: &mut Said) -> io::Result<()> {
     let mut words = line.splitn(3, ' ');
     let what = words.next().unwrap_or("");
     let name = words.next().unwrap_or("");
-    let text = bytes_of(alloc, words.next().unwrap_or(""))?;
-    act_on(rt, what, name, text.as_slice())
+    let text = bytes_of(rt.alloc(), words.next().unwrap_or(""), said);
+    act_on(rt, what, name, text.as_slice(), said)
 }
 
 /// Does what is asked for with a text.
-fn act_on(rt: &HostRuntime, what: &str, name: &str, text: &[u8]) -> io::Result<()> {
+fn act_on(
+    rt: &HostRuntime,
+    what: &str,
+    name: &str,
+    text: &[u8],
+    said: &mut Said,
+) -> io::Result<()> {
     let alloc = rt.alloc();
-    let mut out = io::writer(rt);
+    let keys = RandomState::new(rt)?;
     match what {
-        "read" => read(alloc, &mut out, name, text),
-        "cut" => cut(alloc, &mut out, name, text),
-        "mix" => mixed(rt, &mut out, name, text),
-        "greatest" => greatest(rt, &mut out),
-        "drawn" => drawn(rt, &mut out, name),
-        _ => writeln!(out, "{what} {name}: no such word"),
+        "read" => read(alloc, name, text, said),
+        "cut" => cut(alloc, name, text, said),
+        "mix" => mixed(alloc, keys, name, text, said),
+        "greatest" => greatest(alloc, keys, said),
+        "drawn" => return drawn(rt, name, said),
+        _ => said.words("no such word\n"),
     }
+    Ok(())
+}
+
+/// Prints what came of a line.
+fn print(rt: &HostRuntime, line: &str) -> io::Result<()> {
+    let mut said = Said::nothing(rt.alloc());
+    act(rt, line, &mut said)?;
+    said.print(rt)
 }
 
 fn main(rt: HostRuntime) -> io::Result<()> {
     for line in rt.lines(rt.alloc()) {
         let line = line?;
-        act(&rt, line.as_str())?;
+        print(&rt, line.as_str())?;
     }
     Ok(())
 }

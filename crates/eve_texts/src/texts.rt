@@ -3,39 +3,33 @@
 ghost use Rattle.std.specs.Prelude.{◌≤◌, length};
 
 use crate::said::Said;
-use eve_accounts::{Name, Names};
+use eve_accounts::Names;
 use eve_workload::{Mixer, Workload, WorkloadFault, mix};
-use eve_write::{BatchData, CustomerData};
-use std::alloc::{AllocError, Global};
+use eve_write::{BatchData, CustomerData, RequestData};
+use std::alloc::Global;
 use std::hash::RandomState;
-use std::io;
-use std::io::Write;
 
 /// The bytes of a text as it is written on a line: `/` stands for a line feed, and `{7f}` for that byte.
-pub fn bytes_of(alloc: Global, written: &str) -> Result<Vec<u8>, AllocError> {
+pub fn bytes_of(alloc: Global, written: &str, said: &mut Said) -> Vec<u8> {
     let mut bytes = Vec::new(alloc);
-    let mut inside: Option<u8> = None;
+    let mut is_inside = false;
+    let mut value = 0u8;
     for byte in written.as_bytes() {
-        let byte = *byte;
-        match inside {
-            Some(value) => {
-                if byte == b'}' {
-                    bytes.push(value)?;
-                    inside = None;
-                } else {
-                    inside = Some(value.wrapping_mul(16).wrapping_add(digit_of(byte)));
-                }
+        match *byte {
+            b'{' => {
+                is_inside = true;
+                value = 0;
             }
-            None => {
-                if byte == b'{' {
-                    inside = Some(0);
-                } else {
-                    bytes.push(if byte == b'/' { b'\n' } else { byte })?;
-                }
-            }
+            b'}' => is_inside = false,
+            b'/' => value = b'\n',
+            digit if is_inside => value = value.wrapping_mul(16).wrapping_add(digit_of(digit)),
+            other => value = other,
+        }
+        if !is_inside {
+            said.needs(bytes.push(value).is_ok());
         }
     }
-    Ok(bytes)
+    bytes
 }
 
 // What a hexadecimal digit stands for.
@@ -47,137 +41,120 @@ fn digit_of(digit: u8) -> u8 {
     }
 }
 
-/// `right`, or the line that isn't.
-pub fn told(alloc: Global, text: &[u8]) -> Result<String, AllocError> {
-    words_of(alloc, wrong_line(alloc, text)?)
-}
-
 /// Says what the text comes to.
-pub fn read<W: Write>(alloc: Global, out: &mut W, name: &str, text: &[u8]) -> io::Result<()> {
-    let said = told(alloc, text)?;
-    writeln!(out, "{name}: {said}")
+pub fn read(alloc: Global, name: &str, text: &[u8], said: &mut Said) {
+    said.words(name);
+    said.words(": ");
+    let wrong = wrong_line(alloc, text, said);
+    tell_wrong(wrong, said);
 }
 
 // The line of the text that isn't right, if there is one.
-fn wrong_line(alloc: Global, text: &[u8]) -> Result<Option<u32>, AllocError> {
+fn wrong_line(alloc: Global, text: &[u8], said: &mut Said) -> Option<u32> {
     match Workload::read(alloc, text) {
-        Ok(_) => Ok(None),
-        Err(WorkloadFault::Line(number)) => Ok(Some(number)),
-        Err(WorkloadFault::Memory) => Err(AllocError),
+        Ok(_) => None,
+        Err(WorkloadFault::Line(number)) => Some(number),
+        Err(WorkloadFault::Memory) => {
+            said.needs(false);
+            None
+        }
     }
 }
 
-fn words_of(alloc: Global, wrong: Option<u32>) -> Result<String, AllocError> {
+// Says `right`, or the line that isn't.
+fn tell_wrong(wrong: Option<u32>, said: &mut Said) {
     match wrong {
-        None => format!(in alloc; "right"),
-        Some(number) => format!(in alloc; "line {number}"),
+        None => said.words("right\n"),
+        Some(number) => {
+            said.number("line ", u64::from(number));
+            said.words("\n");
+        }
     }
 }
 
 /// Says what each front of the text comes to; fronts of one answer that follow one another stand on one line.
-pub fn cut<W: Write>(alloc: Global, out: &mut W, name: &str, text: &[u8]) -> io::Result<()> {
+pub fn cut(alloc: Global, name: &str, text: &[u8], said: &mut Said) {
     let mut from = 0;
-    let mut wrong = wrong_line(alloc, &text[..0])?;
+    let mut wrong = wrong_line(alloc, &text[..0], said);
     for len in 0..text.len() {
-        let next = wrong_line(alloc, &text[..len + 1])?;
+        let next = wrong_line(alloc, &text[..len + 1], said);
         if next != wrong {
-            say_fronts(alloc, out, name, from, len, wrong)?;
+            tell_fronts(name, from, len, said);
+            tell_wrong(wrong, said);
             from = len + 1;
             wrong = next;
         }
     }
-    say_fronts(alloc, out, name, from, text.len(), wrong)
+    tell_fronts(name, from, text.len(), said);
+    tell_wrong(wrong, said);
 }
 
-// Says what the fronts of these lengths come to.
-fn say_fronts<W: Write>(
+// Says of which fronts something is told.
+fn tell_fronts(name: &str, from: usize, to: usize, said: &mut Said) {
+    said.words(name);
+    said.number(", ", from as u64);
+    said.number(" to ", to as u64);
+    said.words(" bytes: ");
+}
+
+/// The customers' names. They differ, so lack of memory alone keeps one out.
+pub fn names_of<'a>(
     alloc: Global,
-    out: &mut W,
-    name: &str,
-    from: usize,
-    to: usize,
-    wrong: Option<u32>,
-) -> io::Result<()> {
-    let said = words_of(alloc, wrong)?;
-    writeln!(out, "{name}, {from} to {to} bytes: {said}")
-}
-
-/// The customers' names.
-pub fn names_of<'a>(rt: &HostRuntime, customers: &'a [CustomerData]) -> io::Result<Names<'a>> {
-    let mut names = Names::new(rt.alloc(), RandomState::new(rt)?, 4096);
+    keys: RandomState,
+    customers: &'a [CustomerData],
+    said: &mut Said,
+) -> Names<'a> {
+    let mut names = Names::new(alloc, keys, 4096);
     for customer in customers {
-        add(&mut names, &customer.name)?;
+        said.needs(names.add(customer.name.as_slice()).is_ok());
     }
-    Ok(names)
-}
-
-/// Adds a name. Those that are added differ, so lack of memory alone keeps one out.
-pub fn add<'a>(names: &mut Names<'a>, name: &'a Name) -> Result<(), AllocError> {
-    match names.add(name.as_slice()) {
-        Ok(_) => Ok(()),
-        Err(_) => Err(AllocError),
-    }
+    names
 }
 
 /// Cuts each batch of the text by both mixers.
-pub fn mixed<W: Write>(rt: &HostRuntime, out: &mut W, name: &str, text: &[u8]) -> io::Result<()> {
-    match Workload::read(rt.alloc(), text) {
-        Ok(workload) => {
-            let said = mixed_batches(rt, &workload)?;
-            writeln!(out, "{name}:{said}")
-        }
-        Err(WorkloadFault::Line(_)) => writeln!(out, "{name}: not right"),
-        Err(WorkloadFault::Memory) => Err(AllocError.into()),
+pub fn mixed(alloc: Global, keys: RandomState, name: &str, text: &[u8], said: &mut Said) {
+    said.words(name);
+    said.words(":");
+    match Workload::read(alloc, text) {
+        Ok(workload) => tell_batches(alloc, keys, &workload, said),
+        Err(WorkloadFault::Line(_)) => said.words(" not right"),
+        Err(WorkloadFault::Memory) => said.needs(false),
     }
+    said.words("\n");
 }
 
-// Cuts each batch by both mixers.
-fn mixed_batches(rt: &HostRuntime, workload: &Workload) -> io::Result<String> {
-    let names = names_of(rt, workload.customers())?;
-    Ok(each_mixed(rt.alloc(), workload, &names)?)
-}
-
-fn each_mixed(alloc: Global, workload: &Workload, names: &Names) -> Result<String, AllocError> {
-    let mut said = Said::nothing(alloc);
+fn tell_batches(alloc: Global, keys: RandomState, workload: &Workload, said: &mut Said) {
+    let names = names_of(alloc, keys, workload.customers(), said);
     for n in 0..workload.batches() {
-        if n > 0 {
-            write!(said, ";");
-        }
-        mixed_batch(alloc, &mut said, workload, names, n + 1)?;
+        let requests = workload.batch(n + 1);
+        said.words(if n > 0 { "; first" } else { " first" });
+        tell_mixed(alloc, requests, &names, Mixer::First, said);
+        said.words(", whole");
+        tell_mixed(alloc, requests, &names, Mixer::Whole, said);
     }
-    said.all()
 }
 
-// Cuts this batch by both mixers.
-fn mixed_batch(
-    alloc: Global,
-    said: &mut Said,
-    workload: &Workload,
-    names: &Names,
-    n: u32,
-) -> Result<(), AllocError>
-    requires from_one { 1 ≤ n }
-    requires there { n ≤ length workload.now.batches }
+// Cuts these requests.
+fn tell_mixed(alloc: Global, requests: &[RequestData], names: &Names, mixer: Mixer, said: &mut Said)
+    requires some { 1 ≤ length requests.now }
+    requires few { length requests.now ≤ 256 }
 {
-    let requests = workload.batch(n);
-    write!(said, " first");
-    list(said, &mix(alloc, requests, names, Mixer::First)?);
-    write!(said, ", whole");
-    list(said, &mix(alloc, requests, names, Mixer::Whole)?);
-    Ok(())
+    match mix(alloc, requests, names, mixer) {
+        Ok(batch) => list(&batch, said),
+        Err(_) => said.needs(false),
+    }
 }
 
 // Lists the numbers of the requests of each parallelBatch.
-fn list(said: &mut Said, batch: &BatchData) {
+fn list(batch: &BatchData, said: &mut Said) {
     let mut requests = batch.requests.iter();
     for size in &batch.sizes {
-        write!(said, " [");
+        said.words(" [");
         for place in 0..*size {
             if let Some(request) = requests.next() {
-                let gap = if place > 0 { " " } else { "" };
-                write!(said, "{gap}{}", request.number);
+                said.number(if place > 0 { " " } else { "" }, request.number);
             }
         }
-        write!(said, "]");
+        said.words("]");
     }
 }
