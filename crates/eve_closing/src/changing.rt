@@ -1,13 +1,13 @@
 //! How the records of an attempt are changed, so that they are none.
 
 use crate::meeting::Meeting;
+use crate::said::Said;
 use eve_accounts::Cents;
 use eve_smallbank::UpToThree;
 use eve_stamps::HeldRow;
-use std::alloc::AllocError;
 
-/// A change of the records of an attempt, or of the ledger that they are handed to.
-#[derive(Clone, Copy, PartialEq, Eq)]
+/// A change of the records of an attempt.
+#[derive(Clone, Copy)]
 pub enum Change {
     /// The last record is left out.
     LeftOut,
@@ -35,96 +35,138 @@ pub enum Change {
     TicksEqual,
     /// The ticks rise to the greatest that there is.
     TicksLate,
-    /// The ledger has the rows of the first customer alone.
-    FewerRows,
-    /// The ledger was rolled back, so that the attempt is serial.
-    Serial,
-    /// The commits of the section are passed over.
-    Uncommitted,
 }
+
+/// Beside changes of records: the ledger has the rows of the first customer alone.
+pub const FEWER_ROWS: &str = "fewer-rows";
+
+/// The ledger was rolled back, so that the attempt is serial.
+pub const SERIAL: &str = "serial";
+
+/// The commits of the section are passed over.
+pub const UNCOMMITTED: &str = "uncommitted";
+
+/// A change, and the word that names it.
+struct Word {
+    word: &'static str,
+    change: Change,
+}
+
+static WORDS: [Word; 15] = [
+    Word {
+        word: "left-out",
+        change: Change::LeftOut,
+    },
+    Word {
+        word: "once-more",
+        change: Change::OnceMore,
+    },
+    Word {
+        word: "twice",
+        change: Change::Twice,
+    },
+    Word {
+        word: "index-past",
+        change: Change::IndexPast,
+    },
+    Word {
+        word: "other-request",
+        change: Change::OtherRequest,
+    },
+    Word {
+        word: "worker-past",
+        change: Change::WorkerPast,
+    },
+    Word {
+        word: "second-worker",
+        change: Change::SecondWorker,
+    },
+    Word {
+        word: "place-skipped",
+        change: Change::PlaceSkipped,
+    },
+    Word {
+        word: "first-version",
+        change: Change::OtherVersion(0),
+    },
+    Word {
+        word: "second-version",
+        change: Change::OtherVersion(1),
+    },
+    Word {
+        word: "first-value",
+        change: Change::OtherValue(0),
+    },
+    Word {
+        word: "second-value",
+        change: Change::OtherValue(1),
+    },
+    Word {
+        word: "ticks-fall",
+        change: Change::TicksFall,
+    },
+    Word {
+        word: "ticks-equal",
+        change: Change::TicksEqual,
+    },
+    Word {
+        word: "ticks-late",
+        change: Change::TicksLate,
+    },
+];
 
 impl Change {
     /// The change that a word names.
     pub fn named(word: &str) -> Option<Change> {
-        match word {
-            "left-out" => Some(Change::LeftOut),
-            "once-more" => Some(Change::OnceMore),
-            "twice" => Some(Change::Twice),
-            "index-past" => Some(Change::IndexPast),
-            "other-request" => Some(Change::OtherRequest),
-            "worker-past" => Some(Change::WorkerPast),
-            "second-worker" => Some(Change::SecondWorker),
-            "place-skipped" => Some(Change::PlaceSkipped),
-            "first-version" => Some(Change::OtherVersion(0)),
-            "second-version" => Some(Change::OtherVersion(1)),
-            "first-value" => Some(Change::OtherValue(0)),
-            "second-value" => Some(Change::OtherValue(1)),
-            "ticks-fall" => Some(Change::TicksFall),
-            "ticks-equal" => Some(Change::TicksEqual),
-            "ticks-late" => Some(Change::TicksLate),
-            "fewer-rows" => Some(Change::FewerRows),
-            "serial" => Some(Change::Serial),
-            "uncommitted" => Some(Change::Uncommitted),
-            _ => None,
+        for named in &WORDS {
+            if named.word == word {
+                return Some(named.change);
+            }
         }
+        None
     }
 
     /// What was met, with this change. There are so many workers.
-    pub fn apply(self, met: &mut Vec<Meeting>, workers: u8) -> Result<(), AllocError> {
-        let Some(first) = met.first().copied() else {
-            return Ok(());
-        };
+    pub fn apply(self, met: &mut Vec<Meeting>, workers: u8, said: &mut Said) {
         let Some(last) = met.pop() else {
-            return Ok(());
+            return;
         };
-        for _ in 0..self.times_last() {
-            met.push(self.changed(&first, &last, workers))?;
+        let first = *met.first().unwrap_or(&last);
+        match self {
+            Change::LeftOut => {}
+            Change::OnceMore => {
+                said.needs(met.push(last).is_ok());
+                said.needs(met.push(last).is_ok());
+            }
+            _ => said.needs(met.push(self.changed(&first, &last, workers)).is_ok()),
         }
         self.set_ticks(met.as_mut_slice());
-        Ok(())
-    }
-
-    /// How often the last record is there.
-    fn times_last(self) -> usize {
-        match self {
-            Change::LeftOut => 0,
-            Change::OnceMore => 2,
-            _ => 1,
-        }
     }
 
     /// The last of what was met, with this change.
     fn changed(self, first: &Meeting, last: &Meeting, workers: u8) -> Meeting {
+        let mut met = *last;
         match self {
-            Change::Twice => Meeting {
-                asked: first.asked,
-                index: first.index,
-                ..*last
-            },
-            Change::IndexPast => Meeting {
-                index: last.index.max(first.index).saturating_add(1),
-                ..*last
-            },
-            Change::OtherRequest => Meeting {
-                asked: first.asked,
-                ..*last
-            },
-            Change::WorkerPast => at_first_of(last, workers),
-            Change::SecondWorker => at_first_of(last, 1),
-            Change::PlaceSkipped => Meeting {
-                place: last.place.saturating_add(1),
-                ..*last
-            },
-            Change::OtherVersion(place) => Meeting {
-                seen: with_other_version(&last.seen, place),
-                ..*last
-            },
-            Change::OtherValue(place) => Meeting {
-                seen: with_other_value(&last.seen, place),
-                ..*last
-            },
-            _ => *last,
+            Change::Twice => {
+                met.asked = first.asked;
+                met.index = first.index;
+            }
+            Change::IndexPast => met.index = last.index.max(first.index).saturating_add(1),
+            Change::OtherRequest => met.asked = first.asked,
+            Change::WorkerPast => {
+                met.worker = workers;
+                met.place = 0;
+            }
+            Change::SecondWorker => {
+                met.worker = 1;
+                met.place = 0;
+            }
+            Change::PlaceSkipped => met.place = last.place.saturating_add(1),
+            Change::OtherVersion(place) => met.seen = with_more(&last.seen, place, 1, 0),
+            Change::OtherValue(place) => met.seen = with_more(&last.seen, place, 0, 1),
+            _ => {}
         }
+        met
     }
 
     /// The ticks rise from 0 at first.
@@ -146,40 +188,22 @@ impl Change {
     }
 }
 
-fn at_first_of(met: &Meeting, worker: u8) -> Meeting {
-    Meeting {
-        worker,
-        place: 0,
-        ..*met
-    }
-}
-
-/// The rows with the version after its own at this place, if there is one.
-fn with_other_version(seen: &UpToThree<HeldRow>, place: usize) -> UpToThree<HeldRow> {
-    if place >= seen.len() {
-        return *seen;
-    }
-    let row = seen.at(place);
-    let version = row.version.saturating_add(1);
-    with_row(seen, place, HeldRow { version, ..row })
-}
-
-/// The rows with one cent more at this place, if there is one.
-fn with_other_value(seen: &UpToThree<HeldRow>, place: usize) -> UpToThree<HeldRow> {
-    if place >= seen.len() {
-        return *seen;
-    }
-    let row = seen.at(place);
-    let value = Cents::new(row.value.get().saturating_add(1)).unwrap_or(Cents::ZERO);
-    with_row(seen, place, HeldRow { value, ..row })
-}
-
-/// The rows with this one at this place.
-fn with_row(seen: &UpToThree<HeldRow>, place: usize, row: HeldRow) -> UpToThree<HeldRow> {
+/// The rows with so many versions and cents more at this place, if there is one.
+fn with_more(
+    seen: &UpToThree<HeldRow>,
+    place: usize,
+    versions: u64,
+    cents: i64,
+) -> UpToThree<HeldRow> {
     let mut other = UpToThree::new();
     for at in 0..seen.len() {
+        let mut row = seen.at(at);
+        if at == place {
+            row.version = row.version.saturating_add(versions);
+            row.value = Cents::new(row.value.get().saturating_add(cents)).unwrap_or(Cents::ZERO);
+        }
         if other.len() < 3 {
-            other.push(if at == place { row } else { seen.at(at) });
+            other.push(row);
         }
     }
     other

@@ -4,20 +4,23 @@ ghost use Rattle.std.specs.Prelude.{IsTrue};
 ghost use Rattle.eve_grammar.specs.Limits.{is_attempt, is_batch};
 ghost use Rattle.eve_write.specs.Data.{attempt as plain, batch as plain_batch};
 
+use crate::framed::Framed;
+use crate::said::Said;
 use eve_accounts::{Balances, MOST_NAMED_ROWS};
 use eve_attempts::Ledger;
 use eve_frames::{AttemptView, BatchView, CommitView, RollbackView};
+use eve_grammar::MOST_WINDOW;
 use eve_streams::SinkOf;
-use eve_views::Accesses;
 use eve_write::{
     AttemptData, BatchData, CommitData, RollbackData, write_accesses, write_attempt, write_batch,
     write_commit, write_rollback,
 };
 use std::alloc::{AllocError, Global};
 
-/// A sink in memory that has room for so many bytes.
-fn memory(alloc: Global, room: usize) -> Result<SinkOf<Vec<u8>>, AllocError> {
-    Ok(SinkOf::new(Vec::with_capacity(alloc, room)?))
+/// Whether these bytes were written. A sink in memory fails only where memory is refused.
+fn has(out: SinkOf<Vec<u8>>, is_written: bool, bytes: &[u8], said: &mut Said) -> bool {
+    said.needs(is_written);
+    out.writer().as_slice() == bytes
 }
 
 /// Whether the batch is the one of the frame.
@@ -26,48 +29,37 @@ pub fn is_batch_of(
     number: u32,
     batch: &BatchData,
     frame: &BatchView,
-) -> Result<bool, AllocError>
+    said: &mut Said,
+) -> bool
     requires { IsTrue (is_batch (plain_batch batch.now)) }
 {
-    let mut out = memory(alloc, frame.bytes().len())?;
+    let mut out = SinkOf::new(Vec::new(alloc));
     let is_written = write_batch(&mut out, number, batch).is_ok();
-    Ok(is_written && out.writer().as_slice() == frame.bytes())
-}
-
-/// The bytes of an attempt's frame and of its access frames.
-fn frames_of(
-    alloc: Global,
-    frame: &AttemptView,
-    accesses: &Accesses,
-) -> Result<Vec<u8>, AllocError> {
-    let mut frames = frame.bytes().to_vec(alloc)?;
-    for place in 0..accesses.len() {
-        frames.extend_from_slice(accesses.get(place).bytes())?;
-    }
-    Ok(frames)
+    has(out, is_written, frame.bytes(), said)
 }
 
 /// Whether the attempt is the one of the frames.
-pub fn is_attempt_of(
-    alloc: Global,
-    attempt: &AttemptData,
-    frame: &AttemptView,
-    accesses: &Accesses,
-) -> Result<bool, AllocError>
+pub fn is_attempt_of(alloc: Global, attempt: &AttemptData, framed: Framed, said: &mut Said) -> bool
     requires { IsTrue (is_attempt (plain attempt.now)) }
 {
-    let frames = frames_of(alloc, frame, accesses)?;
-    is_written_as(alloc, attempt, frames.as_slice())
+    let mut out = SinkOf::new(Vec::new(alloc));
+    said.needs(write_attempt(&mut out, attempt).is_ok());
+    said.needs(write_accesses(&mut out, &attempt.accesses).is_ok());
+    are_frames(out.writer().as_slice(), framed)
 }
 
-/// Whether the attempt is written as these bytes.
-fn is_written_as(alloc: Global, attempt: &AttemptData, bytes: &[u8]) -> Result<bool, AllocError>
-    requires { IsTrue (is_attempt (plain attempt.now)) }
-{
-    let mut out = memory(alloc, bytes.len())?;
-    let is_written = write_attempt(&mut out, attempt).is_ok()
-        && write_accesses(&mut out, &attempt.accesses).is_ok();
-    Ok(is_written && out.writer().as_slice() == bytes)
+/// Whether the bytes are those of an attempt's frame and of its access frames.
+fn are_frames(bytes: &[u8], framed: Framed) -> bool {
+    let Some(mut rest) = bytes.strip_prefix(framed.attempt.bytes()) else {
+        return false;
+    };
+    for place in 0..framed.accesses.len() {
+        let Some(behind) = rest.strip_prefix(framed.accesses.get(place).bytes()) else {
+            return false;
+        };
+        rest = behind;
+    }
+    rest.is_empty()
 }
 
 /// Whether the attempt has the token of the frame.
@@ -80,10 +72,11 @@ pub fn is_commit_of(
     alloc: Global,
     commit: &CommitData,
     frame: &CommitView,
-) -> Result<bool, AllocError> {
-    let mut out = memory(alloc, frame.bytes().len())?;
+    said: &mut Said,
+) -> bool {
+    let mut out = SinkOf::new(Vec::new(alloc));
     let is_written = write_commit(&mut out, commit).is_ok();
-    Ok(is_written && out.writer().as_slice() == frame.bytes())
+    has(out, is_written, frame.bytes(), said)
 }
 
 /// Whether the rollback is the one of the frame.
@@ -91,14 +84,18 @@ pub fn is_rollback_of(
     alloc: Global,
     rollback: &RollbackData,
     frame: &RollbackView,
-) -> Result<bool, AllocError> {
+    said: &mut Said,
+) -> bool {
     if rollback.restores.len() > MOST_NAMED_ROWS as usize {
-        return Ok(false);
+        return false;
     }
-    let mut out = memory(alloc, frame.bytes().len())?;
+    let mut out = SinkOf::new(Vec::new(alloc));
     let is_written = write_rollback(&mut out, rollback).is_ok();
-    Ok(is_written && out.writer().as_slice() == frame.bytes())
+    has(out, is_written, frame.bytes(), said)
 }
+
+/// The tokens of as many open attempts as there may be, in their order, and zeros.
+type Tokens = [[u8; 32]; MOST_WINDOW as usize];
 
 /// All that a ledger shows.
 #[derive(Drop)]
@@ -106,24 +103,22 @@ pub struct Shown {
     view: u32,
     committed: u32,
     is_next_serial: bool,
-    tokens: Vec<[u8; 32]>,
+    opened: usize,
+    tokens: Tokens,
     balances: Balances,
 }
 
 impl Shown {
     /// What the ledger shows now.
     pub fn of(alloc: Global, ledger: &Ledger) -> Result<Shown, AllocError> {
-        let balances = ledger.balances().copy(alloc)?;
-        match tokens_of(alloc, ledger) {
-            Ok(tokens) => Ok(Shown {
-                view: ledger.view(),
-                committed: ledger.committed(),
-                is_next_serial: ledger.is_next_serial(),
-                tokens,
-                balances,
-            }),
-            Err(why) => Err(why),
-        }
+        Ok(Shown {
+            view: ledger.view(),
+            committed: ledger.committed(),
+            is_next_serial: ledger.is_next_serial(),
+            opened: ledger.opened(),
+            tokens: tokens_of(ledger),
+            balances: ledger.balances().copy(alloc)?,
+        })
     }
 
     /// Whether the ledger still shows the same.
@@ -131,29 +126,16 @@ impl Shown {
         self.view == ledger.view()
             && self.committed == ledger.committed()
             && self.is_next_serial == ledger.is_next_serial()
-            && has_tokens(ledger, self.tokens.as_slice())
+            && self.opened == ledger.opened()
+            && self.tokens == tokens_of(ledger)
             && self.balances.as_slice() == ledger.balances().as_slice()
     }
 }
 
-/// The tokens of the open attempts, in their order.
-fn tokens_of(alloc: Global, ledger: &Ledger) -> Result<Vec<[u8; 32]>, AllocError> {
-    let mut tokens = Vec::with_capacity(alloc, ledger.opened())?;
-    for place in 0..ledger.opened() {
-        tokens.push(ledger.token(place))?;
+fn tokens_of(ledger: &Ledger) -> Tokens {
+    let mut tokens = [[0; 32]; MOST_WINDOW as usize];
+    for place in 0..ledger.opened().min(MOST_WINDOW as usize) {
+        tokens[place] = ledger.token(place);
     }
-    Ok(tokens)
-}
-
-/// Whether these are the tokens of the open attempts.
-fn has_tokens(ledger: &Ledger, tokens: &[[u8; 32]]) -> bool {
-    if tokens.len() != ledger.opened() {
-        return false;
-    }
-    for (place, token) in tokens.iter().enumerate() {
-        if *token != ledger.token(place) {
-            return false;
-        }
-    }
-    true
+    tokens
 }

@@ -10,142 +10,121 @@
 
 mod changing;
 mod comparing;
+mod framed;
 mod meeting;
 mod opening;
 mod replaying;
 mod said;
 
-use crate::changing::Change;
 use crate::opening::names_of;
-use crate::replaying::{Case, has_its_batches, replay};
+use crate::replaying::{Asked, Case, has_its_batches, replay};
 use crate::said::Said;
-use eve_accounts::Names;
 use eve_views::{CheckFault, Trace};
 use eve_workload::{Mixer, Workload, WorkloadFault};
-use std::alloc::{AllocError, Global};
+use std::alloc::Global;
 use std::hash::RandomState;
-use std::io::Write;
 use std::{fs, io};
 
-/// The bytes of the file with this name and this ending.
-fn file_of(rt: &HostRuntime, name: &str, ending: &str) -> io::Result<Vec<u8>> {
-    let mut path = name.to_string(rt.alloc())?;
-    path.push_str(ending)?;
-    fs::read(rt, path.as_str())
-}
-
-/// The changes that these words name.
-fn changes_of(alloc: Global, words: &str) -> Result<Vec<Change>, AllocError> {
-    let mut changes = Vec::new(alloc);
-    for word in words.split(' ') {
-        if let Some(change) = Change::named(word) {
-            changes.push(change)?;
+/// The bytes of the file with this name and this ending; none where it can't be read.
+fn file_of(rt: &HostRuntime, name: &str, ending: &str, said: &mut Said) -> Vec<u8> {
+    let mut path = String::new(rt.alloc());
+    said.needs(path.push_str(name).is_ok());
+    said.needs(path.push_str(ending).is_ok());
+    match fs::read(rt, path.as_str()) {
+        Ok(bytes) => bytes,
+        Err(why) => {
+            said.fail(why.kind());
+            Vec::new(rt.alloc())
         }
     }
-    Ok(changes)
 }
 
 /// Replays what a line names.
-fn replay_line(rt: &HostRuntime, line: &str, said: &mut Said) -> io::Result<()> {
+fn replay_line(rt: &HostRuntime, keys: RandomState, line: &str, said: &mut Said) {
     let mut words = line.splitn(4, ' ');
     let trace = words.next().unwrap_or("");
     let workload = words.next().unwrap_or("");
-    let mixer = match words.next() {
-        Some("first") => Mixer::First,
-        _ => Mixer::Whole,
+    let mixer = mixer_named(words.next().unwrap_or(""));
+    let changes = words.next().unwrap_or("");
+    let asked = Asked {
+        keys,
+        mixer,
+        changes,
     };
-    let changes = changes_of(rt.alloc(), words.next().unwrap_or(""))?;
-    replay_files(rt, trace, workload, mixer, changes.as_slice(), said)
+    replay_files(rt, asked, trace, workload, said);
+}
+
+/// The mixer that a word names.
+fn mixer_named(word: &str) -> Mixer {
+    if word == "first" {
+        Mixer::First
+    } else {
+        Mixer::Whole
+    }
 }
 
 /// Replays the trace of this name, by the workload of that one.
-fn replay_files(
-    rt: &HostRuntime,
-    trace: &str,
-    workload: &str,
-    mixer: Mixer,
-    changes: &[Change],
-    said: &mut Said,
-) -> io::Result<()> {
-    let bytes = file_of(rt, trace, ".trace")?;
-    match Trace::read(rt.alloc(), bytes.as_slice()) {
-        Ok(trace) => replay_trace(rt, &trace, workload, mixer, changes, said),
-        Err(CheckFault::Memory) => Err(io::ErrorKind::OutOfMemory.into()),
-        Err(CheckFault::Found(_)) => {
-            said.words(NONE);
-            Ok(())
-        }
+fn replay_files(rt: &HostRuntime, asked: Asked, trace: &str, workload: &str, said: &mut Said) {
+    let trace = file_of(rt, trace, ".trace", said);
+    let workload = file_of(rt, workload, ".in", said);
+    replay_trace(
+        rt.alloc(),
+        asked,
+        trace.as_slice(),
+        workload.as_slice(),
+        said,
+    );
+}
+
+/// Replays the trace of these bytes, by the workload of this text.
+fn replay_trace(alloc: Global, asked: Asked, trace: &[u8], workload: &[u8], said: &mut Said) {
+    match Trace::read(alloc, trace) {
+        Ok(trace) => replay_workload(alloc, asked, &trace, workload, said),
+        Err(CheckFault::Memory) => said.needs(false),
+        Err(CheckFault::Found(_)) => said.words(NONE),
     }
 }
 
 /// What is said where a file holds no trace, or no workload.
 const NONE: &str = " no trace, or no workload";
 
-/// Replays a trace, by the workload of this name.
-fn replay_trace(
-    rt: &HostRuntime,
-    trace: &Trace,
-    workload: &str,
-    mixer: Mixer,
-    changes: &[Change],
-    said: &mut Said,
-) -> io::Result<()> {
-    let text = file_of(rt, workload, ".in")?;
-    match Workload::read(rt.alloc(), text.as_slice()) {
-        Ok(workload) => replay_workload(rt, trace, &workload, mixer, changes, said),
-        Err(WorkloadFault::Memory) => Err(io::ErrorKind::OutOfMemory.into()),
-        Err(WorkloadFault::Line(_)) => {
-            said.words(NONE);
-            Ok(())
-        }
+/// Replays a trace, by the workload of this text.
+fn replay_workload(alloc: Global, asked: Asked, trace: &Trace, workload: &[u8], said: &mut Said) {
+    match Workload::read(alloc, workload) {
+        Ok(workload) => replay_all(alloc, asked, trace, &workload, said),
+        Err(WorkloadFault::Memory) => said.needs(false),
+        Err(WorkloadFault::Line(_)) => said.words(NONE),
     }
-}
-
-/// Replays a trace, by its workload.
-fn replay_workload(
-    rt: &HostRuntime,
-    trace: &Trace,
-    workload: &Workload,
-    mixer: Mixer,
-    changes: &[Change],
-    said: &mut Said,
-) -> io::Result<()> {
-    let random = RandomState::new(rt)?;
-    let names = names_of(rt.alloc(), workload.customers(), random)?;
-    let case = Case {
-        trace,
-        workload,
-        names: &names,
-        mixer,
-        changes,
-    };
-    replay_all(rt.alloc(), &case, said)
 }
 
 /// Replays all sections of the trace.
-fn replay_all(alloc: Global, case: &Case, said: &mut Said) -> io::Result<()> {
-    if !has_its_batches(alloc, case)? {
+fn replay_all(alloc: Global, asked: Asked, trace: &Trace, workload: &Workload, said: &mut Said) {
+    let names = names_of(alloc, workload.customers(), asked.keys, said);
+    let case = Case {
+        alloc,
+        trace,
+        workload,
+        names: &names,
+        mixer: asked.mixer,
+        changes: asked.changes,
+    };
+    if !has_its_batches(&case, said) {
         said.words(" (other batches)");
     }
-    for section in 0..case.trace.section_count() {
-        replay(alloc, case, section, said)?;
+    for section in 0..trace.section_count() {
+        replay(&case, section, said);
     }
-    Ok(())
-}
-
-/// What is said of a line: its words, and what came of them.
-fn said_of(rt: &HostRuntime, line: &str) -> io::Result<String> {
-    let mut said = Said::nothing(rt.alloc());
-    write!(said, "{line}:");
-    replay_line(rt, line, &mut said)?;
-    said.words("\n");
-    Ok(said.all()?)
 }
 
 /// Prints a line, and what came of it.
 fn tell(rt: &HostRuntime, line: &str) -> io::Result<()> {
-    let said = said_of(rt, line)?;
-    io::writer(rt).write_all(said.as_bytes())
+    let keys = RandomState::new(rt)?;
+    let mut said = Said::nothing(rt.alloc());
+    said.words(line);
+    said.words(":");
+    replay_line(rt, keys, line, &mut said);
+    said.words("\n");
+    said.print(rt)
 }
 
 fn main(rt: HostRuntime) -> io::Result<()> {

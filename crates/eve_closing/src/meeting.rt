@@ -2,14 +2,15 @@
 
 ghost use Rattle.std.specs.Prelude.{◌<◌};
 
+use crate::framed::Framed;
+use crate::said::Said;
 use eve_accounts::Names;
 use eve_frames::{AccessView, AttemptView};
 use eve_grammar::MOST_VERSIONS;
 use eve_smallbank::{Reply, Request, UpToThree, touched};
 use eve_stamps::{AccessRecord, HeldRow, Stamp, StampFault, Stripe, apply, untouched};
-use eve_views::Accesses;
 use eve_write::BatchData;
-use std::alloc::{AllocError, Global};
+use std::alloc::Global;
 
 /// The worker, its place among what it notes, the request that it ran, and the index and the tick that it noted with
 /// it; what the request was told, and what it saw of the rows that it touches.
@@ -25,16 +26,13 @@ pub struct Meeting {
 }
 
 /// What the attempt's access frames say that workers met, at ticks in the certificate's order.
-pub fn meetings_of(
-    alloc: Global,
-    attempt: &AttemptView,
-    accesses: &Accesses,
-) -> Result<Vec<Meeting>, AllocError> {
-    let mut met = Vec::with_capacity(alloc, accesses.len())?;
-    for place in 0..accesses.len() {
-        met.push(meeting_of(attempt, &accesses.get(place)))?;
+pub fn meetings_of(alloc: Global, framed: Framed, said: &mut Said) -> Vec<Meeting> {
+    let mut met = Vec::new(alloc);
+    for place in 0..framed.accesses.len() {
+        let meeting = meeting_of(framed.attempt, &framed.accesses.get(place));
+        said.needs(met.push(meeting).is_ok());
     }
-    Ok(met)
+    met
 }
 
 fn meeting_of(attempt: &AttemptView, access: &AccessView) -> Meeting {
@@ -99,15 +97,16 @@ pub fn record_of(
     met: &Meeting,
     batch: &BatchData,
     names: &Names,
-) -> Result<Option<AccessRecord>, AllocError> {
+    said: &mut Said,
+) -> Option<AccessRecord> {
     if let Reply::Aborted(why) = met.reply {
         if met.seen.is_empty() {
-            return Ok(Some(untouched(why, stamp_of(met))));
+            return Some(untouched(why, stamp_of(met)));
         }
     }
     match batch.requests.get(met.asked as usize) {
-        Some(asked) => record_on_rows(alloc, met, &asked.request(), names),
-        None => Ok(None),
+        Some(asked) => record_on_rows(alloc, met, &asked.request(), names, said),
+        None => None,
     }
 }
 
@@ -117,63 +116,59 @@ fn record_on_rows(
     met: &Meeting,
     request: &Request,
     names: &Names,
-) -> Result<Option<AccessRecord>, AllocError> {
-    let Some(mut stripe) = stripe_of(alloc, &met.seen)? else {
-        return Ok(None);
-    };
+    said: &mut Said,
+) -> Option<AccessRecord> {
+    let mut stripe = stripe_of(alloc, &met.seen, said)?;
     match apply(
         &mut stripe,
         request,
         &touched(request, names),
         stamp_of(met),
     ) {
-        Ok(record) => Ok(Some(record)),
-        Err(StampFault::Memory) => Err(AllocError),
-        Err(_) => Ok(None),
+        Ok(record) => Some(record),
+        Err(why) => {
+            said.needs(why != StampFault::Memory);
+            None
+        }
     }
 }
 
 /// The stripe of the rows as they were seen. Of three rows the first two are of one customer.
-fn stripe_of(alloc: Global, seen: &UpToThree<HeldRow>) -> Result<Option<Stripe>, AllocError> {
+fn stripe_of(alloc: Global, seen: &UpToThree<HeldRow>, said: &mut Said) -> Option<Stripe> {
     match seen.len() {
-        1 => of_one(alloc, seen.at(0)),
-        2 => of_two(alloc, seen.at(0), seen.at(1)),
+        1 => of_one(alloc, seen.at(0), said),
+        2 => of_two(alloc, seen.at(0), seen.at(1), said),
         3 if seen.at(2).row.number() < seen.at(0).row.number() => {
-            of_three(alloc, seen.at(2), seen.at(0), seen.at(1))
+            of_three(alloc, seen.at(2), seen.at(0), seen.at(1), said)
         }
-        3 => of_three(alloc, seen.at(0), seen.at(1), seen.at(2)),
-        _ => Ok(None),
+        3 => of_three(alloc, seen.at(0), seen.at(1), seen.at(2), said),
+        _ => None,
     }
 }
 
-fn of_one(alloc: Global, row: HeldRow) -> Result<Option<Stripe>, AllocError> {
+fn of_one(alloc: Global, row: HeldRow, said: &mut Said) -> Option<Stripe> {
     if row.version > MOST_VERSIONS {
-        return Ok(None);
+        return None;
     }
-    Ok(Some(Stripe::new(alloc, &[row])?))
+    said.made(Stripe::new(alloc, &[row]))
 }
 
-fn of_two(alloc: Global, a: HeldRow, b: HeldRow) -> Result<Option<Stripe>, AllocError> {
+fn of_two(alloc: Global, a: HeldRow, b: HeldRow, said: &mut Said) -> Option<Stripe> {
     if a.version > MOST_VERSIONS || b.version > MOST_VERSIONS {
-        return Ok(None);
+        return None;
     }
     if a.row.number() >= b.row.number() {
-        return Ok(None);
+        return None;
     }
-    Ok(Some(Stripe::new(alloc, &[a, b])?))
+    said.made(Stripe::new(alloc, &[a, b]))
 }
 
-fn of_three(
-    alloc: Global,
-    a: HeldRow,
-    b: HeldRow,
-    c: HeldRow,
-) -> Result<Option<Stripe>, AllocError> {
+fn of_three(alloc: Global, a: HeldRow, b: HeldRow, c: HeldRow, said: &mut Said) -> Option<Stripe> {
     if a.version > MOST_VERSIONS || b.version > MOST_VERSIONS || c.version > MOST_VERSIONS {
-        return Ok(None);
+        return None;
     }
     if a.row.number() >= b.row.number() || b.row.number() >= c.row.number() {
-        return Ok(None);
+        return None;
     }
-    Ok(Some(Stripe::new(alloc, &[a, b, c])?))
+    said.made(Stripe::new(alloc, &[a, b, c]))
 }

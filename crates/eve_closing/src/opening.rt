@@ -4,6 +4,7 @@ ghost use Rattle.std.specs.Prelude.{◌*◌, ◌<◌, ◌≤◌, IsTrue, IfOk, l
 ghost use Rattle.eve_grammar.specs.Limits.{is_batch};
 ghost use Rattle.eve_write.specs.Data.{batch as plain};
 
+use crate::said::Said;
 use eve_accounts::{Balances, Names, Row};
 use eve_grammar::MOST_CUSTOMERS;
 use eve_workload::{Mixer, Workload, mix};
@@ -11,19 +12,18 @@ use eve_write::{BatchData, CustomerData};
 use std::alloc::{AllocError, Global};
 use std::hash::RandomState;
 
-/// The customers' names, in their order.
+/// The customers' names, in their order. They differ, so lack of memory alone keeps one out.
 pub fn names_of<'w>(
     alloc: Global,
     customers: &'w [CustomerData],
-    random: RandomState,
-) -> Result<Names<'w>, AllocError> {
-    let mut names = Names::new(alloc, random, MOST_CUSTOMERS);
+    keys: RandomState,
+    said: &mut Said,
+) -> Names<'w> {
+    let mut names = Names::new(alloc, keys, MOST_CUSTOMERS);
     for customer in customers {
-        if names.add(customer.name.as_slice()).is_err() {
-            return Err(AllocError);
-        }
+        said.needs(names.add(customer.name.as_slice()).is_ok());
     }
-    Ok(names)
+    names
 }
 
 /// The customers' opening balances, by row.

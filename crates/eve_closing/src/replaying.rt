@@ -5,263 +5,264 @@ ghost use Rattle.eve_grammar.specs.Limits.{is_attempt, is_batch};
 ghost use Rattle.eve_write.specs.Data.{attempt as plain_attempt, batch as plain};
 ghost use Rattle.eve_attempts.specs.Closing.{touched_in_batch};
 
-use crate::changing::Change;
+use crate::changing::{Change, FEWER_ROWS, SERIAL, UNCOMMITTED};
 use crate::comparing::{
     Shown, has_token_of, is_attempt_of, is_batch_of, is_commit_of, is_rollback_of,
 };
+use crate::framed::Framed;
 use crate::meeting::{Meeting, meetings_of, record_of};
 use crate::opening::{balances_of, batch_of};
 use crate::said::Said;
 use eve_accounts::Names;
 use eve_attempts::{AttemptFront, CloseFault, Ledger};
-use eve_frames::{AttemptView, CommitView, RollbackView};
+use eve_frames::{CommitView, RollbackView};
 use eve_grammar::{MOST_BATCHES, Restore};
 use eve_smallbank::Touched;
 use eve_stamps::AccessRecord;
-use eve_views::{Accesses, Step, Trace};
+use eve_views::{Step, Trace};
 use eve_workload::{Mixer, Workload, look_up};
 use eve_write::{AttemptData, BatchData, RollbackData};
 use std::alloc::{AllocError, Global};
+use std::hash::RandomState;
+
+/// What a line asks for beside its files: how the batches are cut, and how the records of a section's first attempt are
+/// changed; and keys for a table of names.
+#[derive(Clone, Copy)]
+pub struct Asked<'l> {
+    pub keys: RandomState,
+    pub mixer: Mixer,
+    pub changes: &'l str,
+}
 
 /// What is replayed: a trace, and the workload with its customers and batches; how these are cut, and how the records
 /// of a section's first attempt are changed.
 #[derive(Clone, Copy)]
 pub struct Case<'c, 'a, 'w> {
+    pub alloc: Global,
     pub trace: &'c Trace<'a>,
     pub workload: &'c Workload,
     pub names: &'c Names<'w>,
     pub mixer: Mixer,
-    pub changes: &'c [Change],
+    pub changes: &'c str,
 }
 
 impl Case<'_, '_, '_> {
     /// Whether this is one of the changes.
-    fn has(&self, change: Change) -> bool {
-        self.changes.contains(&change)
+    fn has(&self, change: &str) -> bool {
+        self.changes.contains(change)
     }
 }
 
 /// Whether the workload has the batches of the trace.
-pub fn has_its_batches(alloc: Global, case: &Case) -> Result<bool, AllocError> {
+pub fn has_its_batches(case: &Case, said: &mut Said) -> bool {
     if case.workload.batches() != case.trace.batch_count() {
-        return Ok(false);
+        return false;
     }
     for place in 0..case.workload.batches() {
-        if !has_its_batch(alloc, case, place + 1)? {
-            return Ok(false);
+        if !has_its_batch(case, place + 1, said) {
+            return false;
         }
     }
-    Ok(true)
+    true
 }
 
 /// Whether the batch with this number is the one of the trace.
-fn has_its_batch(alloc: Global, case: &Case, number: u32) -> Result<bool, AllocError>
+fn has_its_batch(case: &Case, number: u32, said: &mut Said) -> bool
     requires from_one { 1 ≤ number }
     requires asked { number ≤ length case.now.workload.now.batches }
     requires there { number ≤ length case.now.trace.now.batches }
 {
-    let batch = batch_of(alloc, case.workload, number, case.names, case.mixer)?;
-    is_batch_of(alloc, number, &batch, &case.trace.batch(number))
+    let Ok(batch) = batch_of(case.alloc, case.workload, number, case.names, case.mixer) else {
+        said.needs(false);
+        return false;
+    };
+    is_batch_of(case.alloc, number, &batch, &case.trace.batch(number), said)
 }
 
 /// Replays a section on a new ledger, and tells what came of each step. At the end the last batch is committed once
 /// more, and all is rolled back.
-pub fn replay(alloc: Global, case: &Case, section: u8, said: &mut Said) -> Result<(), AllocError>
+pub fn replay(case: &Case, section: u8, said: &mut Said)
     requires { section < length case.now.trace.now.sections }
 {
-    let mut ledger = ledger_of(alloc, case)?;
-    replay_on(alloc, case, &mut ledger, section, said)
+    match ledger_of(case) {
+        Ok(mut ledger) => replay_on(case, &mut ledger, section, said),
+        Err(_) => said.needs(false),
+    }
 }
 
 /// Replays a section on this ledger.
-fn replay_on(
-    alloc: Global,
-    case: &Case,
-    ledger: &mut Ledger,
-    section: u8,
-    said: &mut Said,
-) -> Result<(), AllocError>
+fn replay_on(case: &Case, ledger: &mut Ledger, section: u8, said: &mut Said)
     requires { section < length case.now.trace.now.sections }
 {
-    if case.has(Change::Serial) {
-        roll_back(alloc, ledger)?;
+    if case.has(SERIAL) {
+        said.needs(roll_back(case.alloc, ledger).is_ok());
     }
     let mut steps = case.trace.section(section);
     for _ in 0..case.trace.frame_count() {
         let Some(step) = steps.next() else {
             break;
         };
-        replay_step(alloc, case, ledger, &step, said)?;
+        replay_step(case, ledger, &step, said);
     }
-    end(alloc, ledger, said)
+    end(case.alloc, ledger, said);
 }
 
-fn replay_step(
-    alloc: Global,
-    case: &Case,
-    ledger: &mut Ledger,
-    step: &Step,
-    said: &mut Said,
-) -> Result<(), AllocError> {
+fn replay_step(case: &Case, ledger: &mut Ledger, step: &Step, said: &mut Said) {
     match step {
-        Step::Attempt(frame, accesses) => {
-            replay_attempt(alloc, case, ledger, frame, accesses, said)
+        Step::Attempt(attempt, accesses) => {
+            let framed = Framed { attempt, accesses };
+            replay_attempt(case, ledger, framed, said);
         }
-        Step::Commit(frame) => replay_commit(alloc, case, ledger, frame, said),
-        Step::Rollback(frame) => replay_rollback(alloc, ledger, frame, said),
+        Step::Commit(_) if case.has(UNCOMMITTED) => {}
+        Step::Commit(frame) => {
+            let told = commit(case.alloc, ledger, frame, said);
+            tell_step(" commit ", frame.seq(), told, said);
+        }
+        Step::Rollback(frame) => {
+            let told = rollback(case.alloc, ledger, frame, said);
+            tell_step(" rollback to ", frame.to(), told, said);
+        }
     }
 }
 
-fn replay_attempt(
-    alloc: Global,
-    case: &Case,
-    ledger: &mut Ledger,
-    frame: &AttemptView,
-    accesses: &Accesses,
-    said: &mut Said,
-) -> Result<(), AllocError> {
+fn replay_attempt(case: &Case, ledger: &mut Ledger, framed: Framed, said: &mut Said) {
     let is_first = ledger.committed() == 0 && ledger.opened() == 0;
-    let changes = if is_first { case.changes } else { &[] };
-    let mut told = close(alloc, case, ledger, frame, accesses, changes)?;
+    let changes = if is_first { case.changes } else { "" };
+    let mut told = close(case, ledger, framed, changes, said);
     if told == MISMATCH && !changes.is_empty() {
-        write!(said, " changed {told},");
-        told = close(alloc, case, ledger, frame, accesses, &[])?;
+        said.words(" changed mismatch,");
+        told = close(case, ledger, framed, "", said);
     }
-    tell_step(" attempt", frame.seq(), told, said);
-    Ok(())
-}
-
-fn replay_commit(
-    alloc: Global,
-    case: &Case,
-    ledger: &mut Ledger,
-    frame: &CommitView,
-    said: &mut Said,
-) -> Result<(), AllocError> {
-    if !case.has(Change::Uncommitted) {
-        let told = commit(alloc, ledger, frame)?;
-        tell_step(" commit", frame.seq(), told, said);
-    }
-    Ok(())
-}
-
-fn replay_rollback(
-    alloc: Global,
-    ledger: &mut Ledger,
-    frame: &RollbackView,
-    said: &mut Said,
-) -> Result<(), AllocError> {
-    let told = rollback(alloc, ledger, frame)?;
-    tell_step(" rollback to", frame.to(), told, said);
-    Ok(())
+    tell_step(" attempt ", framed.attempt.seq(), told, said);
 }
 
 /// Tells what came of a step with this number.
 fn tell_step(step: &str, number: u32, told: &str, said: &mut Said) {
-    write!(said, "{step} {number} {told},");
+    said.number(step, u64::from(number));
+    said.words(" ");
+    said.words(told);
+    said.words(",");
 }
 
 const MISMATCH: &str = "mismatch";
 
+/// What is told where memory was refused. It isn't printed.
+const NOTHING: &str = "";
+
 /// Commits the last batch once more, and rolls back.
-fn end(alloc: Global, ledger: &mut Ledger, said: &mut Said) -> Result<(), AllocError> {
+fn end(alloc: Global, ledger: &mut Ledger, said: &mut Said) {
     let last = ledger.committed();
     if ledger.commit(last).is_ok() {
-        write!(said, " commit {last} again,");
+        said.number(" commit ", u64::from(last));
+        said.words(" again,");
     }
-    let rollback = roll_back(alloc, ledger)?;
-    tell_restores(rollback.restores.as_slice(), said);
-    Ok(())
+    match roll_back(alloc, ledger) {
+        Ok(rollback) => tell_restores(rollback.restores.as_slice(), said),
+        Err(_) => said.needs(false),
+    }
 }
 
 fn tell_restores(restores: &[Restore], said: &mut Said) {
-    write!(said, " {} restores", restores.len());
+    said.number(" ", restores.len() as u64);
+    said.words(" restores");
     for row in restores {
-        let (number, value) = (row.row.number(), row.value.get());
-        write!(said, ", row {number} version {} value {value}", row.version);
+        said.number(", row ", u64::from(row.row.number()));
+        said.number(" version ", row.version);
+        said.cents(" value ", row.value.get());
     }
     said.words(";");
 }
 
 /// A new ledger of the workload's customers.
-fn ledger_of(alloc: Global, case: &Case) -> Result<Ledger, AllocError> {
+fn ledger_of(case: &Case) -> Result<Ledger, AllocError> {
     let head = case.workload.head();
     let customers = case.workload.customers();
-    let known = if case.has(Change::FewerRows) {
+    let known = if case.has(FEWER_ROWS) {
         &customers[..1]
     } else {
         customers
     };
-    let balances = balances_of(alloc, known)?;
-    Ledger::new(alloc, &balances, head.workers, head.window)
+    let balances = balances_of(case.alloc, known)?;
+    Ledger::new(case.alloc, &balances, head.workers, head.window)
 }
 
 /// Closes the records that the access frames of an attempt tell, with these changes.
 fn close(
-    alloc: Global,
     case: &Case,
     ledger: &mut Ledger,
-    frame: &AttemptView,
-    accesses: &Accesses,
-    changes: &[Change],
-) -> Result<&'static str, AllocError> {
+    framed: Framed,
+    changes: &str,
+    said: &mut Said,
+) -> &'static str {
     let number = ledger.next_number();
     if !ledger.has_room() || number > case.workload.batches() {
-        return Ok("without room");
+        return "without room";
     }
-    let batch = batch_of(alloc, case.workload, number, case.names, case.mixer)?;
-    match records_of(alloc, case, &batch, frame, accesses, changes)? {
-        Some(records) => close_records(
-            alloc,
-            case,
-            ledger,
-            &batch,
-            records.as_slice(),
-            frame,
-            accesses,
-        ),
-        None => Ok("without records"),
+    let Ok(batch) = batch_of(case.alloc, case.workload, number, case.names, case.mixer) else {
+        said.needs(false);
+        return NOTHING;
+    };
+    let mut records = Vec::new(case.alloc);
+    if !take_records(case, &batch, framed, changes, &mut records, said) {
+        return "without records";
     }
+    close_records(
+        case.alloc,
+        case.names,
+        ledger,
+        &batch,
+        records.as_slice(),
+        framed,
+        said,
+    )
 }
 
 /// Closes these records of the batch that is due.
 fn close_records(
     alloc: Global,
-    case: &Case,
+    names: &Names,
     ledger: &mut Ledger,
     batch: &BatchData,
     records: &[AccessRecord],
-    frame: &AttemptView,
-    accesses: &Accesses,
-) -> Result<&'static str, AllocError>
+    framed: Framed,
+    said: &mut Said,
+) -> &'static str
     requires last { ledger.old.committed + 1 + length ledger.old.opened ≤ MOST_BATCHES }
     requires room { length ledger.old.opened < ledger.old.window }
     requires batch { IsTrue (is_batch (plain batch.now)) }
 {
-    let before = Shown::of(alloc, ledger)?;
-    match close_due(alloc, ledger, batch, case.names, records) {
-        Ok(attempt) => told_of(alloc, &attempt, frame, accesses),
-        Err(_) if !before.is_of(ledger) => Ok("refused, and the ledger is another"),
-        Err(CloseFault::Memory) => Err(AllocError),
-        Err(CloseFault::Mismatch) => Ok(MISMATCH),
+    let Ok(before) = Shown::of(alloc, ledger) else {
+        said.needs(false);
+        return NOTHING;
+    };
+    match close_due(alloc, ledger, batch, names, records) {
+        Ok(attempt) => told_of(alloc, &attempt, framed, said),
+        Err(why) => refused(why, before.is_of(ledger), said),
+    }
+}
+
+/// What is told of records that were refused; the ledger has to be as it was.
+fn refused(why: CloseFault, is_as_before: bool, said: &mut Said) -> &'static str {
+    match why {
+        _ if !is_as_before => "refused, and the ledger is another",
+        CloseFault::Memory => {
+            said.needs(false);
+            NOTHING
+        }
+        CloseFault::Mismatch => MISMATCH,
     }
 }
 
 /// What is told of an attempt, beside its frames.
-fn told_of(
-    alloc: Global,
-    attempt: &AttemptData,
-    frame: &AttemptView,
-    accesses: &Accesses,
-) -> Result<&'static str, AllocError>
+fn told_of(alloc: Global, attempt: &AttemptData, framed: Framed, said: &mut Said) -> &'static str
     requires { IsTrue (is_attempt (plain_attempt attempt.now)) }
 {
-    if is_attempt_of(alloc, attempt, frame, accesses)? {
-        Ok("as written")
-    } else if has_token_of(attempt, frame) {
-        Ok("with its token")
+    if is_attempt_of(alloc, attempt, framed, said) {
+        "as written"
+    } else if has_token_of(attempt, framed.attempt) {
+        "with its token"
     } else {
-        Ok("otherwise")
+        "otherwise"
     }
 }
 
@@ -311,48 +312,50 @@ fn close_touched(
     ledger.close(alloc, front, batch, touched, records)
 }
 
-/// The records of what the access frames of an attempt tell, with these changes.
-fn records_of(
-    alloc: Global,
+/// Takes the records of what the access frames of an attempt tell, with these changes, if all can be made.
+fn take_records(
     case: &Case,
     batch: &BatchData,
-    frame: &AttemptView,
-    accesses: &Accesses,
-    changes: &[Change],
-) -> Result<Option<Vec<AccessRecord>>, AllocError> {
-    let mut met = meetings_of(alloc, frame, accesses)?;
-    for change in changes {
-        change.apply(&mut met, case.workload.head().workers)?;
-    }
-    records_met(alloc, met.as_slice(), batch, case.names)
-}
-
-/// The records of what was met, if all can be made.
-fn records_met(
-    alloc: Global,
-    met: &[Meeting],
-    batch: &BatchData,
-    names: &Names,
-) -> Result<Option<Vec<AccessRecord>>, AllocError> {
-    let mut records = Vec::with_capacity(alloc, met.len())?;
-    for meeting in met {
-        match record_of(alloc, meeting, batch, names)? {
-            Some(record) => records.push(record)?,
-            None => return Ok(None),
+    framed: Framed,
+    changes: &str,
+    records: &mut Vec<AccessRecord>,
+    said: &mut Said,
+) -> bool {
+    let mut met = meetings_of(case.alloc, framed, said);
+    for word in changes.split(' ') {
+        if let Some(change) = Change::named(word) {
+            change.apply(&mut met, case.workload.head().workers, said);
         }
     }
-    Ok(Some(records))
+    take_met(case, met.as_slice(), batch, records, said)
 }
 
-fn commit(
-    alloc: Global,
-    ledger: &mut Ledger,
-    frame: &CommitView,
-) -> Result<&'static str, AllocError> {
+/// Takes the records of what was met, if all can be made.
+fn take_met(
+    case: &Case,
+    met: &[Meeting],
+    batch: &BatchData,
+    records: &mut Vec<AccessRecord>,
+    said: &mut Said,
+) -> bool {
+    for meeting in met {
+        let Some(record) = record_of(case.alloc, meeting, batch, case.names, said) else {
+            return false;
+        };
+        said.needs(records.push(record).is_ok());
+    }
+    true
+}
+
+/// What is told of a step, beside its frame.
+fn told_as(is_same: bool) -> &'static str {
+    if is_same { "as written" } else { "otherwise" }
+}
+
+fn commit(alloc: Global, ledger: &mut Ledger, frame: &CommitView, said: &mut Said) -> &'static str {
     match ledger.commit(frame.seq()) {
-        Ok(commit) if is_commit_of(alloc, &commit, frame)? => Ok("as written"),
-        Ok(_) => Ok("otherwise"),
-        Err(_) => Ok("not open"),
+        Ok(commit) => told_as(is_commit_of(alloc, &commit, frame, said)),
+        Err(_) => "not open",
     }
 }
 
@@ -360,12 +363,14 @@ fn rollback(
     alloc: Global,
     ledger: &mut Ledger,
     frame: &RollbackView,
-) -> Result<&'static str, AllocError> {
-    let rollback = roll_back(alloc, ledger)?;
-    if is_rollback_of(alloc, &rollback, frame)? {
-        Ok("as written")
-    } else {
-        Ok("otherwise")
+    said: &mut Said,
+) -> &'static str {
+    match roll_back(alloc, ledger) {
+        Ok(rollback) => told_as(is_rollback_of(alloc, &rollback, frame, said)),
+        Err(_) => {
+            said.needs(false);
+            NOTHING
+        }
     }
 }
 
@@ -376,8 +381,7 @@ fn roll_back(alloc: Global, ledger: &mut Ledger) -> Result<RollbackData, AllocEr
     }
     let before = Shown::of(alloc, ledger)?;
     match ledger.rollback(alloc) {
-        Ok(rollback) => Ok(rollback),
         Err(_) if before.is_of(ledger) => ledger.rollback(alloc),
-        Err(why) => Err(why),
+        rolled_back => rolled_back,
     }
 }
