@@ -3,168 +3,151 @@
 //! or the verdict alone where what they did hangs on the schedule. What is printed hangs on no schedule.
 #![tactic(auto)]
 
+mod cases;
 mod gates;
+mod line;
 mod misses;
 mod replicas;
 mod runs;
 mod world;
 
+use crate::cases::{Case, Doing, FREE_RUN, case_of};
 use crate::gates::Turn;
-use crate::replicas::{Case, Part};
-use crate::runs::{run_knots, run_whole, sections_of, verdict_on};
-use crate::world::{names_of, workload_of};
-use eve_accounts::Names;
+use crate::line::Line;
+use crate::replicas::{Want, first_miss};
+use crate::runs::{run_held, tell_sections, verdict_on};
+use crate::world::workload_of;
 use eve_audit::Verdict;
-use eve_recorder::OpenGate;
 use eve_replica::eve_workload::Workload;
 use eve_write::Parts;
 use std::alloc::Global;
 use std::fs::Files;
-use std::hash::RandomState;
 use std::random::RandomSource;
 use std::sync::Wait;
 use std::thread::Threads;
 use std::{fs, io};
 
-/// The file with the workload of a case; a case that isn't named here is a run of the workload with its name.
-fn file_of(name: &str) -> &str {
-    match name {
-        "replica-attempt-and-close" | "run-of-one-deposit" => "one-deposit",
-        "gates-held" | "rollback" | "commit-and-rollback" | "broken-until-rollback" => {
-            "three-deposits"
-        }
-        "run-two-deposits-whole" => "two-deposits",
-        "two-replicas-disagree" => "knot-of-two-replicas",
-        "first-of-three-disagrees" => "knot-of-three-replicas",
-        "half-of-four-agree" => "knots-of-four-replicas",
-        _ => name,
-    }
-}
-
-/// What is done in the case, where it is calls of replicas: each part with a new one. A run has no parts.
-fn parts_of(name: &str) -> &'static [Part] {
-    match name {
-        "replica-attempt-and-close" => &[Part::Attempted, Part::Closed],
-        "gates-held" => &[Part::GatesHeld],
-        "rollback" => &[Part::RolledBack],
-        "commit-and-rollback" => &[Part::OneCommitted],
-        "broken-until-rollback" => &[Part::Broken],
-        _ => &[],
-    }
-}
-
-// What of the parts of a case with this workload isn't as it is due, if there is something.
-fn miss_of<R: AllocGlobal + Files + RandomSource + Threads + Wait + Sync>(
-    rt: &R,
-    parts: &[Part],
-    workload: &Workload,
-) -> io::Result<Option<&'static str>> {
-    let random = RandomState::new(rt)?;
-    let trace = fs::read(rt, "deposit-committed.trace")?;
-    let names = names_of(rt.alloc(), workload, random)?;
-    miss_of_names(rt, rt.alloc(), parts, workload, &names, trace.as_slice())
-}
-
-// The same, where the workload's customers have these names, and the trace is wanted of ann's deposit.
-fn miss_of_names<R: Threads + Wait + Sync>(
-    rt: &R,
-    alloc: Global,
-    parts: &[Part],
-    workload: &Workload,
-    names: &Names,
-    wanted: &[u8],
-) -> io::Result<Option<&'static str>> {
-    let case = Case {
-        rt,
-        alloc,
-        workload,
-        names,
-        wanted,
-    };
-    case.first_miss(parts)
-}
-
-/// The parts of the trace of the case's run.
-fn run_of<R: AllocGlobal + RandomSource + Threads + Wait + Sync>(
-    rt: &R,
-    name: &str,
-    workload: &Workload,
-) -> io::Result<Parts> {
-    let check = Turn::CheckFirst;
-    let order = Turn::InOrder;
-    let free = Turn::Free;
-    let turns = match name {
-        "two-replicas-disagree" => [check, free, order, free, free, free, free],
-        "first-of-three-disagrees" => [check, order, order, free, free, free, free],
-        "half-of-four-agree" => [check, order, order, order, check, order, order],
-        _ => return run_whole(rt, rt.alloc(), workload, &OpenGate),
-    };
-    run_knots(rt, rt.alloc(), workload, turns)
-}
-
 // The workload of the file with this name.
 fn workload_in<R: AllocGlobal + Files>(rt: &R, file: &str) -> io::Result<Workload> {
     let path = format!(in rt.alloc(); "{file}.in")?;
-    let text = fs::read(rt, path.as_str())?;
-    workload_of(rt.alloc(), text.as_slice())
+    let text = fs::read(rt, path.as_str());
+    drop(path);
+    workload_of(rt.alloc(), text?)
 }
 
-// Prints what of a case of replicas isn't as it is due.
-fn tell_replicas<R: AllocGlobal + Files + Print + RandomSource + Threads + Wait + Sync>(
+// Tells what of the calls of replicas isn't as it is due.
+fn tell_calls<R: AllocGlobal + Files + RandomSource + Threads + Wait + Sync>(
     rt: &R,
-    name: &str,
-    parts: &[Part],
+    lists: &[&[Want]],
     workload: &Workload,
-) -> io::Result<()> {
-    match miss_of(rt, parts, workload)? {
-        Some(what) => println!(rt; "{name}: wanted: {what}"),
-        None => println!(rt; "{name}: as it is due"),
+    line: &mut Line,
+) {
+    match fs::read(rt, "deposit-committed.trace") {
+        Ok(trace) => {
+            let miss = first_miss(rt, rt.alloc(), workload, trace.as_slice(), lists);
+            drop(trace);
+            tell_miss(miss, line);
+        }
+        Err(why) => line.stop(why),
     }
 }
 
-// Prints what a run came to: where the case has no file of its own, what each replica did, too.
-fn tell_run<R: AllocGlobal + Print + RandomSource + Threads + Wait + Sync>(
+fn tell_miss(miss: io::Result<Option<&'static str>>, line: &mut Line) {
+    match miss {
+        Ok(None) => line.words("as it is due"),
+        Ok(Some(what)) => {
+            line.words("wanted: ");
+            line.words(what);
+        }
+        Err(why) => line.stop(why),
+    }
+}
+
+// Tells what a run came to: what each replica did, too, where that hangs on no schedule or the verdict isn't yes.
+fn tell_run<R: RandomSource + Threads + Wait + Sync>(
     rt: &R,
-    name: &str,
+    alloc: Global,
+    turns: [Turn; 7],
+    has_sections: bool,
     workload: &Workload,
-) -> io::Result<()> {
-    let parts = run_of(rt, name, workload)?;
-    let verdict = verdict_on(rt, rt.alloc(), &parts)?;
+    line: &mut Line,
+) {
+    match run_held(rt, alloc, workload, turns) {
+        Ok(parts) => {
+            match verdict_on(rt, alloc, &parts) {
+                Ok(verdict) => tell_verdict(&parts, verdict, has_sections, line),
+                Err(why) => line.stop(why),
+            }
+            drop(parts);
+        }
+        Err(why) => line.stop(why),
+    }
+}
+
+fn tell_verdict(parts: &Parts, verdict: Verdict, has_sections: bool, line: &mut Line) {
     match verdict {
-        Verdict::Yes(_) if file_of(name) == name => println!(rt; "{name}: accepted"),
-        _ => tell_sections(rt, name, &parts, verdict),
+        Verdict::Yes(_) if !has_sections => line.words("accepted"),
+        _ => {
+            tell_sections(parts, line);
+            line.verdict(verdict);
+        }
     }
 }
 
-// Prints what each replica did, and the verdict.
-fn tell_sections<R: AllocGlobal + Print>(
+// Tells the case with this workload; a run of the workload where it is none that is listed.
+fn tell_case<R: AllocGlobal + Files + RandomSource + Threads + Wait + Sync>(
     rt: &R,
-    name: &str,
-    parts: &Parts,
-    verdict: Verdict,
-) -> io::Result<()> {
-    let sections = sections_of(rt.alloc(), parts)?;
-    println!(rt; "{name}: {sections}{verdict:?}")
+    case: Option<&'static Case>,
+    workload: &Workload,
+    line: &mut Line,
+) {
+    match case {
+        None => tell_run(rt, rt.alloc(), FREE_RUN, false, workload, line),
+        Some(case) => match case.doing {
+            Doing::Calls(lists) => tell_calls(rt, lists, workload, line),
+            Doing::Run(turns) => tell_run(rt, rt.alloc(), turns, true, workload, line),
+        },
+    }
 }
 
-// Prints the line of a case.
-fn tell<R: AllocGlobal + Files + Print + RandomSource + Threads + Wait + Sync>(
+// Tells the line of the case with this name.
+fn tell<R: AllocGlobal + Files + RandomSource + Threads + Wait + Sync>(
     rt: &R,
     name: &str,
-) -> io::Result<()> {
-    let workload = workload_in(rt, file_of(name))?;
-    let parts = parts_of(name);
-    if parts.is_empty() {
-        tell_run(rt, name, &workload)
-    } else {
-        tell_replicas(rt, name, parts, &workload)
+    line: &mut Line,
+) {
+    let case = case_of(name);
+    let file = match case {
+        Some(case) => case.file,
+        None => name,
+    };
+    match workload_in(rt, file) {
+        Ok(workload) => {
+            tell_case(rt, case, &workload, line);
+            drop(workload);
+        }
+        Err(why) => line.stop(why),
     }
+}
+
+// Prints the line of the case with this name.
+fn print_case<R: AllocGlobal + Files + Print + RandomSource + Threads + Wait + Sync>(
+    rt: &R,
+    name: io::Result<String>,
+) -> io::Result<()> {
+    let name = name?;
+    let mut line = Line::new(rt.alloc(), name.as_str());
+    line.words(": ");
+    tell(rt, name.as_str(), &mut line);
+    drop(name);
+    let printed = line.print(rt);
+    drop(line);
+    printed
 }
 
 fn main(rt: HostRuntime) -> io::Result<()> {
-    for line in rt.lines(rt.alloc()) {
-        let line = line?;
-        tell(&rt, line.as_str())?;
+    for name in rt.lines(rt.alloc()) {
+        print_case(&rt, name)?;
     }
     Ok(())
 }

@@ -3,51 +3,62 @@
 use crate::gates::MeetingGate;
 use crate::misses::Misses;
 use crate::world::{
-    Fit, attempt, batch_of, close, closed, commit_first, committed, ran, record_at, replica_of,
-    roll_back, trace_of,
+    Fit, attempt, batch_of, close, closed, names_of, ran, record_at, replica_of, roll_back,
+    stopped, trace_of,
 };
 use eve_accounts::{Cents, Names, Row};
 use eve_grammar::Restore;
-use eve_recorder::{Gate, OpenGate};
+use eve_recorder::OpenGate;
 use eve_replica::eve_workload::Workload;
 use eve_replica::{AttemptFault, CloseFault, CommitFault, Replica};
-use eve_write::AttemptData;
+use eve_write::{AttemptData, CommitData, RollbackData};
 use std::alloc::{AllocError, Global};
+use std::hash::RandomState;
 use std::io;
+use std::random::RandomSource;
 use std::sync::Wait;
 use std::thread::Threads;
 
-// Ann's checking row at first.
-fn opening_row() -> Restore {
-    Restore {
-        row: Row::checking(0),
-        version: 0,
-        value: Cents::ZERO,
-    }
+/// How ann's checking row is seen.
+#[derive(Clone, Copy)]
+pub enum Seen {
+    /// As it is at first.
+    Opening,
+    /// As her deposit leaves it.
+    Deposited,
 }
 
-// Ann's checking row after her deposit.
-fn row_after_deposit() -> Restore {
-    Restore {
-        row: Row::checking(0),
-        version: 1,
-        value: Cents::of(500),
+impl Seen {
+    // Her row so.
+    fn row(self) -> Restore {
+        let (version, value) = match self {
+            Seen::Opening => (0, Cents::ZERO),
+            Seen::Deposited => (1, Cents::of(500)),
+        };
+        Restore {
+            row: Row::checking(0),
+            version,
+            value,
+        }
     }
 }
 
 /// How an attempt is due: its number, its view, its mode, and how each of its entries sees its row.
 #[derive(Clone, Copy)]
-struct Due {
-    seq: u32,
-    view: u32,
-    serial: bool,
-    seen: Restore,
+pub struct Due {
+    pub seq: u32,
+    pub view: u32,
+    pub serial: bool,
+    pub seen: Seen,
 }
 
 impl Due {
     // Whether the attempt is as it is due.
-    fn is_met(&self, made: &AttemptData) -> bool {
-        self.is_placed(made) && self.is_seen(made)
+    fn is_met(&self, made: io::Result<AttemptData>) -> io::Result<bool> {
+        let made = made?;
+        let is_met = self.is_placed(&made) && self.is_seen(&made);
+        drop(made);
+        Ok(is_met)
     }
 
     fn is_placed(&self, made: &AttemptData) -> bool {
@@ -55,291 +66,293 @@ impl Due {
     }
 
     fn is_seen(&self, made: &AttemptData) -> bool {
+        let row = self.seen.row();
         let mut all = true;
         for entry in made.accesses.entries() {
-            all = all && entry.version == self.seen.version && entry.seen == self.seen.value;
+            all = all && entry.version == row.version && entry.seen == row.value;
         }
         all
     }
 }
 
-/// What is done with a new replica.
+/// How an attempt ends that threads' records are to make.
 #[derive(Clone, Copy)]
-pub enum Part {
-    /// `replica-attempt-and-close`: ann's deposit, attempted and committed, gives the trace that is wanted.
-    Attempted,
-    /// Once more, of records that were taken by hand.
-    Closed,
-    /// The replica's part of `gates-held`: two deposits in one parallelBatch, by two workers, each held until the other
-    /// has entered.
-    GatesHeld,
-    /// `rollback`: it puts the stripes back, so that the serial attempt sees version 0 again.
-    RolledBack,
-    /// `commit-and-rollback`: of two attempts one is committed, and the other one's writes alone are undone.
-    OneCommitted,
-    /// `broken-until-rollback`, and that rows that only the failed attempt wrote are put back and not listed. Ann's
-    /// deposit is closed of a record that was taken by hand, so that the stripes don't have it, and an attempt over her
-    /// row fails. Where one request for memory is refused, wherever that is, the same holds.
+pub enum Attempted {
+    /// It is as it is due.
+    Met(Due),
+    /// Committed, it gives the trace that is wanted.
+    Given,
+    /// It fails, since the stripes don't have a deposit that was closed.
+    Failed,
+    /// It is refused, since the replica is broken.
     Broken,
 }
 
-/// A case of a replica: its workload, whose customers have these names, and the trace that is wanted of ann's deposit.
-#[derive(Drop)]
-pub struct Case<'c, R> {
-    pub rt: &'c R,
-    pub alloc: Global,
-    pub workload: &'c Workload,
-    pub names: &'c Names<'c>,
-    pub wanted: &'c [u8],
+/// How an attempt ends that a caller's records are to make.
+#[derive(Clone, Copy)]
+pub enum Closed {
+    /// It is made.
+    Made,
+    /// Committed, it gives the trace that is wanted.
+    Given,
+    /// It is refused so.
+    Refused(CloseFault),
 }
 
-impl<R: Threads + Wait + Sync> Case<'_, R> {
-    /// What of these parts of the case isn't as it is due: the first such thing, if there is one.
-    pub fn first_miss(&self, parts: &[Part]) -> io::Result<Option<&'static str>> {
-        let mut misses = Misses::none();
-        for part in parts {
-            self.of_part(*part, &mut misses);
+/// What is done with a replica, and what has to come of it.
+#[derive(Clone, Copy)]
+pub enum Deed {
+    /// The batch with this number is attempted.
+    Attempt(u32, Attempted),
+    /// The batch with this number is closed of no records.
+    CloseNone(u32, Closed),
+    /// Ann's deposit is closed as the first batch, of a record that was taken by hand and saw this version.
+    Close(u64, Closed),
+    /// The first batch is committed, or that is refused so.
+    Commit(Option<CommitFault>),
+    /// A rollback goes back to this number, and restores ann's row so, or none.
+    GoBack(u32, Option<Seen>),
+    /// One to 0 restores ann's row. Where it is refused memory the replica stays broken, and a second one is asked for.
+    GoBackAtLast(Seen),
+    /// Two deposits are attempted, each held until the other has entered.
+    Meet,
+    /// The replica is broken, or isn't.
+    BeBroken(bool),
+}
+
+/// What is done, and what isn't as it is due where something else comes of it.
+#[derive(Clone, Copy)]
+pub struct Want {
+    pub deed: Deed,
+    pub what: &'static str,
+}
+
+/// What of these lists isn't as it is due, each done with a new replica of the workload: the first such thing, if there
+/// is one. The trace is wanted of ann's deposit.
+pub fn first_miss<R: RandomSource + Threads + Wait + Sync>(
+    rt: &R,
+    alloc: Global,
+    workload: &Workload,
+    wanted: &[u8],
+    lists: &[&[Want]],
+) -> io::Result<Option<&'static str>> {
+    let random = RandomState::new(rt)?;
+    let mut misses = Misses::none();
+    let names = names_of(alloc, workload, random, &mut misses);
+    match batch_of(alloc, workload, 1, &names) {
+        Ok(first) => try_first(
+            rt,
+            alloc,
+            workload,
+            &names,
+            wanted,
+            first,
+            lists,
+            &mut misses,
+        ),
+        Err(why) => misses.stop(why),
+    }
+    misses.first()
+}
+
+// The same, where these are the names of its customers, and this is its first batch.
+fn try_first<R: Threads + Wait + Sync>(
+    rt: &R,
+    alloc: Global,
+    workload: &Workload,
+    names: &Names,
+    wanted: &[u8],
+    first: Fit,
+    lists: &[&[Want]],
+    misses: &mut Misses,
+) {
+    match batch_of(alloc, workload, workload.batches(), names) {
+        Ok(last) => {
+            let bench = Bench {
+                rt,
+                alloc,
+                workload,
+                names,
+                wanted,
+                first,
+                last,
+            };
+            bench.try_lists(lists, misses);
+            drop(bench);
         }
-        misses.first()
+        Err(why) => {
+            drop(first);
+            misses.stop(why);
+        }
     }
+}
 
-    fn of_part(&self, part: Part, misses: &mut Misses) {
-        match replica_of(self.alloc, self.names) {
-            Ok(mut replica) => self.of_replica(part, &mut replica, misses),
-            Err(why) => misses.stop(why.into()),
+/// What replicas are tried with: a workload, its customers' names, its first and its last batch, and the trace that is
+/// wanted of ann's deposit.
+#[derive(Drop)]
+struct Bench<'c, R> {
+    rt: &'c R,
+    alloc: Global,
+    workload: &'c Workload,
+    names: &'c Names<'c>,
+    wanted: &'c [u8],
+    first: Fit,
+    last: Fit,
+}
+
+impl<R: Threads + Wait + Sync> Bench<'_, R> {
+    fn try_lists(&self, lists: &[&[Want]], misses: &mut Misses) {
+        for list in lists {
+            match replica_of(self.alloc, self.names) {
+                Ok(replica) => self.try_list(list, replica, misses),
+                Err(why) => misses.stop(why.into()),
+            }
         }
     }
 
-    // The part, of a replica of which nothing was asked yet.
-    fn of_replica(&self, part: Part, replica: &mut Replica, misses: &mut Misses) {
-        match part {
-            Part::Attempted => self.attempt_and_commit(replica, misses),
-            Part::Closed => self.close_records(replica, misses),
-            Part::GatesHeld => self.gates_held(replica, misses),
-            Part::RolledBack => self.rolled_back(replica, misses),
-            Part::OneCommitted => self.one_committed(replica, misses),
-            Part::Broken => self.broken_until_rollback(replica, misses),
+    // What is done with a replica of which nothing was asked yet.
+    fn try_list(&self, list: &[Want], mut replica: Replica, misses: &mut Misses) {
+        for row in list {
+            misses.want_answer(self.is_due(row.deed, &mut replica), row.what);
+        }
+        drop(replica);
+    }
+
+    // Whether that comes of it which has to.
+    fn is_due(&self, deed: Deed, replica: &mut Replica) -> io::Result<bool> {
+        match deed {
+            Deed::Attempt(batch, ends) => self.attempt(batch, ends, replica),
+            Deed::CloseNone(batch, ends) => self.close_none(batch, ends, replica),
+            Deed::Close(version, ends) => self.close_one(version, ends, replica),
+            Deed::Commit(fault) => Ok(commit_first(replica).err() == fault),
+            Deed::GoBack(to, seen) => goes_back(self.alloc, replica, to, seen),
+            Deed::GoBackAtLast(seen) => goes_back_at_last(self.alloc, replica, seen),
+            Deed::Meet => Ok(self.meets(replica)),
+            Deed::BeBroken(is_broken) => Ok(replica.is_broken() == is_broken),
         }
     }
 
-    fn attempt_and_commit(&self, replica: &mut Replica, misses: &mut Misses) {
-        misses.want(is_not_open(replica), "nothing is open at first");
-        misses.want_answer(self.attempt_gives(replica), "the trace of the attempt");
-        misses.want(is_not_open(replica), "what is committed isn't open");
-        misses.want_answer(goes_back(self.alloc, replica, 1, &[]), "nothing to restore");
+    // The batch with this number, of two.
+    fn fit(&self, number: u32) -> &Fit {
+        if number == 1 { &self.first } else { &self.last }
     }
 
-    // Whether a deployment that attempts ann's deposit and commits it has the trace that is wanted.
-    fn attempt_gives(&self, replica: &mut Replica) -> io::Result<bool> {
-        let batch = batch_of(self.alloc, self.workload, 1, self.names)?;
-        let made = ran(attempt(self.rt, self.alloc, replica, &batch, &OpenGate))?;
-        self.gives_wanted(batch, made, replica)
+    fn attempt(&self, batch: u32, ends: Attempted, replica: &mut Replica) -> io::Result<bool> {
+        let made = attempt(self.rt, self.alloc, replica, self.fit(batch), &OpenGate);
+        match ends {
+            Attempted::Met(due) => due.is_met(ran(made)),
+            Attempted::Given => self.gives(ran(made), replica),
+            Attempted::Failed => Ok(is_failed(made.err())),
+            Attempted::Broken => Ok(made.err() == Some(AttemptFault::Broken)),
+        }
     }
 
-    // Whether one that made this attempt of ann's deposit, and commits it, has it.
-    fn gives_wanted(
+    fn close_none(&self, batch: u32, ends: Closed, replica: &mut Replica) -> io::Result<bool> {
+        let made = close(self.alloc, replica, self.fit(batch), &[]);
+        self.is_closed(made, ends, replica)
+    }
+
+    fn close_one(&self, version: u64, ends: Closed, replica: &mut Replica) -> io::Result<bool> {
+        let record = record_at(self.alloc, self.names, version)?;
+        let records = [record];
+        let made = close(self.alloc, replica, &self.first, &records);
+        drop(records);
+        self.is_closed(made, ends, replica)
+    }
+
+    fn is_closed(
         &self,
-        batch: Fit,
-        made: AttemptData,
+        made: Result<AttemptData, CloseFault>,
+        ends: Closed,
         replica: &mut Replica,
     ) -> io::Result<bool> {
-        let commit = committed(commit_first(replica))?;
-        let trace = trace_of(self.alloc, self.workload, batch, made, commit)?;
-        Ok(trace.as_slice() == self.wanted)
-    }
-
-    fn close_records(&self, replica: &mut Replica, misses: &mut Misses) {
-        match batch_of(self.alloc, self.workload, 1, self.names) {
-            Ok(batch) => self.records_refused(&batch, replica, misses),
-            Err(why) => misses.stop(why),
-        }
-        misses.want_answer(self.record_gives(replica), "the trace of the records");
-    }
-
-    // No records are no attempt of the batch, and neither is one that saw another version.
-    fn records_refused(&self, batch: &Fit, replica: &mut Replica, misses: &mut Misses) {
-        let none = is_mismatch(close(self.alloc, replica, batch, &[]));
-        misses.want_answer(none, "no records are no attempt");
-        match record_at(self.alloc, self.names, 1) {
-            Ok(later) => {
-                let at_one = is_mismatch(close(self.alloc, replica, batch, &[later]));
-                misses.want_answer(at_one, "the row isn't at version 1");
-            }
-            Err(why) => misses.stop(why),
+        match ends {
+            Closed::Made => is_first(closed(made)),
+            Closed::Given => self.gives(closed(made), replica),
+            Closed::Refused(fault) => is_refused(made.err(), fault),
         }
     }
 
-    // Whether one that closes a record of ann's deposit, which was taken by hand, and commits it, has it.
-    fn record_gives(&self, replica: &mut Replica) -> io::Result<bool> {
-        let batch = batch_of(self.alloc, self.workload, 1, self.names)?;
-        let made = self.close_one(&batch, replica)?;
-        self.gives_wanted(batch, made, replica)
-    }
-
-    // Ann's deposit, which the batch has, is closed of a record that was taken by hand.
-    fn close_one(&self, batch: &Fit, replica: &mut Replica) -> io::Result<AttemptData> {
-        let record = record_at(self.alloc, self.names, 0)?;
-        closed(close(self.alloc, replica, batch, &[record]))
-    }
-
-    fn gates_held(&self, replica: &mut Replica, misses: &mut Misses) {
+    // The last batch is attempted, and both requests were inside at one moment.
+    fn meets(&self, replica: &mut Replica) -> bool {
         let gate = MeetingGate::new();
-        match self.attempt_fault(2, &gate, replica) {
-            Ok(fault) => misses.want(fault.is_none(), "an attempt"),
-            Err(why) => misses.stop(why),
-        }
-        misses.want(gate.have_met(), "both inside at one moment");
+        let fault = attempt(self.rt, self.alloc, replica, &self.last, &gate).err();
+        fault.is_none() && gate.have_met()
     }
 
-    // Why the batch with this number wasn't attempted, if it wasn't.
-    fn attempt_fault<G: Gate>(
-        &self,
-        number: u32,
-        gate: &G,
-        replica: &mut Replica,
-    ) -> io::Result<Option<AttemptFault>> {
-        let batch = batch_of(self.alloc, self.workload, number, self.names)?;
-        Ok(attempt(self.rt, self.alloc, replica, &batch, gate).err())
-    }
-
-    fn rolled_back(&self, replica: &mut Replica, misses: &mut Misses) {
-        self.attempt_first(replica, misses);
-        self.go_back(0, opening_row(), replica, misses);
-        self.attempt_again(1, replica, misses);
-    }
-
-    // The first attempt is parallel, and sees the opening rows.
-    fn attempt_first(&self, replica: &mut Replica, misses: &mut Misses) {
-        let due = Due {
-            seq: 1,
-            view: 0,
-            serial: false,
-            seen: opening_row(),
-        };
-        let is_met = self.attempt_meets(1, due, replica);
-        misses.want_answer(is_met, "the first attempt is parallel and sees version 0");
-    }
-
-    // The attempt after a rollback, of the batch with this number: it is serial, and sees the opening rows again.
-    fn attempt_again(&self, number: u32, replica: &mut Replica, misses: &mut Misses) {
-        let due = Due {
-            seq: 1,
-            view: 1,
-            serial: true,
-            seen: opening_row(),
-        };
-        let is_met = self.attempt_meets(number, due, replica);
-        misses.want_answer(
-            is_met,
-            "a serial attempt in view 1 that sees version 0 again",
-        );
-    }
-
-    // Whether an attempt of the batch with this number is as it is due.
-    fn attempt_meets(&self, number: u32, due: Due, replica: &mut Replica) -> io::Result<bool> {
-        let batch = batch_of(self.alloc, self.workload, number, self.names)?;
-        let made = ran(attempt(self.rt, self.alloc, replica, &batch, &OpenGate))?;
-        Ok(due.is_met(&made))
-    }
-
-    // A rollback restores ann's row, and what is committed stays.
-    fn go_back(&self, to: u32, row: Restore, replica: &mut Replica, misses: &mut Misses) {
-        let is_back = goes_back(self.alloc, replica, to, &[row]);
-        misses.want_answer(is_back, "her row is restored, and what is committed stays");
-    }
-
-    fn one_committed(&self, replica: &mut Replica, misses: &mut Misses) {
-        self.attempt_first(replica, misses);
-        self.attempt_second(0, replica, misses);
-        misses.want(commit_first(replica).is_ok(), "the first is committed");
-        self.go_back(1, row_after_deposit(), replica, misses);
-        self.attempt_second(1, replica, misses);
-    }
-
-    // An attempt of ann's deposit as the second batch, in this view, serial in that after the first: it sees the row as
-    // the first left it.
-    fn attempt_second(&self, view: u32, replica: &mut Replica, misses: &mut Misses) {
-        let due = Due {
-            seq: 2,
-            view,
-            serial: view > 0,
-            seen: row_after_deposit(),
-        };
-        let is_met = self.attempt_meets(1, due, replica);
-        misses.want_answer(is_met, "the second batch sees version 1");
-    }
-
-    fn broken_until_rollback(&self, replica: &mut Replica, misses: &mut Misses) {
-        misses.want_answer(self.is_closed(replica), "her deposit is closed");
-        misses.want_answer(self.attempt_fails(replica), "an attempt over her row fails");
-        self.while_broken(replica, misses);
-        back_at_last(self.alloc, replica, misses);
-        misses.want(!replica.is_broken(), "not broken any more");
-        self.attempt_again(2, replica, misses);
-    }
-
-    // Whether ann's deposit is closed as the first batch.
-    fn is_closed(&self, replica: &mut Replica) -> io::Result<bool> {
-        let batch = batch_of(self.alloc, self.workload, 1, self.names)?;
-        Ok(self.close_one(&batch, replica)?.seq == 1)
-    }
-
-    // Whether an attempt over ann's row fails, since the stripes don't have her deposit.
-    fn attempt_fails(&self, replica: &mut Replica) -> io::Result<bool> {
-        let why = self.attempt_fault(2, &OpenGate, replica)?;
-        Ok(why == Some(AttemptFault::Mismatch) || why == Some(AttemptFault::Memory))
-    }
-
-    // Every call but a rollback is refused.
-    fn while_broken(&self, replica: &mut Replica, misses: &mut Misses) {
-        misses.want(replica.is_broken(), "a broken replica");
-        misses.want(is_broken_at_commit(replica), "no commit while broken");
-        match batch_of(self.alloc, self.workload, 2, self.names) {
-            Ok(batch) => self.broken_for(&batch, replica, misses),
-            Err(why) => misses.stop(why),
+    // Whether the deployment whose replica made this attempt, and commits it, has the trace that is wanted.
+    fn gives(&self, made: io::Result<AttemptData>, replica: &mut Replica) -> io::Result<bool> {
+        let made = made?;
+        match commit_first(replica) {
+            Ok(commit) => self.is_wanted(made, commit),
+            Err(_) => {
+                drop(made);
+                Err(stopped())
+            }
         }
     }
 
-    // The batch can't be closed, and it can't be attempted.
-    fn broken_for(&self, batch: &Fit, replica: &mut Replica, misses: &mut Misses) {
-        let closed = close(self.alloc, replica, batch, &[]).err();
-        misses.want(closed == Some(CloseFault::Broken), "no close while broken");
-        let attempted = attempt(self.rt, self.alloc, replica, batch, &OpenGate).err();
-        let is_broken = attempted == Some(AttemptFault::Broken);
-        misses.want(is_broken, "no attempt while broken");
+    fn is_wanted(&self, made: AttemptData, commit: CommitData) -> io::Result<bool> {
+        let trace = trace_of(self.alloc, self.workload, self.names, made, commit)?;
+        let is_wanted = trace.as_slice() == self.wanted;
+        drop(trace);
+        Ok(is_wanted)
     }
 }
 
-// Whether the records were refused, and not for lack of memory.
-fn is_mismatch(answer: Result<AttemptData, CloseFault>) -> io::Result<bool> {
-    match answer {
-        Err(CloseFault::Memory) => Err(AllocError.into()),
-        Err(why) => Ok(why == CloseFault::Mismatch),
-        Ok(_) => Ok(false),
+// A commit of the first batch.
+fn commit_first(replica: &mut Replica) -> Result<CommitData, CommitFault> {
+    replica.commit(1)
+}
+
+// Whether the attempt is one of the first batch.
+fn is_first(made: io::Result<AttemptData>) -> io::Result<bool> {
+    let made = made?;
+    let seq = made.seq;
+    drop(made);
+    Ok(seq == 1)
+}
+
+// Whether records were refused so, and not for lack of memory.
+fn is_refused(why: Option<CloseFault>, due: CloseFault) -> io::Result<bool> {
+    if why == Some(CloseFault::Memory) {
+        return Err(AllocError.into());
     }
+    Ok(why == Some(due))
 }
 
-fn is_not_open(replica: &mut Replica) -> bool {
-    commit_first(replica).err() == Some(CommitFault::NotOpen)
+// Whether an attempt failed as it has to where the stripes are others, or for lack of memory.
+fn is_failed(why: Option<AttemptFault>) -> bool {
+    why == Some(AttemptFault::Mismatch) || why == Some(AttemptFault::Memory)
 }
 
-fn is_broken_at_commit(replica: &mut Replica) -> bool {
-    commit_first(replica).err() == Some(CommitFault::Broken)
-}
-
-// Whether a rollback goes back to this number, and restores these rows.
-fn goes_back(alloc: Global, replica: &mut Replica, to: u32, rows: &[Restore]) -> io::Result<bool> {
+fn goes_back(
+    alloc: Global,
+    replica: &mut Replica,
+    to: u32,
+    seen: Option<Seen>,
+) -> io::Result<bool> {
     let rollback = roll_back(alloc, replica)?;
-    Ok(rollback.to == to && rollback.restores.as_slice() == rows)
+    let is_back = rollback.to == to && restores(&rollback, seen);
+    drop(rollback);
+    Ok(is_back)
 }
 
-// A rollback restores ann's row. Where it is refused memory the replica stays broken, and a second one is asked for.
-fn back_at_last(alloc: Global, replica: &mut Replica, misses: &mut Misses) {
-    let mut is_back = goes_back(alloc, replica, 0, &[opening_row()]);
-    if is_back.is_err() {
-        let is_broken = is_broken_at_commit(replica);
-        misses.want(is_broken, "broken where the rollback was refused");
-        is_back = goes_back(alloc, replica, 0, &[opening_row()]);
+// Whether it restores ann's row alone, so, or nothing.
+fn restores(rollback: &RollbackData, seen: Option<Seen>) -> bool {
+    match seen {
+        Some(seen) => rollback.restores.as_slice() == [seen.row()].as_slice(),
+        None => rollback.restores.is_empty(),
     }
-    misses.want_answer(is_back, "her row is restored");
+}
+
+fn goes_back_at_last(alloc: Global, replica: &mut Replica, seen: Seen) -> io::Result<bool> {
+    let is_back = goes_back(alloc, replica, 0, Some(seen));
+    if is_back.is_ok() {
+        return is_back;
+    }
+    if commit_first(replica).err() != Some(CommitFault::Broken) {
+        return Ok(false);
+    }
+    goes_back(alloc, replica, 0, Some(seen))
 }

@@ -4,17 +4,17 @@ ghost use Rattle.std.specs.Prelude.{◌≤◌, ◌*◌, IsTrue};
 ghost use Rattle.eve_grammar.specs.Limits.{is_batch};
 ghost use Rattle.eve_write.specs.Data.{batch as plain};
 
+use crate::misses::Misses;
 use eve_accounts::{Amount, Balances, Cents, Names, Row};
 use eve_grammar::{MOST_BATCHES, MOST_BYTES, MOST_CUSTOMERS};
 use eve_recorder::Gate;
 use eve_replica::eve_workload::{Mixer, Workload, mix};
-use eve_replica::{AttemptFault, CloseFault, CommitFault, Replica};
+use eve_replica::{AttemptFault, CloseFault, Replica};
 use eve_smallbank::{Request, touched};
 use eve_stamps::{AccessRecord, HeldRow, Stamp, Stripe, apply};
 use eve_streams::SinkOf;
 use eve_write::{
-    AttemptData, BatchData, ChoiceData, CommitData, CustomerData, Parts, RollbackData, Step,
-    VoteData, gather,
+    AttemptData, BatchData, ChoiceData, CommitData, Parts, RollbackData, Step, VoteData, gather,
 };
 use std::alloc::{AllocError, Global};
 use std::hash::RandomState;
@@ -28,26 +28,29 @@ pub fn stopped() -> io::Error {
 }
 
 /// The workload of a text.
-pub fn workload_of(alloc: Global, text: &[u8]) -> io::Result<Workload> {
-    match Workload::read(alloc, text) {
+pub fn workload_of(alloc: Global, text: Vec<u8>) -> io::Result<Workload> {
+    let read = Workload::read(alloc, text.as_slice());
+    drop(text);
+    match read {
         Ok(workload) => Ok(workload),
         Err(_) => Err(stopped()),
     }
 }
 
-/// The customers' names, in their order.
+/// The customers' names, in their order. Where one isn't taken, the case can't go on.
 pub fn names_of<'w>(
     alloc: Global,
     workload: &'w Workload,
     random: RandomState,
-) -> io::Result<Names<'w>> {
+    misses: &mut Misses,
+) -> Names<'w> {
     let mut names = Names::new(alloc, random, MOST_CUSTOMERS);
     for customer in workload.customers() {
         if names.add(customer.name.as_slice()).is_err() {
-            return Err(stopped());
+            misses.stop(stopped());
         }
     }
-    Ok(names)
+    names
 }
 
 /// A batch within the limits.
@@ -122,19 +125,6 @@ pub fn closed(answer: Result<AttemptData, CloseFault>) -> io::Result<AttemptData
     }
 }
 
-/// A commit of the first batch.
-pub fn commit_first(replica: &mut Replica) -> Result<CommitData, CommitFault> {
-    replica.commit(1)
-}
-
-/// The commit that was due.
-pub fn committed(answer: Result<CommitData, CommitFault>) -> io::Result<CommitData> {
-    match answer {
-        Ok(commit) => Ok(commit),
-        Err(_) => Err(stopped()),
-    }
-}
-
 /// All that is open is discarded.
 pub fn roll_back(alloc: Global, replica: &mut Replica) -> Result<RollbackData, AllocError> {
     if replica.view() == u32::MAX {
@@ -144,29 +134,30 @@ pub fn roll_back(alloc: Global, replica: &mut Replica) -> Result<RollbackData, A
 }
 
 /// What worker 0 notes first, of ann's deposit with index 0, where customer 0 has nothing and the checking row this
-/// version.
-pub fn record_at(alloc: Global, names: &Names, version: u64) -> io::Result<AccessRecord>
-    requires { version ≤ 1 }
-{
-    let Some(amount) = Amount::new(500) else {
+/// version, 0 or 1.
+pub fn record_at(alloc: Global, names: &Names, version: u64) -> io::Result<AccessRecord> {
+    if version > 1 {
         return Err(stopped());
-    };
-    let deposit = Request::DepositChecking(b"ann", amount);
-    let mut stripe = Stripe::new(
-        alloc,
-        &[
-            HeldRow {
-                row: Row::saving(0),
-                version: 0,
-                value: Cents::ZERO,
-            },
-            HeldRow {
-                row: Row::checking(0),
-                version,
-                value: Cents::ZERO,
-            },
-        ],
-    )?;
+    }
+    let rows = [
+        HeldRow {
+            row: Row::saving(0),
+            version: 0,
+            value: Cents::ZERO,
+        },
+        HeldRow {
+            row: Row::checking(0),
+            version,
+            value: Cents::ZERO,
+        },
+    ];
+    let stripe = Stripe::new(alloc, &rows)?;
+    record_on(stripe, names)
+}
+
+// The same, where this is the stripe of both rows.
+fn record_on(mut stripe: Stripe, names: &Names) -> io::Result<AccessRecord> {
+    let deposit = Request::DepositChecking(b"ann", Amount::of(500));
     let reached = touched(&deposit, names);
     let stamp = Stamp {
         worker: 0,
@@ -174,66 +165,60 @@ pub fn record_at(alloc: Global, names: &Names, version: u64) -> io::Result<Acces
         index: 0,
         tick: 1,
     };
-    match apply(&mut stripe, &deposit, &reached, stamp) {
+    let applied = apply(&mut stripe, &deposit, &reached, stamp);
+    drop(stripe);
+    match applied {
         Ok(record) => Ok(record),
         Err(_) => Err(stopped()),
     }
 }
 
-/// The trace of a deployment of one replica that did these two things, with one verifier, which voted for the commit.
+/// The trace of a deployment of one replica that did these two things to the workload's first batch, with one verifier,
+/// which voted for the commit.
 pub fn trace_of(
     alloc: Global,
     workload: &Workload,
-    fit: Fit,
+    names: &Names,
     attempt: AttemptData,
     commit: CommitData,
 ) -> io::Result<Vec<u8>> {
-    let customers = workload.customers().to_vec(alloc)?;
-    let parts = parts_of(alloc, customers, fit, attempt, commit)?;
-    bytes_of(alloc, &parts)
-}
-
-// Its parts, where these are its customers.
-fn parts_of(
-    alloc: Global,
-    customers: Vec<CustomerData>,
-    fit: Fit,
-    attempt: AttemptData,
-    commit: CommitData,
-) -> Result<Parts, AllocError> {
-    let sections = sections_of(alloc, attempt, commit)?;
-    let batches = batches_of(alloc, fit)?;
-    let verifiers = votes_for(alloc, commit)?;
-    Ok(Parts {
+    let steps = vec![in alloc; Step::Attempt(attempt), Step::Commit(commit)]?;
+    let mut parts = Parts {
         quorum: 1,
         window: 1,
         workers: 1,
-        customers,
-        batches,
-        sections,
-        verifiers,
+        customers: Vec::new(alloc),
+        batches: Vec::new(alloc),
+        sections: Vec::new(alloc),
+        verifiers: Vec::new(alloc),
         sent: Vec::new(alloc),
-    })
+    };
+    let trace = match fill(alloc, workload, names, steps, commit, &mut parts) {
+        Ok(()) => bytes_of(alloc, &parts),
+        Err(why) => Err(why),
+    };
+    drop(parts);
+    trace
 }
 
-// The section of a replica that did these two things, alone.
-fn sections_of(
+// Adds what the replica did, the vote for the commit, the customers and the batch.
+fn fill(
     alloc: Global,
-    attempt: AttemptData,
+    workload: &Workload,
+    names: &Names,
+    steps: Vec<Step>,
     commit: CommitData,
-) -> Result<Vec<Vec<Step>>, AllocError> {
-    let steps = vec![in alloc; Step::Attempt(attempt), Step::Commit(commit)]?;
-    Ok(vec![in alloc; steps]?)
+    parts: &mut Parts,
+) -> io::Result<()> {
+    parts.sections.push(steps)?;
+    parts.verifiers.push(votes_for(alloc, commit)?)?;
+    parts.customers.extend_from_slice(workload.customers())?;
+    let Fit { batch } = batch_of(alloc, workload, 1, names)?;
+    Ok(parts.batches.push(batch)?)
 }
 
-// This batch alone.
-fn batches_of(alloc: Global, fit: Fit) -> Result<Vec<BatchData>, AllocError> {
-    let Fit { batch } = fit;
-    Ok(vec![in alloc; batch]?)
-}
-
-// The votes of a verifier that voted for the commit, alone.
-fn votes_for(alloc: Global, commit: CommitData) -> Result<Vec<Vec<VoteData>>, AllocError> {
+// The vote for the commit, alone.
+fn votes_for(alloc: Global, commit: CommitData) -> Result<Vec<VoteData>, AllocError> {
     let token = commit.token;
     let vote = VoteData {
         seq: commit.seq,
@@ -241,15 +226,20 @@ fn votes_for(alloc: Global, commit: CommitData) -> Result<Vec<Vec<VoteData>>, Al
         choice: ChoiceData::ForCommit,
         token,
     };
-    let votes = vec![in alloc; vote]?;
-    Ok(vec![in alloc; votes]?)
+    Ok(vec![in alloc; vote]?)
 }
 
 /// The bytes of the parts of a trace.
 pub fn bytes_of(alloc: Global, parts: &Parts) -> io::Result<Vec<u8>> {
     let mut out = SinkOf::new(Vec::new(alloc));
-    if gather(parts, MOST_BYTES as u64, &mut out).is_err() {
-        return Err(stopped());
-    }
-    Ok(out.writer().clone()?)
+    let bytes = match gather(parts, MOST_BYTES as u64, &mut out) {
+        Ok(_) => copy_of(out.writer()),
+        Err(_) => Err(stopped()),
+    };
+    drop(out);
+    bytes
+}
+
+fn copy_of(bytes: &Vec<u8>) -> io::Result<Vec<u8>> {
+    Ok(bytes.clone()?)
 }
