@@ -4,13 +4,13 @@ ghost use Rattle.std.specs.Prelude.{◌≡◌};
 ghost use Rattle.eve_floor.specs.Executing.{IsSeatedAt};
 
 use crate::crew::{Crew, crew_of};
-use crate::gates::Watched;
+use crate::gates::{Held, PairGate};
 use crate::opening::{Ask, batch_of, floor_of};
 use crate::site::{Site, take_both_turns, take_turn};
 use crate::telling::Text;
 use eve_accounts::Names;
-use eve_floor::{ExecFault, Floor, Worker, flush};
-use eve_recorder::{OpenGate, TakerSeat};
+use eve_floor::{Floor, Worker, flush};
+use eve_recorder::TakerSeat;
 use eve_stamps::AccessRecord;
 use eve_write::BatchData;
 use std::alloc::{AllocError, Global};
@@ -35,25 +35,32 @@ pub struct Case<'n> {
 pub enum Act {
     /// The worker at hand executes the request with this index.
     Run(u16),
+    /// Each worker executes a request, both at once. One has to wait, and that worker comes to hand.
+    RunBoth,
     /// The other worker comes to hand.
     Turn,
     /// What waits in the worker at hand is noted.
     Flush,
     /// What was noted first, and not yet taken.
     Take,
+    /// Of that the entries alone: who made it hangs on the schedule.
+    TakeEntries,
+    /// What was noted is taken, then what waits is noted, and taken.
+    TakeBoth,
     /// What was done up to this tick is committed.
     Settle(u64),
     /// All stripes go back to what is committed.
     GoBack,
 }
 
-/// A case of which nothing is done yet: the requests of its batch, how much room the queue has, and how many numbers
-/// there are for each worker.
+/// A case of which nothing is done yet: the requests of its batch, how much room the queue has, how many numbers there
+/// are for each worker, and what their gate holds.
 #[derive(Clone, Copy)]
-pub struct Plan<'p> {
-    pub asks: &'p [Ask<'p>],
+pub struct Plan {
+    pub asks: &'static [Ask],
     pub room: usize,
     pub limit: u64,
+    pub held: Held,
 }
 
 /// The case of a plan.
@@ -61,15 +68,20 @@ pub fn case_of<'n>(
     alloc: Global,
     names: &'n Names<'n>,
     plan: &Plan,
+    text: &mut Text,
 ) -> Result<Case<'n>, AllocError> {
     let floor = floor_of(alloc, names)?;
-    let batch = batch_of(alloc, plan.asks)?;
-    let crew = crew_of(alloc, plan.room, plan.limit)?;
-    Ok(at_work(floor, batch, crew))
+    match crew_of(alloc, plan.room, plan.limit) {
+        Ok(crew) => Ok(at_work(floor, batch_of(alloc, plan.asks, text), crew, plan.held)),
+        Err(why) => {
+            drop(floor);
+            Err(why)
+        }
+    }
 }
 
 // A case of the crew, on this floor, with this batch.
-fn at_work<'n>(floor: Floor<'n>, batch: BatchData, crew: Crew) -> Case<'n> {
+fn at_work<'n>(floor: Floor<'n>, batch: BatchData, crew: Crew, held: Held) -> Case<'n> {
     let Crew {
         recorder,
         tickets,
@@ -83,6 +95,7 @@ fn at_work<'n>(floor: Floor<'n>, batch: BatchData, crew: Crew) -> Case<'n> {
             batch,
             recorder,
             tickets,
+            gate: PairGate::new(held),
         },
         taker,
         hand,
@@ -90,84 +103,84 @@ fn at_work<'n>(floor: Floor<'n>, batch: BatchData, crew: Crew) -> Case<'n> {
     }
 }
 
-/// The words with which a case's text begins, its plan, and what is done in it, one thing after another.
-#[derive(Clone, Copy)]
-pub struct Script {
-    pub begin: &'static str,
-    pub plan: Plan<'static>,
-    pub acts: &'static [Act],
-}
-
-/// What is told of the case of a script.
-pub fn told<R: Wait>(
-    rt: &R,
-    alloc: Global,
-    names: &Names,
-    script: &Script,
-) -> Result<Text, AllocError> {
-    let mut case = case_of(alloc, names, &script.plan)?;
-    let mut text = Text::new(alloc, script.begin);
-    case.play(rt, script.acts, &mut text);
-    drop(case);
-    Ok(text)
-}
-
 impl<'n> Case<'n> {
     /// Does these things, one after another, and tells what comes of them.
-    pub fn play<R: Wait>(&mut self, rt: &R, acts: &[Act], text: &mut Text) {
+    pub fn play<R: Threads + Wait + Sync>(&mut self, rt: &R, acts: &[Act], text: &mut Text) {
         for act in acts {
             match *act {
                 Act::Run(index) => self.run(rt, index, text),
+                Act::RunBoth => self.run_until_one_waits(rt, text),
                 Act::Turn => self.turn(),
                 Act::Flush => self.flush(rt, text),
                 Act::Take => text.say_record(self.take(rt)),
+                Act::TakeEntries => self.take_entries(rt, text),
+                Act::TakeBoth => self.take_both(rt, text),
                 Act::Settle(tick) => self.site.floor.settle(tick),
                 Act::GoBack => self.site.floor.go_back(),
             }
         }
     }
 
-    /// The worker at hand executes a request, if it is there and the worker has a place for it.
-    pub fn run<R: Wait>(&mut self, rt: &R, index: u16, text: &mut Text) {
-        let answer = take_turn(rt, &self.site, &OpenGate, index, &mut self.hand);
+    // The worker at hand executes a request, if it is there and the worker has a place for it.
+    fn run<R: Wait>(&mut self, rt: &R, index: u16, text: &mut Text) {
+        let answer = take_turn(rt, &self.site, index, &mut self.hand);
         text.say_answer(answer);
     }
 
-    /// Both workers at once: the one at hand executes request 0, the other request 1. Whether each did, where neither
-    /// was refused memory.
-    pub fn run_both<R: Threads + Wait + Sync, G: Watched>(
-        &mut self,
-        rt: &R,
-        gate: &G,
-    ) -> Result<(bool, bool), AllocError> {
-        let (first, second) = take_both_turns(
-            rt,
-            &self.site,
-            gate,
-            &mut self.hand,
-            &mut self.other,
-        );
-        if first == Err(ExecFault::Memory) || second == Err(ExecFault::Memory) {
-            return Err(AllocError);
-        }
-        Ok((first.is_ok(), second.is_ok()))
+    // Both workers at once: the one at hand executes request 0, the other request 1. Whether each did.
+    fn run_both<R: Threads + Wait + Sync>(&mut self, rt: &R, text: &mut Text) -> (bool, bool) {
+        let (first, second) = take_both_turns(rt, &self.site, &mut self.hand, &mut self.other);
+        (text.is_done(first), text.is_done(second))
     }
 
-    /// The other worker comes to hand.
-    pub fn turn(&mut self) {
+    /// Both at once. Whether their gate shows what it looks for; the case is at its end then.
+    pub fn shows<R: Threads + Wait + Sync>(mut self, rt: &R, text: &mut Text) -> bool {
+        let (first, second) = self.run_both(rt, text);
+        let is_shown = self.site.gate.is_shown(first && second);
+        drop(self);
+        is_shown
+    }
+
+    // Both at once, of which one has to wait: that worker comes to hand.
+    fn run_until_one_waits<R: Threads + Wait + Sync>(&mut self, rt: &R, text: &mut Text) {
+        let (first, second) = self.run_both(rt, text);
+        text.say_whether(first != second);
+        if first {
+            self.turn();
+        }
+    }
+
+    // The other worker comes to hand.
+    fn turn(&mut self) {
         mem::swap(&mut self.hand, &mut self.other);
     }
 
-    /// What waits in the worker at hand is noted.
-    pub fn flush<R: Wait>(&mut self, rt: &R, text: &mut Text) {
+    // What waits in the worker at hand is noted.
+    fn flush<R: Wait>(&mut self, rt: &R, text: &mut Text) {
         text.say(", flush");
         let answer = flush(rt, &self.site.recorder, &mut self.hand);
         text.say_answer(answer);
     }
 
-    /// What was noted first, and not yet taken.
-    pub fn take<R: Wait>(&mut self, rt: &R) -> Option<AccessRecord> {
+    // What was noted first, and not yet taken.
+    fn take<R: Wait>(&mut self, rt: &R) -> Option<AccessRecord> {
         self.site.recorder.take(rt, &mut self.taker)
+    }
+
+    // Tells whether both were there: what was noted, and what waited and is noted then.
+    fn take_both<R: Wait>(&mut self, rt: &R, text: &mut Text) {
+        let first = self.take(rt).is_some();
+        self.flush(rt, text);
+        let second = self.take(rt).is_some();
+        text.say_whether(first && second);
+    }
+
+    // Tells the entries of what was noted first, and not yet taken.
+    fn take_entries<R: Wait>(&mut self, rt: &R, text: &mut Text) {
+        if let Some(record) = self.take(rt) {
+            text.say_entries(&record);
+            drop(record);
+        }
     }
 
     /// The worker at hand, alone.

@@ -36,15 +36,9 @@ fn desk_of(alloc: Global, room: usize) -> Result<Desk, AllocError>
     requires { (1 ≤ room) × (room ≤ MOST_QUEUED) }
 {
     let (recorder, mut seats) = Recorder::new(alloc, 2, room)?;
-    let Some(first) = seats.worker(0) else {
-        unreachable!()
-    };
-    let Some(second) = seats.worker(1) else {
-        unreachable!()
-    };
-    let Some(taker) = seats.taker() else {
-        unreachable!()
-    };
+    let first = seats.worker(0).unwrap();
+    let second = seats.worker(1).unwrap();
+    let taker = seats.taker().unwrap();
     drop(seats);
     Ok(Desk {
         recorder,
@@ -68,12 +62,8 @@ fn drawers_of(alloc: Global, limit: u64) -> Result<Drawers, AllocError>
     requires { limit ≤ MOST_DRAWN }
 {
     let (tickets, mut seats) = Tickets::new(alloc, 2, limit)?;
-    let Some(first) = seats.seat(0) else {
-        unreachable!()
-    };
-    let Some(second) = seats.seat(1) else {
-        unreachable!()
-    };
+    let first = seats.seat(0).unwrap();
+    let second = seats.seat(1).unwrap();
     drop(seats);
     Ok(Drawers {
         tickets,

@@ -1,43 +1,67 @@
 //! Gates that hold threads, for a limit of turns.
 
-use eve_recorder::{Gate, OpenGate};
+use eve_recorder::Gate;
 use std::sync::Wait;
 use std::sync::atomic::{AtomicU64, Ordering};
 use std::thread::yield_now;
 
-/// A gate that is told before a request is executed, and when its record is noted.
-pub trait Watched: Gate {
-    fn begins(&self, index: u16);
-
-    fn noted(&self, index: u16);
+/// What a gate holds of requests 0 and 1, which two threads execute.
+#[derive(Clone, Copy)]
+pub enum Held {
+    /// Nothing.
+    Nothing,
+    /// Request 0, until request 1 is noted.
+    First,
+    /// Each, for a while, to tell whether both are inside at one moment.
+    Each,
 }
 
-impl Watched for OpenGate {
-    fn begins(&self, _index: u16) {}
-
-    fn noted(&self, _index: u16) {}
-}
-
-/// Holds request 0 until another is noted, and no other begins before request 0 is held: each for a limit of turns.
+/// Holds requests 0 and 1, each for a limit of turns. Where one is held, request 1 doesn't begin before request 0 has
+/// entered. The gate is told before a request is executed, and when its record is noted.
 #[derive(Drop)]
-pub struct HeldGate {
+pub struct PairGate {
+    held: Held,
     entered: AtomicU64,
+    inside: AtomicU64,
     noted: AtomicU64,
     missed: AtomicU64,
+    met: AtomicU64,
 }
 
-impl HeldGate {
-    pub fn new() -> HeldGate {
-        HeldGate {
+impl PairGate {
+    pub fn new(held: Held) -> PairGate {
+        PairGate {
+            held,
             entered: AtomicU64::new(0),
+            inside: AtomicU64::new(0),
             noted: AtomicU64::new(0),
             missed: AtomicU64::new(0),
+            met: AtomicU64::new(0),
         }
     }
 
-    /// Whether request 0 was held, and the other noted, before the limits.
-    pub fn came(&self) -> bool {
-        self.missed.load(Ordering::SeqCst) == 0
+    /// Where request 0 was held: whether both were executed, and the other was noted before the limits. Where each was:
+    /// whether both were inside at one moment, as far as both were executed.
+    pub fn is_shown(&self, both: bool) -> bool {
+        match self.held {
+            Held::Nothing => both,
+            Held::First => both && self.missed.load(Ordering::SeqCst) == 0,
+            Held::Each => !both || self.met.load(Ordering::SeqCst) != 0,
+        }
+    }
+
+    /// A request is to be executed.
+    pub fn begins(&self, index: u16) {
+        if index != 0 && !matches!(self.held, Held::Nothing) {
+            self.wait_for(&self.entered);
+        }
+    }
+
+    /// The record of a request is noted.
+    pub fn noted(&self, index: u16) {
+        if index != 0 {
+            self.noted.store(1, Ordering::SeqCst);
+        }
     }
 
     /// Waits until the number rises above 0.
@@ -46,57 +70,13 @@ impl HeldGate {
             self.missed.store(1, Ordering::SeqCst);
         }
     }
-}
 
-impl Gate for HeldGate {
-    fn enter<R: Wait>(&self, _rt: &R, piece: u32) {
-        if piece == 0 {
-            self.entered.store(1, Ordering::SeqCst);
-            self.wait_for(&self.noted);
-        }
-    }
-}
-
-impl Watched for HeldGate {
-    fn begins(&self, index: u16) {
-        if index != 0 {
-            self.wait_for(&self.entered);
-        }
+    fn hold_first(&self) {
+        self.entered.store(1, Ordering::SeqCst);
+        self.wait_for(&self.noted);
     }
 
-    fn noted(&self, index: u16) {
-        if index != 0 {
-            self.noted.store(1, Ordering::SeqCst);
-        }
-    }
-}
-
-/// Tells whether two threads were inside at one moment. Each stays for a while, and request 1 begins once the
-/// other has entered.
-#[derive(Drop)]
-pub struct LoneGate {
-    entered: AtomicU64,
-    inside: AtomicU64,
-    met: AtomicU64,
-}
-
-impl LoneGate {
-    pub fn new() -> LoneGate {
-        LoneGate {
-            entered: AtomicU64::new(0),
-            inside: AtomicU64::new(0),
-            met: AtomicU64::new(0),
-        }
-    }
-
-    /// Whether two threads were inside at one moment.
-    pub fn met(&self) -> bool {
-        self.met.load(Ordering::SeqCst) != 0
-    }
-}
-
-impl Gate for LoneGate {
-    fn enter<R: Wait>(&self, _rt: &R, _piece: u32) {
+    fn hold_each(&self) {
         self.inside.fetch_add(1, Ordering::SeqCst);
         self.entered.store(1, Ordering::SeqCst);
         if rises_above(&self.inside, 1, 50_000) {
@@ -106,14 +86,14 @@ impl Gate for LoneGate {
     }
 }
 
-impl Watched for LoneGate {
-    fn begins(&self, index: u16) {
-        if index != 0 {
-            let _ = rises_above(&self.entered, 0, 3_000_000);
+impl Gate for PairGate {
+    fn enter<R: Wait>(&self, _rt: &R, piece: u32) {
+        match self.held {
+            Held::First if piece == 0 => self.hold_first(),
+            Held::First | Held::Nothing => {}
+            Held::Each => self.hold_each(),
         }
     }
-
-    fn noted(&self, _index: u16) {}
 }
 
 /// Whether the number rises above the limit within so many turns.

@@ -1,20 +1,21 @@
 //! Customers, their rows, and batches.
 
+use crate::telling::Text;
 use eve_accounts::{Amount, Balances, Cents, Name, Names, Row};
 use eve_floor::Floor;
 use eve_write::{BatchData, RequestData, TransactionData};
 use std::alloc::{AllocError, Global};
 use std::hash::RandomState;
 
-/// Seventeen customers, `a` to `q`: the first and the last of them lie in one stripe.
-pub fn customers(alloc: Global, random: RandomState) -> Result<Names<'static>, AllocError> {
+/// Seventeen customers, `a` to `q`: the first and the last of them lie in one stripe. Those that there is memory for.
+pub fn customers(alloc: Global, random: RandomState, text: &mut Text) -> Names<'static> {
     let mut names = Names::new(alloc, random, 32);
     for name in b"abcdefghijklmnopq".chunks(1) {
         if names.add(name).is_err() {
-            return Err(AllocError);
+            text.lacks_memory();
         }
     }
-    Ok(names)
+    names
 }
 
 /// A floor where the first customer has saved 3 cents, and nobody has anything else.
@@ -28,38 +29,43 @@ pub fn floor_of<'n>(alloc: Global, names: &'n Names<'n>) -> Result<Floor<'n>, Al
 
 /// What is asked for: 5 cents are deposited for a customer, or all that one has is moved to another.
 #[derive(Clone, Copy)]
-pub enum Ask<'a> {
-    Deposit(&'a [u8]),
-    Move(&'a [u8], &'a [u8]),
+pub enum Ask {
+    Deposit(&'static [u8]),
+    Move(&'static [u8], &'static [u8]),
 }
 
-/// A batch of these requests.
-pub fn batch_of(alloc: Global, asks: &[Ask]) -> Result<BatchData, AllocError> {
-    let mut requests = Vec::with_capacity(alloc, asks.len())?;
+/// A batch of these requests, of those that there is memory for.
+pub fn batch_of(alloc: Global, asks: &[Ask], text: &mut Text) -> BatchData {
+    let mut requests = Vec::new(alloc);
     for ask in asks {
-        let transaction = transaction_of(*ask)?;
-        requests.push(RequestData {
-            client: 7,
-            number: 1,
-            transaction,
-        })?;
+        if let Some(transaction) = transaction_of(*ask) {
+            let request = RequestData {
+                client: 7,
+                number: 1,
+                transaction,
+            };
+            if requests.push(request).is_err() {
+                text.lacks_memory();
+            }
+        }
     }
-    Ok(BatchData {
+    BatchData {
         sizes: Vec::new(alloc),
         requests,
-    })
-}
-
-fn transaction_of(ask: Ask) -> Result<TransactionData, AllocError> {
-    match ask {
-        Ask::Deposit(to) => {
-            let five = Amount::new(5).ok_or(AllocError)?;
-            Ok(TransactionData::DepositChecking(name_of(to)?, five))
-        }
-        Ask::Move(from, to) => Ok(TransactionData::Amalgamate(name_of(from)?, name_of(to)?)),
     }
 }
 
-fn name_of(bytes: &[u8]) -> Result<Name, AllocError> {
-    Name::new(bytes).ok_or(AllocError)
+// What is asked for, of customers whose names are names.
+fn transaction_of(ask: Ask) -> Option<TransactionData> {
+    match ask {
+        Ask::Deposit(to) => {
+            let to = Name::new(to)?;
+            Some(TransactionData::DepositChecking(to, Amount::of(5)))
+        }
+        Ask::Move(from, to) => {
+            let from = Name::new(from)?;
+            let to = Name::new(to)?;
+            Some(TransactionData::Amalgamate(from, to))
+        }
+    }
 }

@@ -3,7 +3,7 @@
 ghost use Rattle.std.specs.Prelude.{◌≡◌};
 ghost use Rattle.eve_floor.specs.Executing.{IsSeatedAt};
 
-use crate::gates::Watched;
+use crate::gates::PairGate;
 use eve_floor::{ExecFault, Floor, Worker, execute};
 use eve_recorder::{Recorder, Tickets};
 use eve_stamps::MOST_PLACES;
@@ -11,27 +11,27 @@ use eve_write::BatchData;
 use std::sync::Wait;
 use std::thread::{Threads, join_mut};
 
-/// A floor and a batch, with the recorder and the tickets of the workers' seats.
+/// A floor and a batch, the recorder and the tickets of the workers' seats, and the gate before which they execute.
 #[derive(Drop)]
 pub struct Site<'n> {
     pub floor: Floor<'n>,
     pub batch: BatchData,
     pub recorder: Recorder,
     pub tickets: Tickets,
+    pub gate: PairGate,
 }
 
 /// The worker executes the request, if it is there and the worker has a place for it.
-pub fn take_turn<R: Wait, G: Watched>(
+pub fn take_turn<R: Wait>(
     rt: &R,
     site: &Site,
-    gate: &G,
     index: u16,
     worker: &mut Worker,
 ) -> Result<(), ExecFault>
     requires { IsSeatedAt site.now.recorder site.now.tickets worker.old }
     ensures { IsSeatedAt site.now.recorder site.now.tickets worker.new }
 {
-    gate.begins(index);
+    site.gate.begins(index);
     if worker.place() as usize >= MOST_PLACES || usize::from(index) >= site.batch.requests.len() {
         return Err(ExecFault::NoRow);
     }
@@ -43,19 +43,18 @@ pub fn take_turn<R: Wait, G: Watched>(
         worker,
         &site.batch,
         index,
-        gate,
+        &site.gate,
     );
     if answer.is_ok() {
-        gate.noted(index);
+        site.gate.noted(index);
     }
     answer
 }
 
 /// Both turns at once, each in a thread: the first worker executes request 0, the second request 1.
-pub fn take_both_turns<R: Threads + Wait + Sync, G: Watched>(
+pub fn take_both_turns<R: Threads + Wait + Sync>(
     rt: &R,
     site: &Site,
-    gate: &G,
     first: &mut Worker,
     second: &mut Worker,
 ) -> (Result<(), ExecFault>, Result<(), ExecFault>)
@@ -67,10 +66,10 @@ pub fn take_both_turns<R: Threads + Wait + Sync, G: Watched>(
     let mut one = || -> Result<(), ExecFault>
         requires { IsSeatedAt site.now.recorder site.now.tickets first.now }
         ensures { IsSeatedAt site.entry.now.recorder site.entry.now.tickets first.exit.now }
-    { take_turn(rt, site, gate, 0, first) };
+    { take_turn(rt, site, 0, first) };
     let mut other = || -> Result<(), ExecFault>
         requires { IsSeatedAt site.now.recorder site.now.tickets second.now }
         ensures { IsSeatedAt site.entry.now.recorder site.entry.now.tickets second.exit.now }
-    { take_turn(rt, site, gate, 1, second) };
+    { take_turn(rt, site, 1, second) };
     join_mut(rt, &mut one, &mut other)
 }
