@@ -1,22 +1,34 @@
 //! Calls of the program, and what they come to.
 
+use crate::bytes::Bytes;
+use crate::fault::Fault;
 use eve_streams::failing::FailsAt;
 use eve_streams::one_byte::OneByte;
 use eve_streams::{Sink, SinkOf, Source, SourceOf};
 use eve_tool::{run_within, serve, stop};
 use eve_workload::Mixer;
-use std::alloc::{AllocError, Global};
+use std::alloc::Global;
 use std::io;
 use std::io::ErrorKind;
 use std::random::RandomSource;
 use std::sync::Wait;
 use std::thread::Threads;
 
-/// A runtime that may have no random words.
+/// A runtime that may have no random words. All calls are made by one, so that what they call is compiled once.
 #[derive(Drop)]
-struct Host<'a, R> {
+pub(crate) struct Host<'a, R> {
     runtime: &'a R,
     has_random: bool,
+}
+
+impl<'a, R> Host<'a, R> {
+    /// This runtime, which has them.
+    pub(crate) fn of(runtime: &'a R) -> Host<'a, R> {
+        Host {
+            runtime,
+            has_random: true,
+        }
+    }
 }
 
 impl<R: Threads> Threads for Host<'_, R> {}
@@ -147,15 +159,36 @@ pub(crate) fn said<R: AllocGlobal + RandomSource + Threads + Wait + Sync>(
     Answer { status, out, err }
 }
 
+/// What `eve` writes for these arguments and this input, by streams that move as much as they are asked to.
+pub(crate) fn out_of<R: AllocGlobal + RandomSource + Threads + Wait + Sync>(
+    rt: &R,
+    arguments: &[&str],
+    bytes: &[u8],
+) -> Bytes {
+    let mut input = SourceOf::new(bytes);
+    let mut out = SinkOf::new(Vec::new(rt.alloc()));
+    let mut err = SinkOf::new(Vec::new(rt.alloc()));
+    served(rt, arguments, None, &mut input, &mut out, &mut err);
+    let mut bytes = Bytes::none(rt.alloc());
+    bytes.append(out.writer().as_slice());
+    bytes
+}
+
 /// The arguments of a call: these, and then the words of a text.
 pub(crate) fn arguments_of<'a>(
     alloc: Global,
+    page: &mut Bytes,
     first: &[&'a str],
     words: &'a str,
-) -> Result<Vec<&'a str>, AllocError> {
-    let mut arguments = Vec::from_slice(alloc, first)?;
-    for word in words.split_whitespace() {
-        arguments.push(word)?;
+) -> Vec<&'a str> {
+    let mut arguments = Vec::new(alloc);
+    if arguments.extend_from_slice(first).is_err() {
+        page.fail(Fault::Memory);
     }
-    Ok(arguments)
+    for word in words.split_whitespace() {
+        if arguments.push(word).is_err() {
+            page.fail(Fault::Memory);
+        }
+    }
+    arguments
 }

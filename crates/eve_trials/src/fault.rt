@@ -7,10 +7,14 @@ use std::io::ErrorKind;
 /// Why the program ends before its last line.
 #[derive(Clone, Copy, Debug)]
 pub(crate) enum Fault {
-    /// The input, a file or the output fails.
+    /// The input, a file, the source of random words or the output fails.
     Io(ErrorKind),
-    /// A line begins with no word of a trial.
+    /// A line begins with no word of a trial, or names no limits.
     Word,
+    /// A run that is made here fails, or what is made of it has no spelling.
+    Run,
+    /// A trace that is made here lacks a frame that is looked for.
+    Frame,
     /// Memory ran out.
     Memory,
 }

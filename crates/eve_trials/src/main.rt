@@ -1,8 +1,12 @@
-//! Tries the program on workloads that it runs, on streams that fail, and on arguments that are no call.
+//! Tries the program on workloads that it runs, on streams that fail, on arguments that are no call, and at the limits
+//! of the format.
 //!
 //! A line `run NAME WORD..` of the input names a workload and, if any, further arguments for `eve run`. What stands
 //! after `run` is printed again with the exit status, and with what was said where there was no run. The trace of a
 //! run is compared with the file of the same name that ends in `.trace`, where there is one, and audited.
+//!
+//! A line `limits NAME` asks for a trace at the limits of the format, which is made here (`limits.rt`). It is printed
+//! again, and below it what audits by 1, 3 and 16 workers say of the trace, and of what is changed in it.
 //!
 //! Every other line is a trial: what fails, the file that is read, and the arguments of the call. It is printed again,
 //! and below it what came of it: the number of the call or byte at which something failed, from the first to the last
@@ -16,15 +20,17 @@
 //! - `long`: a workload and its trace may have no byte, or one, or two, and so on
 #![tactic(auto)]
 
+mod bytes;
 mod calls;
 mod fault;
-mod page;
+mod limits;
 mod runs;
 mod trials;
 
-use crate::calls::arguments_of;
+use crate::bytes::Bytes;
+use crate::calls::{Host, arguments_of};
 use crate::fault::Fault;
-use crate::page::Page;
+use crate::limits::tell_limits;
 use crate::trials::{Failure, Trial, tell_trial};
 use std::fs::Files;
 use std::random::RandomSource;
@@ -43,27 +49,31 @@ fn file_of<R: AllocGlobal + Files>(rt: &R, name: &str, ending: &str) -> Result<V
     Ok(fs::read(rt, path.as_str())?)
 }
 
-/// The trial that a line asks for.
-fn trial_of<'a, R: AllocGlobal + Files>(rt: &R, line: &'a str) -> Result<Trial<'a>, Fault> {
+/// The trial that a line asks for. What fails on the way, the line's page notes.
+fn trial_of<'a, R: AllocGlobal + Files>(rt: &R, page: &mut Bytes, line: &'a str) -> Trial<'a> {
     let (word, named) = first_word(line);
     let (file, words) = first_word(named);
-    let failure = Failure::of(word)?;
     let is_run = word == "run";
     let (first, ending): (&[&str], &str) = if is_run {
         (&["eve", "run"], ".in")
     } else {
         (&["eve"], "")
     };
-    let arguments = arguments_of(rt.alloc(), first, words)?;
-    let bytes = file_of(rt, file, ending)?;
-    Ok(Trial {
+    let bytes = match file_of(rt, file, ending) {
+        Ok(bytes) => bytes,
+        Err(fault) => {
+            page.fail(fault);
+            Vec::new(rt.alloc())
+        }
+    };
+    Trial {
         line,
         is_run,
-        failure,
+        failure: Failure::of(page, word),
         file,
         bytes,
-        arguments,
-    })
+        arguments: arguments_of(rt.alloc(), page, first, words),
+    }
 }
 
 /// Prints what came of a line.
@@ -71,10 +81,18 @@ fn tell_line<R: AllocGlobal + Files + Print + RandomSource + Threads + Wait + Sy
     rt: &R,
     line: &str,
 ) -> Result<(), Fault> {
-    let trial = trial_of(rt, line)?;
-    let mut page = Page::new(rt.alloc());
-    tell_trial(rt, &trial, &mut page);
-    drop(trial);
+    let mut page = Bytes::none(rt.alloc());
+    match line.strip_prefix("limits ") {
+        Some(name) => {
+            page.words(line);
+            page.words("\n");
+            tell_limits(&Host::of(rt), name, &mut page);
+        }
+        None => {
+            let trial = trial_of(rt, &mut page, line);
+            tell_trial(rt, &trial, &mut page);
+        }
+    }
     page.print(rt)
 }
 

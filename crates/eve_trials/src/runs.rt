@@ -1,7 +1,7 @@
 //! Workloads that are run.
 
+use crate::bytes::Bytes;
 use crate::calls::{Terms, said};
-use crate::page::Page;
 use crate::trials::{Trial, tried};
 use crate::{file_of, first_word};
 use std::fs::Files;
@@ -25,10 +25,10 @@ fn compared<R: AllocGlobal + Files>(rt: &R, name: &str, trace: &[u8]) -> &'stati
 fn tell_audit<R: AllocGlobal + RandomSource + Threads + Wait + Sync>(
     rt: &R,
     trace: &[u8],
-    page: &mut Page,
+    page: &mut Bytes,
 ) {
     let audited = said(rt, &["eve", "audit"], trace, Terms::fine());
-    page.bytes(audited.out());
+    page.append(audited.out());
     drop(audited);
 }
 
@@ -36,14 +36,14 @@ fn tell_audit<R: AllocGlobal + RandomSource + Threads + Wait + Sync>(
 pub(crate) fn tell_run<R: AllocGlobal + Files + RandomSource + Threads + Wait + Sync>(
     rt: &R,
     run: &Trial<'_>,
-    page: &mut Page,
+    page: &mut Bytes,
 ) {
     let (_, named) = first_word(run.line);
     page.words(named);
     let ran = tried(rt, run, 1);
-    page.number(": ", u32::from(ran.status()));
+    page.number(": ", u64::from(ran.status()));
     page.words(" ");
-    page.bytes(ran.err());
+    page.append(ran.err());
     if ran.status() == 0 {
         page.words(compared(rt, run.file, ran.out()));
         tell_audit(rt, ran.out(), page);

@@ -1,8 +1,8 @@
 //! Trials.
 
+use crate::bytes::Bytes;
 use crate::calls::{Answer, Terms, said};
 use crate::fault::Fault;
-use crate::page::Page;
 use crate::runs::tell_run;
 use std::fs::Files;
 use std::random::RandomSource;
@@ -22,17 +22,20 @@ pub(crate) enum Failure {
 }
 
 impl Failure {
-    /// What the first word of a line lets fail.
-    pub(crate) fn of(word: &str) -> Result<Failure, Fault> {
+    /// What the first word of a line lets fail. Where that is no word of a trial, the line's page notes it.
+    pub(crate) fn of(page: &mut Bytes, word: &str) -> Failure {
         match word {
-            "run" | "nothing" => Ok(Failure::Nothing),
-            "read" => Ok(Failure::Read),
-            "write" => Ok(Failure::Write),
-            "word" => Ok(Failure::Word),
-            "random" => Ok(Failure::Random),
-            "rest" => Ok(Failure::Rest),
-            "long" => Ok(Failure::Long),
-            _ => Err(Fault::Word),
+            "run" | "nothing" => Failure::Nothing,
+            "read" => Failure::Read,
+            "write" => Failure::Write,
+            "word" => Failure::Word,
+            "random" => Failure::Random,
+            "rest" => Failure::Rest,
+            "long" => Failure::Long,
+            _ => {
+                page.fail(Fault::Word);
+                Failure::Nothing
+            }
         }
     }
 }
@@ -143,16 +146,16 @@ fn outcome_of<R: AllocGlobal + RandomSource + Threads + Wait + Sync>(
 }
 
 /// Tells what failures came to.
-fn tell_outcome(page: &mut Page, outcome: &Outcome) {
-    page.number("  ", outcome.from);
+fn tell_outcome(page: &mut Bytes, outcome: &Outcome) {
+    page.number("  ", u64::from(outcome.from));
     if outcome.from != outcome.to {
-        page.number(" to ", outcome.to);
+        page.number(" to ", u64::from(outcome.to));
     }
-    page.number(": ", u32::from(outcome.answer.status()));
+    page.number(": ", u64::from(outcome.answer.status()));
     page.words(", ");
     page.words(outcome.out);
     page.words("; ");
-    page.bytes(outcome.answer.err());
+    page.append(outcome.answer.err());
     if outcome.answer.err().is_empty() {
         page.words("\n");
     }
@@ -163,7 +166,7 @@ fn tell_outcome(page: &mut Page, outcome: &Outcome) {
 fn tell_in_turn<R: AllocGlobal + RandomSource + Threads + Wait + Sync>(
     rt: &R,
     trial: &Trial<'_>,
-    page: &mut Page,
+    page: &mut Bytes,
 ) {
     let whole = said(
         rt,
@@ -194,13 +197,13 @@ fn tell_in_turn<R: AllocGlobal + RandomSource + Threads + Wait + Sync>(
 fn tell_answer<R: AllocGlobal + RandomSource + Threads + Wait + Sync>(
     rt: &R,
     trial: &Trial<'_>,
-    page: &mut Page,
+    page: &mut Bytes,
 ) {
     let answer = tried(rt, trial, 1);
-    page.number("  ", u32::from(answer.status()));
+    page.number("  ", u64::from(answer.status()));
     page.words("\n");
-    page.bytes(answer.out());
-    page.bytes(answer.err());
+    page.append(answer.out());
+    page.append(answer.err());
     drop(answer);
 }
 
@@ -208,7 +211,7 @@ fn tell_answer<R: AllocGlobal + RandomSource + Threads + Wait + Sync>(
 pub(crate) fn tell_trial<R: AllocGlobal + Files + RandomSource + Threads + Wait + Sync>(
     rt: &R,
     trial: &Trial<'_>,
-    page: &mut Page,
+    page: &mut Bytes,
 ) {
     if trial.is_run {
         return tell_run(rt, trial, page);

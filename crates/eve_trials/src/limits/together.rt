@@ -37,7 +37,7 @@ fn read_replicas<'a>(alloc: Global, trace: &Trace<'a>) -> Result<Replicas<'a>, C
 
 /// What is judged of all replicas together.
 #[derive(Clone, Copy)]
-pub enum Matter {
+pub(crate) enum Matter {
     /// Whether they agree.
     Outcomes,
     /// Whether the replies that were sent are those that were committed.
@@ -45,7 +45,7 @@ pub enum Matter {
 }
 
 /// Judges a trace by itself.
-pub fn judge(alloc: Global, bytes: &[u8], matter: Matter) -> Result<(), CheckFault> {
+pub(crate) fn judge(alloc: Global, bytes: &[u8], matter: Matter) -> Result<(), CheckFault> {
     let trace = Trace::read(alloc, bytes)?;
     judge_trace(alloc, &trace, matter)
 }

@@ -19,7 +19,7 @@ fn part(bytes: &[u8], from: usize, to: usize) -> &[u8] {
 }
 
 /// The trace with its last replies sent once more: as many of them.
-pub fn sent_again(alloc: Global, trace: &[u8], count: usize) -> Bytes {
+pub(crate) fn sent_again(alloc: Global, trace: &[u8], count: usize) -> Bytes {
     let end = trace.len().saturating_sub(END);
     let from = end.saturating_sub(count.saturating_mul(SENT));
     let total = trace.len().saturating_add(end.saturating_sub(from)) as u64;
@@ -33,6 +33,6 @@ pub fn sent_again(alloc: Global, trace: &[u8], count: usize) -> Bytes {
 }
 
 /// The byte at which the last reply sent begins.
-pub fn last_sent(trace: &[u8]) -> u64 {
+pub(crate) fn last_sent(trace: &[u8]) -> u64 {
     trace.len().saturating_sub(END + SENT) as u64
 }

@@ -5,15 +5,15 @@ use std::alloc::Global;
 
 /// The bytes at which frames begin.
 #[derive(Clone, Copy)]
-pub struct Places {
+pub(crate) struct Places {
     /// A batch.
-    pub batch: Option<u64>,
+    pub(crate) batch: Option<u64>,
     /// The last replica's last attempt with a record of some request.
-    pub attempt: Option<u64>,
+    pub(crate) attempt: Option<u64>,
     /// That record.
-    pub access: Option<u64>,
+    pub(crate) access: Option<u64>,
     /// The last replica's last rollback.
-    pub rollback: Option<u64>,
+    pub(crate) rollback: Option<u64>,
 }
 
 /// No places.
@@ -26,7 +26,7 @@ const NONE: Places = Places {
 
 impl Places {
     /// Those of a trace: of the batch of this number, and of the records of the request with this index.
-    pub fn of(alloc: Global, trace: &[u8], batch: u32, index: u16) -> Places {
+    pub(crate) fn of(alloc: Global, trace: &[u8], batch: u32, index: u16) -> Places {
         match Trace::read(alloc, trace) {
             Ok(trace) => {
                 let mut places = NONE;

@@ -7,7 +7,7 @@ use Rattle.eve_grammar.proofs.Numbered.{numbered_more, numbered_all}
 use Rattle.eve_history.specs.SectionHistory.{SectionHistory, section_history, section_histories, IsRightSection}
 use Rattle.eve_history.proofs.Rights.{right_beyond}
 use Rattle.eve_chains.specs.Settling.{Settling, settling, settlings}
-use Rattle.eve_limits.specs.SectionHistories.{AreTold}
+use Rattle.eve_trials.specs.SectionHistories.{AreTold}
 
 module _ (t : Trace) where
   pub none_told : AreTold t 0 [] []

@@ -6,30 +6,30 @@ use std::alloc::Global;
 
 /// How large a workload is.
 #[derive(Clone, Copy)]
-pub struct Size {
+pub(crate) struct Size {
     /// The replicas.
-    pub replicas: u8,
+    pub(crate) replicas: u8,
     /// The verifiers.
-    pub verifiers: u8,
+    pub(crate) verifiers: u8,
     /// How many of them decide.
-    pub quorum: u8,
+    pub(crate) quorum: u8,
     /// How many batches are attempted before the first is decided.
-    pub window: u8,
+    pub(crate) window: u8,
     /// The workers of a replica.
-    pub workers: u8,
+    pub(crate) workers: u8,
     /// The customers: as many as a batch has requests, or more.
-    pub customers: u32,
+    pub(crate) customers: u32,
     /// The batches.
-    pub batches: u32,
+    pub(crate) batches: u32,
     /// The requests of each batch.
-    pub requests: u32,
+    pub(crate) requests: u32,
     /// Whose the requests are.
-    pub clients: Clients,
+    pub(crate) clients: Clients,
 }
 
 /// The clients of a workload.
 #[derive(Clone, Copy)]
-pub enum Clients {
+pub(crate) enum Clients {
     /// One client, with the number of its first request: the next one's is one more, and after the greatest comes 0.
     One(u32),
     /// One for each batch, from 0 on.
@@ -55,7 +55,7 @@ impl Size {
 }
 
 /// The text of a workload: each request is of the customer after the one before, and the kinds take turns.
-pub fn workload(alloc: Global, size: &Size) -> Bytes {
+pub(crate) fn workload(alloc: Global, size: &Size) -> Bytes {
     let mut text = Bytes::none(alloc);
     write_head(&mut text, size);
     write_batches(&mut text, size);

@@ -1,9 +1,9 @@
 use Rattle.std.proofs.Common.{◌≡◌, ℕ, ◌<◌, List, [], length, sym, ap, subst, ◌∙◌, rules}
 use Rattle.eve_history.specs.SectionHistory.{SectionHistory}
 use Rattle.eve_chains.specs.Settling.{settling}
-use Rattle.eve_limits.specs.SectionHistories.{AreTold}
-use Rattle.eve_limits.proofs.Replicas.{none_told, told_more, all_told, all_settled, all_right}
-use Rattle.eve_limits.proofs.together.read_replicas.Goals as goal
+use Rattle.eve_trials.specs.SectionHistories.{AreTold}
+use Rattle.eve_trials.proofs.Replicas.{none_told, told_more, all_told, all_settled, all_right}
+use Rattle.eve_trials.proofs.limits.together.read_replicas.Goals as goal
 
 pub replicas-init : goal.replicas-init
 replicas-init c =
