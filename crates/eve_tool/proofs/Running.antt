@@ -1,13 +1,14 @@
 -- What a run of the bytes is, and what is left where out fails, once its trace is known to be short enough.
-use Rattle.std.proofs.Common.{ℕ, ◌≤◌, ◌^◌, List, length, refl, arith, Option, Some}
+use Rattle.std.proofs.Common.{ℕ, ◌≡◌, ◌<◌, ◌≤◌, ◌^◌, ◌⊎◌, List, length, refl, inl, inr, arith, Option, Some}
 use Rattle.eve_grammar.specs.Spelling.{length_of, spelling}
 use Rattle.eve_grammar.proofs.Spelled.{spelled_within}
 use Rattle.eve_workload.specs.declared.mixer.Mixer.{Mixer}
 use Rattle.eve_write.specs.Data.{trace}
 use Rattle.eve_write.specs.declared.parts.Parts.{Parts}
 use Rattle.eve_write.specs.Writing.{Stopped}
+use Rattle.eve_tool.specs.declared.fault.ToolFault.{ToolFault}
 use Rattle.eve_tool.specs.declared.fault.ToolFault.TheVariants as fault
-use Rattle.eve_tool.specs.Run.{Runs, IsRunOfText}
+use Rattle.eve_tool.specs.Run.{Runs, IsRunOfText, StopsRun}
 use Rattle.eve_tool.specs.Calls.{Leaves}
 use Rattle.eve_tool_arguments.specs.Arguments.{Run}
 
@@ -37,3 +38,40 @@ failed_run written failures limit mixer bytes p old new short few run fits stopp
     written = stopped.front;
   },
 )
+
+-- nothing was sent, where the bytes were not run
+pub unrun_left : {O : Type 0} (written : O → Option (List ℕ)) (failures : O → ℕ) (limit : ℕ) (mixer : Mixer)
+    (bytes : List ℕ) (out : O) (why : ToolFault) → length bytes ≤ limit → StopsRun bytes why
+    → Leaves limit written failures (Run mixer) (Some bytes) ⊥ out out why
+unrun_left written failures limit mixer bytes out fault.Read short stopped = absurd stopped
+unrun_left written failures limit mixer bytes out (fault.Line number) short stopped = ((short, stopped), refl)
+unrun_left written failures limit mixer bytes out fault.TooLong short stopped = absurd stopped
+unrun_left written failures limit mixer bytes out fault.Broken short stopped = ((short, stopped), refl)
+unrun_left written failures limit mixer bytes out fault.Write short stopped = absurd stopped
+unrun_left written failures limit mixer bytes out fault.Random short stopped = ((short, stopped), refl)
+unrun_left written failures limit mixer bytes out fault.Memory short stopped = inl refl
+
+-- what was left where the trace of a run is too long, or out failed
+pub unsent_left : {O : Type 0} (written : O → Option (List ℕ)) (failures : O → ℕ) (limit : ℕ) (mixer : Mixer)
+    (bytes : List ℕ) (p : Parts) (old new : O) (why : ToolFault) → length bytes ≤ limit → limit ≤ 2 ^ 30
+    → IsRunOfText mixer bytes p
+    → (why ≡ fault.TooLong → (limit < length_of (trace p)) × (new ≡ old))
+    → (why ≡ fault.Write → (length_of (trace p) ≤ limit) × Stopped written failures old new (spelling (trace p)))
+    → (why ≡ fault.TooLong) ⊎ (why ≡ fault.Write)
+    → Leaves limit written failures (Run mixer) (Some bytes) ⊥ old new why
+unsent_left written failures limit mixer bytes p old new why short few run long stopped (inl is) =
+    let told = long is in
+    rw is (
+      inr (record {
+        workload = run.workload;
+        typed = run.typed;
+        trace = trace p;
+        limits = run.run.spelled.limits;
+        run = run.run.run;
+        long = told.0;
+      }),
+      told.1,
+    )
+unsent_left written failures limit mixer bytes p old new why short few run long stopped (inr is) =
+    let told = stopped is in
+    rw is (failed_run written failures limit mixer bytes p old new short few run told.0 told.1)

@@ -102,7 +102,8 @@ fn answer<
     match read_arguments(rt.alloc(), arguments)? {
         Asked::Call(call) => answer_call(rt, call, input, out),
         Asked::Help(text) => {
-            send_all(out, text.as_str().as_bytes())?;
+            let sent = send_all(out, text.as_str().as_bytes());
+            sent?;
             Ok(0)
         }
         Asked::Refused(text) => {

@@ -62,7 +62,6 @@ fn parts_of<R: RandomSource + Threads + Wait + Sync>(
 }
 
 // Runs the workload of these bytes and sends the trace, of at most so many bytes, and answers the exit status.
-#[tactic(auto, using(crate::proofs::Running::runs_of, crate::proofs::Running::failed_run))]
 fn run_bytes<R: RandomSource + Threads + Wait + Sync, O: Sink>(
     rt: &R,
     alloc: Global,
@@ -114,7 +113,8 @@ pub fn run_within<R: AllocGlobal + RandomSource + Threads + Wait + Sync, I: Sour
 {
     let alloc = rt.alloc();
     let bytes = read_all(alloc, input, limit)?;
-    if bytes.len() > limit as usize {
+    let is_long = bytes.len() > limit as usize;
+    if is_long {
         return Err(ToolFault::TooLong);
     }
     run_bytes(rt, alloc, bytes, mixer, limit, out)
