@@ -7,6 +7,79 @@ use eve_recorder::{MOST_DRAWN, MOST_SEATS, TicketSeat, TicketSeats, Tickets};
 use std::alloc::{AllocError, Global};
 use std::thread::{Threads, join};
 
+/// What has to be so of the tickets.
+enum Due {
+    /// All seats are there.
+    Whole,
+    /// The seat with this number is there, once, and its next draw gives this.
+    Draws(u8, Option<u64>),
+    /// There is no seat with this number.
+    Lacks(u8),
+    /// Two threads draw three numbers each, on the first two seats: 0 to 5, each once.
+    AtOnce,
+}
+
+/// What has to be so, and in words.
+struct Want(Due, &'static str);
+
+/// How many seats there are, how many numbers each may draw, what has to be so, in this order, and how many numbers are
+/// drawn at the end.
+pub struct Case {
+    seats: u8,
+    limit: u64,
+    wants: &'static [Want],
+    drawn: u64,
+}
+
+/// Each of eight seats is there once, and again once it is back; there is no ninth.
+pub const EIGHT_SEATS: Case = Case {
+    seats: 8,
+    limit: 2,
+    wants: &[
+        Want(Due::Whole, "all seats are there"),
+        Want(Due::Draws(0, Some(0)), "seat 0 is there and draws 0"),
+        Want(Due::Whole, "seat 0 is back"),
+        Want(Due::Draws(1, Some(1)), "seat 1 is there and draws 1"),
+        Want(Due::Whole, "seat 1 is back"),
+        Want(Due::Draws(2, Some(2)), "seat 2 is there and draws 2"),
+        Want(Due::Whole, "seat 2 is back"),
+        Want(Due::Draws(3, Some(3)), "seat 3 is there and draws 3"),
+        Want(Due::Whole, "seat 3 is back"),
+        Want(Due::Draws(4, Some(4)), "seat 4 is there and draws 4"),
+        Want(Due::Whole, "seat 4 is back"),
+        Want(Due::Draws(5, Some(5)), "seat 5 is there and draws 5"),
+        Want(Due::Whole, "seat 5 is back"),
+        Want(Due::Draws(6, Some(6)), "seat 6 is there and draws 6"),
+        Want(Due::Whole, "seat 6 is back"),
+        Want(Due::Draws(7, Some(7)), "seat 7 is there and draws 7"),
+        Want(Due::Lacks(8), "there is no ninth seat"),
+    ],
+    drawn: 8,
+};
+
+/// Where a seat may draw nothing, its first draw is none.
+pub const LIMIT_ZERO: Case = Case {
+    seats: 1,
+    limit: 0,
+    wants: &[
+        Want(Due::Draws(0, None), "the first draw is none"),
+        Want(Due::Lacks(1), "there is no second seat"),
+    ],
+    drawn: 0,
+};
+
+/// Six draws of two threads are 0 to 5, each once; a seventh is none.
+pub const TWO_SEATS: Case = Case {
+    seats: 2,
+    limit: 3,
+    wants: &[
+        Want(Due::AtOnce, "each number is drawn once"),
+        Want(Due::Draws(0, None), "there is no more on the first seat"),
+        Want(Due::Draws(1, None), "nor on the second"),
+    ],
+    drawn: 6,
+};
+
 /// Tickets with those of their seats that aren't given out.
 #[derive(Drop)]
 struct Counter {
@@ -15,19 +88,7 @@ struct Counter {
     ghost own: { seats.tickets ≡ tickets },
 }
 
-/// Tickets with so many seats, at most `MOST_SEATS`, and so many numbers for each, at most `MOST_DRAWN`. Where memory
-/// is refused, it is asked for once more.
-fn counter_of(alloc: Global, seats: u8, limit: u64) -> Result<Counter, AllocError> {
-    if MOST_SEATS < seats || MOST_DRAWN < limit {
-        return Err(AllocError);
-    }
-    match fresh_counter(alloc, seats, limit) {
-        Err(AllocError) => fresh_counter(alloc, seats, limit),
-        counter => counter,
-    }
-}
-
-fn fresh_counter(alloc: Global, seats: u8, limit: u64) -> Result<Counter, AllocError>
+fn counter_of(alloc: Global, seats: u8, limit: u64) -> Result<Counter, AllocError>
     requires { (seats ≤ MOST_SEATS) × (limit ≤ MOST_DRAWN) }
 {
     let (tickets, seats) = Tickets::new(alloc, seats, limit)?;
@@ -36,78 +97,88 @@ fn fresh_counter(alloc: Global, seats: u8, limit: u64) -> Result<Counter, AllocE
 
 impl Counter {
     /// Whether the seat with this number is there, once, and its next draw gives this.
-    fn draws(&mut self, number: u8, due: Option<u64>) -> bool {
+    fn draws(&mut self, number: u8, due: &Option<u64>) -> bool {
         let Some(mut seat) = self.seats.seat(number) else {
             return false;
         };
         let is_there_once = self.seats.seat(number).is_none();
         let drawn = self.tickets.draw(&mut seat);
         self.seats.give_back(seat);
-        is_there_once && drawn == due
+        is_there_once && drawn == *due
+    }
+
+    /// Two threads draw three numbers each, on the first two seats. Whether these are 0 to 5, each once.
+    fn draws_at_once<R: Threads + Sync>(&mut self, rt: &R) -> bool {
+        let Some(one) = self.seats.seat(0) else {
+            return false;
+        };
+        let Some(two) = self.seats.seat(1) else {
+            self.seats.give_back(one);
+            return false;
+        };
+        let (one, two) = draw_at_once(rt, &self.tickets, one, two);
+        let times = one.times.wrapping_add(two.times);
+        self.seats.give_back(one.seat);
+        self.seats.give_back(two.seat);
+        times == 0x11_1111
+    }
+
+    /// Whether it is as it is due.
+    fn is_so<R: Threads + Sync>(&mut self, rt: &R, due: &Due) -> bool {
+        match due {
+            Due::Whole => self.seats.whole(),
+            Due::Draws(number, due) => self.draws(*number, due),
+            Due::Lacks(number) => self.seats.seat(*number).is_none(),
+            Due::AtOnce => self.draws_at_once(rt),
+        }
     }
 
     /// Whether so many numbers were drawn; false where a seat is missing.
     fn has_drawn(self, due: u64) -> bool {
-        if !self.seats.whole() {
-            return false;
-        }
         let Counter { tickets, seats } = self;
-        tickets.close(seats) == due
+        seats.whole() && tickets.close(seats) == due
     }
 }
 
-/// Each of eight seats is there once, and again once it is back; there is no ninth.
-pub fn eight_seats(alloc: Global) -> Result<Seen, AllocError> {
-    let mut seen = Seen::nothing();
-    let mut counter = counter_of(alloc, 8, 2)?;
-    for number in 0..8u8 {
-        seen.want(counter.seats.whole(), "all seats are there");
-        let due = Some(u64::from(number));
-        seen.want(
-            counter.draws(number, due),
-            "a seat is there and draws the next number",
-        );
+/// Looks at the case. Where memory is refused for the tickets, it is asked for once more.
+pub fn play<R: Threads + Sync>(rt: &R, alloc: Global, case: &Case, seen: &mut Seen) {
+    if MOST_SEATS < case.seats || MOST_DRAWN < case.limit {
+        return seen.want(false, "the tickets are within the limits");
     }
-    seen.want(!counter.draws(8, None), "there is no ninth seat");
-    seen.want(counter.has_drawn(8), "eight numbers were drawn");
-    Ok(seen)
+    let counter = match counter_of(alloc, case.seats, case.limit) {
+        Err(AllocError) => counter_of(alloc, case.seats, case.limit),
+        counter => counter,
+    };
+    let Ok(mut counter) = counter else {
+        return seen.needs(false);
+    };
+    for want in case.wants {
+        seen.want(counter.is_so(rt, &want.0), want.1);
+    }
+    seen.want(counter.has_drawn(case.drawn), "so many numbers were drawn");
 }
 
-/// Where a seat may draw nothing, its first draw is none.
-pub fn limit_zero(alloc: Global) -> Result<Seen, AllocError> {
-    let mut seen = Seen::nothing();
-    let mut counter = counter_of(alloc, 1, 0)?;
-    seen.want(counter.draws(0, None), "the first draw is none");
-    seen.want(!counter.draws(1, None), "there is no second seat");
-    seen.want(counter.has_drawn(0), "no number was drawn");
-    Ok(seen)
-}
-
-/// What three draws on a seat gave.
+/// A seat, and how often each number was drawn on it: the times of 0 are the last digit to the base 16, those of 1 the
+/// digit before, and so on.
 #[derive(Drop)]
-struct Three {
+struct Drawn {
     seat: TicketSeat,
-    drawn: [Option<u64>; 3],
+    times: u64,
 }
 
-fn draw_three(tickets: &Tickets, mut seat: TicketSeat) -> Three
+/// Draws three numbers on the seat.
+fn draw_three(tickets: &Tickets, mut seat: TicketSeat) -> Drawn
     requires { seat.tickets ≡ tickets.now }
     ensures { result.seat.tickets ≡ tickets.now }
 {
-    let first = tickets.draw(&mut seat);
-    let second = tickets.draw(&mut seat);
-    let third = tickets.draw(&mut seat);
-    Three {
-        seat,
-        drawn: [first, second, third],
+    let mut times: u64 = 0;
+    for _ in 0..3u8 {
+        match tickets.draw(&mut seat) {
+            Some(number) if number < 16 => times = times.wrapping_add(1 << (4 * number)),
+            _ => {}
+        }
     }
-}
-
-/// What two threads drew.
-#[derive(Drop)]
-struct Both {
-    one: Three,
-    two: Three,
+    Drawn { seat, times }
 }
 
 /// Three draws on each of two seats, in two threads.
@@ -116,13 +187,13 @@ fn draw_at_once<R: Threads + Sync>(
     tickets: &Tickets,
     one: TicketSeat,
     two: TicketSeat,
-) -> Both
+) -> (Drawn, Drawn)
     requires one { one.tickets ≡ tickets.now }
     requires two { two.tickets ≡ tickets.now }
-    ensures one { result.one.seat.tickets ≡ tickets.now }
-    ensures two { result.two.seat.tickets ≡ tickets.now }
+    ensures one { result.0.seat.tickets ≡ tickets.now }
+    ensures two { result.1.seat.tickets ≡ tickets.now }
 {
-    let (one, two) = join(
+    join(
         rt,
         move ||
             requires { one.tickets ≡ tickets.now }
@@ -132,56 +203,5 @@ fn draw_at_once<R: Threads + Sync>(
             requires { two.tickets ≡ tickets.now }
             ensures { result.seat.tickets ≡ tickets.entry.now }
         { draw_three(tickets, two) },
-    );
-    Both { one, two }
-}
-
-/// How often a number was drawn.
-fn times(drawn: &[Option<u64>], number: u64) -> usize {
-    let mut times: usize = 0;
-    for drawn in drawn {
-        if *drawn == Some(number) {
-            times = times.wrapping_add(1);
-        }
-    }
-    times
-}
-
-/// Whether 0 to 5 were drawn, each once, here or there.
-fn is_each_once(here: &[Option<u64>], there: &[Option<u64>]) -> bool {
-    for number in 0..6 {
-        if times(here, number).wrapping_add(times(there, number)) != 1 {
-            return false;
-        }
-    }
-    true
-}
-
-impl Counter {
-    /// Two threads draw three numbers each, on the first two seats. Whether these are 0 to 5, each once.
-    fn draws_by_two<R: Threads + Sync>(&mut self, rt: &R) -> bool {
-        let Some(one) = self.seats.seat(0) else {
-            return false;
-        };
-        let Some(two) = self.seats.seat(1) else {
-            self.seats.give_back(one);
-            return false;
-        };
-        let Both { one, two } = draw_at_once(rt, &self.tickets, one, two);
-        let is_each_once = is_each_once(&one.drawn, &two.drawn);
-        self.seats.give_back(one.seat);
-        self.seats.give_back(two.seat);
-        is_each_once
-    }
-}
-
-/// Six draws of two threads are 0 to 5, each once; a seventh is none.
-pub fn two_seats<R: Threads + Sync>(rt: &R, alloc: Global) -> Result<Seen, AllocError> {
-    let mut seen = Seen::nothing();
-    let mut counter = counter_of(alloc, 2, 3)?;
-    seen.want(counter.draws_by_two(rt), "each number is drawn once");
-    seen.want(counter.draws(0, None), "there is no more on the first seat");
-    seen.want(counter.draws(1, None), "nor on the second");
-    seen.want(counter.has_drawn(6), "six numbers were drawn");
-    Ok(seen)
+    )
 }

@@ -15,53 +15,92 @@ mod seen;
 mod stripes;
 mod worked;
 
-use crate::random::random_events;
 use crate::seen::Seen;
-use std::alloc::{AllocError, Global};
+use std::alloc::Global;
 use std::hash::RandomState;
 use std::io;
 use std::sync::Wait;
 use std::thread::Threads;
 
-/// What is seen of the case of tickets or a recorder of that name.
-fn of_seats<R: Threads + Wait + Sync>(
-    rt: &R,
-    alloc: Global,
-    name: &str,
-) -> Result<Seen, AllocError> {
-    match name {
-        "tickets-two-seats" => drawing::two_seats(rt, alloc),
-        "tickets-eight-seats" => drawing::eight_seats(alloc),
-        "tickets-limit-zero" => drawing::limit_zero(alloc),
-        "queue-full-and-drained" => recording::full_and_drained(rt, alloc),
-        "queue-eight-threads" => recording::eight_threads(rt, alloc),
-        _ => Ok(no_such_case()),
+/// What is looked at.
+enum Case {
+    Stripes(stripes::Case),
+    Schedule(worked::Case),
+    Tickets(drawing::Case),
+    FullQueue,
+    Threads,
+}
+
+/// A case, and the name that a line has for it.
+struct Named(&'static str, Case);
+
+static CASES: [Named; 17] = [
+    Named(
+        "stripe-deposit-and-undo",
+        Case::Stripes(stripes::DEPOSIT_AND_UNDO),
+    ),
+    Named(
+        "stripe-too-little-room",
+        Case::Stripes(stripes::TOO_LITTLE_ROOM),
+    ),
+    Named(
+        "stripe-settled-and-went-back",
+        Case::Stripes(stripes::SETTLED_AND_WENT_BACK),
+    ),
+    Named(
+        "stripe-worn-and-untouched",
+        Case::Stripes(stripes::WORN_AND_UNTOUCHED),
+    ),
+    Named("stripes-amalgamate", Case::Stripes(stripes::TWO_STRIPES)),
+    Named(
+        "stripes-that-share-a-row",
+        Case::Stripes(stripes::SHARED_ROW),
+    ),
+    Named(
+        "stripes-the-second-past",
+        Case::Stripes(stripes::SECOND_PAST),
+    ),
+    Named("schedule-two-workers", Case::Schedule(worked::TWO_WORKERS)),
+    Named("schedule-no-row", Case::Schedule(worked::NO_ROW)),
+    Named("schedule-later-group", Case::Schedule(worked::LATER_GROUP)),
+    Named("schedule-two-stripes", Case::Schedule(worked::TWO_STRIPES)),
+    Named("schedule-nobody", Case::Schedule(worked::NOBODY)),
+    Named("tickets-two-seats", Case::Tickets(drawing::TWO_SEATS)),
+    Named("tickets-eight-seats", Case::Tickets(drawing::EIGHT_SEATS)),
+    Named("tickets-limit-zero", Case::Tickets(drawing::LIMIT_ZERO)),
+    Named("queue-full-and-drained", Case::FullQueue),
+    Named("queue-eight-threads", Case::Threads),
+];
+
+/// The case of that name, None where none has it.
+fn case_of(name: &str) -> Option<&'static Case> {
+    for named in &CASES {
+        if named.0 == name {
+            return Some(&named.1);
+        }
     }
+    None
 }
 
-fn no_such_case() -> Seen {
-    let mut seen = Seen::nothing();
-    seen.want(false, "the name of a case");
-    seen
-}
-
-/// What is seen of the case of that name.
-fn of_case<R: Threads + Wait + Sync>(
+/// Looks at the case of that name.
+fn look<R: Threads + Wait + Sync>(
     rt: &R,
     alloc: Global,
     random: RandomState,
     name: &str,
-) -> Result<Seen, AllocError> {
+    seen: &mut Seen,
+) {
     if let Some(count) = name.strip_prefix("random-events ") {
-        return random_events(alloc, random, count.parse::<u32>().unwrap_or(0));
+        return random::play(alloc, random, count.parse::<u32>().unwrap_or(0), seen);
     }
-    if let Some(case) = stripes::case_of(name) {
-        return stripes::played(alloc, random, case);
+    match case_of(name) {
+        Some(Case::Stripes(case)) => stripes::play(alloc, random, case, seen),
+        Some(Case::Schedule(case)) => worked::play(alloc, random, case, seen),
+        Some(Case::Tickets(case)) => drawing::play(rt, alloc, case, seen),
+        Some(Case::FullQueue) => recording::fill_and_drain(rt, alloc, seen),
+        Some(Case::Threads) => recording::note_at_once(rt, alloc, seen),
+        None => seen.want(false, "the name of a case"),
     }
-    if let Some(case) = worked::case_of(name) {
-        return worked::played(alloc, random, case);
-    }
-    of_seats(rt, alloc, name)
 }
 
 /// Prints what is seen of the case of that name.
@@ -71,7 +110,9 @@ fn tell<R: Print + Threads + Wait + Sync>(
     random: RandomState,
     name: &str,
 ) -> io::Result<()> {
-    let seen = of_case(rt, alloc, random, name)?;
+    let mut seen = Seen::nothing();
+    look(rt, alloc, random, name, &mut seen);
+    seen.whole()?;
     println!(rt; "{name}: {seen}")
 }
 

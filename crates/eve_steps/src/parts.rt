@@ -60,8 +60,8 @@ pub(crate) enum Ask {
 }
 
 /// What is asked for, as a transaction.
-fn transaction(ask: Ask) -> TransactionData {
-    match ask {
+fn transaction(ask: &Ask) -> TransactionData {
+    match *ask {
         Ask::Balance(customer) => TransactionData::Balance(name(customer)),
         Ask::Deposit(customer, value) => {
             TransactionData::DepositChecking(name(customer), amount(value))
@@ -122,25 +122,18 @@ impl Plan {
         }
     }
 
-    /// Adds what is asked for, numbered from 0.
-    fn push_requests(&mut self, asks: &[Ask]) -> Result<(), AllocError> {
-        let mut number: u64 = 0;
-        for ask in asks {
-            self.batch.requests.push(RequestData {
-                client: 7,
-                number,
-                transaction: transaction(*ask),
-            })?;
-            number = number.wrapping_add(1);
-        }
-        Ok(())
-    }
-
-    /// Sets the balances, and adds the parallelBatches.
-    fn fill(&mut self, given: Given<'_>) -> Result<(), AllocError> {
+    /// Sets the balances, and adds the parallelBatches and what is asked for, numbered from 0.
+    fn fill(&mut self, given: &Given<'_>) {
         self.set_all(given.values);
-        self.batch.sizes.extend_from_slice(given.sizes)?;
-        self.push_requests(given.asks)
+        self.is_whole &= self.batch.sizes.extend_from_slice(given.sizes).is_ok();
+        for ask in given.asks {
+            let request = RequestData {
+                client: 7,
+                number: self.batch.requests.len() as u64,
+                transaction: transaction(ask),
+            };
+            self.is_whole &= self.batch.requests.push(request).is_ok();
+        }
     }
 }
 
@@ -148,7 +141,7 @@ impl Plan {
 pub(crate) fn plan_of(
     alloc: Global,
     random: RandomState,
-    given: Given<'_>,
+    given: &Given<'_>,
 ) -> Result<Plan, AllocError> {
     let balances = Balances::new(alloc, given.values.len())?;
     let mut plan = Plan {
@@ -158,14 +151,18 @@ pub(crate) fn plan_of(
             sizes: Vec::new(alloc),
             requests: Vec::new(alloc),
         },
-        is_whole: false,
+        is_whole: true,
     };
-    plan.is_whole = plan.fill(given).is_ok();
+    plan.fill(given);
     Ok(plan)
 }
 
-/// The plan's batch, to be executed by so many workers.
-fn begun<'s>(alloc: Global, plan: &'s Plan, workers: u8) -> Result<Schedule<'s>, AllocError> {
+/// The plan's batch, to be executed by so many workers. Where no memory was left, it is asked for once more.
+pub(crate) fn opened<'s>(
+    alloc: Global,
+    plan: &'s Plan,
+    workers: u8,
+) -> Result<Schedule<'s>, AllocError> {
     let Plan {
         names,
         balances,
@@ -175,17 +172,8 @@ fn begun<'s>(alloc: Global, plan: &'s Plan, workers: u8) -> Result<Schedule<'s>,
     if !*is_whole || MOST_PLACES <= batch.requests.len() || balances.len() != 2 * names.len() {
         return Err(AllocError);
     }
-    Schedule::new(alloc, names, balances, batch, workers)
-}
-
-/// The same; where no memory was left, once more.
-pub(crate) fn opened<'s>(
-    alloc: Global,
-    plan: &'s Plan,
-    workers: u8,
-) -> Result<Schedule<'s>, AllocError> {
-    match begun(alloc, plan, workers) {
-        Err(AllocError) => begun(alloc, plan, workers),
+    match Schedule::new(alloc, names, balances, batch, workers) {
+        Err(AllocError) => Schedule::new(alloc, names, balances, batch, workers),
         schedule => schedule,
     }
 }

@@ -1,5 +1,7 @@
 //! A schedule written as lists: rows, owners, stages and records, with SmallBank on plain numbers.
 
+ghost use Rattle.std.specs.Prelude.{◌<◌, IfSome};
+
 use crate::parts::{Ask, Given, cents, row_of};
 use eve_smallbank::{Abort, Entry, Kind, Reply, UpToThree};
 use eve_stamps_schedule::Event;
@@ -8,25 +10,13 @@ use std::alloc::{AllocError, Global};
 /// How many customers there are.
 pub(crate) const CUSTOMERS: u8 = 20;
 
-/// A record, field by field.
-#[derive(Clone, Copy)]
-pub(crate) struct Made {
-    pub worker: u8,
-    pub place: usize,
-    pub index: u16,
-    pub tick: u64,
-    pub reply: Reply,
-    pub entries: UpToThree<Entry>,
-}
-
+/// Where a worker stands, with the request and its tick.
 #[derive(Clone, Copy)]
 enum At {
-    /// There is no such worker.
-    Nowhere,
     Idle,
     Claimed(u16),
-    Ticked(u16, u64),
-    Applied(Made),
+    Ticked(u16, usize),
+    Applied(usize),
 }
 
 /// A row's version and value.
@@ -36,47 +26,42 @@ struct Held {
     value: i64,
 }
 
-/// A row that a request meets, whether it is written, and what it holds afterwards.
-#[derive(Clone, Copy)]
-struct Touch {
-    row: u16,
-    kind: Kind,
-    after: i64,
-}
-
 /// What a request makes of the rows that it meets, and its reply.
 #[derive(Clone, Copy)]
-struct Done {
-    reply: Reply,
-    touches: UpToThree<Touch>,
+pub(crate) struct Done {
+    pub reply: Reply,
+    pub entries: UpToThree<Entry>,
+}
+
+/// A record, field by field, and whether it is noted.
+#[derive(Clone, Copy)]
+pub(crate) struct Made {
+    pub worker: u8,
+    pub place: usize,
+    pub index: u16,
+    pub tick: usize,
+    pub done: Done,
+    pub is_noted: bool,
 }
 
 /// The world, as lists. Where memory is refused for one of them, `is_whole` says so.
 #[derive(Drop)]
 pub(crate) struct Plain<'a> {
-    given: Given<'a>,
+    pub given: &'a Given<'a>,
     rows: Vec<Held>,
     owners: [Option<u8>; 16],
     claimed: u16,
     stages: Vec<At>,
-    /// For each tick the request that was applied at it, None until one was.
-    ticks: Vec<Option<u16>>,
-    /// What the workers have noted.
-    pub noted: Vec<Made>,
+    /// For each tick the record that was made at it, None until one was.
+    pub made: Vec<Option<Made>>,
+    /// How many records are noted.
+    pub noted: usize,
     pub is_whole: bool,
 }
 
-fn saving(customer: u8) -> u16 {
-    2 * u16::from(customer)
-}
-
-fn checking(customer: u8) -> u16 {
-    2 * u16::from(customer) + 1
-}
-
 /// Whether the customers that it names are there.
-fn is_known(ask: Ask) -> bool {
-    match ask {
+fn is_known(ask: &Ask) -> bool {
+    match *ask {
         Ask::Balance(c) | Ask::Deposit(c, _) | Ask::Saving(c, _) | Ask::Check(c, _) => {
             c < CUSTOMERS
         }
@@ -87,55 +72,48 @@ fn is_known(ask: Ask) -> bool {
 fn refused(why: Abort) -> Done {
     Done {
         reply: Reply::Aborted(why),
-        touches: UpToThree::new(),
+        entries: UpToThree::new(),
     }
 }
 
-fn effective(touches: UpToThree<Touch>) -> Done {
+fn effective(entries: UpToThree<Entry>) -> Done {
     Done {
         reply: Reply::Done,
-        touches,
-    }
-}
-
-fn write(row: u16, after: i64) -> Touch {
-    Touch {
-        row,
-        kind: Kind::Write,
-        after,
+        entries,
     }
 }
 
 impl<'a> Plain<'a> {
-    pub(crate) fn new(alloc: Global, given: Given<'a>) -> Plain<'a> {
+    pub(crate) fn new(alloc: Global, given: &'a Given<'a>) -> Plain<'a> {
         let mut plain = Plain {
             given,
             rows: Vec::new(alloc),
             owners: [None; 16],
             claimed: 0,
             stages: Vec::new(alloc),
-            ticks: Vec::new(alloc),
-            noted: Vec::new(alloc),
+            made: Vec::new(alloc),
+            noted: 0,
             is_whole: true,
         };
-        plain.is_whole = plain.open().is_ok();
+        plain.open();
         plain
     }
 
     /// Each row is at version 0, and each worker is idle.
-    fn open(&mut self) -> Result<(), AllocError> {
+    fn open(&mut self) {
         for value in self.given.values {
-            self.rows.push(Held {
+            let held = Held {
                 version: 0,
                 value: *value,
-            })?;
+            };
+            self.is_whole &= self.rows.push(held).is_ok();
         }
         for _ in 0..self.given.workers {
-            self.stages.push(At::Idle)?;
+            self.is_whole &= self.stages.push(At::Idle).is_ok();
         }
-        Ok(())
     }
 
+    /// In which parallelBatch the request is.
     fn group_of(&self, index: usize) -> usize {
         let mut end: usize = 0;
         for (group, size) in self.given.sizes.iter().enumerate() {
@@ -147,310 +125,273 @@ impl<'a> Plain<'a> {
         self.given.sizes.len()
     }
 
-    fn held(&self, row: u16) -> Held {
-        self.rows.get(row as usize).copied().unwrap_or(Held {
-            version: 0,
-            value: 0,
-        })
-    }
-
-    fn read(&self, row: u16) -> Touch {
-        Touch {
-            row,
-            kind: Kind::Read,
-            after: self.held(row).value,
+    /// What is done to a row that is read, or that gains so many cents.
+    fn entry(&self, row: u16, kind: Kind, more: i64) -> Entry {
+        let held = match self.rows.get(row as usize) {
+            Some(held) => *held,
+            None => Held {
+                version: 0,
+                value: 0,
+            },
+        };
+        Entry {
+            row: row_of(row),
+            kind,
+            version: held.version,
+            seen: cents(held.value),
+            after: cents(held.value.wrapping_add(more)),
         }
     }
 
-    fn does(&self, ask: Ask) -> Done {
+    /// What is done by the request with this index.
+    fn does(&self, index: u16) -> Done {
+        let Some(ask) = self.given.asks.get(index as usize) else {
+            return refused(Abort::NoSuchName);
+        };
         if !is_known(ask) {
             return refused(Abort::NoSuchName);
         }
-        match ask {
-            Ask::Balance(c) => self.balance(c),
-            Ask::Deposit(c, amount) => self.deposit(c, amount),
-            Ask::Saving(c, amount) => self.save(c, amount),
-            Ask::Amalgamate(from, to) => self.amalgamate(from, to),
-            Ask::Check(c, amount) => self.check(c, amount),
+        match *ask {
+            Ask::Balance(c) => self.balance(2 * u16::from(c)),
+            Ask::Deposit(c, amount) => self.deposit(2 * u16::from(c), amount),
+            Ask::Saving(c, amount) => self.save(2 * u16::from(c), amount),
+            Ask::Amalgamate(from, to) => self.amalgamate(2 * u16::from(from), 2 * u16::from(to)),
+            Ask::Check(c, amount) => self.check(2 * u16::from(c), amount),
         }
     }
 
-    /// All that the customer has.
-    fn total(&self, c: u8) -> i64 {
-        self.held(saving(c))
-            .value
-            .wrapping_add(self.held(checking(c)).value)
-    }
-
-    fn balance(&self, c: u8) -> Done {
+    /// Reads the saving row, which is given, and the checking row behind it.
+    fn balance(&self, saving: u16) -> Done {
+        let saved = self.entry(saving, Kind::Read, 0);
+        let checked = self.entry(saving.wrapping_add(1), Kind::Read, 0);
         Done {
-            reply: Reply::Total(self.total(c)),
-            touches: UpToThree::two(self.read(saving(c)), self.read(checking(c))),
+            reply: Reply::Total(saved.seen.get().wrapping_add(checked.seen.get())),
+            entries: UpToThree::two(saved, checked),
         }
     }
 
-    fn deposit(&self, c: u8, amount: i64) -> Done {
+    fn deposit(&self, saving: u16, amount: i64) -> Done {
         if amount < 0 {
             return refused(Abort::BadAmount);
         }
-        let after = self.held(checking(c)).value.wrapping_add(amount);
-        effective(UpToThree::one(write(checking(c), after)))
+        effective(UpToThree::one(self.entry(saving.wrapping_add(1), Kind::Write, amount)))
     }
 
-    fn save(&self, c: u8, amount: i64) -> Done {
-        let after = self.held(saving(c)).value.wrapping_add(amount);
-        if after < 0 {
+    fn save(&self, saving: u16, amount: i64) -> Done {
+        let read = self.entry(saving, Kind::Read, 0);
+        if read.seen.get().wrapping_add(amount) < 0 {
             return Done {
                 reply: Reply::Aborted(Abort::Insufficient),
-                touches: UpToThree::one(self.read(saving(c))),
+                entries: UpToThree::one(read),
             };
         }
-        effective(UpToThree::one(write(saving(c), after)))
+        effective(UpToThree::one(self.entry(saving, Kind::Write, amount)))
     }
 
-    fn amalgamate(&self, from: u8, to: u8) -> Done {
-        let sum = self.total(from);
-        let saved = write(saving(from), 0);
+    fn amalgamate(&self, from: u16, to: u16) -> Done {
+        let saved = self.entry(from, Kind::Read, 0).seen.get();
+        let emptied = self.entry(from, Kind::Write, saved.wrapping_neg());
         if from == to {
-            return effective(UpToThree::two(saved, write(checking(from), sum)));
+            let gains = self.entry(from.wrapping_add(1), Kind::Write, saved);
+            return effective(UpToThree::two(emptied, gains));
         }
-        let after = self.held(checking(to)).value.wrapping_add(sum);
-        effective(UpToThree::three(saved, write(checking(from), 0), write(checking(to), after)))
+        let checked = self.entry(from.wrapping_add(1), Kind::Read, 0).seen.get();
+        let second = self.entry(from.wrapping_add(1), Kind::Write, checked.wrapping_neg());
+        let gains = self.entry(to.wrapping_add(1), Kind::Write, saved.wrapping_add(checked));
+        effective(UpToThree::three(emptied, second, gains))
     }
 
-    fn check(&self, c: u8, amount: i64) -> Done {
+    fn check(&self, saving: u16, amount: i64) -> Done {
         if amount < 0 {
             return refused(Abort::BadAmount);
         }
-        let penalty = if self.total(c) < amount { 100 } else { 0 };
-        let left = self
-            .held(checking(c))
-            .value
-            .wrapping_sub(amount)
-            .wrapping_sub(penalty);
-        effective(UpToThree::two(self.read(saving(c)), write(checking(c), left)))
+        let saved = self.entry(saving, Kind::Read, 0);
+        let checked = self.entry(saving.wrapping_add(1), Kind::Read, 0).seen.get();
+        let is_short = saved.seen.get().wrapping_add(checked) < amount;
+        let penalty = if is_short { 100 } else { 0 };
+        let loss = amount.wrapping_add(penalty).wrapping_neg();
+        let left = self.entry(saving.wrapping_add(1), Kind::Write, loss);
+        effective(UpToThree::two(saved, left))
     }
 
-    fn does_at(&self, index: u16) -> Done {
-        match self.given.asks.get(index as usize) {
-            Some(ask) => self.does(*ask),
-            None => refused(Abort::NoSuchName),
-        }
-    }
-
-    fn needs(&self, index: u16, stripe: usize) -> bool {
-        let touches = self.does_at(index).touches;
-        for place in 0..touches.len() {
-            if (touches.at(place).row / 2 % 16) as usize == stripe {
-                return true;
-            }
-        }
-        false
-    }
-
-    fn owner(&self, stripe: usize) -> Option<u8> {
-        self.owners.get(stripe).copied().unwrap_or(None)
-    }
-
-    fn own(&mut self, stripe: usize, worker: Option<u8>) {
-        if let Some(owner) = self.owners.get_mut(stripe) {
-            *owner = worker;
-        }
-    }
-
-    fn next_stripe(&self, worker: u8, index: u16) -> Option<usize> {
+    /// The first stripe that the request needs and the worker has not locked.
+    fn next_stripe(&self, worker: u8, index: u16) -> Option<usize>
+        ensures { IfSome result (λ stripe. stripe < 16) }
+    {
+        let entries = self.does(index).entries;
         for stripe in 0..16 {
-            if self.needs(index, stripe) && self.owner(stripe) != Some(worker) {
+            if needs(&entries, stripe) && self.owners[stripe] != Some(worker) {
                 return Some(stripe);
             }
         }
         None
     }
 
-    fn last_stripe(&self, worker: u8) -> Option<usize> {
-        let mut last = None;
-        for stripe in 0..16 {
-            if self.owner(stripe) == Some(worker) {
-                last = Some(stripe);
+    /// The last stripe that the worker has locked.
+    fn last_stripe(&self, worker: u8) -> Option<usize>
+        ensures { IfSome result (λ stripe. stripe < 16) }
+    {
+        for before in 0..16 {
+            let stripe = 15 - before;
+            if self.owners[stripe] == Some(worker) {
+                return Some(stripe);
             }
         }
-        last
+        None
     }
 
-    /// Reads the row, or writes it. What was done to it.
-    fn enter(&mut self, touch: Touch) -> Entry {
-        let held = self.held(touch.row);
-        if let Some(place) = self.rows.get_mut(touch.row as usize) {
-            *place = Held {
-                version: held
+    /// Reads and writes these rows.
+    fn enter(&mut self, entries: &UpToThree<Entry>) {
+        for place in 0..entries.len() {
+            let entry = entries.at(place);
+            if let Some(held) = self.rows.get_mut(entry.row.number() as usize) {
+                let version = held
                     .version
-                    .wrapping_add(u64::from(touch.kind == Kind::Write)),
-                value: touch.after,
-            };
-        }
-        Entry {
-            row: row_of(touch.row),
-            kind: touch.kind,
-            version: held.version,
-            seen: cents(held.value),
-            after: cents(touch.after),
-        }
-    }
-
-    /// Reads and writes these rows. What was done to them.
-    fn enter_all(&mut self, touches: UpToThree<Touch>) -> UpToThree<Entry> {
-        let mut entries = UpToThree::new();
-        for place in 0..touches.len() {
-            let entry = self.enter(touches.at(place));
-            if entries.len() < 3 {
-                entries.push(entry);
+                    .wrapping_add(u64::from(entry.kind == Kind::Write));
+                *held = Held {
+                    version,
+                    value: entry.after.get(),
+                };
             }
         }
-        entries
     }
 
-    /// How many records the worker has noted.
-    fn noted_by(&self, worker: u8) -> usize {
+    /// How many records the worker has made.
+    fn made_by(&self, worker: u8) -> usize {
         let mut count: usize = 0;
-        for made in self.noted.as_slice() {
-            if made.worker == worker {
-                count = count.wrapping_add(1);
+        for made in self.made.as_slice() {
+            if let Some(made) = made {
+                count = count.wrapping_add(usize::from(made.worker == worker));
             }
         }
         count
     }
 
-    /// Where the worker stands.
-    fn stage(&self, worker: u8) -> At {
-        self.stages
-            .get(worker as usize)
-            .copied()
-            .unwrap_or(At::Nowhere)
-    }
-
-    /// The worker goes on to there.
-    fn stand(&mut self, worker: u8, at: At) -> bool {
+    /// Whether the event is allowed. If it is, it happens.
+    pub(crate) fn step(&mut self, event: Event) -> bool {
+        let worker = event.worker();
+        let at = match self.stages.get(worker as usize) {
+            Some(at) => *at,
+            None => return false,
+        };
+        let Some(at) = self.after(event, worker, at) else {
+            return false;
+        };
         if let Some(stage) = self.stages.get_mut(worker as usize) {
             *stage = at;
         }
         true
     }
 
-    /// Whether the event is allowed. If it is, it happens.
-    pub(crate) fn step(&mut self, event: Event) -> bool {
-        match event {
-            Event::Claim(worker) => self.claim(worker),
-            Event::LockStripe(worker) => self.lock(worker),
-            Event::Tick(worker) => self.tick(worker),
-            Event::Apply(worker) => self.apply(worker),
-            Event::Unlock(worker) => self.unlock(worker),
-            Event::Note(worker) => self.note(worker),
+    /// Where the worker, who stands there, stands after the event; None where it isn't allowed.
+    fn after(&mut self, event: Event, worker: u8, at: At) -> Option<At> {
+        match (event, at) {
+            (Event::Claim(_), At::Idle) => self.claim(),
+            (Event::LockStripe(_), At::Claimed(index)) => self.lock(worker, index),
+            (Event::Tick(_), At::Claimed(index)) => self.tick(worker, index),
+            (Event::Apply(_), At::Ticked(index, tick)) => self.apply(worker, index, tick),
+            (Event::Unlock(_), At::Applied(_)) => self.unlock(worker, at),
+            (Event::Note(_), At::Applied(tick)) => self.note(worker, tick),
+            _ => None,
         }
     }
 
-    fn claim(&mut self, worker: u8) -> bool {
-        let At::Idle = self.stage(worker) else {
-            return false;
-        };
+    fn claim(&mut self) -> Option<At> {
         let index = self.claimed;
         if self.given.asks.len() <= index as usize
-            || self.group_of(index as usize) != self.group_of(self.noted.len())
+            || self.group_of(index as usize) != self.group_of(self.noted)
         {
-            return false;
+            return None;
         }
         self.claimed = index.wrapping_add(1);
-        self.stand(worker, At::Claimed(index))
+        Some(At::Claimed(index))
     }
 
-    fn lock(&mut self, worker: u8) -> bool {
-        let At::Claimed(index) = self.stage(worker) else {
-            return false;
-        };
+    fn lock(&mut self, worker: u8, index: u16) -> Option<At> {
         let Some(stripe) = self.next_stripe(worker, index) else {
-            return false;
+            return None;
         };
-        if self.owner(stripe).is_some() {
-            return false;
+        if self.owners[stripe].is_some() {
+            return None;
         }
-        self.own(stripe, Some(worker));
-        true
+        self.owners[stripe] = Some(worker);
+        Some(At::Claimed(index))
     }
 
-    fn tick(&mut self, worker: u8) -> bool {
-        let At::Claimed(index) = self.stage(worker) else {
-            return false;
-        };
+    fn tick(&mut self, worker: u8, index: u16) -> Option<At> {
         if self.next_stripe(worker, index).is_some() {
-            return false;
+            return None;
         }
-        let tick = self.ticks.len() as u64;
-        let pushed = self.ticks.push(None);
-        self.is_whole = self.is_whole && pushed.is_ok();
-        self.stand(worker, At::Ticked(index, tick))
+        let tick = self.made.len();
+        self.is_whole &= self.made.push(None).is_ok();
+        Some(At::Ticked(index, tick))
     }
 
-    fn apply(&mut self, worker: u8) -> bool {
-        let At::Ticked(index, tick) = self.stage(worker) else {
-            return false;
-        };
-        if let Some(applied) = self.ticks.get_mut(tick as usize) {
-            *applied = Some(index);
+    fn apply(&mut self, worker: u8, index: u16, tick: usize) -> Option<At> {
+        let done = self.does(index);
+        let place = self.made_by(worker);
+        self.enter(&done.entries);
+        if let Some(made) = self.made.get_mut(tick) {
+            *made = Some(Made {
+                worker,
+                place,
+                index,
+                tick,
+                done,
+                is_noted: false,
+            });
         }
-        let made = self.made(worker, index, tick);
-        self.stand(worker, At::Applied(made))
+        Some(At::Applied(tick))
     }
 
-    fn made(&mut self, worker: u8, index: u16, tick: u64) -> Made {
-        let done = self.does_at(index);
-        Made {
-            worker,
-            place: self.noted_by(worker),
-            index,
-            tick,
-            reply: done.reply,
-            entries: self.enter_all(done.touches),
-        }
-    }
-
-    fn unlock(&mut self, worker: u8) -> bool {
-        let At::Applied(_) = self.stage(worker) else {
-            return false;
-        };
+    fn unlock(&mut self, worker: u8, at: At) -> Option<At> {
         let Some(stripe) = self.last_stripe(worker) else {
-            return false;
+            return None;
         };
-        self.own(stripe, None);
-        true
+        self.owners[stripe] = None;
+        Some(at)
     }
 
-    fn note(&mut self, worker: u8) -> bool {
-        let At::Applied(made) = self.stage(worker) else {
-            return false;
-        };
+    fn note(&mut self, worker: u8, tick: usize) -> Option<At> {
         if self.last_stripe(worker).is_some() {
-            return false;
+            return None;
         }
-        let pushed = self.noted.push(made);
-        self.is_whole = self.is_whole && pushed.is_ok();
-        self.stand(worker, At::Idle)
+        if let Some(Some(made)) = self.made.get_mut(tick) {
+            made.is_noted = true;
+        }
+        self.noted = self.noted.wrapping_add(1);
+        Some(At::Idle)
     }
 
     /// Whether every request is noted.
     pub(crate) fn done(&self) -> bool {
-        self.noted.len() == self.given.asks.len()
+        self.noted == self.given.asks.len()
     }
 
     /// Whether these are the indexes that are applied, by rising tick.
     pub(crate) fn has_order(&self, order: &[u16]) -> bool {
-        let mut place: usize = 0;
-        for applied in self.ticks.as_slice() {
-            if let Some(index) = *applied {
-                if order.get(place).copied() != Some(index) {
+        let mut rest = order;
+        for made in self.made.as_slice() {
+            if let Some(made) = made {
+                let Some((first, behind)) = rest.split_first() else {
+                    return false;
+                };
+                if *first != made.index {
                     return false;
                 }
-                place = place.wrapping_add(1);
+                rest = behind;
             }
         }
-        place == order.len()
+        rest.is_empty()
     }
+}
+
+/// Whether one of these rows lies in the stripe.
+fn needs(entries: &UpToThree<Entry>, stripe: usize) -> bool {
+    for place in 0..entries.len() {
+        if (entries.at(place).row.number() / 2 % 16) as usize == stripe {
+            return true;
+        }
+    }
+    false
 }

@@ -2,7 +2,7 @@
 
 ghost use Rattle.std.specs.Prelude.{◌<◌};
 
-use crate::parts::{Ask, Given, Plan, opened, plan_of};
+use crate::parts::{Ask, Given, opened, plan_of};
 use crate::plain::{CUSTOMERS, Made, Plain};
 use crate::seen::Seen;
 use crate::worked::{ordered, stepped};
@@ -25,8 +25,7 @@ fn below(rng: &mut Pcg32, limit: u32) -> u32
 fn customer(rng: &mut Pcg32) -> u8 {
     // Few customers, so that workers meet, and two that share a stripe.
     let few = [0u8, 1, 2, 16, 17, CUSTOMERS];
-    let place = below(rng, 6) as usize;
-    few.get(place).copied().unwrap_or(0)
+    few[below(rng, 6) as usize]
 }
 
 fn ask(rng: &mut Pcg32) -> Ask {
@@ -53,60 +52,44 @@ fn event(rng: &mut Pcg32, workers: u8) -> Event {
     }
 }
 
-/// Whether the record is the one that is due.
-fn is_due(record: &AccessRecord, due: &Made) -> bool {
-    let has_stamp = record.worker() == due.worker
-        && record.place() as usize == due.place
-        && record.index() == due.index
-        && record.tick() == due.tick;
-    has_stamp && record.reply() == due.reply && *record.entries() == due.entries
-}
-
-/// What a schedule begins with.
+/// What a schedule begins with. Where memory is refused for it, `is_whole` says so.
 #[derive(Drop)]
 struct Drawn {
     values: Vec<i64>,
     sizes: Vec<u16>,
     asks: Vec<Ask>,
+    is_whole: bool,
 }
 
 impl Drawn {
-    fn draw_values(&mut self, rng: &mut Pcg32) -> Result<(), AllocError> {
+    fn draw_values(&mut self, rng: &mut Pcg32) {
         for _ in 0..2 * CUSTOMERS {
-            self.values.push(i64::from(below(rng, 50)))?;
+            self.is_whole &= self.values.push(i64::from(below(rng, 50))).is_ok();
         }
-        Ok(())
     }
 
     /// Draws a parallelBatch.
-    fn draw_group(&mut self, rng: &mut Pcg32) -> Result<(), AllocError> {
+    fn draw_group(&mut self, rng: &mut Pcg32) {
         let size = 1 + below(rng, 4);
-        self.sizes.push(size as u16)?;
+        self.is_whole &= self.sizes.push(size as u16).is_ok();
         for _ in 0..size {
-            self.asks.push(ask(rng))?;
+            self.is_whole &= self.asks.push(ask(rng)).is_ok();
         }
-        Ok(())
-    }
-
-    fn draw_all(&mut self, rng: &mut Pcg32) -> Result<(), AllocError> {
-        self.draw_values(rng)?;
-        for _ in 0..1 + below(rng, 3) {
-            self.draw_group(rng)?;
-        }
-        Ok(())
     }
 }
 
-fn draw(alloc: Global, rng: &mut Pcg32) -> Result<Drawn, AllocError> {
+fn draw(alloc: Global, rng: &mut Pcg32) -> Drawn {
     let mut drawn = Drawn {
         values: Vec::new(alloc),
         sizes: Vec::new(alloc),
         asks: Vec::new(alloc),
+        is_whole: true,
     };
-    match drawn.draw_all(rng) {
-        Ok(()) => Ok(drawn),
-        Err(AllocError) => Err(AllocError),
+    drawn.draw_values(rng);
+    for _ in 0..1 + below(rng, 3) {
+        drawn.draw_group(rng);
     }
+    drawn
 }
 
 /// Draws 600 events. Whether both take the same steps.
@@ -114,22 +97,16 @@ fn takes_same_steps(
     rng: &mut Pcg32,
     schedule: &mut Schedule,
     plain: &mut Plain,
-    workers: u8,
-) -> Result<bool, AllocError> {
-    let mut is_same = true;
+    seen: &mut Seen,
+) -> bool {
     for _ in 0..600 {
-        let event = event(rng, workers);
-        let is_allowed = stepped(schedule, event)?;
+        let event = event(rng, plain.given.workers);
+        let is_allowed = stepped(schedule, event, seen);
         if is_allowed != plain.step(event) || schedule.done() != plain.done() {
-            is_same = false;
-            break;
+            return false;
         }
     }
-    if plain.is_whole {
-        Ok(is_same)
-    } else {
-        Err(AllocError)
-    }
+    true
 }
 
 /// How many records the workers have noted.
@@ -143,6 +120,15 @@ fn noted_count(schedule: &Schedule, workers: u8) -> usize {
     count
 }
 
+/// Whether the record is the one that is due.
+fn is_due(record: &AccessRecord, due: &Made) -> bool {
+    let has_stamp = record.worker() == due.worker
+        && record.place() as usize == due.place
+        && record.index() == due.index
+        && record.tick() == due.tick as u64;
+    has_stamp && record.reply() == due.done.reply && *record.entries() == due.done.entries
+}
+
 /// Whether the worker has noted the record at its place.
 fn has_noted(schedule: &Schedule, due: &Made) -> bool {
     if schedule.workers() <= due.worker as usize {
@@ -154,106 +140,79 @@ fn has_noted(schedule: &Schedule, due: &Made) -> bool {
     }
 }
 
-/// Whether the workers have noted these records, and no more.
-fn have_noted(schedule: &Schedule, dues: &[Made], workers: u8) -> bool {
-    for due in dues {
-        if !has_noted(schedule, due) {
-            return false;
+/// Whether the workers have noted the same records, and no more.
+fn have_noted(schedule: &Schedule, plain: &Plain) -> bool {
+    for made in plain.made.as_slice() {
+        if let Some(made) = made {
+            if made.is_noted && !has_noted(schedule, made) {
+                return false;
+            }
         }
     }
-    noted_count(schedule, workers) == dues.len()
+    noted_count(schedule, plain.given.workers) == plain.noted
 }
 
-/// Whether both have applied the same in the same order.
-fn has_same_order(alloc: Global, schedule: &Schedule, plain: &Plain) -> Result<bool, AllocError> {
-    let order = ordered(alloc, schedule)?;
-    Ok(plain.has_order(order.as_slice()))
-}
-
-/// What comes of a batch and a list of events: whether every request is noted at the end, and what both schedules have
-/// in common.
-#[derive(Clone, Copy)]
-struct Outcome {
-    is_done: bool,
-    has_steps: bool,
-    has_noted: bool,
-    has_order: bool,
-}
-
-impl Outcome {
-    /// Looks whether nothing differs.
-    fn look(&self, seen: &mut Seen) {
-        let due = if !self.has_steps {
-            "the steps are the same"
-        } else if !self.has_noted {
-            "each worker notes the same"
-        } else {
-            "the order is the same"
-        };
-        seen.want(self.has_steps && self.has_noted && self.has_order, due);
-    }
-}
-
-/// Draws events, and compares.
-fn compare(
+/// Draws events. What then has to be the same and isn't, in words; none where nothing differs.
+fn difference(
     alloc: Global,
     rng: &mut Pcg32,
     schedule: &mut Schedule,
     plain: &mut Plain,
-    workers: u8,
-) -> Result<Outcome, AllocError> {
-    let has_steps = takes_same_steps(rng, schedule, plain, workers)?;
-    let has_order = has_same_order(alloc, schedule, plain)?;
-    Ok(Outcome {
-        is_done: schedule.done(),
-        has_steps,
-        has_noted: have_noted(schedule, plain.noted.as_slice(), workers),
-        has_order,
-    })
+    seen: &mut Seen,
+) -> &'static str {
+    if !takes_same_steps(rng, schedule, plain, seen) {
+        "the steps are the same"
+    } else if !have_noted(schedule, plain) {
+        "each worker notes the same"
+    } else if !plain.has_order(ordered(alloc, schedule, seen).as_slice()) {
+        "the order is the same"
+    } else {
+        ""
+    }
 }
 
-/// Draws events for the schedule, and compares it with one that is written as lists.
-fn compared_with_plain(
+/// Draws events, and compares. Whether every request is noted at the end.
+fn compare(
     alloc: Global,
     rng: &mut Pcg32,
     schedule: &mut Schedule,
-    given: Given<'_>,
-) -> Result<Outcome, AllocError> {
+    given: &Given<'_>,
+    seen: &mut Seen,
+) -> bool {
     let mut plain = Plain::new(alloc, given);
-    compare(alloc, rng, schedule, &mut plain, given.workers)
+    let difference = difference(alloc, rng, schedule, &mut plain, seen);
+    seen.want(difference.is_empty(), difference);
+    seen.needs(plain.is_whole);
+    schedule.done()
 }
 
-/// Draws events for the plan, and compares.
-fn compared(
-    alloc: Global,
-    rng: &mut Pcg32,
-    plan: &Plan,
-    given: Given<'_>,
-) -> Result<Outcome, AllocError> {
-    let mut schedule = opened(alloc, plan, given.workers)?;
-    compared_with_plain(alloc, rng, &mut schedule, given)
-}
-
-/// Draws events for a batch, and compares.
-fn planned_and_compared(
+/// Draws events for the batch, and compares. Whether every request is noted at the end.
+fn is_done(
     alloc: Global,
     random: RandomState,
     rng: &mut Pcg32,
-    given: Given<'_>,
-) -> Result<Outcome, AllocError> {
-    let plan = plan_of(alloc, random, given)?;
-    compared(alloc, rng, &plan, given)
+    given: &Given<'_>,
+    seen: &mut Seen,
+) -> bool {
+    let Ok(plan) = plan_of(alloc, random, given) else {
+        seen.needs(false);
+        return false;
+    };
+    match opened(alloc, &plan, given.workers) {
+        Ok(mut schedule) => compare(alloc, rng, &mut schedule, given, seen),
+        Err(AllocError) => {
+            seen.needs(false);
+            false
+        }
+    }
 }
 
-/// Draws a batch and a list of events, and compares.
-fn drawn_and_compared(
-    alloc: Global,
-    random: RandomState,
-    seed: u64,
-) -> Result<Outcome, AllocError> {
+/// Draws a batch and a list of events, and compares. Whether every request is noted at the end.
+fn is_drawn_and_done(alloc: Global, random: RandomState, seed: u64, seen: &mut Seen) -> bool {
     let mut rng = Pcg32::new(seed, 54);
     let workers = 1 + below(&mut rng, 4) as u8;
-    let drawn = draw(alloc, &mut rng)?;
+    let drawn = draw(alloc, &mut rng);
+    seen.needs(drawn.is_whole);
     let given = Given {
         customers: CUSTOMERS,
         workers,
@@ -261,19 +220,15 @@ fn drawn_and_compared(
         sizes: drawn.sizes.as_slice(),
         asks: drawn.asks.as_slice(),
     };
-    planned_and_compared(alloc, random, &mut rng, given)
+    is_done(alloc, random, &mut rng, &given, seen)
 }
 
-/// What is seen of so many lists of events. They come far enough: more than half of the schedules are carried out
-/// whole.
-pub fn random_events(alloc: Global, random: RandomState, count: u32) -> Result<Seen, AllocError> {
-    let mut seen = Seen::nothing();
+/// Looks at so many lists of events. They come far enough: more than half of the schedules are carried out whole.
+pub fn play(alloc: Global, random: RandomState, count: u32, seen: &mut Seen) {
     let mut done: u32 = 0;
     for seed in 0..u64::from(count) {
-        let compared = drawn_and_compared(alloc, random, seed)?;
-        done = done.wrapping_add(u32::from(compared.is_done));
-        compared.look(&mut seen);
+        let is_done = is_drawn_and_done(alloc, random, seed, seen);
+        done = done.wrapping_add(u32::from(is_done));
     }
     seen.want(count / 2 < done, "half are carried out whole");
-    Ok(seen)
 }

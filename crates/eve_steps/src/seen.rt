@@ -1,12 +1,15 @@
 //! What of a case was looked at.
 
+use std::alloc::AllocError;
 use std::fmt;
 
-/// How many things of a case were looked at, and the first of them that wasn't as it is due, if there is one.
+/// How many things of a case were looked at, the first of them that wasn't as it is due, if there is one, and whether
+/// there was memory for all.
 #[derive(Clone, Copy)]
 pub struct Seen {
     count: u32,
     wrong: Option<&'static str>,
+    is_whole: bool,
 }
 
 impl Seen {
@@ -15,6 +18,7 @@ impl Seen {
         Seen {
             count: 0,
             wrong: None,
+            is_whole: true,
         }
     }
 
@@ -25,15 +29,26 @@ impl Seen {
             self.wrong = Some(what);
         }
     }
+
+    /// Keeps whether there was memory for something.
+    pub fn needs(&mut self, is_there: bool) {
+        self.is_whole &= is_there;
+    }
+
+    /// Refuses where there wasn't memory for all.
+    pub fn whole(&self) -> Result<(), AllocError> {
+        if self.is_whole {
+            Ok(())
+        } else {
+            Err(AllocError)
+        }
+    }
 }
 
 impl fmt::Display for Seen {
     fn fmt<W: fmt::Write>(&self, f: &mut fmt::Formatter<W>) -> fmt::Result {
         match self.wrong {
-            Some(what) => {
-                f.write_str("wanted: ")?;
-                f.write_str(what)
-            }
+            Some(what) => write!(f, "wanted: {what}"),
             None => write!(f, "{} as they are due", self.count),
         }
     }

@@ -1,9 +1,9 @@
 //! Stripes: what is noted, settled, undone and gone back from, and what is refused. Where memory is refused, each call
 //! is made once more.
 
-use crate::parts::{name_of, names, row_of};
+use crate::parts::{cents, name_of, names, row_of};
 use crate::seen::Seen;
-use eve_accounts::{Amount, Cents, Names};
+use eve_accounts::{Amount, Names};
 use eve_grammar::MOST_VERSIONS;
 use eve_smallbank::{Abort, Entry, Kind, Reply, Request, UpToThree, touched};
 use eve_stamps::{AccessRecord, HeldRow, Stamp, StampFault, Stripe, apply, apply_two, untouched};
@@ -11,22 +11,18 @@ use std::alloc::{AllocError, Global};
 use std::hash::RandomState;
 
 /// A row, its version, and so many cents in it.
-#[derive(Clone, Copy)]
-struct Held(u16, u64, u16);
+struct Held(u16, u64, i64);
 
 /// A row that is written, the version and the cents that it had, and the cents that it has afterwards.
-#[derive(Clone, Copy)]
-struct Written(u16, u64, u16, u16);
+struct Written(u16, u64, i64, i64);
 
 /// Both rows of a customer.
-#[derive(Clone, Copy)]
 struct Opening {
     saving: Held,
     checking: Held,
 }
 
 /// Which of the two stripes are lent to a request.
-#[derive(Clone, Copy)]
 enum Lent {
     First,
     Second,
@@ -34,7 +30,6 @@ enum Lent {
 }
 
 /// What is done, or looked at.
-#[derive(Clone, Copy)]
 enum Step {
     /// Deposits 500 cents in the first customer's checking row, at this tick.
     Deposit(Lent, u64),
@@ -53,7 +48,6 @@ enum Step {
 }
 
 /// What has to be so.
-#[derive(Clone, Copy)]
 enum Due {
     /// The last request was done at this tick, by worker 1, at place 2, with index 3, and wrote these rows.
     Made(u64, &'static [Written]),
@@ -76,9 +70,7 @@ enum Due {
 }
 
 /// What is done with two stripes, step by step, and how much room there is for what an undo tells.
-#[derive(Clone, Copy)]
 pub struct Case {
-    name: &'static str,
     first: Opening,
     second: Opening,
     room: usize,
@@ -134,8 +126,7 @@ const NEARLY_WORN: Opening = Opening {
 };
 
 /// A deposit is noted once at its tick; undone, the row is told as it was.
-const DEPOSIT_AND_UNDO: Case = Case {
-    name: "stripe-deposit-and-undo",
+pub const DEPOSIT_AND_UNDO: Case = Case {
     first: EMPTY,
     second: OTHER,
     room: 1,
@@ -161,8 +152,7 @@ const DEPOSIT_AND_UNDO: Case = Case {
 };
 
 /// Nothing is undone where the rows can't be told.
-const TOO_LITTLE_ROOM: Case = Case {
-    name: "stripe-too-little-room",
+pub const TOO_LITTLE_ROOM: Case = Case {
     first: EMPTY,
     second: OTHER,
     room: 0,
@@ -182,8 +172,7 @@ const TOO_LITTLE_ROOM: Case = Case {
 };
 
 /// To go back needs no room, and reaches what isn't settled alone.
-const SETTLED_AND_WENT_BACK: Case = Case {
-    name: "stripe-settled-and-went-back",
+pub const SETTLED_AND_WENT_BACK: Case = Case {
     first: EMPTY,
     second: OTHER,
     room: 0,
@@ -215,8 +204,7 @@ const SETTLED_AND_WENT_BACK: Case = Case {
 };
 
 /// A row at the greatest version isn't written, and a request that touches no row is noted as it is told.
-const WORN_AND_UNTOUCHED: Case = Case {
-    name: "stripe-worn-and-untouched",
+pub const WORN_AND_UNTOUCHED: Case = Case {
     first: WORN,
     second: NEARLY_WORN,
     room: 0,
@@ -238,8 +226,7 @@ const WORN_AND_UNTOUCHED: Case = Case {
 };
 
 /// All that one customer has is moved over two stripes; one alone has too few rows.
-const TWO_STRIPES: Case = Case {
-    name: "stripes-amalgamate",
+pub const TWO_STRIPES: Case = Case {
     first: FIVE_AND_SEVEN,
     second: OTHER,
     room: 0,
@@ -264,8 +251,7 @@ const TWO_STRIPES: Case = Case {
 };
 
 /// A row that lies in both stripes is seen and written in the first; the second has had the tick too.
-const SHARED_ROW: Case = Case {
-    name: "stripes-that-share-a-row",
+pub const SHARED_ROW: Case = Case {
     first: SEVEN,
     second: NINE,
     room: 0,
@@ -286,8 +272,7 @@ const SHARED_ROW: Case = Case {
 };
 
 /// Two stripes that share a row, of which the second alone is past the tick: nothing is done in either.
-const SECOND_PAST: Case = Case {
-    name: "stripes-the-second-past",
+pub const SECOND_PAST: Case = Case {
     first: FIVE_AND_SEVEN,
     second: NINE,
     room: 0,
@@ -309,32 +294,7 @@ const SECOND_PAST: Case = Case {
     ],
 };
 
-static CASES: [Case; 7] = [
-    DEPOSIT_AND_UNDO,
-    TOO_LITTLE_ROOM,
-    SETTLED_AND_WENT_BACK,
-    WORN_AND_UNTOUCHED,
-    TWO_STRIPES,
-    SHARED_ROW,
-    SECOND_PAST,
-];
-
-/// The case of that name, None where none has it.
-pub fn case_of(name: &str) -> Option<&'static Case> {
-    for case in &CASES {
-        if case.name == name {
-            return Some(case);
-        }
-    }
-    None
-}
-
-/// So many cents.
-fn cents(value: u16) -> Cents {
-    Cents::of(i64::from(value))
-}
-
-fn held_row(held: Held) -> HeldRow {
+fn held_row(held: &Held) -> HeldRow {
     HeldRow {
         row: row_of(held.0),
         version: held.1,
@@ -342,21 +302,22 @@ fn held_row(held: Held) -> HeldRow {
     }
 }
 
-/// A stripe with both rows of a customer.
-fn stripe_of(alloc: Global, opening: Opening) -> Result<Stripe, AllocError> {
-    let saving = held_row(opening.saving);
-    let checking = held_row(opening.checking);
-    if checking.row.number() <= saving.row.number()
-        || MOST_VERSIONS < saving.version
-        || MOST_VERSIONS < checking.version
+/// A stripe with both rows of a customer; none where memory is refused twice.
+fn stripe_of(alloc: Global, opening: &Opening, seen: &mut Seen) -> Option<Stripe> {
+    let rows = [held_row(&opening.saving), held_row(&opening.checking)];
+    if rows[1].row.number() <= rows[0].row.number()
+        || MOST_VERSIONS < rows[0].version
+        || MOST_VERSIONS < rows[1].version
     {
-        return Err(AllocError);
+        seen.want(false, "the rows are a stripe's");
+        return None;
     }
-    let rows = [saving, checking];
-    match Stripe::new(alloc, &rows) {
+    let stripe = match Stripe::new(alloc, &rows) {
         Err(AllocError) => Stripe::new(alloc, &rows),
         stripe => stripe,
-    }
+    };
+    seen.needs(stripe.is_ok());
+    stripe.ok()
 }
 
 /// Worker 1 runs the request with index 3 at this tick, and notes it at place 2.
@@ -369,8 +330,8 @@ fn stamp_at(tick: u64) -> Stamp {
     }
 }
 
-/// These rows, as a record has them.
-fn entries_of(written: &[Written]) -> UpToThree<Entry> {
+/// Whether the record has these rows.
+fn has_written(made: &AccessRecord, written: &[Written]) -> bool {
     let mut entries = UpToThree::new();
     for row in written {
         if entries.len() < 3 {
@@ -383,33 +344,28 @@ fn entries_of(written: &[Written]) -> UpToThree<Entry> {
             });
         }
     }
-    entries
+    *made.entries() == entries
 }
 
 /// Whether that is the record of worker 1, at place 2, with index 3, which did these things at this tick.
-fn is_made(made: AccessRecord, tick: u64, written: &[Written]) -> bool {
+fn is_made(made: &AccessRecord, tick: u64, written: &[Written]) -> bool {
     let is_its = made.worker() == 1 && made.place() == 2 && made.index() == 3;
     is_its && made.tick() == tick && made.reply() == Reply::Done && has_written(made, written)
 }
 
-fn has_written(made: AccessRecord, written: &[Written]) -> bool {
-    *made.entries() == entries_of(written)
-}
-
 /// Whether the row is so.
-fn has_now(stripe: &Stripe, held: Held) -> bool {
+fn has_now(stripe: &Stripe, held: &Held) -> bool {
     let row = row_of(held.0);
     stripe.has(row) && stripe.get(row) == held_row(held)
 }
 
-/// Two stripes, what came of the last request, and what is seen.
+/// Two stripes, what came of the last request, and what is told by an undo.
 #[derive(Drop)]
 struct Stripes {
     first: Stripe,
     second: Stripe,
     restores: Vec<HeldRow>,
     answer: Result<AccessRecord, StampFault>,
-    seen: Seen,
 }
 
 impl Stripes {
@@ -418,7 +374,7 @@ impl Stripes {
         &mut self,
         names: &Names,
         request: &Request,
-        lent: Lent,
+        lent: &Lent,
         tick: u64,
     ) -> Result<AccessRecord, StampFault> {
         let touched = touched(request, names);
@@ -431,7 +387,7 @@ impl Stripes {
     }
 
     /// The same; where no memory was left, once more.
-    fn run(&mut self, names: &Names, request: &Request, lent: Lent, tick: u64) {
+    fn run(&mut self, names: &Names, request: &Request, lent: &Lent, tick: u64) {
         self.answer = match self.apply(names, request, lent, tick) {
             Err(StampFault::Memory) => self.apply(names, request, lent, tick),
             answer => answer,
@@ -439,88 +395,76 @@ impl Stripes {
     }
 
     /// Does what the step says, or looks.
-    fn take(&mut self, names: &Names, step: Step) {
+    fn take(&mut self, names: &Names, step: &Step, seen: &mut Seen) {
         match step {
             Step::Deposit(lent, tick) => {
                 let deposit = Request::DepositChecking(name_of(0), Amount::of(500));
-                self.run(names, &deposit, lent, tick);
+                self.run(names, &deposit, lent, *tick);
             }
             Step::Amalgamate(lent, tick) => {
                 let amalgamate = Request::Amalgamate(name_of(0), name_of(1));
-                self.run(names, &amalgamate, lent, tick);
+                self.run(names, &amalgamate, lent, *tick);
             }
             Step::BadDeposit(tick) => {
-                self.answer = Ok(untouched(Abort::BadAmount, stamp_at(tick)));
+                self.answer = Ok(untouched(Abort::BadAmount, stamp_at(*tick)));
             }
-            Step::Settle(tick) => self.first.settle(tick),
+            Step::Settle(tick) => self.first.settle(*tick),
             Step::GoBack => self.first.go_back(),
             Step::Undo(has_room, what) => {
                 let is_undone = self.first.undo(&mut self.restores).is_ok();
-                self.seen.want(is_undone == has_room, what);
+                seen.want(is_undone == *has_room, what);
             }
-            Step::Want(due, what) => {
-                let is_so = self.is_so(due);
-                self.seen.want(is_so, what);
-            }
+            Step::Want(due, what) => seen.want(self.is_so(due), what),
         }
     }
 
     /// Whether it is as it is due.
-    fn is_so(&self, due: Due) -> bool {
+    fn is_so(&self, due: &Due) -> bool {
         match due {
             Due::Told(held) => self.restores.as_slice() == [held_row(held)].as_slice(),
             Due::NoneTold => self.restores.is_empty(),
             Due::First(held) => has_now(&self.first, held),
             Due::Second(held) => has_now(&self.second, held),
-            Due::Lacks(row) => !self.first.has(row_of(row)),
-            of_answer => is_answer(self.answer, of_answer),
+            Due::Lacks(row) => !self.first.has(row_of(*row)),
+            of_answer => is_answer(&self.answer, of_answer),
         }
-    }
-
-    /// Plays the case.
-    fn play(&mut self, names: &Names, case: &Case) -> Result<Seen, AllocError> {
-        self.restores.reserve_exact(case.room)?;
-        for step in case.steps {
-            self.take(names, *step);
-        }
-        Ok(self.seen)
     }
 }
 
 /// Whether the last request was answered so.
-fn is_answer(answer: Result<AccessRecord, StampFault>, due: Due) -> bool {
-    match answer {
-        Ok(made) => match due {
-            Due::Made(tick, written) => is_made(made, tick, written),
-            Due::Replied(reply) => made.reply() == reply,
-            Due::Wrote(written) => has_written(made, written),
-            _ => false,
-        },
-        Err(told) => match due {
-            Due::Refused(why) => told == why,
-            _ => false,
-        },
+fn is_answer(answer: &Result<AccessRecord, StampFault>, due: &Due) -> bool {
+    match (answer, due) {
+        (Ok(made), Due::Made(tick, written)) => is_made(made, *tick, written),
+        (Ok(made), Due::Replied(reply)) => made.reply() == *reply,
+        (Ok(made), Due::Wrote(written)) => has_written(made, written),
+        (Err(told), Due::Refused(why)) => told == why,
+        _ => false,
     }
 }
 
-/// What is seen of the case, which both customers' names are lent to.
-fn played_with(alloc: Global, names: &Names, case: &Case) -> Result<Seen, AllocError> {
-    if names.len() != 2 {
-        return Err(AllocError);
-    }
-    let first = stripe_of(alloc, case.first)?;
+/// Plays the case, which both customers' names are lent to.
+fn play_with(alloc: Global, names: &Names, case: &Case, seen: &mut Seen) {
+    let Some(first) = stripe_of(alloc, &case.first, seen) else {
+        return;
+    };
+    let Some(second) = stripe_of(alloc, &case.second, seen) else {
+        return;
+    };
     let mut stripes = Stripes {
         first,
-        second: stripe_of(alloc, case.second)?,
+        second,
         restores: Vec::new(alloc),
         answer: Err(StampFault::Memory),
-        seen: Seen::nothing(),
     };
-    stripes.play(names, case)
+    seen.needs(stripes.restores.reserve_exact(case.room).is_ok());
+    for step in case.steps {
+        stripes.take(names, step, seen);
+    }
 }
 
-/// What is seen of the case.
-pub fn played(alloc: Global, random: RandomState, case: &Case) -> Result<Seen, AllocError> {
+/// Plays the case.
+pub fn play(alloc: Global, random: RandomState, case: &Case, seen: &mut Seen) {
     let names = names(alloc, random, 2);
-    played_with(alloc, &names, case)
+    seen.needs(names.len() == 2);
+    play_with(alloc, &names, case, seen);
 }

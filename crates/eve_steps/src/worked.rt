@@ -1,19 +1,16 @@
 //! Worked schedules.
 
-use crate::parts::{Ask, Given, Plan, opened, plan_of};
+use crate::parts::{Ask, Given, opened, plan_of};
 use crate::seen::Seen;
 use eve_smallbank::{Abort, Reply};
-use eve_stamps::AccessRecord;
 use eve_stamps_schedule::{Event, Schedule, StepFault};
 use std::alloc::{AllocError, Global};
 use std::hash::RandomState;
 
 /// An event, and whether it is allowed where it comes.
-#[derive(Clone, Copy)]
 struct Step(Event, bool);
 
 /// What has to be so.
-#[derive(Clone, Copy)]
 enum Due {
     /// Each of the events, which are carried out, is allowed or refused as it says.
     Carried(&'static [Step]),
@@ -28,20 +25,16 @@ enum Due {
 }
 
 /// What has to be so, and in words.
-#[derive(Clone, Copy)]
 struct Want(Due, &'static str);
 
 /// What a worked schedule begins with, and what has to be so of it, in this order.
-#[derive(Clone, Copy)]
 pub struct Case {
-    name: &'static str,
     given: Given<'static>,
     wants: &'static [Want],
 }
 
 /// Two deposits to one customer by two workers, of which the second goes first.
-const TWO_WORKERS: Case = Case {
-    name: "schedule-two-workers",
+pub const TWO_WORKERS: Case = Case {
     given: Given {
         customers: 1,
         workers: 2,
@@ -80,8 +73,7 @@ const TWO_WORKERS: Case = Case {
 };
 
 /// A request that touches no row locks no stripe.
-const NO_ROW: Case = Case {
-    name: "schedule-no-row",
+pub const NO_ROW: Case = Case {
     given: Given {
         customers: 1,
         workers: 1,
@@ -108,8 +100,7 @@ const NO_ROW: Case = Case {
 };
 
 /// A request of a later parallelBatch waits until those before it are noted.
-const LATER_GROUP: Case = Case {
-    name: "schedule-later-group",
+pub const LATER_GROUP: Case = Case {
     given: Given {
         customers: 2,
         workers: 2,
@@ -136,8 +127,7 @@ const LATER_GROUP: Case = Case {
 };
 
 /// A request of two stripes locks both before its tick.
-const TWO_STRIPES: Case = Case {
-    name: "schedule-two-stripes",
+pub const TWO_STRIPES: Case = Case {
     given: Given {
         customers: 3,
         workers: 1,
@@ -166,8 +156,7 @@ const TWO_STRIPES: Case = Case {
 };
 
 /// A worker that isn't there may do nothing.
-const NOBODY: Case = Case {
-    name: "schedule-nobody",
+pub const NOBODY: Case = Case {
     given: Given {
         customers: 1,
         workers: 1,
@@ -184,103 +173,84 @@ const NOBODY: Case = Case {
     ],
 };
 
-static CASES: [Case; 5] = [TWO_WORKERS, NO_ROW, LATER_GROUP, TWO_STRIPES, NOBODY];
-
-/// The worked schedule of that name, None where none has it.
-pub fn case_of(name: &str) -> Option<&'static Case> {
-    for case in &CASES {
-        if case.name == name {
-            return Some(case);
+/// Takes the step; where no memory was left, once more. Whether it is allowed.
+pub fn stepped(schedule: &mut Schedule, event: Event, seen: &mut Seen) -> bool {
+    let stepped = match schedule.step(event) {
+        Err(StepFault::Memory) => schedule.step(event),
+        stepped => stepped,
+    };
+    match stepped {
+        Ok(()) => true,
+        Err(StepFault::NotAllowed) => false,
+        Err(StepFault::Memory) => {
+            seen.needs(false);
+            false
         }
-    }
-    None
-}
-
-/// Takes the step. Whether it is allowed.
-fn take_step(schedule: &mut Schedule, event: Event) -> Result<bool, AllocError> {
-    match schedule.step(event) {
-        Ok(()) => Ok(true),
-        Err(StepFault::NotAllowed) => Ok(false),
-        Err(StepFault::Memory) => Err(AllocError),
-    }
-}
-
-/// The step; where no memory was left, the step again.
-pub fn stepped(schedule: &mut Schedule, event: Event) -> Result<bool, AllocError> {
-    match take_step(schedule, event) {
-        Err(AllocError) => take_step(schedule, event),
-        is_allowed => is_allowed,
     }
 }
 
 /// The order of what is applied; where no memory was left, asked for again.
-pub fn ordered(alloc: Global, schedule: &Schedule) -> Result<Vec<u16>, AllocError> {
-    match schedule.order(alloc) {
+pub fn ordered(alloc: Global, schedule: &Schedule, seen: &mut Seen) -> Vec<u16> {
+    let order = match schedule.order(alloc) {
         Err(AllocError) => schedule.order(alloc),
         order => order,
+    };
+    match order {
+        Ok(order) => order,
+        Err(AllocError) => {
+            seen.needs(false);
+            Vec::new(alloc)
+        }
     }
-}
-
-/// Whether that is the order of what is applied.
-fn has_order(alloc: Global, schedule: &Schedule, due: &[u16]) -> Result<bool, AllocError> {
-    let order = ordered(alloc, schedule)?;
-    Ok(order.as_slice() == due)
 }
 
 /// Carries out the events. Whether each is allowed or refused as it says.
-fn carried(schedule: &mut Schedule, steps: &[Step]) -> Result<bool, AllocError> {
+fn carried(schedule: &mut Schedule, steps: &[Step], seen: &mut Seen) -> bool {
     for step in steps {
-        if stepped(schedule, step.0)? != step.1 {
-            return Ok(false);
+        if stepped(schedule, step.0, seen) != step.1 {
+            return false;
         }
     }
-    Ok(true)
-}
-
-/// The first worker's last record.
-fn last_of(schedule: &Schedule) -> Option<AccessRecord> {
-    if schedule.workers() == 0 {
-        return None;
-    }
-    schedule.noted(0).last().copied()
+    true
 }
 
 /// Whether the first worker's last record has this reply, and so many entries.
 fn has_noted(schedule: &Schedule, reply: Reply, entries: usize) -> bool {
-    match last_of(schedule) {
+    if schedule.workers() == 0 {
+        return false;
+    }
+    match schedule.noted(0).last() {
         Some(made) => made.reply() == reply && made.entries().len() == entries,
         None => false,
     }
 }
 
 /// Whether it is as it is due.
-fn is_so(alloc: Global, schedule: &mut Schedule, due: Due) -> Result<bool, AllocError> {
+fn is_so(alloc: Global, schedule: &mut Schedule, due: &Due, seen: &mut Seen) -> bool {
     match due {
-        Due::Carried(steps) => carried(schedule, steps),
-        Due::IsDone(is_done) => Ok(schedule.done() == is_done),
-        Due::HasOrder(order) => has_order(alloc, schedule, order),
-        Due::Noted(reply, entries) => Ok(has_noted(schedule, reply, entries)),
-        Due::Workers(workers) => Ok(schedule.workers() == workers),
+        Due::Carried(steps) => carried(schedule, steps, seen),
+        Due::IsDone(is_done) => schedule.done() == *is_done,
+        Due::HasOrder(order) => ordered(alloc, schedule, seen).as_slice() == *order,
+        Due::Noted(reply, entries) => has_noted(schedule, *reply, *entries),
+        Due::Workers(workers) => schedule.workers() == *workers,
     }
 }
 
-/// Carries out the case on its schedule. What is seen of it.
-fn look(alloc: Global, schedule: &mut Schedule, case: &Case) -> Result<Seen, AllocError> {
-    let mut seen = Seen::nothing();
+/// Carries out the case on its schedule, and looks at it.
+fn look(alloc: Global, schedule: &mut Schedule, case: &Case, seen: &mut Seen) {
     for want in case.wants {
-        seen.want(is_so(alloc, schedule, want.0)?, want.1);
+        let is_so = is_so(alloc, schedule, &want.0, seen);
+        seen.want(is_so, want.1);
     }
-    Ok(seen)
 }
 
-/// What is seen of the worked schedule, whose plan that is.
-fn played_on(alloc: Global, plan: &Plan, case: &Case) -> Result<Seen, AllocError> {
-    let mut schedule = opened(alloc, plan, case.given.workers)?;
-    look(alloc, &mut schedule, case)
-}
-
-/// What is seen of the worked schedule.
-pub fn played(alloc: Global, random: RandomState, case: &Case) -> Result<Seen, AllocError> {
-    let plan = plan_of(alloc, random, case.given)?;
-    played_on(alloc, &plan, case)
+/// Carries out the worked schedule, and looks at it.
+pub fn play(alloc: Global, random: RandomState, case: &Case, seen: &mut Seen) {
+    let Ok(plan) = plan_of(alloc, random, &case.given) else {
+        return seen.needs(false);
+    };
+    match opened(alloc, &plan, case.given.workers) {
+        Ok(mut schedule) => look(alloc, &mut schedule, case, seen),
+        Err(AllocError) => seen.needs(false),
+    }
 }

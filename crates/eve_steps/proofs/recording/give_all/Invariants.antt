@@ -1,9 +1,10 @@
-use Rattle.std.proofs.Common.{◌≡◌, All, vec_len}
+use Rattle.std.proofs.Common.{◌≡◌, All, IfSome, vec_len}
 use Rattle.eve_steps.proofs.recording.give_all.Given as goal
 
-abbrev pub invariant-loop-seat : goal.invariant-loop-seat
-invariant-loop-seat l = All (λ s. s.recorder ≡ l.initial.seats.recorder) l.workers.items
+abbrev pub invariant-loop-party : goal.invariant-loop-party
+invariant-loop-party l = All (λ p. IfSome p.worker (λ s. s.recorder ≡ l.initial.seats.recorder)) l.parties.items
+    × All (λ p. IfSome p.taker (λ s. s.recorder ≡ l.initial.seats.recorder)) l.parties.items
     × (l.seats.recorder ≡ l.initial.seats.recorder)
 
-abbrev pub decreases-loop-seat : goal.decreases-loop-seat
-decreases-loop-seat l = vec_len l.workers
+abbrev pub decreases-loop-party : goal.decreases-loop-party
+decreases-loop-party l = vec_len l.parties
