@@ -149,19 +149,23 @@ impl Change {
         match self {
             Change::Twice => {
                 met.asked = first.asked;
-                met.index = first.index;
+                met.stamp.index = first.stamp.index;
             }
-            Change::IndexPast => met.index = last.index.max(first.index).saturating_add(1),
+            Change::IndexPast => met.stamp.index = last
+                .stamp
+                .index
+                .max(first.stamp.index)
+                .saturating_add(1),
             Change::OtherRequest => met.asked = first.asked,
             Change::WorkerPast => {
-                met.worker = workers;
-                met.place = 0;
+                met.stamp.worker = workers;
+                met.stamp.place = 0;
             }
             Change::SecondWorker => {
-                met.worker = 1;
-                met.place = 0;
+                met.stamp.worker = 1;
+                met.stamp.place = 0;
             }
-            Change::PlaceSkipped => met.place = last.place.saturating_add(1),
+            Change::PlaceSkipped => met.stamp.place = last.stamp.place.saturating_add(1),
             Change::OtherVersion(place) => met.seen = with_more(&last.seen, place, 1, 0),
             Change::OtherValue(place) => met.seen = with_more(&last.seen, place, 0, 1),
             _ => {}
@@ -169,21 +173,17 @@ impl Change {
         met
     }
 
-    /// The ticks rise from 0 at first.
+    /// Changes the ticks, which rise from 0 at first.
     fn set_ticks(self, met: &mut [Meeting]) {
         let count = met.len() as u64;
         for meeting in met.iter_mut() {
-            meeting.tick = self.tick_of(meeting.tick, count);
-        }
-    }
-
-    /// The tick in place of this one, of so many.
-    fn tick_of(self, tick: u64, count: u64) -> u64 {
-        match self {
-            Change::TicksFall => u64::MAX - tick,
-            Change::TicksEqual => 0,
-            Change::TicksLate => u64::MAX - count.saturating_sub(tick).saturating_sub(1),
-            _ => tick,
+            let tick = meeting.stamp.tick;
+            meeting.stamp.tick = match self {
+                Change::TicksFall => u64::MAX - tick,
+                Change::TicksEqual => 0,
+                Change::TicksLate => u64::MAX - count.saturating_sub(tick).saturating_sub(1),
+                _ => tick,
+            };
         }
     }
 }

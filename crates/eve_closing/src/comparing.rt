@@ -6,22 +6,13 @@ ghost use Rattle.eve_write.specs.Data.{attempt as plain, batch as plain_batch};
 
 use crate::framed::Framed;
 use crate::said::Said;
-use eve_accounts::{Balances, MOST_NAMED_ROWS};
+use eve_accounts::Balances;
 use eve_attempts::Ledger;
-use eve_frames::{AttemptView, BatchView, CommitView, RollbackView};
+use eve_frames::{AttemptView, BatchView};
 use eve_grammar::MOST_WINDOW;
 use eve_streams::SinkOf;
-use eve_write::{
-    AttemptData, BatchData, CommitData, RollbackData, write_accesses, write_attempt, write_batch,
-    write_commit, write_rollback,
-};
+use eve_write::{AttemptData, BatchData, write_accesses, write_attempt, write_batch};
 use std::alloc::{AllocError, Global};
-
-/// Whether these bytes were written. A sink in memory fails only where memory is refused.
-fn has(out: SinkOf<Vec<u8>>, is_written: bool, bytes: &[u8], said: &mut Said) -> bool {
-    said.needs(is_written);
-    out.writer().as_slice() == bytes
-}
 
 /// Whether the batch is the one of the frame.
 pub fn is_batch_of(
@@ -34,8 +25,8 @@ pub fn is_batch_of(
     requires { IsTrue (is_batch (plain_batch batch.now)) }
 {
     let mut out = SinkOf::new(Vec::new(alloc));
-    let is_written = write_batch(&mut out, number, batch).is_ok();
-    has(out, is_written, frame.bytes(), said)
+    said.needs(write_batch(&mut out, number, batch).is_ok());
+    out.writer().as_slice() == frame.bytes()
 }
 
 /// Whether the attempt is the one of the frames.
@@ -65,33 +56,6 @@ fn are_frames(bytes: &[u8], framed: Framed) -> bool {
 /// Whether the attempt has the token of the frame.
 pub fn has_token_of(attempt: &AttemptData, frame: &AttemptView) -> bool {
     attempt.token.as_slice() == frame.token()
-}
-
-/// Whether the commit is the one of the frame.
-pub fn is_commit_of(
-    alloc: Global,
-    commit: &CommitData,
-    frame: &CommitView,
-    said: &mut Said,
-) -> bool {
-    let mut out = SinkOf::new(Vec::new(alloc));
-    let is_written = write_commit(&mut out, commit).is_ok();
-    has(out, is_written, frame.bytes(), said)
-}
-
-/// Whether the rollback is the one of the frame.
-pub fn is_rollback_of(
-    alloc: Global,
-    rollback: &RollbackData,
-    frame: &RollbackView,
-    said: &mut Said,
-) -> bool {
-    if rollback.restores.len() > MOST_NAMED_ROWS as usize {
-        return false;
-    }
-    let mut out = SinkOf::new(Vec::new(alloc));
-    let is_written = write_rollback(&mut out, rollback).is_ok();
-    has(out, is_written, frame.bytes(), said)
 }
 
 /// The tokens of as many open attempts as there may be, in their order, and zeros.

@@ -42,32 +42,18 @@ fn file_of(rt: &HostRuntime, name: &str, ending: &str, said: &mut Said) -> Vec<u
 /// Replays what a line names.
 fn replay_line(rt: &HostRuntime, keys: RandomState, line: &str, said: &mut Said) {
     let mut words = line.splitn(4, ' ');
-    let trace = words.next().unwrap_or("");
-    let workload = words.next().unwrap_or("");
-    let mixer = mixer_named(words.next().unwrap_or(""));
-    let changes = words.next().unwrap_or("");
+    let trace = file_of(rt, words.next().unwrap_or(""), ".trace", said);
+    let workload = file_of(rt, words.next().unwrap_or(""), ".in", said);
+    let mixer = match words.next() {
+        Some("first") => Mixer::First,
+        _ => Mixer::Whole,
+    };
     let asked = Asked {
         keys,
         mixer,
-        changes,
+        changes: words.next().unwrap_or(""),
     };
-    replay_files(rt, asked, trace, workload, said);
-}
-
-/// The mixer that a word names.
-fn mixer_named(word: &str) -> Mixer {
-    if word == "first" {
-        Mixer::First
-    } else {
-        Mixer::Whole
-    }
-}
-
-/// Replays the trace of this name, by the workload of that one.
-fn replay_files(rt: &HostRuntime, asked: Asked, trace: &str, workload: &str, said: &mut Said) {
-    let trace = file_of(rt, trace, ".trace", said);
-    let workload = file_of(rt, workload, ".in", said);
-    replay_trace(
+    replay_files(
         rt.alloc(),
         asked,
         trace.as_slice(),
@@ -77,23 +63,13 @@ fn replay_files(rt: &HostRuntime, asked: Asked, trace: &str, workload: &str, sai
 }
 
 /// Replays the trace of these bytes, by the workload of this text.
-fn replay_trace(alloc: Global, asked: Asked, trace: &[u8], workload: &[u8], said: &mut Said) {
-    match Trace::read(alloc, trace) {
-        Ok(trace) => replay_workload(alloc, asked, &trace, workload, said),
-        Err(CheckFault::Memory) => said.needs(false),
-        Err(CheckFault::Found(_)) => said.words(NONE),
-    }
-}
-
-/// What is said where a file holds no trace, or no workload.
-const NONE: &str = " no trace, or no workload";
-
-/// Replays a trace, by the workload of this text.
-fn replay_workload(alloc: Global, asked: Asked, trace: &Trace, workload: &[u8], said: &mut Said) {
-    match Workload::read(alloc, workload) {
-        Ok(workload) => replay_all(alloc, asked, trace, &workload, said),
-        Err(WorkloadFault::Memory) => said.needs(false),
-        Err(WorkloadFault::Line(_)) => said.words(NONE),
+fn replay_files(alloc: Global, asked: Asked, trace: &[u8], workload: &[u8], said: &mut Said) {
+    let trace = Trace::read(alloc, trace);
+    let workload = Workload::read(alloc, workload);
+    match (&trace, &workload) {
+        (Ok(trace), Ok(workload)) => replay_all(alloc, asked, trace, workload, said),
+        (Err(CheckFault::Memory), _) | (_, Err(WorkloadFault::Memory)) => said.needs(false),
+        _ => said.words(" no trace, or no workload"),
     }
 }
 

@@ -12,15 +12,12 @@ use eve_stamps::{AccessRecord, HeldRow, Stamp, StampFault, Stripe, apply, untouc
 use eve_write::BatchData;
 use std::alloc::Global;
 
-/// The worker, its place among what it notes, the request that it ran, and the index and the tick that it noted with
-/// it; what the request was told, and what it saw of the rows that it touches.
+/// The request that a worker ran, and the worker, place, index and tick that were noted of it; what the request was
+/// told, and what it saw of the rows that it touches.
 #[derive(Clone, Copy)]
 pub struct Meeting {
-    pub worker: u8,
-    pub place: u16,
     pub asked: u16,
-    pub index: u16,
-    pub tick: u64,
+    pub stamp: Stamp,
     pub reply: Reply,
     pub seen: UpToThree<HeldRow>,
 }
@@ -38,11 +35,13 @@ pub fn meetings_of(alloc: Global, framed: Framed, said: &mut Said) -> Vec<Meetin
 fn meeting_of(attempt: &AttemptView, access: &AccessView) -> Meeting {
     let index = access.index();
     Meeting {
-        worker: access.worker(),
-        place: access.place(),
         asked: index,
-        index,
-        tick: rank_of(attempt, index),
+        stamp: Stamp {
+            worker: access.worker(),
+            place: access.place(),
+            index,
+            tick: rank_of(attempt, index),
+        },
         reply: reply_of(attempt, index),
         seen: rows_seen(access),
     }
@@ -81,16 +80,6 @@ fn rows_seen(access: &AccessView) -> UpToThree<HeldRow> {
     seen
 }
 
-/// Who ran the request, and when.
-fn stamp_of(met: &Meeting) -> Stamp {
-    Stamp {
-        worker: met.worker,
-        place: met.place,
-        index: met.index,
-        tick: met.tick,
-    }
-}
-
 /// The record of a request that was run on rows as they were met, if they are its rows.
 pub fn record_of(
     alloc: Global,
@@ -101,7 +90,7 @@ pub fn record_of(
 ) -> Option<AccessRecord> {
     if let Reply::Aborted(why) = met.reply {
         if met.seen.is_empty() {
-            return Some(untouched(why, stamp_of(met)));
+            return Some(untouched(why, met.stamp));
         }
     }
     match batch.requests.get(met.asked as usize) {
@@ -119,12 +108,7 @@ fn record_on_rows(
     said: &mut Said,
 ) -> Option<AccessRecord> {
     let mut stripe = stripe_of(alloc, &met.seen, said)?;
-    match apply(
-        &mut stripe,
-        request,
-        &touched(request, names),
-        stamp_of(met),
-    ) {
+    match apply(&mut stripe, request, &touched(request, names), met.stamp) {
         Ok(record) => Some(record),
         Err(why) => {
             said.needs(why != StampFault::Memory);

@@ -1,27 +1,24 @@
 //! A section's steps, on a ledger.
 
-ghost use Rattle.std.specs.Prelude.{◌≡◌, ◌+◌, ◌<◌, ◌≤◌, ℕ, List, IsTrue, IfOk, OnErr, length};
+ghost use Rattle.std.specs.Prelude.{◌+◌, ◌<◌, ◌≤◌, IsTrue, IfOk, length};
 ghost use Rattle.eve_grammar.specs.Limits.{is_attempt, is_batch};
 ghost use Rattle.eve_write.specs.Data.{attempt as plain_attempt, batch as plain};
-ghost use Rattle.eve_attempts.specs.Closing.{touched_in_batch};
 
 use crate::changing::{Change, FEWER_ROWS, SERIAL, UNCOMMITTED};
-use crate::comparing::{
-    Shown, has_token_of, is_attempt_of, is_batch_of, is_commit_of, is_rollback_of,
-};
+use crate::comparing::{Shown, has_token_of, is_attempt_of, is_batch_of};
 use crate::framed::Framed;
 use crate::meeting::{Meeting, meetings_of, record_of};
 use crate::opening::{balances_of, batch_of};
 use crate::said::Said;
-use eve_accounts::Names;
+use eve_accounts::{MOST_NAMED_ROWS, Names};
 use eve_attempts::{AttemptFront, CloseFault, Ledger};
 use eve_frames::{CommitView, RollbackView};
 use eve_grammar::{MOST_BATCHES, Restore};
-use eve_smallbank::Touched;
 use eve_stamps::AccessRecord;
+use eve_streams::SinkOf;
 use eve_views::{Step, Trace};
 use eve_workload::{Mixer, Workload, look_up};
-use eve_write::{AttemptData, BatchData, RollbackData};
+use eve_write::{AttemptData, BatchData, RollbackData, write_commit, write_rollback};
 use std::alloc::{AllocError, Global};
 use std::hash::RandomState;
 
@@ -84,27 +81,20 @@ fn has_its_batch(case: &Case, number: u32, said: &mut Said) -> bool
 pub fn replay(case: &Case, section: u8, said: &mut Said)
     requires { section < length case.now.trace.now.sections }
 {
-    match ledger_of(case) {
-        Ok(mut ledger) => replay_on(case, &mut ledger, section, said),
-        Err(_) => said.needs(false),
-    }
-}
-
-/// Replays a section on this ledger.
-fn replay_on(case: &Case, ledger: &mut Ledger, section: u8, said: &mut Said)
-    requires { section < length case.now.trace.now.sections }
-{
+    let Ok(mut ledger) = ledger_of(case) else {
+        return said.needs(false);
+    };
     if case.has(SERIAL) {
-        said.needs(roll_back(case.alloc, ledger).is_ok());
+        said.needs(roll_back(case.alloc, &mut ledger).is_ok());
     }
     let mut steps = case.trace.section(section);
     for _ in 0..case.trace.frame_count() {
         let Some(step) = steps.next() else {
             break;
         };
-        replay_step(case, ledger, &step, said);
+        replay_step(case, &mut ledger, &step, said);
     }
-    end(case.alloc, ledger, said);
+    end(case.alloc, &mut ledger, said);
 }
 
 fn replay_step(case: &Case, ledger: &mut Ledger, step: &Step, said: &mut Said) {
@@ -203,18 +193,14 @@ fn close(
         return NOTHING;
     };
     let mut records = Vec::new(case.alloc);
-    if !take_records(case, &batch, framed, changes, &mut records, said) {
-        return "without records";
+    if take_records(case, &batch, framed, changes, &mut records, said) {
+        let records = records.as_slice();
+        close_records(
+            case.alloc, case.names, ledger, &batch, records, framed, said,
+        )
+    } else {
+        "without records"
     }
-    close_records(
-        case.alloc,
-        case.names,
-        ledger,
-        &batch,
-        records.as_slice(),
-        framed,
-        said,
-    )
 }
 
 /// Closes these records of the batch that is due.
@@ -283,33 +269,15 @@ fn close_due(
         return Err(CloseFault::Memory);
     };
     let touched = touched.as_slice();
-    match close_touched(alloc, ledger, batch, touched, records) {
-        Err(CloseFault::Memory) => close_touched(alloc, ledger, batch, touched, records),
-        told => told,
-    }
-}
-
-/// Closes the records of the batch that is due, whose requests touch these rows.
-fn close_touched(
-    alloc: Global,
-    ledger: &mut Ledger,
-    batch: &BatchData,
-    touched: &[Touched],
-    records: &[AccessRecord],
-) -> Result<AttemptData, CloseFault>
-    requires last { ledger.old.committed + 1 + length ledger.old.opened ≤ MOST_BATCHES }
-    requires room { length ledger.old.opened < ledger.old.window }
-    requires batch { IsTrue (is_batch (plain batch.now)) }
-    requires touched { (names : List (List ℕ)) × (touched.now ≡ touched_in_batch names (plain batch.now)) }
-    ensures attempt { IfOk result (λ a. IsTrue (is_attempt (plain_attempt a))) }
-    ensures refused { OnErr result (ledger.new ≡ ledger.old) }
-{
     let front = AttemptFront {
         seq: ledger.next_number(),
         view: ledger.view(),
         serial: ledger.is_next_serial(),
     };
-    ledger.close(alloc, front, batch, touched, records)
+    match ledger.close(alloc, front, batch, touched, records) {
+        Err(CloseFault::Memory) => ledger.close(alloc, front, batch, touched, records),
+        told => told,
+    }
 }
 
 /// Takes the records of what the access frames of an attempt tell, with these changes, if all can be made.
@@ -352,26 +320,32 @@ fn told_as(is_same: bool) -> &'static str {
     if is_same { "as written" } else { "otherwise" }
 }
 
+/// Commits what the frame says. What is told of it.
 fn commit(alloc: Global, ledger: &mut Ledger, frame: &CommitView, said: &mut Said) -> &'static str {
-    match ledger.commit(frame.seq()) {
-        Ok(commit) => told_as(is_commit_of(alloc, &commit, frame, said)),
-        Err(_) => "not open",
-    }
+    let Ok(commit) = ledger.commit(frame.seq()) else {
+        return "not open";
+    };
+    let mut out = SinkOf::new(Vec::new(alloc));
+    said.needs(write_commit(&mut out, &commit).is_ok());
+    told_as(out.writer().as_slice() == frame.bytes())
 }
 
+/// Rolls back. What is told of it.
 fn rollback(
     alloc: Global,
     ledger: &mut Ledger,
     frame: &RollbackView,
     said: &mut Said,
 ) -> &'static str {
-    match roll_back(alloc, ledger) {
-        Ok(rollback) => told_as(is_rollback_of(alloc, &rollback, frame, said)),
-        Err(_) => {
-            said.needs(false);
-            NOTHING
-        }
+    let Ok(rollback) = roll_back(alloc, ledger) else {
+        said.needs(false);
+        return NOTHING;
+    };
+    let mut out = SinkOf::new(Vec::new(alloc));
+    if rollback.restores.len() <= MOST_NAMED_ROWS as usize {
+        said.needs(write_rollback(&mut out, &rollback).is_ok());
     }
+    told_as(out.writer().as_slice() == frame.bytes())
 }
 
 /// Rolls back; where memory is refused once, once more.

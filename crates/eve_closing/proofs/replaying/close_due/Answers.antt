@@ -4,17 +4,17 @@ use Rattle.eve_smallbank.specs.Touch.{touched_of}
 use Rattle.eve_write.specs.Data.{asked}
 use Rattle.eve_closing.proofs.replaying.close_due.Goals as goal
 
-pub close_touched-requires-clause-touched : goal.close_touched-requires-clause-touched
-close_touched-requires-clause-touched c =
+pub close-requires-clause-touched : goal.close-requires-clause-touched
+close-requires-clause-touched c =
     let names = c.args.names.now.items in (
       names,
       c.as_slice-touched.ensures.value ∙ c.in-Ok.ensures
           ∙ ap (λ rs. map (λ a. touched_of names a.request) (map asked rs)) c.as_slice.ensures.value,
     )
 
-pub close_touched-requires-in-Err-Memory-clause-touched :
-    goal.close_touched-requires-in-Err-Memory-clause-touched
-close_touched-requires-in-Err-Memory-clause-touched c =
+pub close-requires-in-Err-Memory-clause-touched :
+    goal.close-requires-in-Err-Memory-clause-touched
+close-requires-in-Err-Memory-clause-touched c =
     let names = c.args.names.now.items in (
       names,
       c.as_slice-touched.ensures.value ∙ c.in-Ok.ensures
