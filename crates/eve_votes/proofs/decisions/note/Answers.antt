@@ -19,6 +19,18 @@ pub batch-requires-clause-there : goal.batch-requires-clause-there
 batch-requires-clause-there c = (decided_within c.args.trace.now c.recall_limits.ensures c.args.seq
     c.args.decision.view c.args.decision.token.now c.requires.decided).high
 
+pub returns-then-is_some-clause-found : goal.returns-then-is_some-clause-found
+returns-then-is_some-clause-found c =
+    let t = c.args.trace.now in
+    let ds = c.args.decisions.now.items in
+    let n = c.args.seq in
+    let view = c.args.decision.view in
+    let within = decided_within t c.recall_limits.ensures n view c.args.decision.token.now c.requires.decided in
+    let known = known_at ds n c.index.result.now (within_table c.requires.judging within) c.index.ensures
+    (sym c.is_some.ensures ∙ c.if-is_some.true) in
+    subst (λ (o : Option ℕ). IsFound t ds o n view) (sym (c.lower.ensures ∙ ap (lower c.args.least) c.offset.ensures))
+    (found_clash t ds c.args.least n view c.batch.result.offset _ known.0 known.1 within.low c.batch.ensures.says)
+
 pub returns-then-is_some-clause-judging : goal.returns-then-is_some-clause-judging
 returns-then-is_some-clause-judging c =
     let t = c.args.trace.now in
@@ -31,18 +43,6 @@ returns-then-is_some-clause-judging c =
     subst (Judging t ds) (sym (c.lower.ensures ∙ ap (lower c.args.least) c.offset.ensures))
     (clash_judging t ds c.args.least n c.args.decision.view c.batch.result.offset c.args.decision.token.now _
     known.0 known.1 c.requires.unnoted c.requires.decided within.low c.batch.ensures.says c.requires.judging)
-
-pub returns-then-is_some-clause-found : goal.returns-then-is_some-clause-found
-returns-then-is_some-clause-found c =
-    let t = c.args.trace.now in
-    let ds = c.args.decisions.now.items in
-    let n = c.args.seq in
-    let view = c.args.decision.view in
-    let within = decided_within t c.recall_limits.ensures n view c.args.decision.token.now c.requires.decided in
-    let known = known_at ds n c.index.result.now (within_table c.requires.judging within) c.index.ensures
-    (sym c.is_some.ensures ∙ c.if-is_some.true) in
-    subst (λ (o : Option ℕ). IsFound t ds o n view) (sym (c.lower.ensures ∙ ap (lower c.args.least) c.offset.ensures))
-    (found_clash t ds c.args.least n view c.batch.result.offset _ known.0 known.1 within.low c.batch.ensures.says)
 
 pub index_mut-requires : goal.index_mut-requires
 index_mut-requires c =
