@@ -1,4 +1,4 @@
-use Rattle.std.proofs.Common.{◌≡◌, ◌+◌, ◌<◌, ◌≤◌, length, sym, subst, ◌∙◌, arith}
+use Rattle.std.proofs.Common.{rules, ◌≡◌, ◌+◌, ◌<◌, ◌≤◌, length, sym, subst, ◌∙◌, arith}
 use Rattle.eve_agree.specs.Majority.{IsBackedSection}
 use Rattle.eve_agree.specs.Unbacked.{IsFirstUnbackedIn}
 use Rattle.eve_agree.proofs.Replicas.{section_history_count, replica_at}
@@ -30,6 +30,9 @@ loop-history-preserved c =
     (found_more t e c.loop-history.first c.first_in.result c.loop-history.invariant
     (subst (λ i. IfNone c.first_in.result (IsBackedSection t i)) own c.first_in.ensures.backed)
     (subst (λ i. IfSome c.first_in.result (IsFirstUnbackedIn t i)) own c.first_in.ensures.first))
+
+pub returns-in-Some-clause-found : goal.returns-in-Some-clause-found
+returns-in-Some-clause-found c = search rules
 
 pub returns-in-Some-clause-least : goal.returns-in-Some-clause-least
 returns-in-Some-clause-least c =
