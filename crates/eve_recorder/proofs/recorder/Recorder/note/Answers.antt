@@ -1,4 +1,4 @@
-use Rattle.std.proofs.Common.{◌≡◌, ap, sym, ◌∙◌, subst, arith}
+use Rattle.std.proofs.Common.{rules, ◌≡◌, ap, sym, ◌∙◌, subst, arith}
 use Rattle.crossbeam_queue.specs.Passes.{view}
 use Rattle.crossbeam_queue.specs.Fifo.{Held}
 use Rattle.eve_recorder.specs.Kept.{SeesSome}
@@ -20,6 +20,9 @@ push_as-requires-clause-rule g c = let i = c.seat.invariant.1 in let r = rw (←
 pub invariant_of-seat : goal.invariant_of-seat
 invariant_of-seat g c = let i = c.seat.invariant.1 in let r = rw (← c.seat.view_is) at c.requires.next in
     (c.in-Ok.ensures.queue.2 ∙ c.seat.invariant.0, seat_after _ _ _ _ _ i r.0 c.in-Ok.ensures.rule)
+
+pub returns-in-Err-clause-ok : goal.returns-in-Err-clause-ok
+returns-in-Err-clause-ok g c = search rules
 
 pub returns-in-Err-clause-full : goal.returns-in-Err-clause-full
 returns-in-Err-clause-full g c =
