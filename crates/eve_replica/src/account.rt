@@ -7,8 +7,8 @@ ghost use Rattle.eve_write.specs.Data.{batch as plain, attempt, commit, rollback
 ghost use Rattle.eve_attempts.specs.Ledgers.{opening};
 ghost use Rattle.eve_attempts.specs.Closing.{touched_in_batch, AreMismatched};
 ghost use Rattle.eve_attempts.specs.Discarding.{RollsBack};
-ghost use Rattle.eve_replica.specs.Replicas.{AttemptsDue, FailsAttempt, ClosesThese, IsFirstOpen, CommitsFirst};
-ghost use Rattle.eve_replica.specs.Replicas.{GivesUp, KeepsCrew, MayAttempt};
+ghost use Rattle.eve_replica.specs.Replicas.{AttemptsDue, ClosesThese, IsFirstOpen, CommitsFirst};
+ghost use Rattle.eve_replica.specs.Replicas.{GivesUp, KeepsCrew, MayAttempt, front_of};
 
 use crate::fault::{AttemptFault, CommitFault};
 use eve_accounts::{Balances, Names};
@@ -94,36 +94,24 @@ impl<'n> Account<'n> {
         if !lead.next(rt, gate) {
             return Err(None);
         }
-        match self.close_noted(alloc, batch, touched, lead.records()) {
-            Ok(attempt) => Ok(attempt),
-            Err(why) => Err(Some(why)),
-        }
-    }
-
-    // Makes an attempt of what the replica's workers noted of the batch, which is open then, in the view and in the
-    // mode that are due. A refusal breaks the replica.
-    fn close_noted(
-        &mut self,
-        alloc: Global,
-        batch: &BatchData,
-        touched: &[Touched],
-        records: &[AccessRecord],
-    ) -> Result<AttemptData, AttemptFault>
-        requires due { MayAttempt self.old (plain batch.now) touched.now }
-        ensures attempted { IfOk result (λ a. AttemptsDue self.old self.new (plain batch.now) (attempt a)) }
-        ensures refused { IfErr result (λ why. FailsAttempt why self.old self.new) }
-        ensures same { KeepsCrew self.old self.new }
-    {
-        let front = AttemptFront {
-            seq: self.ledger.next_number(),
-            view: self.ledger.view(),
-            serial: self.ledger.is_next_serial(),
-        };
+        let front = self.next_front();
+        let records = lead.records();
         let tick = greatest_tick(records);
         match self.close(alloc, front, batch, touched, records, tick) {
             Ok(attempt) => Ok(attempt),
-            Err(Unclosed::Memory) => Err(self.broken_by(AttemptFault::Memory)),
-            Err(Unclosed::Mismatch) => Err(self.broken_by(AttemptFault::Mismatch)),
+            Err(Unclosed::Memory) => Err(Some(self.broken_by(AttemptFault::Memory))),
+            Err(Unclosed::Mismatch) => Err(Some(self.broken_by(AttemptFault::Mismatch))),
+        }
+    }
+
+    // What the attempt that is due says of itself.
+    fn next_front(&self) -> AttemptFront
+        ensures { result ≡ front_of self.now.ledger self.now.ledger.view self.now.ledger.is_next_serial }
+    {
+        AttemptFront {
+            seq: self.ledger.next_number(),
+            view: self.ledger.view(),
+            serial: self.ledger.is_next_serial(),
         }
     }
 
