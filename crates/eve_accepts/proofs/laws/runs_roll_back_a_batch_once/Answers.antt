@@ -1,5 +1,0 @@
-use Rattle.eve_accepts.proofs.RolledBackOnce.{once_or_collides}
-use Rattle.eve_accepts.proofs.laws.runs_roll_back_a_batch_once.Goals as goal
-
-pub returns : goal.returns
-returns c = once_or_collides

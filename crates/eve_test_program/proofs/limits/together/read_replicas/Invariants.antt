@@ -1,0 +1,6 @@
+-- What is told of the replicas so far.
+use Rattle.eve_test_program.specs.SectionHistories.{AreTold}
+use Rattle.eve_test_program.proofs.limits.together.read_replicas.Given as goal
+
+abbrev pub invariant-replicas : goal.invariant-replicas
+invariant-replicas l = AreTold l.trace l.e l.histories.items l.settled.items

@@ -1,0 +1,13 @@
+use Rattle.eve_test_traces.proofs.Two.{both_told, both_settled}
+use Rattle.eve_test_traces.proofs.histories.agreement_of_two.Goals as goal
+
+pub equal_balances-requires-clause-histories : goal.equal_balances-requires-clause-histories
+equal_balances-requires-clause-histories c =
+    both_told c.args.trace.now c.in_ok-first.first c.in_ok-second.second c.requires
+    c.in_ok-first.ensures.section_history c.in_ok-second.ensures.section_history
+
+pub equal_balances-requires-clause-settled : goal.equal_balances-requires-clause-settled
+equal_balances-requires-clause-settled c =
+    let first = rw (c.in_ok-first.ensures.replica) at c.in_ok-of.ensures in
+    let second = rw (c.in_ok-second.ensures.replica) at c.in_ok-of-2.ensures in
+    both_settled c.args.trace.now c.in_ok-of.field-0 c.in_ok-of-2.field-0 c.requires first second

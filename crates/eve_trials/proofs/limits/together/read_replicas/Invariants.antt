@@ -1,6 +1,0 @@
--- What is told of the replicas so far.
-use Rattle.eve_trials.specs.SectionHistories.{AreTold}
-use Rattle.eve_trials.proofs.limits.together.read_replicas.Given as goal
-
-abbrev pub invariant-replicas : goal.invariant-replicas
-invariant-replicas l = AreTold l.trace l.e l.histories.items l.settled.items
