@@ -28,7 +28,7 @@ impl Model for Balances {
 }
 
 impl Balances {
-    /// That many rows, with 0 in each.
+    /// `rows` rows, with 0 in each.
     pub fn new(alloc: Global, rows: usize) -> Result<Balances, AllocError>
         ensures { IfOk result (λ balances. balances ≡ replicate rows (pos 0)) }
     {

@@ -3,7 +3,7 @@
 /// Customers: the number of each is below it.
 pub const MOST_NAMES: u32 = 65_536;
 
-/// Rows of as many customers, two for each: the number of each row is below it.
+/// Rows, two for each customer: the number of each row is below it.
 pub const MOST_NAMED_ROWS: u32 = 2 * MOST_NAMES;
 
 /// Bytes of a name.
@@ -15,8 +15,8 @@ pub const FIRST_NAME_BYTE: u8 = 0x21;
 /// The last byte of printed ASCII: a name has no higher one.
 pub const LAST_NAME_BYTE: u8 = 0x7E;
 
-/// Cents of a balance, which lies within so many of zero: 10^15.
+/// The greatest balance in cents, and the least with its sign changed: 10^15.
 pub const MOST_BALANCE: i64 = 1_000_000_000_000_000;
 
-/// Cents of an amount, which lies within so many of zero: 10^12.
+/// The greatest amount in cents, and the least with its sign changed: 10^12.
 pub const MOST_AMOUNT: i64 = 1_000_000_000_000;

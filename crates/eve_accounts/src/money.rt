@@ -31,7 +31,7 @@ impl Cents {
     /// No cents.
     pub const ZERO: Cents = Cents { value: 0 };
 
-    /// The balance of that many cents, or `None` outside the range.
+    /// The balance of this number of cents, or `None` outside the range.
     pub fn new(value: i64) -> Option<Cents>
         ensures { result ≡ balance_of value }
     {
@@ -42,7 +42,7 @@ impl Cents {
         }
     }
 
-    /// The balance of that many cents, which are within the range.
+    /// The balance of this number of cents, which is within the range.
     pub fn of(value: i64) -> Cents
         requires { IsTrue (is_balance value) }
         ensures { result ≡ value }
@@ -81,7 +81,7 @@ impl Model for Amount {
 }
 
 impl Amount {
-    /// The amount of that many cents, or `None` outside the range.
+    /// The amount of this number of cents, or `None` outside the range.
     pub fn new(cents: i64) -> Option<Amount>
         ensures { result ≡ amount_of cents }
     {
@@ -92,7 +92,7 @@ impl Amount {
         }
     }
 
-    /// The amount of that many cents, which are within the range.
+    /// The amount of this number of cents, which is within the range.
     pub fn of(cents: i64) -> Amount
         requires { IsTrue (is_amount cents) }
         ensures { result ≡ cents }

@@ -66,7 +66,7 @@ impl Name {
     }
 }
 
-// The bytes, and zeros after them.
+/// The bytes, and zeros after them.
 fn padded(bytes: &[u8]) -> [u8; MOST_NAME_BYTES]
     requires { length bytes.now ≤ MOST_NAME_BYTES }
     ensures { result ≡ padded bytes.now }
@@ -76,7 +76,7 @@ fn padded(bytes: &[u8]) -> [u8; MOST_NAME_BYTES]
     all
 }
 
-// The first of these bytes.
+/// The first of these bytes.
 fn front(bytes: &[u8], len: usize) -> &[u8]
     requires { len ≤ length bytes.now }
     ensures { result.now ≡ take len bytes.now }

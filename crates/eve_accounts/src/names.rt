@@ -22,7 +22,7 @@ pub fn is_name(bytes: &[u8]) -> bool
     !bytes.is_empty() && bytes.len() <= MOST_NAME_BYTES && are_printable(bytes)
 }
 
-// Whether each byte is printed ASCII, and no space.
+/// Whether each byte is printed ASCII, and no space.
 fn are_printable(bytes: &[u8]) -> bool
     ensures { result ≡ list_all is_printable bytes.now }
 {
@@ -38,7 +38,7 @@ pub enum NameFault {
     SameName,
     /// It is no name.
     BadName,
-    /// As many names as the limit allows are there.
+    /// The list is at its limit.
     Full,
     /// Memory ran out.
     Memory,

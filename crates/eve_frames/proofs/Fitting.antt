@@ -4,18 +4,18 @@ use Rattle.std.specs.Prelude.{IsTrue}
 use Rattle.std.proofs.lemmas.Bool.{eqb-true, and_parts}
 use Rattle.std.proofs.lemmas.List.{nil_from_length}
 use Rattle.eve_grammar.specs.Limits.{is_number, is_customer, is_batch, is_attempt, is_access, is_commit, is_rollback}
-use Rattle.eve_grammar.specs.Limits.{is_vote, is_sent}
+use Rattle.eve_grammar.specs.Limits.{is_transfer, is_vote, is_sent}
 use Rattle.eve_grammar.specs.Reading.{customer_of, batch_of, attempt_of, access_of, commit_of, rollback_of, vote_of}
-use Rattle.eve_grammar.specs.Reading.{sent_of}
+use Rattle.eve_grammar.specs.Reading.{transfer_of, sent_of}
 use Rattle.eve_grammar.proofs.Codec.{IsBytes-drop}
 use Rattle.eve_grammar.proofs.BodyCodecs.{Exact, Exact-customer, Exact-batch, Exact-attempt, Exact-access, Exact-commit}
-use Rattle.eve_grammar.proofs.BodyCodecs.{Exact-rollback, Exact-vote, Exact-sent}
+use Rattle.eve_grammar.proofs.BodyCodecs.{Exact-rollback, Exact-transfer, Exact-vote, Exact-sent}
 use Rattle.eve_grammar.specs.declared.limits.TheConstants.{MOST_ROWS, MOST_REPLICAS, MOST_BATCHES}
 use Rattle.eve_frames.specs.Views.{has_customer_body, has_batch_body}
 use Rattle.eve_frames.specs.Views.{has_attempt_body, has_access_body, has_commit_body, has_rollback_body, has_vote_body}
 use Rattle.eve_frames.specs.Views.{has_sent_body, customer_in, batch_in, attempt_in, access_in, commit_in, rollback_in}
 use Rattle.eve_grammar.specs.Places.{IsBytes}
-use Rattle.eve_frames.specs.Views.{vote_in, sent_in}
+use Rattle.eve_frames.specs.Views.{state_rows_in, has_transfer_body, transfer_in, vote_in, sent_in}
 use Rattle.eve_frames.proofs.Places.{found}
 
 fits : {A : Type 0} (text : A → List ℕ) (test : A → Bool) (read : List ℕ → Option A) → Exact text test read
@@ -60,6 +60,12 @@ pub rollback_fits : (bytes : List ℕ) → IsBytes bytes → IsTrue (has_rollbac
 unfolding rollback_in
 rollback_fits bytes whole there = fits _ (is_rollback MOST_ROWS) (rollback_of MOST_ROWS)
     (Exact-rollback MOST_ROWS (omega arith)) bytes _ whole there
+
+pub transfer_fits : (bytes : List ℕ) → IsBytes bytes → IsTrue (has_transfer_body bytes)
+    → IsTrue (is_transfer (state_rows_in bytes) (transfer_in bytes))
+unfolding transfer_in
+transfer_fits bytes whole there = fits _ (is_transfer (state_rows_in bytes)) (transfer_of (state_rows_in bytes))
+    (Exact-transfer (state_rows_in bytes)) bytes _ whole there
 
 pub vote_fits : (bytes : List ℕ) → IsBytes bytes → IsTrue (has_vote_body bytes)
     → IsTrue (is_vote MOST_BATCHES (vote_in bytes))

@@ -8,6 +8,7 @@ pub mod AttemptPlaces
 mod AccessPlaces
 mod CommitPlaces
 mod RollbackPlaces
+mod TransferPlaces
 mod VotePlaces
 pub mod Rereading
 pub mod Fitting

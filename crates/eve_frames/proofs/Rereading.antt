@@ -1,27 +1,29 @@
 -- Public: other crates cite these lemmas. What fits a trace's own limits is spelled by a frame that says it.
 use Rattle.std.proofs.Common.{◌≡◌, ℕ, ◌^◌, ◌<◌, ◌≤◌, Bool, true, ◌&&◌, ltb, leb, List, [], ◌∷◌, length, drop, Option}
-use Rattle.std.proofs.Common.{Some, is_some, unwrap_or, refl, ap, arith}
+use Rattle.std.proofs.Common.{Some, is_some, unwrap_or, refl, sym, ap, subst, eqb, arith}
 use Rattle.std.specs.Prelude.{IsTrue}
 use Rattle.std.specs.List.{list_all}
-use Rattle.std.proofs.lemmas.Bool.{ltb-true, lt-ltb, leb-true, le-leb, and_parts, and_from}
-use Rattle.eve_grammar.specs.Trace.{Customer, Batch, Attempt, Access, Commit, Rollback, Vote, Sent}
+use Rattle.std.proofs.lemmas.Bool.{eqb-true, ltb-true, lt-ltb, leb-true, le-leb, and_parts, and_from}
+use Rattle.eve_grammar.specs.Trace.{Customer, Batch, Attempt, Access, Commit, Rollback, Transfer, Vote, Sent}
 use Rattle.eve_grammar.specs.Frames.{Frame, OfCustomer, OfBatch, OfAttempt, OfAccess, OfCommit, OfRollback, OfVote}
 use Rattle.eve_grammar.specs.Frames.{OfSent, without_accesses}
 use Rattle.eve_grammar.specs.Limits.{is_number, is_between, is_customer, is_batch, is_attempt, is_entry, is_access}
 use Rattle.eve_grammar.specs.Limits.{is_commit, is_restore, is_rising, is_rollback, is_choice, is_vote, is_reply}
-use Rattle.eve_grammar.specs.Limits.{is_sent}
-use Rattle.eve_grammar.specs.Spelling.{body_text, frame_text}
+use Rattle.eve_grammar.specs.Limits.{is_versioned, are_no_debts, is_transfer, is_sent}
+use Rattle.eve_grammar.specs.Spelling.{body_text, frame_text, versioned_text, transfer_text, transfer_frame}
 use Rattle.eve_grammar.specs.Reading.{customer_of, batch_of, attempt_of, access_of, commit_of, rollback_of, vote_of}
-use Rattle.eve_grammar.specs.Reading.{sent_of}
+use Rattle.eve_grammar.specs.Reading.{transfer_of, sent_of}
 use Rattle.eve_grammar.proofs.BodyCodecs.{Exact-customer, Exact-batch, Exact-attempt, Exact-access, Exact-commit}
-use Rattle.eve_grammar.proofs.BodyCodecs.{Exact-rollback, Exact-vote, Exact-sent}
+use Rattle.eve_grammar.proofs.BodyCodecs.{Exact-rollback, Exact-transfer, Exact-vote, Exact-sent}
+use Rattle.eve_grammar.proofs.PartCodecs.{versioned_length}
+use Rattle.eve_grammar.proofs.Scans.{text_length}
 use Rattle.eve_smallbank.specs.declared.entry.Entry.{Entry}
 use Rattle.eve_grammar.specs.declared.limits.TheConstants.{MOST_ROWS, MOST_REPLICAS, MOST_BATCHES}
 use Rattle.eve_grammar.specs.declared.restore.Restore.{Restore}
 use Rattle.eve_frames.specs.Views.{has_customer_body, has_batch_body}
 use Rattle.eve_frames.specs.Views.{has_attempt_body, has_access_body, has_commit_body, has_rollback_body, has_vote_body}
 use Rattle.eve_frames.specs.Views.{has_sent_body, customer_in, batch_in, attempt_in, access_in, commit_in, rollback_in}
-use Rattle.eve_frames.specs.Views.{vote_in, sent_in, Says}
+use Rattle.eve_frames.specs.Views.{state_rows_in, has_transfer_body, transfer_in, vote_in, sent_in, Says}
 
 -- what is read of a body is what its frame says
 says : {A : Type 0} (read : List ℕ → Option A) (none x : A) (f : Frame) → read (body_text f) ≡ Some x
@@ -126,6 +128,25 @@ pub rollback_again : (rows : ℕ) (r : Rollback) → IsTrue (is_rollback rows r)
 unfolding rollback_in
 rollback_again rows r fits le = says (rollback_of MOST_ROWS) _ r (OfRollback r)
     ((Exact-rollback MOST_ROWS (omega arith)).again r (rollback_more rows MOST_ROWS le r fits))
+
+-- the rows of a Transfer are told by its length
+taken_count : (rows : ℕ) (x : Transfer) → IsTrue (is_transfer rows x) → state_rows_in (transfer_frame x) ≡ rows
+taken_count rows x fits =
+    let a = and_parts (is_number 4 x.seq) _ fits in
+    let b = and_parts (is_number 4 x.view) _ a.1 in
+    let c = and_parts (are_no_debts 0 x.rows) (eqb (length x.rows) rows && list_all is_versioned x.rows) b.1 in
+    let d = and_parts (eqb (length x.rows) rows) (list_all is_versioned x.rows) c.1 in
+    let many : length x.rows ≡ rows = eqb-true (length x.rows) rows d.0 in
+    omega (arith, many, text_length 16 versioned_text versioned_length x.rows)
+
+pub transfer_again : (rows : ℕ) (x : Transfer) → IsTrue (is_transfer rows x)
+    → Says has_transfer_body transfer_in (transfer_frame x) x
+unfolding transfer_in
+transfer_again rows x fits =
+    let read : transfer_of (state_rows_in (transfer_frame x)) (transfer_text x) ≡ Some x =
+    subst (λ (n : ℕ). transfer_of n (transfer_text x) ≡ Some x) (sym (taken_count rows x fits))
+    ((Exact-transfer rows).again x fits) in
+    (ap is_some read, ap (λ (o : Option Transfer). unwrap_or o (record { seq = 0; view = 0; rows = [] })) read)
 
 pub vote_again : (batches : ℕ) (v : Vote) → IsTrue (is_vote batches v) → batches ≤ MOST_BATCHES
     → Says has_vote_body vote_in (frame_text (OfVote v)) v

@@ -1,14 +1,15 @@
 -- What the view of a frame says. docs/MODEL.md, "Trace".
 use Rattle.std.specs.Prelude.{ℕ}
-use Rattle.eve_grammar.specs.Trace.{Customer, Batch, Attempt, Access, Commit, Rollback, Vote, Sent}
+use Rattle.eve_grammar.specs.Trace.{Customer, Batch, Attempt, Access, Commit, Rollback, Transfer, Vote, Sent}
 use Rattle.eve_frames.specs.Views.{customer_in, batch_in, attempt_in, access_in, commit_in, rollback_in}
-use Rattle.eve_frames.specs.Views.{vote_in, sent_in}
+use Rattle.eve_frames.specs.Views.{transfer_in, vote_in, sent_in}
 use Rattle.eve_frames.specs.declared.customer.CustomerView.{CustomerView}
 use Rattle.eve_frames.specs.declared.batch.BatchView.{BatchView}
 use Rattle.eve_frames.specs.declared.attempt.AttemptView.{AttemptView}
 use Rattle.eve_frames.specs.declared.access.AccessView.{AccessView}
 use Rattle.eve_frames.specs.declared.commit.CommitView.{CommitView}
 use Rattle.eve_frames.specs.declared.rollback.RollbackView.{RollbackView}
+use Rattle.eve_frames.specs.declared.transfer.TransferView.{TransferView}
 use Rattle.eve_frames.specs.declared.vote.VoteView.{VoteView}
 use Rattle.eve_frames.specs.declared.sent.SentView.{SentView}
 
@@ -35,6 +36,10 @@ commit_said view = commit_in view.bytes.now
 -- a rollback
 abbrev pub rollback_said : RollbackView → Rollback
 rollback_said view = rollback_in view.bytes.now
+
+-- a state taken over
+abbrev pub transfer_said : TransferView → Transfer
+transfer_said view = transfer_in view.bytes.now
 
 -- a vote
 abbrev pub vote_said : VoteView → Vote

@@ -1,15 +1,17 @@
 -- What frames say, by their bytes: by the body after the first five, which are the kind and the length.
 -- docs/TRACE.md, "Frames".
-use Rattle.std.specs.Prelude.{ℕ, pos, Bool, false, IsTrue, ◌≡◌, List, [], drop, is_some, unwrap_or}
+use Rattle.std.specs.Prelude.{ℕ, ◌-◌, ◌/◌, pos, Bool, false, IsTrue, ◌≡◌, List, [], drop, length, is_some, unwrap_or}
 use Rattle.eve_smallbank.specs.declared.request.Reply.TheVariants.{Done}
-use Rattle.eve_grammar.specs.Trace.{Customer, Batch, Attempt, Access, Commit, Rollback, ForRollback, Vote, Sent}
+use Rattle.eve_grammar.specs.Trace.{Customer, Batch, Attempt, Access, Commit, Rollback, Transfer, ForRollback}
+use Rattle.eve_grammar.specs.Trace.{Vote, Sent}
 use Rattle.eve_grammar.specs.declared.limits.TheConstants.{MOST_ROWS, MOST_REPLICAS, MOST_BATCHES}
 use Rattle.eve_grammar.specs.Reading.{customer_of, batch_of, attempt_of, access_of, commit_of, rollback_of, vote_of}
-use Rattle.eve_grammar.specs.Reading.{sent_of}
+use Rattle.eve_grammar.specs.Reading.{transfer_of, sent_of}
+use Rattle.eve_grammar.specs.declared.frame_kind.TheConstants.{FRAME_HEAD_LEN}
 
 -- after a frame's kind and length
 abbrev pub body_in : List ℕ → List ℕ
-body_in bytes = drop 5 bytes
+body_in bytes = drop FRAME_HEAD_LEN bytes
 
 -- ---- whether a body of the kind stands after the first five bytes, whatever these are
 
@@ -36,6 +38,14 @@ has_commit_body bytes = is_some (commit_of (body_in bytes))
 -- the body of a Rollback frame
 abbrev pub has_rollback_body : List ℕ → Bool
 has_rollback_body bytes = is_some (rollback_of MOST_ROWS (body_in bytes))
+
+-- how many rows the body of a Transfer frame of this length has
+abbrev pub state_rows_in : List ℕ → ℕ
+state_rows_in bytes = (length (body_in bytes) - 8) / 16
+
+-- the body of a Transfer frame
+abbrev pub has_transfer_body : List ℕ → Bool
+has_transfer_body bytes = is_some (transfer_of (state_rows_in bytes) (body_in bytes))
 
 -- the body of a Vote frame
 abbrev pub has_vote_body : List ℕ → Bool
@@ -73,6 +83,11 @@ commit_in bytes = unwrap_or (commit_of (body_in bytes)) (record { seq = 0; view 
 -- a rollback
 unfoldable pub rollback_in : List ℕ → Rollback
 rollback_in bytes = unwrap_or (rollback_of MOST_ROWS (body_in bytes)) (record { to = 0; view = 0; restores = [] })
+
+-- a state taken over
+unfoldable pub transfer_in : List ℕ → Transfer
+transfer_in bytes =
+    unwrap_or (transfer_of (state_rows_in bytes) (body_in bytes)) (record { seq = 0; view = 0; rows = [] })
 
 -- a vote
 unfoldable pub vote_in : List ℕ → Vote

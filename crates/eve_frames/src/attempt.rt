@@ -12,7 +12,7 @@ use byteorder::{BigEndian, ByteOrder};
 use eve_grammar::reply_at;
 use eve_smallbank::Reply;
 
-/// The replies of an Attempt frame of so many requests, as they stand.
+/// The replies of an Attempt frame of `count` requests, as they stand.
 #[tactic(auto, using(crate::proofs::AttemptPlaces::attempt_laws))]
 fn replies_of(frame: &[u8], count: usize) -> &[u8]
     requires frame { IsTrue (has_attempt_body frame.now) }

@@ -2,9 +2,10 @@
 
 ghost use Rattle.std.specs.Prelude.{◌≡◌, ◌-◌, ◌≤◌, length, slice_index};
 ghost use Rattle.eve_grammar.specs.Kinds.{kind_byte};
+ghost use Rattle.eve_grammar.specs.declared.frame_kind.TheConstants.{FRAME_HEAD_LEN};
 ghost use Rattle.eve_frames.specs.Kinds.{kind_name};
 
-use eve_grammar::FrameKind;
+use eve_grammar::{FRAME_HEAD_LEN, FrameKind};
 
 /// A frame of any kind, where it stands.
 #[derive(Clone, Copy)]
@@ -13,7 +14,7 @@ pub struct FrameView<'a> {
     pub offset: u64,
     /// Its kind, the length of its body, and the body, as they stand.
     pub bytes: &'a [u8],
-    pub ghost whole: { 5 ≤ length bytes.now },
+    pub ghost whole: { FRAME_HEAD_LEN ≤ length bytes.now },
 }
 
 impl<'a> FrameView<'a> {
@@ -46,9 +47,9 @@ impl<'a> FrameView<'a> {
 
     /// How many bytes its body has.
     pub fn body_len(&self) -> usize
-        ensures { result ≡ length self.now.bytes.now - 5 }
+        ensures { result ≡ length self.now.bytes.now - FRAME_HEAD_LEN }
     {
-        self.bytes.len() - 5
+        self.bytes.len() - FRAME_HEAD_LEN
     }
 }
 

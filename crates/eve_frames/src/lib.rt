@@ -15,7 +15,9 @@ mod replies;
 mod requests;
 mod restores;
 mod rollback;
+mod rows;
 mod sent;
+mod transfer;
 mod vote;
 
 pub use access::AccessView;
@@ -30,5 +32,7 @@ pub use replies::Replies;
 pub use requests::Requests;
 pub use restores::Restores;
 pub use rollback::RollbackView;
+pub use rows::Rows;
 pub use sent::SentView;
+pub use transfer::TransferView;
 pub use vote::VoteView;

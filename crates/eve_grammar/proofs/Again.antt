@@ -6,7 +6,7 @@ use Rattle.std.specs.Ordering.{int_eq}
 use Rattle.std.proofs.lemmas.Bool.{ltb-false, ltb-true}
 use Rattle.std.proofs.lemmas.Option.{same_Some}
 use Rattle.eve_accounts.specs.Money.{is_balance}
-use Rattle.eve_accounts.specs.declared.limits.TheConstants.{MOST_NAMED_ROWS}
+use Rattle.eve_grammar.specs.declared.limits.TheConstants.{MOST_ROWS}
 use Rattle.eve_smallbank.specs.Access.{is_write}
 use Rattle.eve_smallbank.specs.declared.entry.Kind.{Kind}
 use Rattle.eve_grammar.specs.Places.{number_in, signed_in}
@@ -62,6 +62,6 @@ entry_stands rows bytes fits there =
 
 -- of so many rows as there are names for, which is all that the code knows
 pub entry_known : (bytes : List ℕ) → IsBytes bytes
-    → (found : (rows : ℕ) × (rows ≤ MOST_NAMED_ROWS) × IsTrue (is_some (entry_at rows bytes)))
+    → (found : (rows : ℕ) × (rows ≤ MOST_ROWS) × IsTrue (is_some (entry_at rows bytes)))
     → EntryStands found.0 bytes
 entry_known bytes fits found = entry_stands found.0 bytes fits found.2

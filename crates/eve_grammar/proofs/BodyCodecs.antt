@@ -14,17 +14,19 @@ use Rattle.eve_smallbank.specs.Spelling.{money_text, reply_text}
 use Rattle.eve_smallbank.specs.declared.request.Reply.{Reply}
 use Rattle.eve_smallbank.specs.declared.entry.Entry.{Entry}
 use Rattle.eve_grammar.specs.Trace.{Customer, Asked, Batch, Access, Attempt, Commit, Rollback, Choice}
-use Rattle.eve_grammar.specs.Trace.{ForRollback, ForCommit, Vote, Sent}
+use Rattle.eve_grammar.specs.Trace.{Transfer, ForRollback, ForCommit, Vote, Sent}
 use Rattle.eve_grammar.specs.Frames.{OfCustomer, OfBatch, OfAttempt, OfAccess, OfCommit, OfRollback, OfVote, OfSent}
 use Rattle.eve_grammar.specs.Limits.{is_between, is_number, is_token, is_asked, is_reply, is_customer, is_batch}
 use Rattle.eve_grammar.specs.Limits.{is_entry, is_access, is_attempt, is_commit, is_restore, is_rising, is_rollback}
-use Rattle.eve_grammar.specs.Limits.{is_choice, is_vote, is_sent}
+use Rattle.eve_grammar.specs.Limits.{is_versioned, are_no_debts, is_transfer, is_choice, is_vote, is_sent}
 use Rattle.eve_grammar.specs.Spelling.{name_text, asked_text, entry_text, restore_text, choice_text, body_text}
+use Rattle.eve_grammar.specs.Spelling.{versioned_text, transfer_text}
 use Rattle.eve_grammar.specs.Reading.{Reader, number_at, both, both_by, led_by, made, made_if, only, many_at, name_at}
 use Rattle.eve_grammar.specs.Reading.{balance_at, saving_at, token_at, asked_at, reply_at, entry_at, restore_at}
 use Rattle.eve_grammar.specs.Reading.{customer_from, customer_of, are_sizes, sizes_at, batch_from, batch_of, number_of}
 use Rattle.eve_grammar.specs.Reading.{serial_from, certified_at, attempt_from, attempt_of, access_from, entries_at}
 use Rattle.eve_grammar.specs.Reading.{access_of, commit_from, commit_of, restores_at, rollback_from, rollback_of}
+use Rattle.eve_grammar.specs.Reading.{versioned_at, state_rows_at, transfer_from, transfer_of}
 use Rattle.eve_grammar.specs.Reading.{choice_from, vote_from, vote_of, sent_from, sent_of}
 use Rattle.eve_grammar.proofs.Codec.{IsBytes, guard_some, Codec, Codec-as, Codec-made, Codec-made_if}
 use Rattle.eve_grammar.proofs.Codec.{Codec-led_by, Codec-both, Codec-both_by, Codec-only, Codec-many, Codec-counted}
@@ -32,7 +34,9 @@ use Rattle.eve_grammar.proofs.Codec.{are_many, are_many_of, whole_takes, whole_a
 use Rattle.eve_grammar.proofs.FieldCodecs.{Codec-number1, Codec-number2, Codec-number4, Codec-number8, are_bytes}
 use Rattle.eve_grammar.proofs.FieldCodecs.{Codec-token, Codec-balance, Codec-saving, Codec-name}
 use Rattle.eve_grammar.proofs.PartCodecs.{chosen, Codec-asked, Codec-reply, Codec-entry, Codec-restore}
+use Rattle.eve_grammar.proofs.PartCodecs.{Codec-versioned}
 use Rattle.eve_grammar.specs.declared.restore.Restore.{Restore}
+use Rattle.eve_smallbank.specs.declared.versioned.Versioned.{Versioned}
 
 -- a body is read exactly where it is the spelling of a value that fits
 pub record Exact {A : Type 0} (text : A → List ℕ) (test : A → Bool) (read : List ℕ → Option A) : Type 0 where
@@ -470,6 +474,36 @@ pub Exact-rollback : (rows : ℕ) → rows < 2 ^ 32 → Exact (λ r. body_text (
 unfolding rollback_of
 Exact-rollback rows few =
     record { takes = whole_takes _ _ _ (rollback_codec rows few); again = whole_again _ _ _ (rollback_codec rows few) }
+
+-- ---- transfers
+
+abbrev are_taken : ℕ → List Versioned → Bool
+are_taken rows xs = are_no_debts 0 xs && are_many is_versioned rows xs
+
+abbrev transfer_parts : Transfer → ℕ × (ℕ × List Versioned)
+transfer_parts x = (x.seq, (x.view, x.rows))
+
+rows_codec : (rows : ℕ) → Codec (flat_map versioned_text) (are_taken rows) (state_rows_at rows)
+unfolding state_rows_at
+rows_codec rows =
+    Codec-only (flat_map versioned_text) (are_many is_versioned rows) (many_at versioned_at rows) (are_no_debts 0)
+    (Codec-many versioned_text is_versioned versioned_at Codec-versioned rows)
+
+transfer_codec : (rows : ℕ) → Codec transfer_text (is_transfer rows)
+    (made transfer_from (both (number_at 4) (both (number_at 4) (state_rows_at rows))))
+transfer_codec rows =
+    Codec-made (λ p. big_bytes 4 p.0 ++ (big_bytes 4 p.1.0 ++ flat_map versioned_text p.1.1))
+    (λ p. is_number 4 p.0 && (is_number 4 p.1.0 && are_taken rows p.1.1))
+    (both (number_at 4) (both (number_at 4) (state_rows_at rows))) transfer_from transfer_parts (is_transfer rows)
+    (λ p fits. (refl, fits)) (λ x fits. (refl, fits))
+    (Codec-both (big_bytes 4) (is_number 4) (number_at 4) _ _ (both (number_at 4) (state_rows_at rows)) Codec-number4
+    (Codec-both (big_bytes 4) (is_number 4) (number_at 4) (flat_map versioned_text) (are_taken rows) (state_rows_at rows)
+    Codec-number4 (rows_codec rows)))
+
+pub Exact-transfer : (rows : ℕ) → Exact transfer_text (is_transfer rows) (transfer_of rows)
+unfolding transfer_of
+Exact-transfer rows =
+    record { takes = whole_takes _ _ _ (transfer_codec rows); again = whole_again _ _ _ (transfer_codec rows) }
 
 -- ---- votes
 

@@ -1,9 +1,9 @@
 -- Public: other crates cite these lemmas. What `body_of` reads is spelled so, and what fits at a place is read back;
 -- the same of the header.
-use Rattle.std.proofs.Common.{◌≡◌, ℕ, ◌+◌, ◌*◌, ◌^◌, ◌<◌, ◌≤◌, Bool, true, false, not, ◌&&◌, ◌||◌, cond, ltb, leb, eqb}
+use Rattle.std.proofs.Common.{◌≡◌, ℕ, ◌+◌, ◌^◌, ◌<◌, ◌≤◌, Bool, true, false, not, ◌&&◌, ◌||◌, cond, ltb, eqb}
 use Rattle.std.proofs.Common.{◌⊎◌, List, ◌++◌, length, Some, None, refl, sym, subst, arith, inl, inr}
 use Rattle.std.specs.Prelude.{IsTrue, codes}
-use Rattle.std.proofs.lemmas.Bool.{ltb-true, lt-ltb, leb-true, eqb-true, and_parts, and_from}
+use Rattle.std.proofs.lemmas.Bool.{ltb-true, lt-ltb, eqb-true, and_parts, and_from}
 use Rattle.std.proofs.lemmas.List.{nil_from_length}
 use Rattle.std.proofs.lemmas.Option.{same_Some}
 use Rattle.byteorder.specs.Endian.{big_bytes}
@@ -19,6 +19,7 @@ use Rattle.eve_grammar.proofs.Codec.{IsBytes, bind_some, guard_some, Codec, Code
 use Rattle.eve_grammar.proofs.Codec.{Codec-only, whole_takes, whole_again}
 use Rattle.eve_grammar.proofs.FieldCodecs.{Codec-number1, Codec-number2, Codec-number3, Codec-number4, Codec-behind}
 use Rattle.eve_grammar.proofs.PartCodecs.{chosen}
+use Rattle.eve_grammar.proofs.HeadLimits.{head_has_limits, few_customers}
 use Rattle.eve_grammar.proofs.BodyCodecs.{Exact, Exact-customer, Exact-batch, Exact-number, Exact-attempt, Exact-access}
 use Rattle.eve_grammar.proofs.BodyCodecs.{Exact-commit, Exact-rollback, Exact-vote, Exact-sent}
 use Rattle.eve_grammar.specs.declared.head.Head.{Head}
@@ -26,92 +27,59 @@ use Rattle.eve_grammar.specs.declared.place.Place.{Place}
 
 -- ---- the header
 
-pub record IsSmall (h : Head) : Type 0 where
-  pub replicas : h.replicas ≤ 8
-  pub verifiers : h.verifiers ≤ 16
-  pub quorum : h.quorum ≤ 16
-  pub window : h.window ≤ 8
-  pub workers : h.workers ≤ 8
-  pub customers : h.customers ≤ 4096
-  pub batches : h.batches ≤ 65535
-
-pub small_head : (h : Head) → IsTrue (is_head h) → IsSmall h
-small_head h fits =
-    let a = and_parts (leb 1 h.replicas && leb h.replicas 8) _ fits in
-    let b = and_parts (leb 1 h.verifiers && leb h.verifiers 16) _ a.1 in
-    let c = and_parts (leb h.quorum h.verifiers) _ b.1 in
-    let d = and_parts (ltb h.verifiers (2 * h.quorum)) _ c.1 in
-    let e = and_parts (leb 1 h.window && leb h.window 8) _ d.1 in
-    let f = and_parts (leb 1 h.workers && leb h.workers 8) _ e.1 in
-    let g = and_parts (leb 1 h.customers && leb h.customers 4096) _ f.1 in
-    let verifiers = leb-true h.verifiers 16 (and_parts (leb 1 h.verifiers) (leb h.verifiers 16) b.0).1 in
-    let quorum = leb-true h.quorum h.verifiers c.0 in
-    record {
-      replicas = leb-true h.replicas 8 (and_parts (leb 1 h.replicas) (leb h.replicas 8) a.0).1;
-      verifiers = verifiers;
-      quorum = omega arith;
-      window = leb-true h.window 8 (and_parts (leb 1 h.window) (leb h.window 8) e.0).1;
-      workers = leb-true h.workers 8 (and_parts (leb 1 h.workers) (leb h.workers 8) f.0).1;
-      customers = leb-true h.customers 4096 (and_parts (leb 1 h.customers) (leb h.customers 4096) g.0).1;
-      batches = leb-true h.batches 65535 g.1;
-    }
-
 pub few_batches : (t : Trace) → HasLimits t → length t.batches ≤ 65535
-few_batches t limits = (small_head (head_of t) limits.head).batches
+few_batches t limits = (head_has_limits (head_of t) limits.head).few_batches
 
 -- the 18 bytes of the header between the first six and the length
 abbrev pub limits_text : Head → List ℕ
 limits_text h =
-    big_bytes 2 1 ++ (big_bytes 1 h.replicas ++
+    big_bytes 2 h.version ++ (big_bytes 1 h.replicas ++
     (big_bytes 1 h.verifiers ++ (big_bytes 1 h.quorum ++ (big_bytes 1 h.window
     ++ (big_bytes 1 h.workers ++ (big_bytes 3 0 ++ (big_bytes 4 h.customers ++ big_bytes 4 h.batches)))))))
 
-abbrev head_parts : Head → ℕ × (ℕ × (ℕ × (ℕ × (ℕ × (ℕ × ℕ)))))
-head_parts h = (h.replicas, (h.verifiers, (h.quorum, (h.window, (h.workers, (h.customers, h.batches))))))
+abbrev head_parts : Head → ℕ × (ℕ × (ℕ × (ℕ × (ℕ × (ℕ × (ℕ × ℕ))))))
+head_parts h =
+    (h.version, (h.replicas, (h.verifiers, (h.quorum, (h.window, (h.workers, (h.customers, h.batches)))))))
 
-abbrev are_limits : ℕ × (ℕ × (ℕ × (ℕ × (ℕ × (ℕ × ℕ))))) → Bool
+abbrev are_limits : ℕ × (ℕ × (ℕ × (ℕ × (ℕ × (ℕ × (ℕ × ℕ)))))) → Bool
 are_limits p =
-    is_number 1 p.0 && (is_number 1 p.1.0 &&
-    (is_number 1 p.1.1.0 && (is_number 1 p.1.1.1.0 &&
-    (is_number 1 p.1.1.1.1.0 && (is_number 4 p.1.1.1.1.1.0 && is_number 4 p.1.1.1.1.1.1)))))
+    is_number 2 p.0 && (is_number 1 p.1.0 &&
+    (is_number 1 p.1.1.0 && (is_number 1 p.1.1.1.0 && (is_number 1 p.1.1.1.1.0 &&
+    (is_number 1 p.1.1.1.1.1.0 && (is_number 4 p.1.1.1.1.1.1.0 && is_number 4 p.1.1.1.1.1.1.1))))))
 
 limits_small : (h : Head) → IsTrue (is_head h) → IsTrue (are_limits (head_parts h))
 limits_small h fits =
-    let s = small_head h fits in
-    and_from (is_number 1 h.replicas) _ (lt-ltb _ 256 (let x = s.replicas in omega arith))
-    (and_from (is_number 1 h.verifiers) _ (lt-ltb _ 256 (let x = s.verifiers in omega arith))
-    (and_from (is_number 1 h.quorum) _ (lt-ltb _ 256 (let x = s.quorum in omega arith))
-    (and_from (is_number 1 h.window) _ (lt-ltb _ 256 (let x = s.window in omega arith))
-    (and_from (is_number 1 h.workers) _ (lt-ltb _ 256 (let x = s.workers in omega arith))
+    let s = head_has_limits h fits in
+    and_from (is_number 2 h.version) _ (lt-ltb _ (256 ^ 2) (let x = s.known_version in omega arith))
+    (and_from (is_number 1 h.replicas) _ (lt-ltb _ 256 (let x = s.few_replicas in omega arith))
+    (and_from (is_number 1 h.verifiers) _ (lt-ltb _ 256 (let x = s.few_verifiers in omega arith))
+    (and_from (is_number 1 h.quorum) _ (lt-ltb _ 256 (let x = s.quorum in let y = s.few_verifiers in omega arith))
+    (and_from (is_number 1 h.window) _ (lt-ltb _ 256 (let x = s.few_window in omega arith))
+    (and_from (is_number 1 h.workers) _ (lt-ltb _ 256 (let x = s.few_workers in omega arith))
     (and_from (is_number 4 h.customers) (is_number 4 h.batches)
-    (lt-ltb _ (256 ^ 4) (let x = s.customers in omega arith))
-    (lt-ltb _ (256 ^ 4) (let x = s.batches in omega arith)))))))
+    (lt-ltb _ (256 ^ 4) (let x = few_customers h fits in omega arith))
+    (lt-ltb _ (256 ^ 4) (let x = s.few_batches in omega arith))))))))
 
 abbrev are_written : Head → Bool
 are_written h = are_limits (head_parts h)
 
 header_codec : Codec limits_text is_head
-    (behind 2 1 (only is_head
-    (made head_from (both (number_at 1)
-    (both (number_at 1) (both (number_at 1)
+    (only is_head (made head_from (both (number_at 2)
+    (both (number_at 1) (both (number_at 1) (both (number_at 1)
     (both (number_at 1) (both (number_at 1) (behind 3 0 (both (number_at 4) (number_at 4)))))))))))
 header_codec =
     Codec-as limits_text limits_text (λ h. is_head h && are_written h) is_head _ (λ h fits. refl)
     (λ h fits. (and_parts (is_head h) (are_written h) fits).0)
     (λ h fits. and_from (is_head h) (are_written h) fits (limits_small h fits))
-    (Codec-behind 2 1 _ (λ h. is_head h && are_written h)
-    (only is_head (made head_from
-    (both (number_at 1) (both (number_at 1)
-    (both (number_at 1) (both (number_at 1)
-    (both (number_at 1) (behind 3 0 (both (number_at 4) (number_at 4)))))))))) Codec-number2 refl
     (Codec-only _ are_written
-    (made head_from (both (number_at 1)
-    (both (number_at 1) (both (number_at 1)
-    (both (number_at 1) (both (number_at 1) (behind 3 0 (both (number_at 4) (number_at 4))))))))) is_head
+    (made head_from (both (number_at 2)
+    (both (number_at 1) (both (number_at 1) (both (number_at 1)
+    (both (number_at 1) (both (number_at 1) (behind 3 0 (both (number_at 4) (number_at 4)))))))))) is_head
     (Codec-made _ are_limits
-    (both (number_at 1) (both (number_at 1)
-    (both (number_at 1) (both (number_at 1) (both (number_at 1) (behind 3 0 (both (number_at 4) (number_at 4))))))))
+    (both (number_at 2) (both (number_at 1) (both (number_at 1) (both (number_at 1)
+    (both (number_at 1) (both (number_at 1) (behind 3 0 (both (number_at 4) (number_at 4)))))))))
     head_from head_parts are_written (λ p fits. (refl, fits)) (λ h fits. (refl, fits))
+    (Codec-both (big_bytes 2) (is_number 2) (number_at 2) _ _ _ Codec-number2
     (Codec-both (big_bytes 1) (is_number 1) (number_at 1) _ _ _ Codec-number1
     (Codec-both (big_bytes 1) (is_number 1) (number_at 1) _ _ _ Codec-number1
     (Codec-both (big_bytes 1) (is_number 1) (number_at 1) _ _ _ Codec-number1
@@ -139,7 +107,7 @@ pub record BodyOf (h : Head) (p : Place) (kind : ℕ) (body : List ℕ) (f : Fra
   pub fits : IsTrue (is_body h p f)
 
 few_rows : (h : Head) → IsTrue (is_head h) → row_count h < 2 ^ 32
-few_rows h fits = let s = (small_head h fits).customers in omega arith
+few_rows h fits = let s = few_customers h fits in omega arith
 
 -- of this kind, and so of that
 at_kind : (h : Head) (p : Place) (body : List ℕ) (kind n : ℕ) (f : Frame) → eqb kind n ≡ true → BodyOf h p n body f
@@ -220,7 +188,7 @@ body_of-takes h p kind body f right fits e =
                     | inr c ↦ elim (chosen (eqb kind 33) _ _ (Some f) c.1) [
                       | inl c ↦
                           let a = bind_some (vote_of h.batches body) (λ v. Some (OfVote v)) f c.1 in
-                          let s = (small_head h right).batches in
+                          let s = (head_has_limits h right).few_batches in
                           let t = (Exact-vote h.batches (omega arith)).takes body a.0 fits a.1 in
                           at_kind h p body kind 33 f c.0
                           (subst (BodyOf h p 33 body) (same_Some (OfVote a.0) f a.2)
@@ -228,9 +196,9 @@ body_of-takes h p kind body f right fits e =
                       | inr c ↦ elim (chosen (eqb kind 48) _ _ (Some f) c.1) [
                         | inl c ↦
                             let a = bind_some (sent_of h.replicas h.batches body) (λ s. Some (OfSent s)) f c.1 in
-                            let s = small_head h right in
-                            let t = (Exact-sent h.replicas h.batches (let x = s.replicas in omega arith)
-                            (let x = s.batches in omega arith)).takes body a.0 fits a.1 in
+                            let s = head_has_limits h right in
+                            let t = (Exact-sent h.replicas h.batches (let x = s.few_replicas in omega arith)
+                            (let x = s.few_batches in omega arith)).takes body a.0 fits a.1 in
                             at_kind h p body kind 48 f c.0
                             (subst (BodyOf h p 48 body) (same_Some (OfSent a.0) f a.2)
                             (record { kind_is = refl; text = t.0; fits = t.1 }))
@@ -330,7 +298,7 @@ body_of-again h p (OfCustomer c) right fits = rw (Exact-customer.again c fits.bo
 body_of-again h p (OfBatch number b) right fits =
     let parts = and_parts (eqb number (p.batches + 1)) (is_batch b) fits.body in
     let room = batch_room h p fits.allowed in
-    let few = (small_head h right).batches in
+    let few = (head_has_limits h right).few_batches in
     let same = eqb-true number (p.batches + 1) parts.0 in
     let read : batch_of (body_text (OfBatch number b)) ≡ Some (number, b) =
     Exact-batch.again (number, b)
@@ -340,7 +308,7 @@ body_of-again h p (OfBatch number b) right fits =
 body_of-again h p (OfReplica number) right fits =
     let test : eqb number p.replicas ≡ true = fits.body in
     let room = replica_room h p fits.allowed in
-    let few = (small_head h right).replicas in
+    let few = (head_has_limits h right).few_replicas in
     let same = eqb-true number p.replicas test in
     let read : number_of (big_bytes 1 number) ≡ Some number =
     Exact-number.again number (lt-ltb number 256 (omega arith)) in
@@ -353,16 +321,16 @@ body_of-again h p (OfRollback r) right fits = rw ((Exact-rollback (row_count h) 
     refl
 body_of-again h p (OfVerifier number) right fits =
     let test : eqb number p.verifiers ≡ true = fits.body in
-    let few = (small_head h right).verifiers in
+    let few = (head_has_limits h right).few_verifiers in
     let same = eqb-true number p.verifiers test in
     let short : number < 256 = elim (verifier_room h p fits.allowed) [ inl none ↦ omega arith | inr room ↦ omega arith ]
     in
     let read : number_of (big_bytes 1 number) ≡ Some number = Exact-number.again number (lt-ltb number 256 short) in
     rw (read, test) refl
-body_of-again h p (OfVote v) right fits = let few = (small_head h right).batches in
+body_of-again h p (OfVote v) right fits = let few = (head_has_limits h right).few_batches in
     rw ((Exact-vote h.batches (omega arith)).again v fits.body) refl
 body_of-again h p (OfSent s) right fits =
-    let small = small_head h right in
-    rw ((Exact-sent h.replicas h.batches (let x = small.replicas in omega arith)
-    (let x = small.batches in omega arith)).again s fits.body) refl
+    let small = head_has_limits h right in
+    rw ((Exact-sent h.replicas h.batches (let x = small.few_replicas in omega arith)
+    (let x = small.few_batches in omega arith)).again s fits.body) refl
 body_of-again h p End right fits = refl

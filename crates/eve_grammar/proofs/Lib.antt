@@ -15,6 +15,7 @@ pub mod RestFrames
 pub mod Rests
 pub mod Gatherings
 pub mod Runs
+pub mod HeadLimits
 pub mod HeaderParts
 pub mod OneTrace
 pub mod Counting

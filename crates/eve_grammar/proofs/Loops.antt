@@ -1,10 +1,12 @@
 -- Loops that read and keep no values.
-use Rattle.std.proofs.Common.{◌≡◌, ℕ, suc, ◌-◌, ◌+◌, ◌≤◌, ◌<◌, true, leb, List, Option, Some, None, refl, sym, ap, ◌∙◌}
+use Rattle.std.proofs.Common.{◌≡◌, ℕ, suc, ◌-◌, ◌+◌, ◌≤◌, ◌<◌, true, false, leb, List, Option, Some, None, refl, sym, ap, ◌∙◌}
 use Rattle.std.proofs.Common.{arith}
 use Rattle.std.proofs.lemmas.Bool.{le-leb}
-use Rattle.eve_grammar.specs.Reading.{◌>>=◌, Reader, number_at, restore_at}
-use Rattle.eve_grammar.specs.Scanning.{total_at, rest_at, rising_at}
+use Rattle.eve_grammar.specs.Reading.{◌>>=◌, Reader, number_at, restore_at, versioned_at}
+use Rattle.eve_grammar.specs.Scanning.{total_at, rest_at, rising_at, saved_at}
+use Rattle.eve_grammar.specs.Limits.{is_no_debt}
 use Rattle.eve_grammar.specs.declared.restore.Restore.{Restore}
+use Rattle.eve_smallbank.specs.declared.versioned.Versioned.{Versioned}
 
 -- the sum with what came before
 abbrev pub plus : ℕ → Option (ℕ × List ℕ) → Option (ℕ × List ℕ)
@@ -53,3 +55,38 @@ rising_more rows least count i bytes more r all lt read above so_far =
     let step : rising_at rows least (count - i) bytes ≡ rising_at rows (r.row + 1) (count - (i + 1)) more =
     rw (left, read, test) refl in
     sym step ∙ so_far
+
+pub saved_more : (row count : ℕ) (bytes more : List ℕ) (x : Versioned) (all : Option (List ℕ)) → row < count
+    → versioned_at bytes ≡ Some (x, more) → is_no_debt row x ≡ true
+    → saved_at row (count - row) bytes ≡ all → saved_at (row + 1) (count - (row + 1)) more ≡ all
+unfolding saved_at
+saved_more row count bytes more x all lt read test so_far =
+    let left : count - row ≡ suc (count - (row + 1)) = omega arith in
+    let step : saved_at row (count - row) bytes ≡ saved_at (row + 1) (count - (row + 1)) more =
+    rw (left, read, test) refl in
+    sym step ∙ so_far
+
+pub saved_none : (row count : ℕ) (bytes : List ℕ) (all : Option (List ℕ)) → row < count → versioned_at bytes ≡ None
+    → saved_at row (count - row) bytes ≡ all → all ≡ None
+unfolding saved_at
+saved_none row count bytes all lt read so_far =
+    let left : count - row ≡ suc (count - (row + 1)) = omega arith in
+    let step : saved_at row (count - row) bytes ≡ None = rw (left, read) refl in
+    sym so_far ∙ step
+
+pub saved_debt : (row count : ℕ) (bytes more : List ℕ) (x : Versioned) (all : Option (List ℕ)) → row < count
+    → versioned_at bytes ≡ Some (x, more) → is_no_debt row x ≡ false
+    → saved_at row (count - row) bytes ≡ all → all ≡ None
+unfolding saved_at
+saved_debt row count bytes more x all lt read test so_far =
+    let left : count - row ≡ suc (count - (row + 1)) = omega arith in
+    let step : saved_at row (count - row) bytes ≡ None = rw (left, read, test) refl in
+    sym so_far ∙ step
+
+pub saved_all : (row count : ℕ) (bytes : List ℕ) (all : Option (List ℕ)) → count ≤ row
+    → saved_at row (count - row) bytes ≡ all → all ≡ Some bytes
+unfolding saved_at
+saved_all row count bytes all le so_far =
+    let none : count - row ≡ 0 = omega arith in
+    let step : saved_at row (count - row) bytes ≡ Some bytes = rw none refl in
+    sym so_far ∙ step

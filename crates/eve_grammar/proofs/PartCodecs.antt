@@ -1,4 +1,5 @@
--- Public: other crates cite these lemmas. Requests, replies, entries and restores are codecs.
+-- Public: other crates cite these lemmas. Requests, replies, entries, restores and what rows have are
+-- codecs.
 use Rattle.std.proofs.Common.{◌≡◌, ℕ, ℤ, pos, ◌^◌, ◌≤◌, Bool, true, false, ◌&&◌, cond, ltb, leb, eqb, ◌⊎◌, List, ◌++◌}
 use Rattle.std.proofs.Common.{length, Some, refl, sym, ap, subst, ◌∙◌, arith, inl, inr}
 use Rattle.std.specs.Prelude.{IsTrue, if◌then◌else◌}
@@ -20,17 +21,18 @@ use Rattle.eve_smallbank.specs.declared.entry.Entry.{Entry}
 use Rattle.eve_smallbank.specs.Access.{is_write}
 use Rattle.eve_grammar.specs.Trace.{Asked}
 use Rattle.eve_grammar.specs.declared.limits.TheConstants.{MOST_VERSIONS}
-use Rattle.eve_grammar.specs.Limits.{is_number, is_request, is_asked, is_reply, is_entry, is_restore}
-use Rattle.eve_grammar.specs.Spelling.{name_text, request_text, asked_text, entry_text, restore_text}
+use Rattle.eve_grammar.specs.Limits.{is_number, is_request, is_asked, is_reply, is_entry, is_restore, is_versioned}
+use Rattle.eve_grammar.specs.Spelling.{name_text, request_text, asked_text, entry_text, restore_text, versioned_text}
 use Rattle.eve_grammar.specs.Reading.{Reader, number_at, signed_at, both, made, made_if, only, name_at, move_at}
 use Rattle.eve_grammar.specs.Reading.{coded_at, request_at, asked_from, asked_at, plain_reply, reply_from, reply_at}
 use Rattle.eve_grammar.specs.Reading.{kind_from, entry_from, entry_fields_at, entry_at, restore_from, restore_fields_at}
-use Rattle.eve_grammar.specs.Reading.{restore_at}
+use Rattle.eve_grammar.specs.Reading.{restore_at, versioned_from, versioned_fields_at, versioned_at}
 use Rattle.eve_grammar.proofs.Codec.{IsBytes, bind_some, guard_some, Takes, Codec, Codec-as, Codec-made}
 use Rattle.eve_grammar.proofs.Codec.{Codec-made_if, Codec-led_by, Codec-both, Codec-only}
 use Rattle.eve_grammar.proofs.FieldCodecs.{Codec-number1, Codec-number4, Codec-number8, is_signed, Codec-signed}
 use Rattle.eve_grammar.proofs.FieldCodecs.{balance_signed, Codec-name, move_text, is_move, Codec-move}
 use Rattle.eve_grammar.specs.declared.restore.Restore.{Restore}
+use Rattle.eve_smallbank.specs.declared.versioned.Versioned.{Versioned}
 
 pub chosen : {A : Type 0} (b : Bool) (x y z : A) → cond b x y ≡ z → ((b ≡ true) × (x ≡ z)) ⊎ ((b ≡ false) × (y ≡ z))
 chosen true x y z e = inl (refl, e)
@@ -377,3 +379,36 @@ Codec-restore rows few =
     (λ r fits. (and_parts (is_restore rows r) (is_restored r) fits).0)
     (λ r fits. and_from (is_restore rows r) (is_restored r) fits (restore_written rows few r fits))
     (Codec-only restore_text is_restored restore_fields_at (is_restore rows) Codec-restore_fields)
+
+-- ---- versions and values
+
+abbrev versioned_parts : Versioned → ℕ × ℤ
+versioned_parts x = (x.version, x.value)
+
+abbrev pub is_fielded : Versioned → Bool
+is_fielded x = is_number 8 x.version && is_signed x.value
+
+pub versioned_length : (x : Versioned) → length (versioned_text x) ≡ 16
+versioned_length x = refl
+
+pub Codec-versioned_fields : Codec versioned_text is_fielded versioned_fields_at
+unfolding versioned_fields_at
+Codec-versioned_fields =
+    Codec-made (λ p. big_bytes 8 p.0 ++ money_text p.1) (λ p. is_number 8 p.0 && is_signed p.1)
+    (both (number_at 8) signed_at) versioned_from versioned_parts is_fielded
+    (λ p fits. (refl, fits)) (λ x fits. (refl, fits))
+    (Codec-both (big_bytes 8) (is_number 8) (number_at 8) money_text is_signed signed_at Codec-number8 Codec-signed)
+
+versioned_written : (x : Versioned) → IsTrue (is_versioned x) → IsTrue (is_fielded x)
+versioned_written x fits =
+    let a = and_parts (leb x.version MOST_VERSIONS) (is_balance x.value) fits in
+    and_from (is_number 8 x.version) (is_signed x.value) (version_below x.version a.0) (balance_signed x.value a.1)
+
+pub Codec-versioned : Codec versioned_text is_versioned versioned_at
+unfolding versioned_at
+Codec-versioned =
+    Codec-as versioned_text versioned_text (λ x. is_versioned x && is_fielded x) is_versioned
+    (only is_versioned versioned_fields_at) (λ x fits. refl)
+    (λ x fits. (and_parts (is_versioned x) (is_fielded x) fits).0)
+    (λ x fits. and_from (is_versioned x) (is_fielded x) fits (versioned_written x fits))
+    (Codec-only versioned_text is_fielded versioned_fields_at is_versioned Codec-versioned_fields)

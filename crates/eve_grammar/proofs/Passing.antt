@@ -6,17 +6,18 @@ use Rattle.std.proofs.lemmas.Bool.{le-leb, ltb-false, leb-true, and_parts, and_f
 use Rattle.std.proofs.lemmas.List.{length-drop}
 use Rattle.std.proofs.lemmas.Option.{same_Some}
 use Rattle.eve_smallbank.specs.declared.request.Reply.{Reply}
-use Rattle.eve_grammar.specs.Limits.{is_between, is_rising}
+use Rattle.eve_grammar.specs.Limits.{is_between, is_rising, are_no_debts}
 use Rattle.eve_grammar.specs.Reading.{◌>>=◌, Reader, number_at, both, many_at, reply_at, restore_at, are_sizes}
 use Rattle.eve_grammar.specs.Reading.{sizes_at}
-use Rattle.eve_grammar.specs.Reading.{certified_at, restores_at, Gives}
-use Rattle.eve_grammar.specs.Scanning.{Passes, total_at, rest_at, rising_at}
+use Rattle.eve_grammar.specs.Reading.{certified_at, restores_at, versioned_at, state_rows_at, Gives}
+use Rattle.eve_grammar.specs.Scanning.{Passes, total_at, rest_at, rising_at, saved_at}
 use Rattle.eve_grammar.proofs.Codec.{bind_some, guard_some}
 use Rattle.eve_grammar.proofs.Scans.{rest_some, rest_none, many_length, many_numbers, summed, total_is, risen}
 use Rattle.eve_grammar.proofs.Scans.{rising_is, counted}
-use Rattle.eve_grammar.proofs.Scans.{is_rising_from, rising_from_zero}
+use Rattle.eve_grammar.proofs.Scans.{is_rising_from, rising_from_zero, saved, saved_is}
 use Rattle.eve_grammar.proofs.Loops.{rest_short}
 use Rattle.eve_grammar.specs.declared.restore.Restore.{Restore}
+use Rattle.eve_smallbank.specs.declared.versioned.Versioned.{Versioned}
 
 -- ---- loops
 
@@ -72,6 +73,37 @@ restores_passed view None rows count bytes restores read e =
         ≡ None
     by None e = refl
     by (Some x) e = all x.0 x.1 (is_rising_from 0 x.0) refl e
+
+-- ---- rows
+
+abbrev some_rows : List Versioned → List ℕ → Option (List Versioned × List ℕ)
+some_rows xs rest = Some (xs, rest)
+
+rows_are : (rows : ℕ) (bytes rest behind : List ℕ) (xs : List Versioned) → many_at versioned_at rows bytes
+    ≡ Some (xs, rest) → are_no_debts 0 xs ≡ true → rest ≡ behind → state_rows_at rows bytes ≡ Some (xs, behind)
+unfolding state_rows_at
+rows_are rows bytes rest behind xs many saved same = rw (many, saved) (ap (some_rows xs) same)
+
+-- what stands after rows one by one stands after rows
+pub rows_passed : {X : Type 0} (view : X → List ℕ) (result : Option X) (rows : ℕ) (bytes : List ℕ)
+    → Gives view result (saved_at 0 rows bytes) → Passes view result (state_rows_at rows bytes)
+unfolding state_rows_at
+rows_passed view (Some x) rows bytes e =
+    let r = bind_some (many_at versioned_at rows bytes) (λ x. cond (are_no_debts 0 x.0) (Some x.1) None) (view x)
+    (sym (saved_is 0 rows bytes) ∙ e) in
+    let g = guard_some (are_no_debts 0 r.0.0) (Some r.0.1) (view x) r.2 in
+    (r.0.0, rows_are rows bytes r.0.1 (view x) r.0.0 r.1 g.0 (same_Some r.0.1 (view x) g.1))
+rows_passed view None rows bytes e = by (many_at versioned_at rows bytes) (sym (saved_is 0 rows bytes) ∙ e)
+  where
+    all : (xs : List Versioned) (rest : List ℕ) (b : Bool) → cond b (Some rest) None ≡ None
+        → cond b (some_rows xs rest) None ≡ None
+    all xs rest true e = absurd cc
+    all xs rest false e = refl
+
+    by : (m : Option (List Versioned × List ℕ)) → saved 0 m ≡ None
+        → (m >>= λ x. cond (are_no_debts 0 x.0) (Some x) None) ≡ None
+    by None e = refl
+    by (Some x) e = all x.0 x.1 (are_no_debts 0 x.0) e
 
 -- ---- certificates and replies
 

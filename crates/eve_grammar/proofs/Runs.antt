@@ -2,9 +2,9 @@
 use Rattle.std.proofs.Common.{◌≡◌, ℕ, zero, suc, ◌+◌, ◌-◌, ◌^◌, ◌<◌, ◌≤◌, Bool, true, false, not, ◌&&◌, ◌||◌, List, []}
 use Rattle.std.proofs.Common.{◌∷◌, ◌++◌, map, length, refl, sym, subst, append_assoc, arith, lt-ltb, le-ltb, eq-eqb}
 use Rattle.std.proofs.Common.{eqb-true, ne_eqb, length-append}
-use Rattle.std.specs.Prelude.{IsTrue, nat_le, nat_lt, ◌==◌}
+use Rattle.std.specs.Prelude.{IsTrue, nat_lt, ◌==◌}
 use Rattle.std.specs.List.{flat_map, enumerate_from, list_all}
-use Rattle.std.proofs.lemmas.Bool.{and_parts, and_from, or_left, or_right, leb-true}
+use Rattle.std.proofs.lemmas.Bool.{and_parts, and_from, or_left, or_right}
 use Rattle.eve_grammar.specs.Trace.{Customer, Batch, Access, Attempt, Step, Attempts, Commits, RollsBack, Vote, Sent}
 use Rattle.eve_grammar.specs.Trace.{Trace, head_of}
 use Rattle.eve_grammar.specs.Frames.{Frame, OfCustomer, OfBatch, OfAccess, OfVote, OfSent, End, step_frames}
@@ -12,11 +12,12 @@ use Rattle.eve_grammar.specs.Frames.{section_frames, verifier_frames, frames_of,
 use Rattle.eve_grammar.specs.Frames.{next_place}
 use Rattle.eve_grammar.specs.Frames.{is_allowed_in_sections, is_allowed_behind_sections, is_allowed}
 use Rattle.eve_grammar.specs.Spelling.{frame_text, frames_text, length_of}
-use Rattle.eve_grammar.specs.Limits.{is_between, is_head, is_customer, is_batch, is_access, is_attempt, is_step}
+use Rattle.eve_grammar.specs.Limits.{is_head, is_customer, is_batch, is_access, is_attempt, is_step}
 use Rattle.eve_grammar.specs.Limits.{is_vote, is_sent, row_count, HasLimits, is_body}
 use Rattle.eve_grammar.specs.Following.{Follow, after, AreAllFrames}
 use Rattle.eve_grammar.specs.declared.head.Head.{Head}
 use Rattle.eve_grammar.specs.declared.place.Place.{Place}
+use Rattle.eve_grammar.proofs.HeadLimits.{head_has_limits}
 
 -- frames that stand in order up to the end, but for their lengths
 Runs : Head → Place → List Frame → Type 0
@@ -252,11 +253,7 @@ run_sent (s ∷ sent) sending h some limits =
 
 -- there is a verifier
 pub some_verifier : (h : Head) → IsTrue (is_head h) → 0 < h.verifiers
-some_verifier h e =
-    let a = and_parts (is_between 1 8 h.replicas) _ e in
-    let b = and_parts (is_between 1 16 h.verifiers) _ a.1 in
-    let c = and_parts (nat_le 1 h.verifiers) (nat_le h.verifiers 16) b.0 in
-    leb-true 1 h.verifiers c.0
+some_verifier h right = (head_has_limits h right).some_verifiers
 
 frames_run : (t : Trace) → HasLimits t → Runs (head_of t) start_place (frames_of t)
 unfolding frames_of

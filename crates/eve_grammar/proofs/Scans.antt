@@ -8,11 +8,12 @@ use Rattle.std.proofs.lemmas.List.{length-append, length-drop, drop-drop}
 use Rattle.std.proofs.lemmas.List.Sums.{sum_by-cons}
 use Rattle.std.proofs.lemmas.Option.{same_Some}
 use Rattle.byteorder.specs.Endian.{big_number}
-use Rattle.eve_grammar.specs.Limits.{is_rising}
-use Rattle.eve_grammar.specs.Reading.{◌>>=◌, Reader, number_at, many_at, restore_at}
-use Rattle.eve_grammar.specs.Scanning.{total_at, rest_at, rising_at}
+use Rattle.eve_grammar.specs.Limits.{is_rising, is_no_debt, are_no_debts}
+use Rattle.eve_grammar.specs.Reading.{◌>>=◌, Reader, number_at, many_at, restore_at, versioned_at}
+use Rattle.eve_grammar.specs.Scanning.{total_at, rest_at, rising_at, saved_at}
 use Rattle.eve_grammar.proofs.Codec.{bind_some}
 use Rattle.eve_grammar.specs.declared.restore.Restore.{Restore}
+use Rattle.eve_smallbank.specs.declared.versioned.Versioned.{Versioned}
 
 -- ---- this many of a field
 
@@ -114,6 +115,32 @@ total_is (suc n) bytes = first (number_at 2 bytes) (total_is n)
     first None before = refl
     first (Some x) before = ap (λ (t : Option (ℕ × List ℕ)). cond (leb 1 x.0) (t >>= λ y. Some (x.0 + y.0, y.1)) None)
         (before x.1) ∙ summed-cons x.0 (many_at (number_at 2) n x.1) (leb 1 x.0) refl
+
+-- ---- rows
+
+-- what stands after, if no saving is below 0
+abbrev pub saved : ℕ → Option (List Versioned × List ℕ) → Option (List ℕ)
+saved row m = m >>= λ x. cond (are_no_debts row x.0) (Some x.1) None
+
+saved-cons : (row : ℕ) (x : Versioned) (m : Option (List Versioned × List ℕ)) (b : Bool) → is_no_debt row x ≡ b
+    → cond b (saved (row + 1) m) None ≡ saved row (m >>= λ y. Some (x ∷ y.0, y.1))
+saved-cons row x None true e = refl
+saved-cons row x None false e = refl
+saved-cons row x (Some y) true e = rw e refl
+saved-cons row x (Some y) false e = rw e refl
+
+pub saved_is : (row n : ℕ) (bytes : List ℕ) → saved_at row n bytes ≡ saved row (many_at versioned_at n bytes)
+unfolding saved_at many_at
+saved_is row zero bytes = refl
+saved_is row (suc n) bytes = first (versioned_at bytes) (λ k b. saved_is k n b)
+  where
+    first : (r : Option (Versioned × List ℕ))
+        → ((k : ℕ) (b : List ℕ) → saved_at k n b ≡ saved k (many_at versioned_at n b))
+        → (r >>= λ x. cond (is_no_debt row x.0) (saved_at (row + 1) n x.1) None)
+        ≡ saved row (r >>= λ x. many_at versioned_at n x.1 >>= λ y. Some (x.0 ∷ y.0, y.1))
+    first None before = refl
+    first (Some x) before = ap (λ (t : Option (List ℕ)). cond (is_no_debt row x.0) t None) (before (row + 1) x.1)
+        ∙ saved-cons row x.0 (many_at versioned_at n x.1) (is_no_debt row x.0) refl
 
 -- ---- rising restores
 

@@ -11,16 +11,18 @@ use Rattle.eve_smallbank.specs.declared.request.Reply.{Reply}
 use Rattle.eve_smallbank.specs.declared.entry.Kind.{Kind}
 use Rattle.eve_smallbank.specs.declared.entry.Entry.{Entry}
 use Rattle.eve_grammar.specs.Limits.{is_entry, is_head}
-use Rattle.eve_grammar.specs.Spelling.{entry_text, restore_text}
+use Rattle.eve_grammar.specs.Spelling.{entry_text, restore_text, versioned_text}
 use Rattle.eve_grammar.specs.Reading.{Reader, ◌>>=◌, number_at, signed_at, both, behind, made, made_if, only, head_from}
 use Rattle.eve_grammar.specs.Reading.{header_of, reply_from, reply_at, kind_from, entry_fields_at, entry_at}
-use Rattle.eve_grammar.specs.Reading.{restore_fields_at, restore_at}
+use Rattle.eve_grammar.specs.Reading.{restore_fields_at, restore_at, versioned_fields_at, versioned_at}
 use Rattle.eve_grammar.proofs.Codec.{IsBytes, Codec}
 use Rattle.eve_grammar.proofs.FrameLaws.{Exact-header}
 use Rattle.eve_grammar.proofs.PartCodecs.{reply_length, Codec-reply, is_written, entry_length, Codec-entry_fields}
 use Rattle.eve_grammar.proofs.PartCodecs.{is_restored, restore_length, Codec-restore_fields}
+use Rattle.eve_grammar.proofs.PartCodecs.{is_fielded, versioned_length, Codec-versioned_fields}
 use Rattle.eve_grammar.specs.declared.head.Head.{Head}
 use Rattle.eve_grammar.specs.declared.restore.Restore.{Restore}
+use Rattle.eve_smallbank.specs.declared.versioned.Versioned.{Versioned}
 
 -- what is shorter than each of its spellings is not read
 pub too_short : {A : Type 0} (n : ℕ) (ta : A → List ℕ) (fa : A → Bool) (ra : Reader A) → Codec ta fa ra
@@ -221,11 +223,58 @@ restore_is rows bytes fits = by (ltb (length bytes) 20) refl
     by true e = restore_short rows bytes fits (ltb-true _ _ e)
     by false e = restore_long rows bytes (ltb-false _ _ e)
 
+-- ---- versions and values
+
+abbrev pub versioned_in : List ℕ → Versioned
+versioned_in bytes = record { version = number_in 8 0 bytes; value = signed_in 8 bytes }
+
+abbrev pub versioned_found : List ℕ → Option (Versioned × List ℕ)
+versioned_found bytes = Some (versioned_in bytes, bytes_from 16 bytes)
+
+abbrev pub versioned_if : List ℕ → Option (Versioned × List ℕ)
+versioned_if bytes =
+    balance_of (signed_in 8 bytes) >>= λ value.
+    cond (leb (number_in 8 0 bytes) 1099511627776) (versioned_found bytes) None
+
+versioned_fields_long : (bytes : List ℕ) → 16 ≤ length bytes → versioned_fields_at bytes ≡ versioned_found bytes
+unfolding versioned_fields_at bytes_from
+versioned_fields_long bytes le =
+    rw (both_at (number_at 8) signed_at bytes (drop 8 bytes) (drop 16 bytes) (number_in 8 0 bytes) (signed_in 8 bytes)
+    (number_at_in 8 0 bytes (omega arith)) (signed_at_in 8 bytes (omega arith))) refl
+
+versioned_long : (bytes : List ℕ) → 16 ≤ length bytes → versioned_at bytes ≡ versioned_if bytes
+unfolding versioned_at
+versioned_long bytes le =
+    rw (versioned_fields_long bytes le)
+    (tested (leb (number_in 8 0 bytes) 1099511627776) (is_balance (signed_in 8 bytes)))
+  where
+    tested : (a b : Bool) → cond (a && b) (versioned_found bytes) None
+        ≡ (cond b (Some (signed_in 8 bytes)) None >>= λ value. cond a (versioned_found bytes) None)
+    tested true true = refl
+    tested true false = refl
+    tested false true = refl
+    tested false false = refl
+
+versioned_short : (bytes : List ℕ) → IsBytes bytes → length bytes < 16 → versioned_at bytes ≡ None
+unfolding versioned_at
+versioned_short bytes fits lt =
+    rw (too_short 16 versioned_text is_fielded versioned_fields_at Codec-versioned_fields versioned_length bytes fits lt)
+    refl
+
+pub versioned_is : (bytes : List ℕ) → IsBytes bytes → versioned_at bytes ≡ cond (ltb (length bytes) 16) None
+    (versioned_if bytes)
+versioned_is bytes fits = by (ltb (length bytes) 16) refl
+  where
+    by : (b : Bool) → ltb (length bytes) 16 ≡ b → versioned_at bytes ≡ cond b None (versioned_if bytes)
+    by true e = versioned_short bytes fits (ltb-true _ _ e)
+    by false e = versioned_long bytes (ltb-false _ _ e)
+
 -- ---- the header
 
 abbrev pub head_in : List ℕ → Head
 head_in bytes =
     record {
+      version = number_in 2 0 bytes;
       replicas = get_or bytes 2 0;
       verifiers = get_or bytes 3 0;
       quorum = get_or bytes 4 0;
@@ -240,7 +289,7 @@ abbrev pub head_if : List ℕ → Option Head
 head_if bytes = cond (is_head (head_in bytes)) (Some (head_in bytes)) None
 
 abbrev pub header_in : List ℕ → Option Head
-header_in bytes = cond (eqb (number_in 2 0 bytes) 1) (cond (eqb (number_in 3 7 bytes) 0) (head_if bytes) None) None
+header_in bytes = cond (eqb (number_in 3 7 bytes) 0) (head_if bytes) None
 
 -- a byte and what is read after it
 byte_then : {A : Type 0} (two : Reader A) (k : ℕ) (bytes rest : List ℕ) (a : A) → k + 1 ≤ length bytes
@@ -264,14 +313,14 @@ zeros_none : (bytes : List ℕ) → 18 ≤ length bytes → eqb (number_in 3 7 b
     → behind 3 0 (both (number_at 4) (number_at 4)) (drop 7 bytes) ≡ None
 zeros_none bytes le zero_is = rw (number_at_in 3 7 bytes (omega arith), zero_is) refl
 
--- the seven numbers
-numbers_at : Reader (ℕ × (ℕ × (ℕ × (ℕ × (ℕ × (ℕ × ℕ))))))
-numbers_at = both (number_at 1)
+-- the seven numbers after the version
+counts_at : Reader (ℕ × (ℕ × (ℕ × (ℕ × (ℕ × (ℕ × ℕ))))))
+counts_at = both (number_at 1)
     (both (number_at 1) (both (number_at 1)
     (both (number_at 1) (both (number_at 1) (behind 3 0 (both (number_at 4) (number_at 4)))))))
 
-numbers_some : (bytes : List ℕ) → 18 ≤ length bytes → eqb (number_in 3 7 bytes) 0 ≡ true
-    → numbers_at (drop 2 bytes)
+counts_some : (bytes : List ℕ) → 18 ≤ length bytes → eqb (number_in 3 7 bytes) 0 ≡ true
+    → counts_at (drop 2 bytes)
     ≡ Some (
       (
         get_or bytes 2 0,
@@ -285,29 +334,42 @@ numbers_some : (bytes : List ℕ) → 18 ≤ length bytes → eqb (number_in 3 7
       ),
       drop 18 bytes,
     )
-unfolding numbers_at
-numbers_some bytes le zero_is =
+unfolding counts_at
+counts_some bytes le zero_is =
     byte_then _ 2 bytes (drop 18 bytes) _ (omega arith)
     (byte_then _ 3 bytes (drop 18 bytes) _ (omega arith) (byte_then _ 4 bytes (drop 18 bytes) _ (omega arith)
     (byte_then _ 5 bytes (drop 18 bytes) _ (omega arith)
     (byte_then _ 6 bytes (drop 18 bytes) _ (omega arith) (zeros_some bytes le zero_is)))))
 
-numbers_none : (bytes : List ℕ) → 18 ≤ length bytes → eqb (number_in 3 7 bytes) 0 ≡ false → numbers_at (drop 2 bytes)
+counts_none : (bytes : List ℕ) → 18 ≤ length bytes → eqb (number_in 3 7 bytes) 0 ≡ false → counts_at (drop 2 bytes)
     ≡ None
-unfolding numbers_at
-numbers_none bytes le zero_is =
+unfolding counts_at
+counts_none bytes le zero_is =
     byte_none _ 2 bytes (omega arith)
     (byte_none _ 3 bytes (omega arith)
     (byte_none _ 4 bytes (omega arith)
     (byte_none _ 5 bytes (omega arith) (byte_none _ 6 bytes (omega arith) (zeros_none bytes le zero_is)))))
 
+-- and with it
+numbers_at : Reader (ℕ × (ℕ × (ℕ × (ℕ × (ℕ × (ℕ × (ℕ × ℕ)))))))
+numbers_at = both (number_at 2) counts_at
+
+numbers_some : (bytes : List ℕ) → 18 ≤ length bytes → eqb (number_in 3 7 bytes) 0 ≡ true
+    → made head_from numbers_at bytes ≡ Some (head_in bytes, drop 18 bytes)
+unfolding numbers_at
+numbers_some bytes le zero_is = rw (number_at_in 2 0 bytes (omega arith), counts_some bytes le zero_is) refl
+
+numbers_none : (bytes : List ℕ) → 18 ≤ length bytes → eqb (number_in 3 7 bytes) 0 ≡ false
+    → made head_from numbers_at bytes ≡ None
+unfolding numbers_at
+numbers_none bytes le zero_is = rw (number_at_in 2 0 bytes (omega arith), counts_none bytes le zero_is) refl
+
 abbrev some_head : Head → List ℕ → Option (Head × List ℕ)
 some_head h rest = Some (h, rest)
 
 header_long : (bytes : List ℕ) → length bytes ≡ 18 → header_of bytes ≡ header_in bytes
-unfolding header_of numbers_at
-header_long bytes len =
-    rw (number_at_in 2 0 bytes (omega (arith, len))) (version (eqb (number_in 2 0 bytes) 1))
+unfolding header_of numbers_at counts_at
+header_long bytes len = zeros (eqb (number_in 3 7 bytes) 0) refl
   where
     nothing : eqb (length (drop 18 bytes)) 0 ≡ true
     nothing = eq-eqb _ _ (omega (arith, length-drop 18 bytes, len))
@@ -318,15 +380,10 @@ header_long bytes len =
     tested false = refl
 
     zeros : (b : Bool) → eqb (number_in 3 7 bytes) 0 ≡ b
-        → (only is_head (made head_from numbers_at) (drop 2 bytes) >>= λ x. cond (eqb (length x.1) 0) (Some x.0) None)
+        → (only is_head (made head_from numbers_at) bytes >>= λ x. cond (eqb (length x.1) 0) (Some x.0) None)
         ≡ cond b (head_if bytes) None
     zeros true e = rw (numbers_some bytes (omega (arith, len)) e) (tested (is_head (head_in bytes)))
     zeros false e = rw (numbers_none bytes (omega (arith, len)) e) refl
-
-    version : (b : Bool) → (cond b (only is_head (made head_from numbers_at) (drop 2 bytes)) None >>= λ x. cond
-        (eqb (length x.1) 0) (Some x.0) None) ≡ cond b (cond (eqb (number_in 3 7 bytes) 0) (head_if bytes) None) None
-    version true = zeros (eqb (number_in 3 7 bytes) 0) refl
-    version false = refl
 
 pub header_is : (bytes : List ℕ) → IsBytes bytes → header_of bytes ≡ cond (eqb (length bytes) 18) (header_in bytes) None
 header_is bytes fits = by (eqb (length bytes) 18) refl

@@ -3,7 +3,7 @@ use Rattle.std.specs.Prelude.{ℕ, nat_lt, ◌==◌, Bool, not, ◌&&◌, List}
 use Rattle.std.specs.List.{list_any, count_by}
 use Rattle.eve_grammar.specs.Trace.{Access}
 
--- the worker is one of so many, and the index one of so many that no access before it has
+-- the worker is one of the workers, and the index one that no access before it has
 abbrev pub is_new_access : ℕ → ℕ → List Access → Access → Bool
 is_new_access workers count before x =
     nat_lt x.worker workers && (nat_lt x.index count && not (list_any (λ y. y.index == x.index) before))

@@ -1,10 +1,11 @@
--- What readers return, without where it lies in memory.
+-- What readers return and callers lend, without where it lies in memory.
 use Rattle.std.specs.Prelude.{ℕ, List, [], Option, Some, None}
 use Rattle.eve_smallbank.specs.SmallBank.{plain}
 use Rattle.eve_grammar.specs.declared.request.Asked as code
 use Rattle.eve_grammar.specs.declared.vote.Choice as chosen
 use Rattle.eve_grammar.specs.declared.vote.Choice.TheVariants as of
-use Rattle.eve_grammar.specs.Trace.{Asked, Choice, ForRollback, ForCommit}
+use Rattle.eve_grammar.specs.declared.transfer.TransferData.{TransferData}
+use Rattle.eve_grammar.specs.Trace.{Asked, Transfer, Choice, ForRollback, ForCommit}
 use Rattle.eve_grammar.specs.Reading.{Reader, many_at}
 
 -- the values of a reading, none where it failed
@@ -24,3 +25,7 @@ borrowed_asked a = record { client = a.client; number = a.number; request = plai
 abbrev pub borrowed_choice : chosen.Choice → Choice
 borrowed_choice of.ForRollback = ForRollback
 borrowed_choice (of.ForCommit token) = ForCommit token.now
+
+-- a state taken over
+abbrev pub transfer : TransferData → Transfer
+transfer x = record { seq = x.seq; view = x.view; rows = x.rows.items }

@@ -5,6 +5,10 @@ use Rattle.std.specs.List.{flat_map, enumerate_from}
 use Rattle.eve_grammar.specs.Trace.{Customer, Batch, Access, Attempt, Commit, Rollback, Step, Attempts, Commits}
 use Rattle.eve_grammar.specs.Trace.{RollsBack, Vote, Sent, Trace}
 use Rattle.eve_grammar.specs.declared.head.Head.{Head}
+use Rattle.eve_grammar.specs.declared.frame_kind.TheConstants.{CUSTOMER_FRAME, BATCH_FRAME, REPLICA_FRAME}
+use Rattle.eve_grammar.specs.declared.frame_kind.TheConstants.{ATTEMPT_FRAME, ACCESS_FRAME, COMMIT_FRAME}
+use Rattle.eve_grammar.specs.declared.frame_kind.TheConstants.{ROLLBACK_FRAME, VERIFIER_FRAME, VOTE_FRAME, SENT_FRAME}
+use Rattle.eve_grammar.specs.declared.frame_kind.TheConstants.{END_FRAME}
 use Rattle.eve_grammar.specs.declared.place.Place.{Place}
 
 -- A frame with what it says. Batches, replicas and verifiers say their own number; an attempt's frame
@@ -66,17 +70,17 @@ frames_of t =
 
 -- the byte that a frame begins with
 abbrev pub kind_of : Frame → ℕ
-kind_of (OfCustomer c) = 1
-kind_of (OfBatch n b) = 2
-kind_of (OfReplica n) = 16
-kind_of (OfAttempt a) = 17
-kind_of (OfAccess x) = 18
-kind_of (OfCommit c) = 19
-kind_of (OfRollback r) = 20
-kind_of (OfVerifier n) = 32
-kind_of (OfVote v) = 33
-kind_of (OfSent s) = 48
-kind_of End = 127
+kind_of (OfCustomer c) = CUSTOMER_FRAME
+kind_of (OfBatch n b) = BATCH_FRAME
+kind_of (OfReplica n) = REPLICA_FRAME
+kind_of (OfAttempt a) = ATTEMPT_FRAME
+kind_of (OfAccess x) = ACCESS_FRAME
+kind_of (OfCommit c) = COMMIT_FRAME
+kind_of (OfRollback r) = ROLLBACK_FRAME
+kind_of (OfVerifier n) = VERIFIER_FRAME
+kind_of (OfVote v) = VOTE_FRAME
+kind_of (OfSent s) = SENT_FRAME
+kind_of End = END_FRAME
 
 -- before the first frame
 abbrev pub start_place : Place
@@ -98,22 +102,22 @@ next_place p _ = p
 -- in the sections: the next replica, a step of this one, or after the last replica the first verifier
 abbrev pub is_allowed_in_sections : Head → Place → ℕ → Bool
 is_allowed_in_sections h p kind =
-    ((kind == 16) && nat_lt p.replicas h.replicas)
-    || ((nat_lt 0 p.replicas && ((kind == 17) || ((kind == 19) || (kind == 20))))
-    || ((kind == 32) && (p.replicas == h.replicas)))
+    ((kind == REPLICA_FRAME) && nat_lt p.replicas h.replicas)
+    || ((nat_lt 0 p.replicas && ((kind == ATTEMPT_FRAME) || ((kind == COMMIT_FRAME) || (kind == ROLLBACK_FRAME))))
+    || ((kind == VERIFIER_FRAME) && (p.replicas == h.replicas)))
 
 -- after them: the next verifier, a vote of this one, or after the last verifier a reply sent or the end
 abbrev pub is_allowed_behind_sections : Head → Place → ℕ → Bool
 is_allowed_behind_sections h p kind =
-    (not p.sending && (((kind == 32) && nat_lt p.verifiers h.verifiers) || (kind == 33)))
-    || ((p.verifiers == h.verifiers) && ((kind == 48) || (kind == 127)))
+    (not p.sending && (((kind == VERIFIER_FRAME) && nat_lt p.verifiers h.verifiers) || (kind == VOTE_FRAME)))
+    || ((p.verifiers == h.verifiers) && ((kind == SENT_FRAME) || (kind == END_FRAME)))
 
 -- whether a frame of the kind may stand there: a matter of the order of kinds alone
 abbrev pub is_allowed : Head → Place → ℕ → Bool
 is_allowed h p kind =
     if p.ended then false
-    else if nat_lt p.customers h.customers then kind == 1
-    else if nat_lt p.batches h.batches then kind == 2
-    else if nat_lt 0 p.accesses then kind == 18
+    else if nat_lt p.customers h.customers then kind == CUSTOMER_FRAME
+    else if nat_lt p.batches h.batches then kind == BATCH_FRAME
+    else if nat_lt 0 p.accesses then kind == ACCESS_FRAME
     else if p.verifiers == 0 then is_allowed_in_sections h p kind
     else is_allowed_behind_sections h p kind

@@ -1,21 +1,24 @@
 -- The kinds of frames, by the byte that their frames begin with. docs/TRACE.md, "Frames".
 use Rattle.std.specs.Prelude.{◌≢◌, ℕ}
 use Rattle.eve_grammar.specs.declared.frame_kind.FrameKind.{FrameKind}
+use Rattle.eve_grammar.specs.declared.frame_kind.TheConstants.{CUSTOMER_FRAME, BATCH_FRAME, REPLICA_FRAME, ATTEMPT_FRAME}
+use Rattle.eve_grammar.specs.declared.frame_kind.TheConstants.{ACCESS_FRAME, COMMIT_FRAME, ROLLBACK_FRAME, VERIFIER_FRAME}
+use Rattle.eve_grammar.specs.declared.frame_kind.TheConstants.{VOTE_FRAME, SENT_FRAME, END_FRAME}
 use Rattle.eve_grammar.specs.declared.frame_kind.FrameKind.TheVariants as of
 
 -- the first byte of a frame of the kind
 abbrev pub kind_byte : FrameKind → ℕ
-kind_byte of.Customer = 1
-kind_byte of.Batch = 2
-kind_byte of.Replica = 16
-kind_byte of.Attempt = 17
-kind_byte of.Access = 18
-kind_byte of.Commit = 19
-kind_byte of.Rollback = 20
-kind_byte of.Verifier = 32
-kind_byte of.Vote = 33
-kind_byte of.Sent = 48
-kind_byte of.End = 127
+kind_byte of.Customer = CUSTOMER_FRAME
+kind_byte of.Batch = BATCH_FRAME
+kind_byte of.Replica = REPLICA_FRAME
+kind_byte of.Attempt = ATTEMPT_FRAME
+kind_byte of.Access = ACCESS_FRAME
+kind_byte of.Commit = COMMIT_FRAME
+kind_byte of.Rollback = ROLLBACK_FRAME
+kind_byte of.Verifier = VERIFIER_FRAME
+kind_byte of.Vote = VOTE_FRAME
+kind_byte of.Sent = SENT_FRAME
+kind_byte of.End = END_FRAME
 
 -- no frame begins with this byte
 abbrev pub BeginsNone : ℕ → Type 0

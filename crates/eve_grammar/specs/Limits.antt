@@ -1,7 +1,7 @@
 -- Which traces there are: the limits of the format and the conditions of its fields.
 -- docs/MODEL.md, "Trace" and "Limits"; docs/TRACE.md, "Header", "Frames", "Parts".
-use Rattle.std.specs.Prelude.{ℕ, pos, negsuc, ◌+◌, ◌-◌, ◌*◌, ◌^◌, ◌<◌, nat_le, nat_lt, ◌==◌, Bool, true, ◌&&◌}
-use Rattle.std.specs.Prelude.{◌||◌, IsTrue, List, [], ◌∷◌, length, sum, ◌≡◌}
+use Rattle.std.specs.Prelude.{ℕ, pos, negsuc, ◌+◌, ◌-◌, ◌*◌, ◌%◌, ◌^◌, ◌<◌, ◌≤◌, nat_le, nat_lt, ◌==◌, Bool, true, not, ◌&&◌}
+use Rattle.std.specs.Prelude.{◌||◌, if◌then◌else◌, IsTrue, List, [], ◌∷◌, length, sum, ◌≡◌}
 use Rattle.std.specs.List.{list_all}
 use Rattle.std.specs.Ordering.{int_eq}
 use Rattle.std.specs.Int.RustNames.{int_le}
@@ -12,11 +12,12 @@ use Rattle.eve_smallbank.specs.Access.{is_write}
 use Rattle.eve_smallbank.specs.declared.request.Reply.{Reply}
 use Rattle.eve_smallbank.specs.declared.request.Reply.TheVariants.{Total}
 use Rattle.eve_smallbank.specs.declared.entry.Entry.{Entry}
+use Rattle.eve_smallbank.specs.declared.versioned.Versioned.{Versioned}
 use Rattle.eve_grammar.specs.declared.limits.TheConstants.{MOST_REPLICAS, MOST_VERIFIERS, MOST_WINDOW, MOST_WORKERS}
 use Rattle.eve_grammar.specs.declared.limits.TheConstants.{MOST_CUSTOMERS, MOST_BATCHES, MOST_REQUESTS, MOST_ENTRIES}
-use Rattle.eve_grammar.specs.declared.limits.TheConstants.{MOST_VERSIONS}
+use Rattle.eve_grammar.specs.declared.limits.TheConstants.{MOST_VERSIONS, MOST_CUSTOMERS_OF_VERSION_1, NEWEST_VERSION}
 use Rattle.eve_grammar.specs.Trace.{Customer, Asked, Batch, Access, Attempt, Commit, Rollback, Step, Attempts}
-use Rattle.eve_grammar.specs.Trace.{Commits, RollsBack, Choice, ForRollback, ForCommit, Vote, Sent, Trace}
+use Rattle.eve_grammar.specs.Trace.{Commits, RollsBack, Transfer, Choice, ForRollback, ForCommit, Vote, Sent, Trace}
 use Rattle.eve_grammar.specs.Trace.{head_of}
 use Rattle.eve_grammar.specs.Frames.{Frame, OfCustomer, OfBatch, OfReplica, OfAttempt, OfAccess, OfCommit, OfRollback}
 use Rattle.eve_grammar.specs.Frames.{OfVerifier, OfVote, OfSent, End, kind_of, is_allowed}
@@ -110,6 +111,25 @@ abbrev pub is_rollback : ℕ → Rollback → Bool
 is_rollback rows r =
     is_number 4 r.to && (is_number 4 r.view && (is_rising r.restores && list_all (is_restore rows) r.restores))
 
+-- a version and a value within their limits
+abbrev pub is_versioned : Versioned → Bool
+is_versioned x = nat_le x.version MOST_VERSIONS && is_balance x.value
+
+-- the value of the row with this number is none below 0 where savings stand in it: in every row of an even number
+abbrev pub is_no_debt : ℕ → Versioned → Bool
+is_no_debt row x = not (row % 2 == 0) || int_le (pos 0) x.value
+
+-- so are those of the rows from this number on
+abbrev pub are_no_debts : ℕ → List Versioned → Bool
+are_no_debts row [] = true
+are_no_debts row (x ∷ xs) = is_no_debt row x && are_no_debts (row + 1) xs
+
+-- numbers of four bytes, and a version and a value for each of this many rows, with no saving below 0
+abbrev pub is_transfer : ℕ → Transfer → Bool
+is_transfer rows x =
+    is_number 4 x.seq && (is_number 4 x.view
+    && (are_no_debts 0 x.rows && ((length x.rows == rows) && list_all is_versioned x.rows)))
+
 -- each kind by its own test
 abbrev pub is_step : ℕ → Step → Bool
 is_step rows (Attempts a) = is_whole_attempt rows a
@@ -133,13 +153,35 @@ is_sent replicas batches s =
 
 -- ---- the header
 
--- each number within its limit, and more than half of the verifiers decide
+-- customers of a trace of this version
+abbrev pub most_customers : ℕ → ℕ
+most_customers version = if version == 1 then MOST_CUSTOMERS_OF_VERSION_1 else MOST_CUSTOMERS
+
+-- each number within its limit, the customers within that of the version, and more than half of the verifiers decide
 abbrev pub is_head : Head → Bool
 is_head h =
-    is_between 1 MOST_REPLICAS h.replicas && (is_between 1 MOST_VERIFIERS h.verifiers
-    && (nat_le h.quorum h.verifiers && (nat_lt h.verifiers (2 * h.quorum)
+    is_between 1 NEWEST_VERSION h.version && (is_between 1 MOST_REPLICAS h.replicas
+    && (is_between 1 MOST_VERIFIERS h.verifiers && (nat_le h.quorum h.verifiers && (nat_lt h.verifiers (2 * h.quorum)
     && (is_between 1 MOST_WINDOW h.window && (is_between 1 MOST_WORKERS h.workers
-    && (is_between 1 MOST_CUSTOMERS h.customers && nat_le h.batches MOST_BATCHES))))))
+    && (is_between 1 (most_customers h.version) h.customers && nat_le h.batches MOST_BATCHES)))))))
+
+-- the limits of a right header by name
+pub record HasHeadLimits (h : Head) : Type 0 where
+  pub some_version : 1 ≤ h.version
+  pub known_version : h.version ≤ NEWEST_VERSION
+  pub some_replicas : 1 ≤ h.replicas
+  pub few_replicas : h.replicas ≤ MOST_REPLICAS
+  pub some_verifiers : 1 ≤ h.verifiers
+  pub few_verifiers : h.verifiers ≤ MOST_VERIFIERS
+  pub quorum : h.quorum ≤ h.verifiers
+  pub majority : h.verifiers < 2 * h.quorum
+  pub some_window : 1 ≤ h.window
+  pub few_window : h.window ≤ MOST_WINDOW
+  pub some_workers : 1 ≤ h.workers
+  pub few_workers : h.workers ≤ MOST_WORKERS
+  pub some_customers : 1 ≤ h.customers
+  pub few_customers : h.customers ≤ most_customers h.version
+  pub few_batches : h.batches ≤ MOST_BATCHES
 
 -- two rows for each customer
 abbrev pub row_count : Head → ℕ

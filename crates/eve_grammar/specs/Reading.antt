@@ -14,12 +14,17 @@ use Rattle.eve_smallbank.specs.declared.request.Reply.TheVariants.{Done, Total, 
 use Rattle.eve_smallbank.specs.declared.entry.Kind.{Kind}
 use Rattle.eve_smallbank.specs.declared.entry.Kind.TheVariants.{Read, Write}
 use Rattle.eve_smallbank.specs.declared.entry.Entry.{Entry}
-use Rattle.eve_grammar.specs.Trace.{Customer, Asked, Batch, Access, Attempt, Commit, Rollback, Choice}
+use Rattle.eve_smallbank.specs.declared.versioned.Versioned.{Versioned}
+use Rattle.eve_grammar.specs.Trace.{Customer, Asked, Batch, Access, Attempt, Commit, Rollback, Transfer, Choice}
 use Rattle.eve_grammar.specs.Trace.{ForRollback, ForCommit, Vote, Sent}
 use Rattle.eve_grammar.specs.Frames.{Frame, OfCustomer, OfBatch, OfReplica, OfAttempt, OfAccess, OfCommit, OfRollback}
 use Rattle.eve_grammar.specs.Frames.{OfVerifier, OfVote, OfSent, End}
 use Rattle.eve_grammar.specs.declared.limits.TheConstants.{MOST_REQUESTS, MOST_ENTRIES}
-use Rattle.eve_grammar.specs.Limits.{is_between, is_entry, is_restore, is_rising, is_head, row_count}
+use Rattle.eve_grammar.specs.declared.frame_kind.TheConstants.{CUSTOMER_FRAME, BATCH_FRAME, REPLICA_FRAME}
+use Rattle.eve_grammar.specs.declared.frame_kind.TheConstants.{ATTEMPT_FRAME, ACCESS_FRAME, COMMIT_FRAME}
+use Rattle.eve_grammar.specs.declared.frame_kind.TheConstants.{ROLLBACK_FRAME, VERIFIER_FRAME, VOTE_FRAME, SENT_FRAME}
+use Rattle.eve_grammar.specs.declared.frame_kind.TheConstants.{END_FRAME}
+use Rattle.eve_grammar.specs.Limits.{is_between, is_entry, is_restore, is_rising, is_versioned, are_no_debts, is_head, row_count}
 use Rattle.eve_grammar.specs.declared.head.Head.{Head}
 use Rattle.eve_grammar.specs.declared.restore.Restore.{Restore}
 use Rattle.eve_grammar.specs.declared.place.Place.{Place}
@@ -191,6 +196,18 @@ restore_fields_at = made restore_from (both (number_at 4) (both (number_at 8) si
 unfoldable pub restore_at : ℕ → Reader Restore
 restore_at rows = only (is_restore rows) restore_fields_at
 
+-- a version and a value
+abbrev pub versioned_from : ℕ × ℤ → Versioned
+versioned_from p = record { version = p.0; value = p.1 }
+
+-- a version and a value, within limits or not
+unfoldable pub versioned_fields_at : Reader Versioned
+versioned_fields_at = made versioned_from (both (number_at 8) signed_at)
+
+-- a version and a value within their limits
+unfoldable pub versioned_at : Reader Versioned
+versioned_at = only is_versioned versioned_fields_at
+
 -- ---- bodies of frames
 
 -- a customer's fields
@@ -281,6 +298,18 @@ rollback_from p = record { to = p.0; view = p.1.0; restores = p.1.1 }
 unfoldable pub rollback_of : ℕ → List ℕ → Option Rollback
 rollback_of rows = whole (made rollback_from (both (number_at 4) (both (number_at 4) (restores_at rows))))
 
+-- what each of this many rows has
+unfoldable pub state_rows_at : ℕ → Reader (List Versioned)
+state_rows_at rows = only (are_no_debts 0) (many_at versioned_at rows)
+
+-- a transfer's fields
+abbrev pub transfer_from : ℕ × (ℕ × List Versioned) → Transfer
+transfer_from p = record { seq = p.0; view = p.1.0; rows = p.1.1 }
+
+-- a number, a view, the rows
+unfoldable pub transfer_of : ℕ → List ℕ → Option Transfer
+transfer_of rows = whole (made transfer_from (both (number_at 4) (both (number_at 4) (state_rows_at rows))))
+
 -- a choice and a token, which is zeros for a rollback
 abbrev pub choice_from : ℕ × List ℕ → Option Choice
 choice_from p =
@@ -312,38 +341,38 @@ sent_of replicas batches =
 -- the body of a kind that may stand at this place, as the frame that it makes
 unfoldable pub body_of : Head → Place → ℕ → List ℕ → Option Frame
 body_of h p kind body =
-    if kind == 1 then (customer_of body >>= λ c. Some (OfCustomer c))
-    else if kind == 2 then (batch_of body >>= λ b. if b.0 == p.batches + 1 then Some (OfBatch b.0 b.1) else None)
-    else if kind == 16 then (number_of body >>= λ n. if n == p.replicas then Some (OfReplica n) else None)
-    else if kind == 17 then (attempt_of body >>= λ a. Some (OfAttempt a))
-    else if kind == 18 then (access_of (row_count h) body >>= λ x. Some (OfAccess x))
-    else if kind == 19 then (commit_of body >>= λ c. Some (OfCommit c))
-    else if kind == 20 then (rollback_of (row_count h) body >>= λ r. Some (OfRollback r))
-    else if kind == 32 then (number_of body >>= λ n. if n == p.verifiers then Some (OfVerifier n) else None)
-    else if kind == 33 then (vote_of h.batches body >>= λ v. Some (OfVote v))
-    else if kind == 48 then (sent_of h.replicas h.batches body >>= λ s. Some (OfSent s))
-    else if kind == 127 then (if length body == 0 then Some End else None)
+    if kind == CUSTOMER_FRAME then (customer_of body >>= λ c. Some (OfCustomer c))
+    else if kind == BATCH_FRAME then (batch_of body >>= λ b. if b.0 == p.batches + 1 then Some (OfBatch b.0 b.1) else None)
+    else if kind == REPLICA_FRAME then (number_of body >>= λ n. if n == p.replicas then Some (OfReplica n) else None)
+    else if kind == ATTEMPT_FRAME then (attempt_of body >>= λ a. Some (OfAttempt a))
+    else if kind == ACCESS_FRAME then (access_of (row_count h) body >>= λ x. Some (OfAccess x))
+    else if kind == COMMIT_FRAME then (commit_of body >>= λ c. Some (OfCommit c))
+    else if kind == ROLLBACK_FRAME then (rollback_of (row_count h) body >>= λ r. Some (OfRollback r))
+    else if kind == VERIFIER_FRAME then (number_of body >>= λ n. if n == p.verifiers then Some (OfVerifier n) else None)
+    else if kind == VOTE_FRAME then (vote_of h.batches body >>= λ v. Some (OfVote v))
+    else if kind == SENT_FRAME then (sent_of h.replicas h.batches body >>= λ s. Some (OfSent s))
+    else if kind == END_FRAME then (if length body == 0 then Some End else None)
     else None
 
 -- ---- the header
 
 -- a header's numbers
-abbrev pub head_from : ℕ × (ℕ × (ℕ × (ℕ × (ℕ × (ℕ × ℕ))))) → Head
+abbrev pub head_from : ℕ × (ℕ × (ℕ × (ℕ × (ℕ × (ℕ × (ℕ × ℕ)))))) → Head
 head_from p =
     record {
-      replicas = p.0;
-      verifiers = p.1.0;
-      quorum = p.1.1.0;
-      window = p.1.1.1.0;
-      workers = p.1.1.1.1.0;
-      customers = p.1.1.1.1.1.0;
-      batches = p.1.1.1.1.1.1;
+      version = p.0;
+      replicas = p.1.0;
+      verifiers = p.1.1.0;
+      quorum = p.1.1.1.0;
+      window = p.1.1.1.1.0;
+      workers = p.1.1.1.1.1.0;
+      customers = p.1.1.1.1.1.1.0;
+      batches = p.1.1.1.1.1.1.1;
     }
 
 -- the header between its first six bytes and the length: the version, the limits around three zero bytes
 unfoldable pub header_of : List ℕ → Option Head
 header_of =
-    whole (behind 2 1 (only is_head
-    (made head_from (both (number_at 1)
-    (both (number_at 1) (both (number_at 1) (both (number_at 1) (both (number_at 1)
+    whole (only is_head (made head_from (both (number_at 2)
+    (both (number_at 1) (both (number_at 1) (both (number_at 1) (both (number_at 1) (both (number_at 1)
     (behind 3 0 (both (number_at 4) (number_at 4)))))))))))

@@ -1,6 +1,7 @@
 -- Reading that keeps no values.
 use Rattle.std.specs.Prelude.{◌≡◌, ℕ, zero, suc, ◌+◌, List, Option, Some, None, nat_le, if◌then◌else◌}
-use Rattle.eve_grammar.specs.Reading.{◌>>=◌, Reader, number_at, restore_at}
+use Rattle.eve_grammar.specs.Limits.{is_no_debt}
+use Rattle.eve_grammar.specs.Reading.{◌>>=◌, Reader, number_at, restore_at, versioned_at}
 
 -- a function returned what stands after a part, seen by view, and None where reading finds no such part
 abbrev pub Passes : {X A : Type 0} → (X → List ℕ) → Option X → Option (A × List ℕ) → Type 0
@@ -29,3 +30,9 @@ unfoldable pub rising_at : ℕ → ℕ → ℕ → List ℕ → Option (List ℕ
 rising_at rows least zero bytes = Some bytes
 rising_at rows least (suc n) bytes =
     restore_at rows bytes >>= λ x. if nat_le least x.0.row then rising_at rows (x.0.row + 1) n x.1 else None
+
+-- what stands after a version and a value for each of this many rows, the first of this number, with no saving below 0
+unfoldable pub saved_at : ℕ → ℕ → List ℕ → Option (List ℕ)
+saved_at row zero bytes = Some bytes
+saved_at row (suc n) bytes =
+    versioned_at bytes >>= λ x. if is_no_debt row x.0 then saved_at (row + 1) n x.1 else None

@@ -7,14 +7,17 @@ use Rattle.byteorder.specs.Endian.{big_bytes}
 use Rattle.eve_smallbank.specs.SmallBank.{Request, Balance, DepositChecking, TransactSaving, Amalgamate, WriteCheck}
 use Rattle.eve_smallbank.specs.Spelling.{money_text, reply_text}
 use Rattle.eve_smallbank.specs.declared.entry.Entry.{Entry}
+use Rattle.eve_smallbank.specs.declared.versioned.Versioned.{Versioned}
 use Rattle.eve_smallbank.specs.Access.{is_write}
-use Rattle.eve_grammar.specs.Trace.{Customer, Asked, Batch, Access, Attempt, Step, Choice, ForRollback}
+use Rattle.eve_grammar.specs.Trace.{Customer, Asked, Batch, Access, Attempt, Transfer, Step, Choice, ForRollback}
 use Rattle.eve_grammar.specs.Trace.{ForCommit, Vote, Sent, Trace}
 use Rattle.eve_grammar.specs.Frames.{Frame, OfCustomer, OfBatch, OfReplica, OfAttempt, OfAccess, OfCommit, OfRollback}
 use Rattle.eve_grammar.specs.Frames.{OfVerifier, OfVote, OfSent, End, kind_of, step_frames, section_frames}
 use Rattle.eve_grammar.specs.Frames.{verifier_frames, batches_of, sections_of, verifiers_of, frames_of}
+use Rattle.eve_grammar.specs.declared.frame_kind.TheConstants.{TRANSFER_FRAME}
 use Rattle.eve_grammar.specs.declared.head.Head.{Head}
 use Rattle.eve_grammar.specs.declared.restore.Restore.{Restore}
+use Rattle.eve_grammar.specs.declared.head.TheConstants.{HEADER_LEN}
 
 -- ---- parts of frames
 
@@ -43,6 +46,10 @@ entry_text e =
 -- 20 bytes
 abbrev pub restore_text : Restore → List ℕ
 restore_text r = big_bytes 4 r.row ++ (big_bytes 8 r.version ++ money_text r.value)
+
+-- a version and a value, 16 bytes
+abbrev pub versioned_text : Versioned → List ℕ
+versioned_text x = big_bytes 8 x.version ++ money_text x.value
 
 -- a vote's choice, and the token, or zeros for a rollback
 abbrev pub choice_text : Choice → List ℕ
@@ -79,6 +86,14 @@ body_text End = []
 abbrev pub frame_text : Frame → List ℕ
 frame_text f = kind_of f ∷ (big_bytes 4 (length (body_text f)) ++ body_text f)
 
+-- the body of a Transfer frame: a number, a view, what each row has
+abbrev pub transfer_text : Transfer → List ℕ
+transfer_text x = big_bytes 4 x.seq ++ (big_bytes 4 x.view ++ flat_map versioned_text x.rows)
+
+-- the frame
+abbrev pub transfer_frame : Transfer → List ℕ
+transfer_frame x = TRANSFER_FRAME ∷ (big_bytes 4 (length (transfer_text x)) ++ transfer_text x)
+
 -- one after the other
 abbrev pub frames_text : List Frame → List ℕ
 frames_text fs = flat_map frame_text fs
@@ -88,14 +103,14 @@ frames_text fs = flat_map frame_text fs
 -- 32 bytes; `total` is the length of the whole
 unfoldable pub head_text : Head → ℕ → List ℕ
 head_text h total =
-    codes "EVESBK" ++ (big_bytes 2 1
+    codes "EVESBK" ++ (big_bytes 2 h.version
     ++ (big_bytes 1 h.replicas ++ (big_bytes 1 h.verifiers ++ (big_bytes 1 h.quorum
     ++ (big_bytes 1 h.window ++ (big_bytes 1 h.workers ++ (big_bytes 3 0
     ++ (big_bytes 4 h.customers ++ (big_bytes 4 h.batches ++ big_bytes 8 total)))))))))
 
 -- the length of the whole, in bytes
 unfoldable pub length_of : Trace → ℕ
-length_of t = 32 + length (frames_text (frames_of t))
+length_of t = HEADER_LEN + length (frames_text (frames_of t))
 
 -- the header, then the frames
 unfoldable pub spelling : Trace → List ℕ
@@ -130,11 +145,11 @@ located text at (x ∷ xs) = (at, x) ∷ located text (at + length (text x)) xs
 
 -- the frames with their offsets
 unfoldable pub frames_at : Trace → List (ℕ × Frame)
-frames_at t = located frame_text 32 (frames_of t)
+frames_at t = located frame_text HEADER_LEN (frames_of t)
 
 -- where the batches begin
 abbrev pub batches_start : Trace → ℕ
-batches_start t = 32 + length (flat_map customer_text t.customers)
+batches_start t = HEADER_LEN + length (flat_map customer_text t.customers)
 
 -- where the sections begin
 abbrev pub sections_start : Trace → ℕ
@@ -158,7 +173,7 @@ sent_start t = verifiers_start t + length (flat_map votes_text (verifiers_of t))
 
 -- the frames of each part with their offsets
 unfoldable pub customers_at : Trace → List (ℕ × Customer)
-customers_at t = located customer_text 32 t.customers
+customers_at t = located customer_text HEADER_LEN t.customers
 
 -- each batch with its number
 unfoldable pub batches_at : Trace → List (ℕ × (ℕ × Batch))

@@ -5,6 +5,7 @@ use Rattle.std.specs.List.{flat_map}
 use Rattle.eve_smallbank.specs.SmallBank.{Request, Balance}
 use Rattle.eve_smallbank.specs.declared.request.Reply.{Reply}
 use Rattle.eve_smallbank.specs.declared.entry.Entry.{Entry}
+use Rattle.eve_smallbank.specs.declared.versioned.Versioned.{Versioned}
 use Rattle.eve_grammar.specs.declared.head.Head.{Head}
 use Rattle.eve_grammar.specs.declared.restore.Restore.{Restore}
 
@@ -72,6 +73,12 @@ pub record Rollback : Type 0 where
   pub to : ℕ
   pub view : ℕ
   pub restores : List Restore
+
+-- a state that the replica took over, row by row: what this batch left, as it was committed in this view
+pub record Transfer : Type 0 where
+  pub seq : ℕ
+  pub view : ℕ
+  pub rows : List Versioned
 
 -- what a replica did, one thing after another
 pub data Step : Type 0 where

@@ -6,12 +6,12 @@ ghost use Rattle.eve_grammar.specs.Scanning.{Passes};
 
 use crate::entry::entry_at;
 use crate::fields::{u8_at, u16_at};
-use crate::limits::{MOST_ENTRIES, MOST_NAMED_ROWS};
+use crate::limits::{MOST_ENTRIES, MOST_ROWS};
 
 /// What stands after this many entries.
 #[tactic(auto, unfolding(crate::specs::Scanning::rest_at))]
 fn pass_each(rows: u32, count: u8, bytes: &[u8]) -> Option<&[u8]>
-    requires { rows ≤ MOST_NAMED_ROWS }
+    requires { rows ≤ MOST_ROWS }
     ensures { Passes (λ x. x.now) result (many_at (entry_at rows) count bytes.now) }
 {
     let mut rest = bytes;
@@ -27,7 +27,7 @@ fn pass_each(rows: u32, count: u8, bytes: &[u8]) -> Option<&[u8]>
 /// What stands after a count of `MOST_ENTRIES` at most and as many entries.
 #[tactic(auto, unfolding(crate::specs::Reading::entries_at))]
 fn pass_entries(rows: u32, bytes: &[u8]) -> Option<&[u8]>
-    requires { rows ≤ MOST_NAMED_ROWS }
+    requires { rows ≤ MOST_ROWS }
     ensures { Passes (λ x. x.now) result (entries_at rows bytes.now) }
 {
     let Some((count, entries)) = u8_at(bytes) else {
@@ -44,7 +44,7 @@ fn pass_entries(rows: u32, bytes: &[u8]) -> Option<&[u8]>
 /// docs/TRACE.md, "Frames".
 #[tactic(auto, unfolding(crate::specs::Reading::access_of))]
 pub fn is_access_body(rows: u32, body: &[u8]) -> bool
-    requires { rows ≤ MOST_NAMED_ROWS }
+    requires { rows ≤ MOST_ROWS }
     ensures { result ≡ is_some (access_of rows body.now) }
 {
     let Some((_worker, rest)) = u8_at(body) else {

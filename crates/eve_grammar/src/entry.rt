@@ -7,14 +7,14 @@ ghost use Rattle.eve_smallbank.specs.Access.{is_write};
 ghost use Rattle.eve_grammar.specs.Places.{signed_in};
 ghost use Rattle.eve_grammar.specs.Reading.{Gives, kind_from, entry_at};
 
-use crate::limits::{MOST_NAMED_ROWS, MOST_VERSIONS};
+use crate::limits::{MOST_ROWS, MOST_VERSIONS};
 use crate::places::{bytes_from, i64_in, u32_in, u64_in};
 use eve_accounts::{Cents, Row};
 use eve_smallbank::{Entry, Kind};
 
 /// The row of this number.
 pub fn row_of(number: u32) -> Row
-    requires { number < MOST_NAMED_ROWS }
+    requires { number < MOST_ROWS }
     ensures { result ≡ number }
 {
     if number % 2 == 0 {
@@ -48,7 +48,7 @@ fn agree(kind: Kind, seen: Cents, after: Cents) -> bool
 ///
 /// docs/TRACE.md, "Parts": a version of at most `MOST_VERSIONS`, and a read leaves what it saw.
 pub(crate) fn entry_at(rows: u32, bytes: &[u8]) -> Option<(Entry, &[u8])>
-    requires { rows ≤ MOST_NAMED_ROWS }
+    requires { rows ≤ MOST_ROWS }
     ensures { Gives (λ x. (x.0, x.1.now)) result (entry_at rows bytes.now) }
 {
     if bytes.len() < 29 {
@@ -102,11 +102,11 @@ fn cents_again(bytes: &[u8], at: usize) -> Cents
     Cents::of(i64_in(bytes, at))
 }
 
-/// The entry that stands in front, and the bytes after it, where an entry of one of so many rows is known to stand: no
+/// The entry that stands in front, and the bytes after it, where an entry of one of these rows is known to stand: no
 /// limit is tested a second time.
 #[inline(always)]
 pub fn entry_again(bytes: &[u8]) -> (Entry, &[u8])
-    requires { (rows : ℕ) × (rows ≤ MOST_NAMED_ROWS) × IsTrue (is_some (entry_at rows bytes.now)) }
+    requires { (rows : ℕ) × (rows ≤ MOST_ROWS) × IsTrue (is_some (entry_at rows bytes.now)) }
     ensures { (rows : ℕ) → IsTrue (is_some (entry_at rows bytes.now))
         → entry_at rows bytes.now ≡ Some (result.0, result.1.now) }
 {

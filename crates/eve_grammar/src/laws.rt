@@ -1,10 +1,12 @@
 //! Laws about the definitions. Each body is empty: the contract is the law.
 
-ghost use Rattle.std.specs.Prelude.{◌≡◌, ◌≤◌, ℕ, IsTrue, List};
-ghost use Rattle.eve_grammar.specs.Trace.{Trace, head_of};
+ghost use Rattle.std.specs.Prelude.{◌≡◌, ◌≤◌, ℕ, IsTrue, List, Some};
+ghost use Rattle.eve_grammar.specs.Trace.{Trace, Transfer, head_of};
 ghost use Rattle.eve_grammar.specs.Frames.{Frame, frames_of};
-ghost use Rattle.eve_grammar.specs.Spelling.{length_of, spelling};
-ghost use Rattle.eve_grammar.specs.Limits.{HasLimits, is_head};
+ghost use Rattle.eve_grammar.specs.Spelling.{length_of, spelling, transfer_text};
+ghost use Rattle.eve_grammar.specs.Limits.{HasHeadLimits, HasLimits, is_head, is_transfer};
+ghost use Rattle.eve_grammar.specs.Places.{IsBytes};
+ghost use Rattle.eve_grammar.specs.Reading.{transfer_of};
 ghost use Rattle.eve_grammar.specs.Following.{AreAllFrames, Spells};
 ghost use Rattle.eve_grammar.specs.Gathering.{trace_of, IsMadeOf};
 ghost use Rattle.eve_grammar.specs.Cases.{empty_run, empty_run_bytes, deposit_committed, deposit_committed_bytes};
@@ -33,6 +35,12 @@ pub fn frames_make_up_their_trace()
     ensures { (t : Trace) → trace_of t.head (frames_of t) ≡ t }
 {}
 
+/// A header is right exactly where it has its limits by name.
+pub fn right_heads_have_limits()
+    ensures limits { (h : Head) → IsTrue (is_head h) → HasHeadLimits h }
+    ensures right { (h : Head) → HasHeadLimits h → IsTrue (is_head h) }
+{}
+
 /// Frames that run from the first to the end, under a header within its limits, are those of
 /// exactly one trace, which has the limits.
 pub fn each_run_is_one_trace()
@@ -40,6 +48,13 @@ pub fn each_run_is_one_trace()
         → IsMadeOf h fs (trace_of h fs) }
     ensures limits { (h : Head) (fs : List Frame) → IsTrue (is_head h) → AreAllFrames h fs → HasLimits (trace_of h fs) }
     ensures only { (h : Head) (fs : List Frame) (t : Trace) → IsMadeOf h fs t → t ≡ trace_of h fs }
+{}
+
+/// The body of a Transfer is read exactly where it is the spelling of one that lies within the limits.
+pub fn transfers_are_read_again()
+    ensures takes { (rows : ℕ) (body : List ℕ) (x : Transfer) → IsBytes body → transfer_of rows body ≡ Some x
+        → (body ≡ transfer_text x) × IsTrue (is_transfer rows x) }
+    ensures again { (rows : ℕ) (x : Transfer) → IsTrue (is_transfer rows x) → transfer_of rows (transfer_text x) ≡ Some x }
 {}
 
 /// The parts of a trace that bytes spell lie within their limits, and such parts, of at most `MOST_BYTES` bytes, are

@@ -4,7 +4,7 @@ ghost use Rattle.std.specs.Prelude.{◌≤◌};
 ghost use Rattle.eve_grammar.specs.Reading.{Gives, restore_at};
 
 use crate::entry::row_of;
-use crate::limits::{MOST_NAMED_ROWS, MOST_VERSIONS};
+use crate::limits::{MOST_ROWS, MOST_VERSIONS};
 use crate::places::{bytes_from, i64_in, u32_in, u64_in};
 use eve_accounts::{Cents, Row};
 
@@ -23,7 +23,7 @@ pub struct Restore {
 ///
 /// docs/TRACE.md, "Parts": a version of at most `MOST_VERSIONS`.
 pub fn restore_at(rows: u32, bytes: &[u8]) -> Option<(Restore, &[u8])>
-    requires { rows ≤ MOST_NAMED_ROWS }
+    requires { rows ≤ MOST_ROWS }
     ensures { Gives (λ x. (x.0, x.1.now)) result (restore_at rows bytes.now) }
 {
     if bytes.len() < 20 {

@@ -5,13 +5,13 @@ ghost use Rattle.eve_grammar.specs.Reading.{Gives, restores_at, rollback_of};
 ghost use Rattle.eve_grammar.specs.Scanning.{rising_at, Passes};
 
 use crate::fields::u32_at;
-use crate::limits::MOST_NAMED_ROWS;
+use crate::limits::MOST_ROWS;
 use crate::restore::restore_at;
 
 /// What stands after this many restores of rising rows.
 #[tactic(auto, unfolding(crate::specs::Scanning::rising_at))]
 fn pass_rising(rows: u32, count: u32, bytes: &[u8]) -> Option<&[u8]>
-    requires { rows ≤ MOST_NAMED_ROWS }
+    requires { rows ≤ MOST_ROWS }
     ensures { Gives (λ x. x.now) result (rising_at rows 0 count bytes.now) }
 {
     let mut least: u32 = 0;
@@ -33,7 +33,7 @@ fn pass_rising(rows: u32, count: u32, bytes: &[u8]) -> Option<&[u8]>
 /// What stands after a count and as many restores of rising rows.
 #[tactic(auto, unfolding(crate::specs::Reading::restores_at))]
 fn pass_restores(rows: u32, bytes: &[u8]) -> Option<&[u8]>
-    requires { rows ≤ MOST_NAMED_ROWS }
+    requires { rows ≤ MOST_ROWS }
     ensures { Passes (λ x. x.now) result (restores_at rows bytes.now) }
 {
     let Some((count, restores)) = u32_at(bytes) else {
@@ -47,7 +47,7 @@ fn pass_restores(rows: u32, bytes: &[u8]) -> Option<&[u8]>
 /// docs/TRACE.md, "Frames".
 #[tactic(auto, unfolding(crate::specs::Reading::rollback_of))]
 pub fn is_rollback_body(rows: u32, body: &[u8]) -> bool
-    requires { rows ≤ MOST_NAMED_ROWS }
+    requires { rows ≤ MOST_ROWS }
     ensures { result ≡ is_some (rollback_of rows body.now) }
 {
     let Some((_to, rest)) = u32_at(body) else {

@@ -20,7 +20,7 @@ pub struct Effect {
     pub after: Cents,
 }
 
-/// What a request is answered, and what becomes of each row that it touches, in their order.
+/// The reply to a request, and what becomes of each row that it touches, in their order.
 #[derive(Clone, Copy)]
 pub struct Decision {
     /// The reply.
@@ -155,7 +155,8 @@ fn write_check(saving: Cents, checking: Cents, amount: Amount) -> Decision
     }
 }
 
-/// The checking balance after a check, in cents: the penalty comes where both balances are less than the amount.
+/// The checking balance after a check, in cents: the penalty comes where the sum of both balances is less than the
+/// amount.
 fn after_check(saving: Cents, checking: Cents, amount: Amount) -> i64
     ensures { result ≡ checking -ℤ check_cost (record { saving = saving; checking = checking }) amount }
 {

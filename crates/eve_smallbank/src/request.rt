@@ -1,4 +1,4 @@
-//! What clients ask for, and what they are answered.
+//! What clients ask for, and the replies.
 
 use eve_accounts::Amount;
 
@@ -8,19 +8,19 @@ use eve_accounts::Amount;
 /// as its list of bytes.
 #[derive(Clone, Copy)]
 pub enum Request<'a> {
-    /// Both balances of the customer, added up.
+    /// Returns the sum of both balances of the customer.
     Balance(&'a [u8]),
-    /// The amount comes to the checking balance.
+    /// Adds the amount to the checking balance.
     DepositChecking(&'a [u8], Amount),
-    /// The amount, which may be below 0, comes to the saving balance.
+    /// Adds the amount, which may be negative, to the saving balance.
     TransactSaving(&'a [u8], Amount),
-    /// All that the first customer has comes to the checking balance of the second.
+    /// Moves all that the first customer has to the checking balance of the second.
     Amalgamate(&'a [u8], &'a [u8]),
-    /// A check over the amount is paid from the checking balance.
+    /// Pays a check over the amount from the checking balance.
     WriteCheck(&'a [u8], Amount),
 }
 
-/// What a client is answered.
+/// The reply to a client.
 #[derive(Clone, Copy, PartialEq, Eq)]
 pub enum Reply {
     /// The transaction took effect.

@@ -20,7 +20,7 @@ pub struct Buffered<S: Drop> {
     ghost room: { ROOM ≤ vec_capacity held },
 }
 
-// How many bytes are held at most.
+/// How many bytes are held at most.
 const ROOM: usize = 64 * 1024;
 
 impl<S: Sink + Drop> Buffered<S> {
@@ -71,7 +71,7 @@ impl<S: Sink + Drop> Sink for Buffered<S> {
 
     ghost failures = { λ b. S.failures b.sink };
 
-    // What is held is sent on first where there is no room; a fault of that takes nothing.
+    /// What is held is sent on first where there is no room; a fault of that takes nothing.
     fn send(&mut self, bytes: &[u8]) -> Result<usize, SendFault> {
         if self.held.len() == ROOM {
             self.flush()?;
@@ -82,7 +82,7 @@ impl<S: Sink + Drop> Sink for Buffered<S> {
     }
 }
 
-// Appends bytes for which there is room.
+/// Appends bytes for which there is room.
 fn hold(held: &mut Vec<u8>, bytes: &[u8])
     requires { vec_len held.old + length bytes.now ≤ vec_capacity held.old }
     ensures items { held.new.items ≡ held.old.items ++ bytes.now }

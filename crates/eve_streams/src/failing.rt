@@ -44,7 +44,7 @@ impl<S: Drop> FailsAt<S> {
         self.failures
     }
 
-    // Counts a call, and a failure where this is the call that fails.
+    /// Counts a call, and a failure where this is the call that fails.
     fn is_due(&mut self) -> bool
         ensures due { IsTrue result ↔ (calls_left self.old ≡ 1) }
         ensures calls { calls_left self.new ≡ calls_left self.old - 1 }

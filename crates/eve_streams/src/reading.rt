@@ -17,7 +17,7 @@ pub enum ReadFault {
     Memory,
 }
 
-// How many bytes one fetch has room for.
+/// How many bytes one fetch has room for.
 const CHUNK: usize = 64 * 1024;
 
 /// Reads the source to its end, and no further than `limit + 1` bytes: more than `limit` bytes

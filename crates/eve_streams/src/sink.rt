@@ -14,12 +14,12 @@ pub trait Sink {
     // The bytes taken so far, where they are known.
     ghost written: { Self → Option (List ℕ) };
 
-    // How many sends have failed, in 64 bits that wrap: a call that stops at its first failure
-    // can be told from one that met none at every count.
+    // How many sends have failed, in 64 bits that wrap. At every count, a call that stops at its first failure differs
+    // from one that met none.
     ghost failures: { Self → ℕ };
 
-    /// Takes a front of `bytes`, at least one byte where there is one, and answers how many; or
-    /// fails, takes nothing and counts one failure.
+    /// Takes a front of `bytes`, at least one byte where there is one, and returns its length; or fails, takes nothing
+    /// and counts one failure.
     fn send(&mut self, bytes: &[u8]) -> Result<usize, SendFault>
         ensures within { IfOk result (λ n. n ≤ length bytes.now) }
         ensures some { IfOk result (λ n. 0 < length bytes.now → 0 < n) }
@@ -30,8 +30,8 @@ pub trait Sink {
         ensures counted { OnErr result (failures self.new ≡ after_failure (failures self.old)) };
 }
 
-/// Sends all of `bytes`. After a fault a front of them has been taken, and not all of them; the
-/// sink failed once, in this call.
+/// Sends all of `bytes`. After a fault a front of them has been taken, but not all of them; the sink failed once, in
+/// this call.
 pub fn send_all<S: Sink>(sink: &mut S, bytes: &[u8]) -> Result<(), SendFault>
     ensures sent { OnOk result (Appends (S.written sink.old) (S.written sink.new) bytes.now) }
     ensures front { OnErr result
@@ -43,7 +43,7 @@ pub fn send_all<S: Sink>(sink: &mut S, bytes: &[u8]) -> Result<(), SendFault>
     result
 }
 
-// Sends until all is sent or the sink fails, and answers how many bytes were sent.
+/// Sends until all is sent or the sink fails, and returns how many bytes were sent.
 pub(crate) fn send_front<S: Sink>(sink: &mut S, bytes: &[u8]) -> (usize, Result<(), SendFault>)
     ensures within { result.0 ≤ length bytes.now }
     ensures all { OnOk result.1 (result.0 ≡ length bytes.now) }

@@ -17,7 +17,7 @@ pub struct SinkOf<W: Drop> {
     failures: u64,
 }
 
-// How often one send tries a write that is interrupted.
+/// How often one send tries a write that is interrupted.
 const MOST_TRIES: u32 = 1 << 31;
 
 impl<W: Write + Drop> SinkOf<W> {

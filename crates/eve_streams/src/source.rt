@@ -16,8 +16,8 @@ pub trait Source {
     // How many fetches have failed, in 64 bits that wrap.
     ghost failures: { Self → ℕ };
 
-    /// Puts the next bytes at the start of `buffer` and answers how many; 0, where the buffer has
-    /// room, is the end. Or fails, gives nothing and counts one failure.
+    /// Puts the next bytes at the start of `buffer` and returns how many; 0 is the end, where the buffer has room. Or
+    /// fails, gives nothing and counts one failure.
     fn fetch(&mut self, buffer: &mut [u8]) -> Result<usize, FetchFault>
         ensures within { IfOk result (λ n. n ≤ length buffer.new) }
         ensures gives { IfOk result

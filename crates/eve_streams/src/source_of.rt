@@ -19,7 +19,7 @@ pub struct SourceOf<R: Drop> {
     failures: u64,
 }
 
-// How often a reader is read.
+/// How often a reader is read.
 const MOST_READS: u32 = 1 << 31;
 
 impl<R: Read + Drop> SourceOf<R> {
@@ -65,8 +65,8 @@ impl<R: Read + Drop> Source for SourceOf<R> {
 
     ghost failures = { λ s. s.failures };
 
-    // The clauses of every source, and that it fails once its reads are used up, of which each answer takes one or
-    // more.
+    /// Has the clauses of every source, and fails once its reads are used up. Each fetch that succeeds takes one read
+    /// or more.
     fn fetch(&mut self, buffer: &mut [u8]) -> Result<usize, FetchFault>
         ensures within { IfOk result (λ n. n ≤ length buffer.new) }
         ensures gives { IfOk result

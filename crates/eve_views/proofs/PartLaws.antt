@@ -18,7 +18,8 @@ use Rattle.eve_frames.specs.Views.{has_batch_body, has_sent_body, has_vote_body,
 use Rattle.eve_grammar.specs.declared.limits.TheConstants.{MOST_ROWS, MOST_BATCHES}
 use Rattle.eve_frames.specs.Views.{has_customer_body, customer_in, vote_in, access_in, Says}
 use Rattle.eve_frames.proofs.Rereading.{customer_again, batch_again, sent_again, vote_again, access_again}
-use Rattle.eve_grammar.proofs.FrameLaws.{small_head, few_batches}
+use Rattle.eve_grammar.proofs.FrameLaws.{few_batches}
+use Rattle.eve_grammar.proofs.HeadLimits.{head_has_limits}
 use Rattle.eve_grammar.specs.declared.head.Head.{Head}
 use Rattle.eve_grammar.proofs.Spelled.{limits_of_spelled}
 use Rattle.eve_views.specs.declared.walk.Index.{Index}
@@ -293,10 +294,10 @@ batches_within t n k lt number =
     )
 
 pub few_replicas : (t : Trace) → HasLimits t → length t.sections ≤ 8
-few_replicas t limits = (small_head (head_of t) limits.head).replicas
+few_replicas t limits = (head_has_limits (head_of t) limits.head).few_replicas
 
 pub few_verifiers : (t : Trace) → HasLimits t → length t.verifiers ≤ 16
-few_verifiers t limits = (small_head (head_of t) limits.head).verifiers
+few_verifiers t limits = (head_has_limits (head_of t) limits.head).few_verifiers
 
 pub customer_lent : (t : Trace) (i offset : ℕ) (bytes : List ℕ) → HasLimits t → i < length t.customers
     → IsFrameAt (frames_of t) i bytes → offset ≡ byte_of (frames_of t) i

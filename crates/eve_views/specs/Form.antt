@@ -18,13 +18,15 @@ use Rattle.eve_views.specs.declared.fault.Code.TheVariants as code
 use Rattle.eve_views.specs.declared.fault.Fault.{Fault}
 use Rattle.eve_views.specs.declared.fault.CheckFault.{CheckFault}
 use Rattle.eve_views.specs.declared.fault.CheckFault.TheVariants.{Found, Memory}
+use Rattle.eve_grammar.specs.declared.frame_kind.TheConstants.{FRAME_HEAD_LEN}
+use Rattle.eve_grammar.specs.declared.head.TheConstants.{HEADER_LEN}
 
 -- ---- the header
 
 -- 32 bytes or more, no more than a trace may have, and as many as the header says
 abbrev pub is_sized : List ℕ → Bool
 is_sized bytes =
-    nat_le 32 (length bytes) && (nat_le (length bytes) MOST_BYTES && (big_number 8 (drop 24 bytes) == length bytes))
+    nat_le HEADER_LEN (length bytes) && (nat_le (length bytes) MOST_BYTES && (big_number 8 (drop 24 bytes) == length bytes))
 
 -- the first six bytes are those of a trace
 abbrev pub has_magic : List ℕ → Bool
@@ -48,9 +50,9 @@ pub record IsReached (bytes : List ℕ) (at : ℕ) : Type 0 where
   pub front : List Frame
   pub says : SaysHead bytes head
   pub right : Follow head start_place front
-  pub at_is : at ≡ 32 + length (frames_text front)
+  pub at_is : at ≡ HEADER_LEN + length (frames_text front)
   pub within : at ≤ length bytes
-  pub before : take at bytes ≡ take 32 bytes ++ frames_text front
+  pub before : take at bytes ≡ take HEADER_LEN bytes ++ frames_text front
 
 -- how far the frames before have come
 abbrev pub place_at : {bytes : List ℕ} {at : ℕ} → IsReached bytes at → Place
@@ -59,8 +61,8 @@ place_at r = after start_place r.front
 -- a frame of a kind that may stand there lies at the front of the bytes as a whole
 abbrev pub is_framed : Head → Place → List ℕ → Bool
 is_framed h p bytes =
-    nat_le 5 (length bytes)
-    && (is_allowed h p (slice_index bytes 0) && nat_le (5 + big_number 4 (drop 1 bytes)) (length bytes))
+    nat_le FRAME_HEAD_LEN (length bytes)
+    && (is_allowed h p (slice_index bytes 0) && nat_le (FRAME_HEAD_LEN + big_number 4 (drop 1 bytes)) (length bytes))
 
 -- where a frame is due none of a kind that may stand there lies in the bytes as a whole, or a byte follows the end
 pub record HasNoFrame (h : Head) (p : Place) (bytes : List ℕ) : Type 0 where

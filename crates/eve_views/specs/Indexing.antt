@@ -12,6 +12,9 @@ use Rattle.eve_views.specs.declared.fault.Code.{Code}
 use Rattle.eve_views.specs.declared.starts.Starts.{Starts}
 use Rattle.eve_views.specs.declared.walk.Framed.{Framed}
 use Rattle.eve_views.specs.declared.walk.Index.{Index}
+use Rattle.eve_grammar.specs.declared.frame_kind.TheConstants.{SENT_FRAME, END_FRAME}
+use Rattle.eve_grammar.specs.declared.frame_kind.TheConstants.{FRAME_HEAD_LEN}
+use Rattle.eve_grammar.specs.declared.head.TheConstants.{HEADER_LEN}
 
 -- a frame at the front of bytes: its first byte, its length, and how many access frames have to follow
 pub record KeptFrame : Type 0 where
@@ -31,7 +34,7 @@ answer_in (Err c) = Err c
 -- what is kept of a frame that was taken from the front of these bytes
 abbrev pub kept : List ℕ → Result (Frame × List ℕ) Code → Result KeptFrame Code
 kept bytes (Ok x) =
-    Ok (record { kind = slice_index bytes 0; len = 5 + big_number 4 (drop 1 bytes); accesses = accesses_in x.0 })
+    Ok (record { kind = slice_index bytes 0; len = FRAME_HEAD_LEN + big_number 4 (drop 1 bytes); accesses = accesses_in x.0 })
 kept bytes (Err c) = Err c
 
 -- where each frame begins, the first one's byte offset being given
@@ -41,7 +44,7 @@ offsets_of at (f ∷ fs) = at ∷ offsets_of (at + length (frame_text f)) fs
 
 -- a reply sent, or the end
 abbrev pub is_last : Frame → Bool
-is_last f = (kind_of f == 48) || (kind_of f == 127)
+is_last f = (kind_of f == SENT_FRAME) || (kind_of f == END_FRAME)
 
 -- how many frames stand before the first reply sent, or the end
 abbrev pub frames_before_sent : List Frame → ℕ
@@ -58,6 +61,6 @@ pub record AreStarts (h : Head) (fs : List Frame) (s : Starts) : Type 0 where
 pub record IsIndex (h : Head) (bytes : List ℕ) (i : Index) : Type 0 where
   pub frames : List Frame
   pub run : AreAllFrames h frames
-  pub text : drop 32 bytes ≡ frames_text frames
-  pub offsets : i.offsets.items ≡ offsets_of 32 frames
+  pub text : drop HEADER_LEN bytes ≡ frames_text frames
+  pub offsets : i.offsets.items ≡ offsets_of HEADER_LEN frames
   pub starts : AreStarts h frames i.starts

@@ -8,10 +8,11 @@ use Rattle.eve_grammar.specs.Spelling.{frame_text, frames_text, located, step_te
 use Rattle.eve_grammar.specs.Limits.{is_access, is_step, is_vote}
 use Rattle.eve_grammar.specs.Gathering.{gathered}
 use Rattle.eve_grammar.specs.declared.limits.TheConstants.{MOST_ROWS, MOST_BATCHES}
+use Rattle.eve_grammar.specs.declared.head.TheConstants.{HEADER_LEN}
 
 -- the byte at which the frame of this number begins
 abbrev pub byte_of : List Frame → ℕ → ℕ
-byte_of fs i = 32 + length (frames_text (take i fs))
+byte_of fs i = HEADER_LEN + length (frames_text (take i fs))
 
 -- the frames from one number on, this many
 abbrev pub frames_between : List Frame → ℕ → ℕ → List Frame
@@ -35,7 +36,7 @@ steps_between fs from count = located step_text (byte_of fs from) (gathered (fra
 
 -- ---- and that they are of one kind
 
--- frames of one kind, and no others; each fits a trace with so many rows or batches, no more than there can be
+-- frames of one kind, and no others; each fits a trace with `most` rows or batches, no more than there can be
 pub record AreOfOneKind {A : Type 0} (frame : A → Frame) (fits : ℕ → A → Bool) (most : ℕ) (fs : List Frame)
     (from to : ℕ) : Type 0 where
   pub items : List A

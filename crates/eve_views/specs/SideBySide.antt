@@ -12,19 +12,22 @@ use Rattle.eve_views.specs.Walk.{frame_at}
 use Rattle.eve_views.specs.Indexing.{KeptFrame, kept}
 use Rattle.eve_views.specs.Walking.{Walking}
 use Rattle.eve_views.specs.declared.progress.Progress.{Progress}
+use Rattle.eve_grammar.specs.declared.frame_kind.TheConstants.{BATCH_FRAME, ATTEMPT_FRAME, ACCESS_FRAME}
+use Rattle.eve_grammar.specs.declared.frame_kind.TheConstants.{FRAME_HEAD_LEN}
+use Rattle.eve_grammar.specs.declared.head.TheConstants.{HEADER_LEN}
 
--- whether it is a body of this kind, where the kind is one of these three; the access record is of one of so many rows
+-- whether it is a body of this kind, where the kind is one of these three; the access record is of one of these rows
 abbrev pub is_right_body : ℕ → ℕ → List ℕ → Bool
 is_right_body rows kind body =
-    if kind == 2 then is_some (batch_of body)
-    else if kind == 17 then is_some (attempt_of body)
-    else if kind == 18 then is_some (access_of rows body)
+    if kind == BATCH_FRAME then is_some (batch_of body)
+    else if kind == ATTEMPT_FRAME then is_some (attempt_of body)
+    else if kind == ACCESS_FRAME then is_some (access_of rows body)
     else true
 
 -- the same of the body of the frame at the front of bytes
 abbrev pub IsRightFrame : ℕ → List ℕ → Type 0
 IsRightFrame rows bytes =
-    IsTrue (is_right_body rows (slice_index bytes 0) (take (big_number 4 (drop 1 bytes)) (drop 5 bytes)))
+    IsTrue (is_right_body rows (slice_index bytes 0) (take (big_number 4 (drop 1 bytes)) (drop FRAME_HEAD_LEN bytes)))
 
 -- the same of the frame at each of these byte offsets
 abbrev pub AreRightFrames : ℕ → List ℕ → List ℕ → Type 0
@@ -40,13 +43,13 @@ pub record IsFramedUnjudged (h : Head) (p : Place) (bytes : List ℕ) (k : KeptF
 
 -- what is kept of an access frame of this length
 abbrev pub access_kept : ℕ → KeptFrame
-access_kept len = record { kind = 18; len = len; accesses = 0 }
+access_kept len = record { kind = ACCESS_FRAME; len = len; accesses = 0 }
 
 -- the walk came so far, if only the bodies are right of the frames that it found, where these weren't judged
 pub record IsWalkedUnjudged (h : Head) (bytes : List ℕ) (w : Progress) : Type 0 where
   pub head : w.reached.head ≡ h
   pub within : w.at ≤ length bytes
-  pub few : length w.offsets.items + 32 ≤ w.at
+  pub few : length w.offsets.items + HEADER_LEN ≤ w.at
   pub walking : AreRightFrames (row_count h) bytes w.offsets.items
       → Walking h bytes w.at w.reached.place w.offsets.items w.starts
 

@@ -10,6 +10,7 @@ use Rattle.eve_grammar.specs.declared.place.Place.{Place}
 use Rattle.eve_views.specs.Form.{is_framed}
 use Rattle.eve_views.specs.declared.fault.Code.{Code}
 use Rattle.eve_views.specs.declared.fault.Code.TheVariants as code
+use Rattle.eve_grammar.specs.declared.frame_kind.TheConstants.{FRAME_HEAD_LEN}
 
 -- the frame with that body, and what follows it
 abbrev pub with_rest : List ℕ → Option Frame → Result (Frame × List ℕ) Code
@@ -20,7 +21,7 @@ with_rest rest None = Err code.Body
 abbrev pub inside : Head → Place → List ℕ → Result (Frame × List ℕ) Code
 inside h p bytes =
     let len = big_number 4 (drop 1 bytes) in
-    with_rest (drop len (drop 5 bytes)) (body_of h p (slice_index bytes 0) (take len (drop 5 bytes)))
+    with_rest (drop len (drop FRAME_HEAD_LEN bytes)) (body_of h p (slice_index bytes 0) (take len (drop FRAME_HEAD_LEN bytes)))
 
 -- the frame at the front of the bytes, or what is wrong there
 unfoldable pub frame_at : Head → Place → List ℕ → Result (Frame × List ℕ) Code
@@ -30,8 +31,8 @@ frame_at h p bytes = if is_framed h p bytes then inside h p bytes else Err code.
 pub record IsFrontOf (bytes : List ℕ) (kind : ℕ) (body : List ℕ) : Type 0 where
   pub kind_is : slice_index bytes 0 ≡ kind
   pub len_is : big_number 4 (drop 1 bytes) ≡ length body
-  pub body_is : take (length body) (drop 5 bytes) ≡ body
-  pub whole : 5 + length body ≤ length bytes
+  pub body_is : take (length body) (drop FRAME_HEAD_LEN bytes) ≡ body
+  pub whole : FRAME_HEAD_LEN + length body ≤ length bytes
 
 -- the frames that were found, or what is wrong and the bytes from there on
 abbrev pub Walked : Type 0

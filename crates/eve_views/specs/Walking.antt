@@ -8,16 +8,17 @@ use Rattle.eve_grammar.specs.declared.head.Head.{Head}
 use Rattle.eve_grammar.specs.declared.place.Place.{Place}
 use Rattle.eve_views.specs.Indexing.{offsets_of, frames_before_sent}
 use Rattle.eve_views.specs.declared.starts.Starts.{Starts}
+use Rattle.eve_grammar.specs.declared.head.TheConstants.{HEADER_LEN}
 
 -- the frames from byte 32 up to this byte have come so far, and begin at these byte offsets
 pub record Reached (h : Head) (bytes : List ℕ) (at : ℕ) (p : Place) (offsets : List ℕ) : Type 0 where
   pub front : List Frame
   pub right : Follow h start_place front
   pub place_is : after start_place front ≡ p
-  pub at_is : at ≡ 32 + length (frames_text front)
+  pub at_is : at ≡ HEADER_LEN + length (frames_text front)
   pub within : at ≤ length bytes
-  pub before : take at bytes ≡ take 32 bytes ++ frames_text front
-  pub offsets_is : offsets ≡ offsets_of 32 front
+  pub before : take at bytes ≡ take HEADER_LEN bytes ++ frames_text front
+  pub offsets_is : offsets ≡ offsets_of HEADER_LEN front
 
 -- whether a reply sent or the end has come
 abbrev pub has_last : Place → Bool

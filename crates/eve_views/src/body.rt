@@ -9,7 +9,7 @@ ghost use Rattle.eve_views.specs.Places.{accesses_in};
 
 use crate::reached::Reached;
 use eve_grammar::{
-    FrameKind, MOST_NAMES, batch_number, certificate_len, is_access_body, is_commit_body,
+    FrameKind, MOST_CUSTOMERS, batch_number, certificate_len, is_access_body, is_commit_body,
     is_customer_body, is_rollback_body, is_sent_body, is_vote_body, number_of,
 };
 
@@ -17,7 +17,7 @@ use eve_grammar::{
 #[tactic(auto, unfolding(eve_grammar::specs::Reading::body_of))]
 fn is_body(at: &Reached, kind: FrameKind, body: &[u8]) -> bool
     requires kind { kind ≢ Attempt }
-    requires customers { at.now.head.customers ≤ MOST_NAMES }
+    requires customers { at.now.head.customers ≤ MOST_CUSTOMERS }
     ensures { result ≡ is_some (body_of at.now.head at.now.place (kind_byte kind) body.now) }
 {
     let rows = 2 * at.head.customers;
@@ -42,7 +42,7 @@ fn is_body(at: &Reached, kind: FrameKind, body: &[u8]) -> bool
 /// How many access frames have to follow a frame of this kind that stands here; `None` where its body is wrong.
 #[tactic(auto, unfolding(eve_grammar::specs::Reading::body_of))]
 pub fn accesses_behind(at: &Reached, kind: FrameKind, body: &[u8]) -> Option<usize>
-    requires customers { at.now.head.customers ≤ MOST_NAMES }
+    requires customers { at.now.head.customers ≤ MOST_CUSTOMERS }
     ensures { result ≡ option_map accesses_in (body_of at.now.head at.now.place (kind_byte kind) body.now) }
 {
     match kind {

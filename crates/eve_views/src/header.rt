@@ -6,13 +6,13 @@ ghost use Rattle.eve_views.specs.Header.{IsHeader, StopsAtHeader};
 
 use crate::fault::Code;
 use byteorder::{BigEndian, ByteOrder};
-use eve_grammar::{Head, MOST_BYTES};
+use eve_grammar::{HEADER_LEN, Head, MOST_BYTES};
 
 /// Whether there are as many bytes as a trace may have and as the header says.
 fn is_sized(bytes: &[u8]) -> bool
     ensures { result ≡ is_sized bytes.now }
 {
-    32 <= bytes.len()
+    HEADER_LEN <= bytes.len()
         && bytes.len() <= MOST_BYTES
         && BigEndian::read_u64(&bytes[24..]) == bytes.len() as u64
 }

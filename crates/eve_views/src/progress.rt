@@ -17,7 +17,7 @@ use crate::reached::Reached;
 use crate::starts::Starts;
 use crate::walk::{Framed, Index, kind_and_body};
 use byteorder::{BigEndian, ByteOrder};
-use eve_grammar::{FrameKind, Head, MOST_BYTES, MOST_NAMES};
+use eve_grammar::{FRAME_HEAD_LEN, FrameKind, HEADER_LEN, Head, MOST_BYTES, MOST_CUSTOMERS};
 use std::alloc::{AllocError, Global};
 
 /// How far a walk over the frames of a trace has come.
@@ -56,7 +56,7 @@ fn says_number(body: &[u8], number: u32) -> bool
 /// attempt and an access record nothing else of the body is judged; `None` where what is judged is wrong.
 #[inline(always)]
 fn accesses_unjudged(at: &Reached, kind: FrameKind, body: &[u8]) -> Option<usize>
-    requires { at.now.head.customers ≤ MOST_NAMES }
+    requires { at.now.head.customers ≤ MOST_CUSTOMERS }
     ensures { IfSome result (λ n. IsTrue (is_right_body (row_count at.now.head) (kind_byte kind) body.now)
         → Some n ≡ option_map accesses_in (body_of at.now.head at.now.place (kind_byte kind) body.now)) }
 {
@@ -78,7 +78,7 @@ fn accesses_unjudged(at: &Reached, kind: FrameKind, body: &[u8]) -> Option<usize
 /// access record, which isn't judged.
 #[inline(always)]
 fn frame_unjudged(at: &Reached, bytes: &[u8]) -> Option<Framed>
-    requires { at.now.head.customers ≤ MOST_NAMES }
+    requires { at.now.head.customers ≤ MOST_CUSTOMERS }
     ensures { IfSome result (λ f. IsFramedUnjudged at.now.head at.now.place bytes.now (kept_in f)) }
 {
     let (kind, body) = kind_and_body(bytes)?;
@@ -88,7 +88,7 @@ fn frame_unjudged(at: &Reached, bytes: &[u8]) -> Option<Framed>
     let accesses = accesses_unjudged(at, kind, body)?;
     Some(Framed {
         kind,
-        len: 5 + body.len(),
+        len: FRAME_HEAD_LEN + body.len(),
         accesses,
     })
 }
@@ -101,7 +101,7 @@ fn access_unjudged(at: &Reached, bytes: &[u8]) -> Option<usize>
 {
     let (kind, body) = kind_and_body(bytes)?;
     match kind {
-        FrameKind::Access if at.allows(kind) => Some(5 + body.len()),
+        FrameKind::Access if at.allows(kind) => Some(FRAME_HEAD_LEN + body.len()),
         _ => None,
     }
 }
@@ -109,13 +109,13 @@ fn access_unjudged(at: &Reached, bytes: &[u8]) -> Option<usize>
 impl Progress {
     /// Before the first frame.
     pub fn start(alloc: Global, head: Head) -> Progress
-        ensures { (bytes : List ℕ) → 32 ≤ length bytes → IsWalkedUnjudged head bytes result }
+        ensures { (bytes : List ℕ) → HEADER_LEN ≤ length bytes → IsWalkedUnjudged head bytes result }
     {
         Progress {
             offsets: Vec::new(alloc),
             starts: Starts::new(),
             reached: Reached::start(head),
-            at: 32,
+            at: HEADER_LEN,
         }
     }
 
@@ -162,7 +162,7 @@ impl Progress {
         Ok(true)
     }
 
-    /// Goes on until there are so many frames, or this byte is reached, or up to the end, where that comes before;
+    /// Goes on until there are `most` frames, or this byte is reached, or up to the end, where that comes before;
     /// nothing where anything is wrong on the way, but for the bodies that aren't judged. Access frames aren't parted
     /// from their attempt.
     pub fn go_on(

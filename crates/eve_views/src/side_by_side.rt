@@ -13,7 +13,8 @@ use crate::fault::CheckFault;
 use crate::progress::Progress;
 use crate::walk::{Index, index_of, kind_and_body};
 use eve_grammar::{
-    FrameKind, Head, MOST_BYTES, MOST_NAMED_ROWS, batch_number, certificate_len, is_access_body,
+    FrameKind, HEADER_LEN, Head, MOST_BYTES, MOST_ROWS, batch_number, certificate_len,
+    is_access_body,
 };
 use std::alloc::{AllocError, Global};
 use std::thread;
@@ -24,7 +25,7 @@ const LEAST_BYTES: usize = 1 << 16;
 
 /// Whether it is a body of this kind, where that is a batch, an attempt or an access record. There are this many rows.
 fn is_right_body(rows: u32, kind: FrameKind, body: &[u8]) -> bool
-    requires { rows ≤ MOST_NAMED_ROWS }
+    requires { rows ≤ MOST_ROWS }
     ensures { result ≡ is_right_body rows (kind_byte kind) body.now }
 {
     match kind {
@@ -37,7 +38,7 @@ fn is_right_body(rows: u32, kind: FrameKind, body: &[u8]) -> bool
 
 /// The same of the body of the frame at the front of the bytes; no, where there is none.
 fn is_right_frame(rows: u32, bytes: &[u8]) -> bool
-    requires { rows ≤ MOST_NAMED_ROWS }
+    requires { rows ≤ MOST_ROWS }
     ensures { IsTrue result → IsRightFrame rows bytes.now }
 {
     match kind_and_body(bytes) {
@@ -48,7 +49,7 @@ fn is_right_frame(rows: u32, bytes: &[u8]) -> bool
 
 /// Whether the frames at these offsets have right bodies, where they are batches, attempts or access records.
 fn are_right_frames(rows: u32, bytes: &[u8], offsets: &[u32]) -> bool
-    requires { rows ≤ MOST_NAMED_ROWS }
+    requires { rows ≤ MOST_ROWS }
     ensures { IsTrue result → AreRightFrames rows bytes.now offsets.now }
 {
     for offset in offsets {
@@ -60,7 +61,7 @@ fn are_right_frames(rows: u32, bytes: &[u8], offsets: &[u32]) -> bool
     true
 }
 
-/// The same, by so many threads, the caller among them: each with a stretch of the offsets, as long as the others'.
+/// The same, by `threads` threads, the caller among them: each with a stretch of the offsets, as long as the others'.
 fn are_right<R: Threads + Sync>(
     rt: &R,
     rows: u32,
@@ -68,7 +69,7 @@ fn are_right<R: Threads + Sync>(
     offsets: &[u32],
     threads: usize,
 ) -> bool
-    requires { rows ≤ MOST_NAMED_ROWS }
+    requires { rows ≤ MOST_ROWS }
     ensures { IsTrue result → AreRightFrames rows bytes.now offsets.now }
 {
     if threads < 2 {
@@ -80,18 +81,18 @@ fn are_right<R: Threads + Sync>(
     let (first, second) = thread::join(
         rt,
         || -> bool
-            requires { IsSync R.row × (rows ≤ MOST_NAMED_ROWS) }
+            requires { IsSync R.row × (rows ≤ MOST_ROWS) }
             ensures { IsTrue result → AreRightFrames rows bytes.entry.now front.entry.now }
         { are_right(rt, rows, bytes, front, fewer) },
         || -> bool
-            requires { IsSync R.row × (rows ≤ MOST_NAMED_ROWS) }
+            requires { IsSync R.row × (rows ≤ MOST_ROWS) }
             ensures { IsTrue result → AreRightFrames rows bytes.entry.now back.entry.now }
         { are_right(rt, rows, bytes, back, others) },
     );
     first && second
 }
 
-/// Whether the frames at these offsets have right bodies, by so many threads; and what the walk finds that goes on from
+/// Whether the frames at these offsets have right bodies, in threads; and what the walk finds that goes on from
 /// there up to a byte, or to the end, by the caller beside them.
 fn judge_and_go_on<R: Threads + Sync>(
     rt: &R,
@@ -111,7 +112,7 @@ fn judge_and_go_on<R: Threads + Sync>(
 {
     let rows = 2 * head.customers;
     let judge = move || -> bool
-        requires { IsSync R.row × (rows ≤ MOST_NAMED_ROWS) }
+        requires { IsSync R.row × (rows ≤ MOST_ROWS) }
         ensures { IsTrue result → AreRightFrames rows bytes.entry.now found.items }
     { are_right(rt, rows, bytes, found.as_slice(), fewer) };
     let go_on = move || -> Result<Option<Progress>, AllocError>
@@ -124,7 +125,7 @@ fn judge_and_go_on<R: Threads + Sync>(
     thread::join(rt, judge, go_on)
 }
 
-/// Goes on up to a byte, or to the end, while one thread fewer than so many judge the bodies of the frames that were
+/// Goes on up to a byte, or to the end, while all threads but one judge the bodies of the frames that were
 /// found before, from the first on that wasn't judged; nothing where anything is wrong.
 fn go_on_and_judge<R: Threads + Sync>(
     rt: &R,
@@ -157,7 +158,7 @@ fn go_on_and_judge<R: Threads + Sync>(
     if right { Ok(Some(on)) } else { Ok(None) }
 }
 
-/// The frames up to the end, which was reached, with the bodies judged that weren't yet, by so many threads; nothing
+/// The frames up to the end, which was reached, with the bodies judged that weren't yet, by `threads` threads; nothing
 /// where anything is wrong.
 fn judge_behind<R: Threads + Sync>(
     rt: &R,
@@ -182,7 +183,7 @@ fn judge_behind<R: Threads + Sync>(
 }
 
 /// The frames up to the end: the walk goes on to there, if it hasn't come so far, and all bodies are judged but the
-/// first so many, which were; nothing where anything is wrong.
+/// first ones, which were; nothing where anything is wrong.
 fn judge_to_end<R: Threads + Sync>(
     rt: &R,
     alloc: Global,
@@ -221,7 +222,7 @@ fn first_stop(at: usize, end: usize, threads: usize) -> usize {
     at + (end - at) / 5 * 3
 }
 
-/// Finds the frames after a header, with the bodies of batches, attempts and access records judged by so many threads;
+/// Finds the frames after a header, with the bodies of batches, attempts and access records judged in threads;
 /// nothing where anything is wrong.
 ///
 /// The caller walks over the customers and the batches, which have most bytes in few frames. The other threads judge
@@ -235,7 +236,7 @@ fn index_judged<R: Threads + Sync>(
     threads: usize,
 ) -> Result<Option<Index>, AllocError>
     requires says { SaysHead bytes.now head }
-    requires header { 32 ≤ length bytes.now }
+    requires header { HEADER_LEN ≤ length bytes.now }
     requires length { length bytes.now ≤ MOST_BYTES }
     requires threads { 1 ≤ threads }
     ensures { IfOk result (λ found. IfSome found (IsIndex head bytes.now)) }
@@ -264,7 +265,7 @@ fn index_by_threads<R: Threads + Sync>(
     jobs: u8,
 ) -> Result<Option<Index>, AllocError>
     requires says { SaysHead bytes.now head }
-    requires header { 32 ≤ length bytes.now }
+    requires header { HEADER_LEN ≤ length bytes.now }
     requires length { length bytes.now ≤ MOST_BYTES }
     ensures { IfOk result (λ found. IfSome found (IsIndex head bytes.now)) }
 {
@@ -275,7 +276,7 @@ fn index_by_threads<R: Threads + Sync>(
     index_judged(rt, alloc, head, bytes, threads)
 }
 
-/// Finds the frames after a header, or the first fault among them, as `index_of` does, with up to so many jobs.
+/// Finds the frames after a header, or the first fault among them, as `index_of` does, with up to `jobs` jobs.
 ///
 /// For two threads or more the caller walks over the frames without judging the bodies of batches, attempts and access
 /// records, which are most of a trace; those of batches are judged beside the rest of the walk, the others after it.
@@ -289,7 +290,7 @@ pub fn index_side_by_side<R: Threads + Sync>(
     jobs: u8,
 ) -> Result<Index, CheckFault>
     requires says { SaysHead bytes.now head }
-    requires header { 32 ≤ length bytes.now }
+    requires header { HEADER_LEN ≤ length bytes.now }
     requires length { length bytes.now ≤ MOST_BYTES }
     ensures found { IfOk result (IsIndex head bytes.now) }
     ensures fault { IfErr result (λ e. IfFound e (IsFaultOutside StandsInForm bytes.now)) }

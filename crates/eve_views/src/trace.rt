@@ -8,6 +8,7 @@ ghost use Rattle.eve_grammar.specs.Spelling.{batches_at, steps_at, votes_at, sen
 ghost use Rattle.eve_grammar.specs.Trace.{Trace as TraceValue, head_of};
 ghost use Rattle.eve_grammar.specs.Limits.{HasLimits};
 ghost use Rattle.eve_grammar.specs.Following.{Spells};
+ghost use Rattle.eve_grammar.specs.declared.head.TheConstants.{HEADER_LEN};
 ghost use Rattle.eve_frames.specs.Said.{batch_said, customer_said, sent_said};
 ghost use Rattle.eve_views.specs.Form.{SaysHead, IfFound, IsLeast, HasNone, StandsInForm, IsFaultOutside};
 ghost use Rattle.eve_views.specs.Header.{IsHeader};
@@ -71,7 +72,7 @@ impl<'a> Trace<'a> {
         Trace::of_index(head, bytes, index_of(alloc, head, bytes))
     }
 
-    /// Reads a trace as `read` does, with up to so many jobs: the same trace, or the same fault.
+    /// Reads a trace as `read` does, with up to `jobs` jobs: the same trace, or the same fault.
     ///
     /// docs/TRACE.md, "Faults of form". With two jobs or more the bodies of batches, attempts and access records are
     /// judged side by side, in as many threads at most, and in no more than the trace has whole 64 KiB; the caller is
@@ -137,7 +138,7 @@ impl<'a> Trace<'a> {
     /// The byte at which a frame begins, or the number of bytes after the last.
     fn start_of(&self, i: usize) -> usize
         requires { i ≤ length (frames_of self.now) }
-        ensures { result ≡ 32 + length (frames_text (take i (frames_of self.now))) }
+        ensures { result ≡ HEADER_LEN + length (frames_text (take i (frames_of self.now))) }
     {
         if i < self.index.offsets.len() {
             self.index.offsets[i] as usize
@@ -150,7 +151,7 @@ impl<'a> Trace<'a> {
     pub fn frame(&self, i: usize) -> FrameView<'a>
         requires { i < length (frames_of self.now) }
         ensures frame { (f : Frame) × (slice_get (frames_of self.now) i ≡ Some f) × (result.bytes.now ≡ frame_text f) }
-        ensures offset { result.offset ≡ 32 + length (frames_text (take i (frames_of self.now))) }
+        ensures offset { result.offset ≡ HEADER_LEN + length (frames_text (take i (frames_of self.now))) }
         ensures stands { HasBytesAt self.now result.offset result.bytes.now }
     {
         let bytes = self.bytes;

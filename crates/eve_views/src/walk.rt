@@ -12,7 +12,9 @@ use crate::body::accesses_behind;
 use crate::fault::{CheckFault, Code, Fault};
 use crate::reached::Reached;
 use crate::starts::Starts;
-use eve_grammar::{FrameKind, Head, MOST_BYTES, MOST_NAMES, u8_at, u32_at};
+use eve_grammar::{
+    FRAME_HEAD_LEN, FrameKind, HEADER_LEN, Head, MOST_BYTES, MOST_CUSTOMERS, u8_at, u32_at,
+};
 use std::alloc::Global;
 
 /// A whole frame at the front of bytes.
@@ -45,7 +47,7 @@ pub fn kind_and_body(bytes: &[u8]) -> Option<(FrameKind, &[u8])>
 /// The frame at the front of the bytes, or what is wrong there.
 #[tactic(auto, unfolding(crate::specs::Walk::frame_at))]
 fn frame_in_front(at: &Reached, bytes: &[u8]) -> Result<Framed, Code>
-    requires { at.now.head.customers ≤ MOST_NAMES }
+    requires { at.now.head.customers ≤ MOST_CUSTOMERS }
     ensures { answer_in result ≡ kept bytes.now (frame_at at.now.head at.now.place bytes.now) }
 {
     let Some((kind, body)) = kind_and_body(bytes) else {
@@ -57,7 +59,7 @@ fn frame_in_front(at: &Reached, bytes: &[u8]) -> Result<Framed, Code>
     match accesses_behind(at, kind, body) {
         Some(accesses) => Ok(Framed {
             kind,
-            len: 5 + body.len(),
+            len: FRAME_HEAD_LEN + body.len(),
             accesses,
         }),
         None => Err(Code::Body),
@@ -76,7 +78,7 @@ pub struct Index {
 /// Finds the frames after a header, or the first fault among them.
 pub fn index_of(alloc: Global, head: Head, bytes: &[u8]) -> Result<Index, CheckFault>
     requires says { SaysHead bytes.now head }
-    requires header { 32 ≤ length bytes.now }
+    requires header { HEADER_LEN ≤ length bytes.now }
     requires length { length bytes.now ≤ MOST_BYTES }
     ensures found { IfOk result (IsIndex head bytes.now) }
     ensures fault { IfErr result (λ e. IfFound e (IsFaultOutside StandsInForm bytes.now)) }
@@ -84,7 +86,7 @@ pub fn index_of(alloc: Global, head: Head, bytes: &[u8]) -> Result<Index, CheckF
     let mut offsets = Vec::new(alloc);
     let mut starts = Starts::new();
     let mut reached = Reached::start(head);
-    let mut at: usize = 32;
+    let mut at: usize = HEADER_LEN;
     'frames: while !reached.place.ended || at < bytes.len() {
         match frame_in_front(&reached, &bytes[at..]) {
             Err(code) => {

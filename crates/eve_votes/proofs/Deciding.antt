@@ -30,6 +30,7 @@ use Rattle.eve_votes.proofs.InOrder.{fellow_is}
 use Rattle.eve_views.proofs.Lowering.{lower_at, lower_stands}
 use Rattle.eve_votes.proofs.Counting.{counted, decided_backs, one_token}
 use Rattle.eve_grammar.proofs.Grouping.{all_at}
+use Rattle.eve_grammar.proofs.HeadLimits.{head_has_limits}
 use Rattle.eve_views.proofs.Locating.{length-located, located_get}
 
 -- ---- the votes of a trace
@@ -338,23 +339,7 @@ IfNone_from (Some x) P given = tt
 -- a quorum is more than half of the verifiers, and not more than all
 pub quorum_limits : (t : Trace) → HasLimits t
     → (t.head.quorum ≤ length t.verifiers) × (length t.verifiers < 2 * t.head.quorum)
-quorum_limits t limits =
-    let h = head_of t in
-    let all = and_parts (is_between 1 8 h.replicas)
-    (is_between 1 16 h.verifiers && (nat_le h.quorum h.verifiers && (nat_lt h.verifiers (2 * h.quorum)
-    && (is_between 1 8 h.window &&
-    (is_between 1 8 h.workers && (is_between 1 4096 h.customers && nat_le h.batches 65535)))))) limits.head in
-    let some = and_parts (is_between 1 16 h.verifiers)
-    (nat_le h.quorum h.verifiers && (nat_lt h.verifiers (2 * h.quorum)
-    && (is_between 1 8 h.window &&
-    (is_between 1 8 h.workers && (is_between 1 4096 h.customers && nat_le h.batches 65535))))) all.1 in
-    let quorum = and_parts (nat_le h.quorum h.verifiers) (nat_lt h.verifiers (2 * h.quorum)
-    && (is_between 1 8 h.window &&
-    (is_between 1 8 h.workers && (is_between 1 4096 h.customers && nat_le h.batches 65535)))) some.1 in
-    let most = and_parts (nat_lt h.verifiers (2 * h.quorum))
-    (is_between 1 8 h.window &&
-    (is_between 1 8 h.workers && (is_between 1 4096 h.customers && nat_le h.batches 65535))) quorum.1 in
-    (leb-true h.quorum h.verifiers quorum.0, ltb-true h.verifiers (2 * h.quorum) most.0)
+quorum_limits t limits = let head = head_has_limits (head_of t) limits.head in (head.quorum, head.majority)
 
 -- ---- what is decided
 

@@ -2,8 +2,8 @@
 use Rattle.std.specs.Prelude.{◌≡◌, ◌≢◌, ℕ, ◌≤◌, ◌+◌, ◌*◌, List}
 use Rattle.eve_votes.specs.declared.majority.Lead.{Lead}
 
--- of so many voters no token but this has more than half: the double of its votes is at most the voters and its lead,
--- that of any other's votes at most the voters less this lead
+-- no token but this has the votes of more than half of the voters: twice its votes are at most the voters and its lead,
+-- and twice any other's votes at most the voters less this lead
 pub record HasLead (votes : List ℕ → ℕ) (voters : ℕ) (lead : Lead) : Type 0 where
   pub low : lead.by ≤ voters
   pub this : 2 * votes lead.token.now ≤ voters + lead.by

@@ -21,10 +21,10 @@ is_only choice _ = false
 abbrev pub backers : Trace → ℕ → ℕ → Choice → ℕ
 backers t n view choice = count_by (λ votes. is_only choice (filter (is_vote_on n view) votes)) t.verifiers
 
--- as many verifiers as a decision takes are for committing the batch in that view, with this token
+-- a quorum of verifiers is for committing the batch in that view, with this token
 abbrev pub IsDecided : Trace → ℕ → ℕ → List ℕ → Type 0
 IsDecided t n view token = t.head.quorum ≤ backers t n view (ForCommit token)
 
--- as many are for a rollback of the batch in that view
+-- a quorum of verifiers is for a rollback of the batch in that view
 abbrev pub IsRolledBack : Trace → ℕ → ℕ → Type 0
 IsRolledBack t n view = t.head.quorum ≤ backers t n view ForRollback

@@ -58,7 +58,7 @@ fn leader<'a>(trace: &Trace<'a>, ballots: &[Ballot], start: usize, seq: u32, vie
     lead
 }
 
-/// Whether so many votes are a quorum.
+/// Whether this number of votes is a quorum.
 pub(crate) fn is_quorum(trace: &Trace<'_>, votes: u8) -> bool
     ensures { result ≡ nat_le trace.now.head.quorum votes }
 {

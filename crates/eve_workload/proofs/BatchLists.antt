@@ -50,14 +50,14 @@ batch_there (CustomerLine c ∷ before) a follows = cc
 batch_there (BatchLine ∷ before) a follows = omega (arith, length-append (listed_in before) ([] ∷ []))
 batch_there (RequestLine b ∷ before) a follows = push_last_some (listed_in before) b
 
-pub batches_counted : (before : List Line) → AreRightLines before → length (listed_in before) ≡ batches_in before
-batches_counted [] right = refl
-batches_counted (HeadLine d ∷ before) right = batches_counted before right.1
-batches_counted (CustomerLine c ∷ before) right = batches_counted before right.1
-batches_counted (BatchLine ∷ before) right =
-    omega (arith, length-append (listed_in before) ([] ∷ []), batches_counted before right.1)
-batches_counted (RequestLine a ∷ before) right = push_last_count (listed_in before) a
-    (batch_there before a right.0.follows) ∙ batches_counted before right.1
+pub batches_counted : (format : ℕ) (before : List Line) → AreRightLines format before → length (listed_in before) ≡ batches_in before
+batches_counted format [] right = refl
+batches_counted format (HeadLine d ∷ before) right = batches_counted format before right.1
+batches_counted format (CustomerLine c ∷ before) right = batches_counted format before right.1
+batches_counted format (BatchLine ∷ before) right =
+    omega (arith, length-append (listed_in before) ([] ∷ []), batches_counted format before right.1)
+batches_counted format (RequestLine a ∷ before) right = push_last_count (listed_in before) a
+    (batch_there before a right.0.follows) ∙ batches_counted format before right.1
 
 -- a request more in the last of the lists
 pub pushed_last : (batches : List (Vec RequestData Global)) (n : ℕ) (old new : Vec RequestData Global) (a : Asked)

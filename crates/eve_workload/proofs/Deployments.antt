@@ -1,60 +1,39 @@
 -- The numbers of a deployment, and the words of a line 1, which spell one deployment.
-use Rattle.std.proofs.Common.{◌≡◌, ℕ, ◌^◌, ◌<◌, ◌≤◌, ◌*◌, Bool, true, false, IsTrue, ◌&&◌, nat_le, nat_lt, List, [], ap}
-use Rattle.std.proofs.Common.{leb-true, get_or, arith}
+use Rattle.std.proofs.Common.{◌≡◌, ℕ, ◌^◌, ◌<◌, ◌≤◌, IsTrue, List, [], ap, get_or, arith}
 use Rattle.std.specs.Fmt.{decimal}
-use Rattle.std.proofs.lemmas.Bool.{and_parts}
 use Rattle.std.proofs.lemmas.Fmt.{decimal_injective}
-use Rattle.eve_grammar.specs.Limits.{is_between, is_head}
+use Rattle.eve_grammar.specs.declared.limits.TheConstants.{MOST_REPLICAS, MOST_VERIFIERS, MOST_WINDOW, MOST_WORKERS}
+use Rattle.eve_grammar.specs.declared.limits.TheConstants.{NEWEST_VERSION}
+use Rattle.eve_grammar.specs.Limits.{is_head, HasHeadLimits}
+use Rattle.eve_grammar.proofs.HeadLimits.{head_has_limits, head_from_limits}
 use Rattle.eve_workload.specs.declared.deployment.Deployment.{Deployment}
 use Rattle.eve_workload.specs.Lines.{line_words, HeadLine}
-use Rattle.eve_workload.specs.Workload.{head_with}
-use Rattle.eve_workload.specs.Steps.{is_deployment}
+use Rattle.eve_workload.specs.Workload.{Workload, IsWorkload, head_with, head_asked, is_deployment}
 
 -- ---- right headers
 
--- the counts of a header are in their ranges
-abbrev pub are_counts : ℕ → ℕ → Bool
-are_counts customers batches = is_between 1 4096 customers && nat_le batches 65535
-
--- what follows a test may be another
-other_rest : (a b c : Bool) → IsTrue (a && b) → (IsTrue b → IsTrue c) → IsTrue (a && c)
-other_rest true b c both more = more both
-other_rest false b c both more = both
-
-module _ (d : Deployment) (customers batches : ℕ) (right : IsTrue (is_head (head_with d customers batches))) where
-  -- a header is right with any counts in their ranges
-  pub other_counts : (others other_batches : ℕ) → IsTrue (are_counts others other_batches)
-      → IsTrue (is_head (head_with d others other_batches))
-  other_counts others other_batches are =
-      other_rest (is_between 1 8 d.replicas) _ _ right (λ r.
-      other_rest (is_between 1 16 d.verifiers) _ _ r (λ r.
-      other_rest (nat_le d.quorum d.verifiers) _ _ r (λ r.
-      other_rest (nat_lt d.verifiers (2 * d.quorum)) _ _ r (λ r.
-      other_rest (is_between 1 8 d.window) _ _ r (λ r.
-      other_rest (is_between 1 8 d.workers) _ _ r (λ _. are))))))
-
-  counts_right : IsTrue (are_counts customers batches)
-  counts_right =
-      let workers = is_between 1 8 d.workers && are_counts customers batches in
-      let window = is_between 1 8 d.window && workers in
-      let majority = nat_lt d.verifiers (2 * d.quorum) && window in
-      let quorum = nat_le d.quorum d.verifiers && majority in
-      let verifiers = is_between 1 16 d.verifiers && quorum in
-      (and_parts (is_between 1 8 d.workers) (are_counts customers batches)
-      (and_parts (is_between 1 8 d.window) workers
-      (and_parts (nat_lt d.verifiers (2 * d.quorum)) window
-      (and_parts (nat_le d.quorum d.verifiers) majority
-      (and_parts (is_between 1 16 d.verifiers) quorum
-      (and_parts (is_between 1 8 d.replicas) verifiers right).1).1).1).1).1).1
-
-  pub few_batches : batches ≤ 65535
-  few_batches = leb-true _ _ (and_parts (is_between 1 4096 customers) (nat_le batches 65535) counts_right).1
-
-  pub some_customers : (1 ≤ customers) × (customers ≤ 4096)
-  some_customers =
-      let both = (and_parts (is_between 1 4096 customers) (nat_le batches 65535) counts_right).0 in
-      let two = and_parts (nat_le 1 customers) (nat_le customers 4096) both in
-      (leb-true _ _ two.0, leb-true _ _ two.1)
+-- the header of a workload's trace is right where its version is known
+pub head_right : (w : Workload) → IsWorkload w → 1 ≤ w.format → w.format ≤ NEWEST_VERSION → IsTrue (is_head (head_asked w))
+head_right w is some known =
+    let limits : HasHeadLimits (head_with 1 w.deployment 1 0) =
+    head_has_limits (head_with 1 w.deployment 1 0) is.deployment in
+    head_from_limits (head_asked w) (record {
+      some_version = some;
+      known_version = known;
+      some_replicas = limits.some_replicas;
+      few_replicas = limits.few_replicas;
+      some_verifiers = limits.some_verifiers;
+      few_verifiers = limits.few_verifiers;
+      quorum = limits.quorum;
+      majority = limits.majority;
+      some_window = limits.some_window;
+      few_window = limits.few_window;
+      some_workers = limits.some_workers;
+      few_workers = limits.few_workers;
+      some_customers = is.some_customers;
+      few_customers = is.few_customers;
+      few_batches = is.few_batches;
+    })
 
 -- ---- small numbers
 
@@ -66,29 +45,20 @@ pub record IsSmall (d : Deployment) : Type 0 where
   pub window : d.window < 2 ^ 8
   pub workers : d.workers < 2 ^ 8
 
-at_most : (low high n : ℕ) → IsTrue (is_between low high n) → n ≤ high
-at_most low high n right = leb-true n high (and_parts (nat_le low n) (nat_le n high) right).1
-
 pub deployment_small : (d : Deployment) → IsTrue (is_deployment d) → IsSmall d
 deployment_small d right =
-    let workers = is_between 1 8 d.workers && are_counts 1 0 in
-    let window = is_between 1 8 d.window && workers in
-    let majority = nat_lt d.verifiers (2 * d.quorum) && window in
-    let quorum = nat_le d.quorum d.verifiers && majority in
-    let verifiers = is_between 1 16 d.verifiers && quorum in
-    let first = and_parts (is_between 1 8 d.replicas) verifiers right in
-    let second = and_parts (is_between 1 16 d.verifiers) quorum first.1 in
-    let third = and_parts (nat_le d.quorum d.verifiers) majority second.1 in
-    let fourth = and_parts (nat_lt d.verifiers (2 * d.quorum)) window third.1 in
-    let fifth = and_parts (is_between 1 8 d.window) workers fourth.1 in
-    let sixth = and_parts (is_between 1 8 d.workers) (are_counts 1 0) fifth.1 in
-    let high_verifiers = at_most 1 16 d.verifiers second.0 in
+    let limits : HasHeadLimits (head_with 1 d 1 0) = head_has_limits (head_with 1 d 1 0) right in
+    let replicas : d.replicas ≤ MOST_REPLICAS = limits.few_replicas in
+    let verifiers : d.verifiers ≤ MOST_VERIFIERS = limits.few_verifiers in
+    let quorum : d.quorum ≤ d.verifiers = limits.quorum in
+    let window : d.window ≤ MOST_WINDOW = limits.few_window in
+    let workers : d.workers ≤ MOST_WORKERS = limits.few_workers in
     record {
-      replicas = omega (arith, at_most 1 8 d.replicas first.0);
+      replicas = omega arith;
       verifiers = omega arith;
-      quorum = omega (arith, leb-true d.quorum d.verifiers third.0);
-      window = omega (arith, at_most 1 8 d.window fifth.0);
-      workers = omega (arith, at_most 1 8 d.workers sixth.0);
+      quorum = omega arith;
+      window = omega arith;
+      workers = omega arith;
     }
 
 same_number : (m n : ℕ) → m < 2 ^ 8 → n < 2 ^ 8 → decimal m ≡ decimal n → m ≡ n

@@ -11,7 +11,7 @@ use Rattle.std.proofs.lemmas.List.{length-map, map_push}
 use Rattle.std.proofs.lemmas.Map.Views.{Contains-from_any}
 use Rattle.eve_accounts.specs.Names.{same_name}
 use Rattle.eve_grammar.specs.Trace.{Customer, Asked}
-use Rattle.eve_grammar.specs.Limits.{is_customer, is_asked}
+use Rattle.eve_grammar.specs.Limits.{is_customer, is_asked, most_customers}
 use Rattle.eve_write.specs.Data.{customer, asked}
 use Rattle.eve_write.specs.declared.customer.CustomerData.{CustomerData}
 use Rattle.eve_write.specs.declared.request.RequestData.{RequestData}
@@ -20,10 +20,10 @@ use Rattle.eve_workload.specs.declared.deployment.Deployment.{Deployment}
 use Rattle.eve_workload.specs.declared.draft.Last.TheVariants as last
 use Rattle.eve_workload.specs.declared.request_ids.RequestIds.{RequestIds}
 use Rattle.eve_workload.specs.declared.draft.Draft.{Draft}
-use Rattle.eve_workload.specs.Workload.{customer_names}
+use Rattle.eve_workload.specs.Workload.{is_deployment, customer_names}
 use Rattle.eve_grammar.specs.Trace.{request_id}
 use Rattle.eve_workload.specs.Lines.{Line, HeadLine, CustomerLine, BatchLine, RequestLine}
-use Rattle.eve_workload.specs.Steps.{customers_in, requests_in, batches_in, last_requests, may_follow, is_deployment}
+use Rattle.eve_workload.specs.Steps.{customers_in, requests_in, batches_in, last_requests, may_follow}
 use Rattle.eve_workload.specs.Steps.{IsRightBehind, AreRightLines}
 use Rattle.eve_workload.specs.RequestIds.{same_id, AreMet}
 use Rattle.eve_workload.specs.Batches.{asked_lists, push_last}
@@ -36,7 +36,7 @@ use Rattle.eve_workload.proofs.SameKeys.{found, found_more}
 pub batches_kept : (d : Draft) (before : List Line) → Keeps d before → length d.batches.items ≡ batches_in before
 batches_kept d before keeps =
     sym (length-map d.batches.items (λ (b : Vec RequestData Global). map asked b.items)) ∙ ap length keeps.batches
-    ∙ batches_counted before keeps.right
+    ∙ batches_counted d.format before keeps.right
 
 -- ---- lines taken
 
@@ -83,16 +83,17 @@ batch_taken d batches opened before pushed empty room follows keeps =
     }
 
 pub batch_refused : (d : Draft) (before : List Line) → 65535 ≤ length d.batches.items → Keeps d before
-    → ¬ IsRightBehind before BatchLine
+    → ¬ IsRightBehind d.format before BatchLine
 batch_refused d before full keeps right =
     omega (arith, ltb-true (batches_in before) 65535 right.room, batches_kept d before keeps)
 
-pub customer_refused : (d : Draft) (c : Customer) (before : List Line) → 4096 ≤ length d.customers.items
-    → Keeps d before → ¬ IsRightBehind before (CustomerLine c)
+pub customer_refused : (d : Draft) (c : Customer) (before : List Line)
+    → most_customers d.format ≤ length d.customers.items
+    → Keeps d before → ¬ IsRightBehind d.format before (CustomerLine c)
 customer_refused d c before full keeps right =
     omega (
       arith,
-      ltb-true (length (customers_in before)) 4096 right.room,
+      ltb-true (length (customers_in before)) (most_customers d.format) right.room,
       ap length keeps.customers,
       length-map d.customers.items customer,
     )
@@ -107,7 +108,7 @@ no_requests (RequestLine a ∷ before) c follows = cc
 
 pub customer_taken : (d : Draft) (customers : Vec CustomerData Global) (names : BTreeSet (Bor (List ℕ)))
     (added : CustomerData) (c : Customer) (before : List Line) → customers.items ≡ d.customers.items ++ added ∷ []
-    → customer added ≡ c → length d.customers.items < 4096 → IsTrue (is_customer c)
+    → customer added ≡ c → length d.customers.items < most_customers d.format → IsTrue (is_customer c)
     → IsTrue (may_follow before (CustomerLine c)) → has_name d.names.keys c.name ≡ false
     → ((other : List ℕ) → has_name names.keys other
     ≡ (if same_name c.name other then true else has_name d.names.keys other)) → Keeps d before
@@ -120,7 +121,7 @@ customer_taken d customers names added c before pushed same room ranges follows 
         record {
           follows = follows;
           ranges = ranges;
-          room = lt-ltb (length (customers_in before)) 4096 (omega arith);
+          room = lt-ltb (length (customers_in before)) (most_customers d.format) (omega arith);
           new = λ known. false≢true
               (sym fresh ∙ keeps.names c.name
               ∙ found same_name same_name-true same_name-itself (customer_names (customers_in before)) c.name known);
@@ -141,8 +142,8 @@ customer_taken d customers names added c before pushed same room ranges follows 
       request_ids = keeps.request_ids;
     }
 
-pub name_refused : (d : Draft) (c : Customer) (before : List Line) → has_name d.names.keys c.name ≡ true
-    → Keeps d before → ¬ IsRightBehind before (CustomerLine c)
+pub name_refused : {format : ℕ} (d : Draft) (c : Customer) (before : List Line) → has_name d.names.keys c.name ≡ true
+    → Keeps d before → ¬ IsRightBehind format before (CustomerLine c)
 name_refused d c before known keeps right =
     right.new (Contains-from_any same_name-true c.name (customer_names (customers_in before))
     (sym (keeps.names c.name) ∙ known))
@@ -177,29 +178,29 @@ request_taken d batches ids requests count a before added more counted room rang
       request_ids = subst (AreMet ids) (sym (map_push request_id (requests_in before) a)) met;
     }
 
-pub id_refused : (a : Asked) (before : List Line)
+pub id_refused : {format : ℕ} (a : Asked) (before : List Line)
     → list_any (same_id (request_id a)) (map request_id (requests_in before)) ≡ true
-    → ¬ IsRightBehind before (RequestLine a)
+    → ¬ IsRightBehind format before (RequestLine a)
 id_refused a before known right =
     right.new (Contains-from_any same_id-true (request_id a) (map request_id (requests_in before)) known)
 
 -- how many lines there are
-pub line_count : (before : List Line) → AreRightLines before → length before + 1
+pub line_count : (format : ℕ) (before : List Line) → AreRightLines format before → length before + 1
     ≡ next_of before + (length (customers_in before) + batches_in before + length (requests_in before))
-line_count [] right = refl
-line_count (HeadLine d ∷ []) right = refl
-line_count (HeadLine d ∷ (HeadLine e ∷ before)) right = let wrong = right.0.follows in cc
-line_count (HeadLine d ∷ (CustomerLine c ∷ before)) right = let wrong = right.0.follows in cc
-line_count (HeadLine d ∷ (BatchLine ∷ before)) right = let wrong = right.0.follows in cc
-line_count (HeadLine d ∷ (RequestLine a ∷ before)) right = let wrong = right.0.follows in cc
-line_count (CustomerLine c ∷ []) right = let wrong = right.0.follows in cc
-line_count (CustomerLine c ∷ (line ∷ before)) right =
-    omega (arith, line_count (line ∷ before) right.1, length-append (customers_in (line ∷ before)) (c ∷ []))
-line_count (BatchLine ∷ []) right = let wrong = right.0.follows in cc
-line_count (BatchLine ∷ (line ∷ before)) right = omega (arith, line_count (line ∷ before) right.1)
-line_count (RequestLine a ∷ []) right = let wrong = right.0.follows in cc
-line_count (RequestLine a ∷ (line ∷ before)) right =
-    omega (arith, line_count (line ∷ before) right.1, length-append (requests_in (line ∷ before)) (a ∷ []))
+line_count format [] right = refl
+line_count format (HeadLine d ∷ []) right = refl
+line_count format (HeadLine d ∷ (HeadLine e ∷ before)) right = let wrong = right.0.follows in cc
+line_count format (HeadLine d ∷ (CustomerLine c ∷ before)) right = let wrong = right.0.follows in cc
+line_count format (HeadLine d ∷ (BatchLine ∷ before)) right = let wrong = right.0.follows in cc
+line_count format (HeadLine d ∷ (RequestLine a ∷ before)) right = let wrong = right.0.follows in cc
+line_count format (CustomerLine c ∷ []) right = let wrong = right.0.follows in cc
+line_count format (CustomerLine c ∷ (line ∷ before)) right =
+    omega (arith, line_count format (line ∷ before) right.1, length-append (customers_in (line ∷ before)) (c ∷ []))
+line_count format (BatchLine ∷ []) right = let wrong = right.0.follows in cc
+line_count format (BatchLine ∷ (line ∷ before)) right = omega (arith, line_count format (line ∷ before) right.1)
+line_count format (RequestLine a ∷ []) right = let wrong = right.0.follows in cc
+line_count format (RequestLine a ∷ (line ∷ before)) right =
+    omega (arith, line_count format (line ∷ before) right.1, length-append (requests_in (line ∷ before)) (a ∷ []))
 
 -- ---- what an answer of a set says
 

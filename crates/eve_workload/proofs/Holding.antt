@@ -9,6 +9,8 @@ use Rattle.std.proofs.lemmas.Option.{slice_get-map, slice_get_read}
 use Rattle.std.specs.declared.alloc.Global.{Global}
 use Rattle.eve_grammar.specs.Trace.{Asked}
 use Rattle.eve_grammar.specs.Limits.{is_between, is_customer, is_asked, is_head}
+use Rattle.eve_grammar.specs.declared.limits.TheConstants.{MOST_CUSTOMERS, MOST_BATCHES, NEWEST_VERSION}
+use Rattle.eve_grammar.proofs.HeadLimits.{most_are_few}
 use Rattle.eve_grammar.proofs.Grouping.{all_at}
 use Rattle.eve_grammar.specs.declared.head.Head.{Head}
 use Rattle.eve_write.specs.Data.{customer, asked}
@@ -18,7 +20,7 @@ use Rattle.eve_workload.specs.declared.workload.Workload.TheInside.{Inside}
 use Rattle.eve_workload.specs.Workload.{Workload, IsWorkload, head_asked, customer_names, is_listed}
 use Rattle.eve_workload.specs.Batches.{asked_lists}
 use Rattle.eve_workload.specs.Held.{workload_of, IsHeldWorkload}
-use Rattle.eve_workload.proofs.Deployments.{few_batches, some_customers}
+use Rattle.eve_workload.proofs.Deployments as deployments
 
 -- how many there are, and within which limits
 module _ (w : Inside) (value : Workload) (held : IsHeldWorkload w) (is : workload_of w ≡ value) where
@@ -36,14 +38,14 @@ module _ (w : Inside) (value : Workload) (held : IsHeldWorkload w) (is : workloa
   pub is_workload : IsWorkload value
   is_workload = subst IsWorkload is held.workload
 
-  pub batches_few : length value.batches ≤ 65535
-  batches_few = few_batches value.deployment (length value.customers) (length value.batches) is_workload.head
+  pub batches_few : length value.batches ≤ MOST_BATCHES
+  batches_few = is_workload.few_batches
 
   pub customers_some : 1 ≤ length value.customers
-  customers_some = (some_customers value.deployment (length value.customers) (length value.batches) is_workload.head).0
+  customers_some = is_workload.some_customers
 
-  pub customers_few : length value.customers ≤ 4096
-  customers_few = (some_customers value.deployment (length value.customers) (length value.batches) is_workload.head).1
+  pub customers_few : length value.customers ≤ MOST_CUSTOMERS
+  customers_few = omega (arith, is_workload.few_customers, most_are_few value.format)
 
   -- its customers, as the code reads them
   customers_are : (customers : List CustomerData) → customers ≡ w.customers.items → value.customers
@@ -66,6 +68,7 @@ module _ (w : Inside) (value : Workload) (held : IsHeldWorkload w) (is : workloa
       (batches_read : batches ≡ length w.batches.items) where
     abbrev pub head_read : Head
     head_read = record {
+      version = w.format;
       replicas = w.deployment.replicas;
       verifiers = w.deployment.verifiers;
       quorum = w.deployment.quorum;
@@ -80,6 +83,7 @@ module _ (w : Inside) (value : Workload) (held : IsHeldWorkload w) (is : workloa
         let customers_same = customers_read ∙ customer_count w.customers.items refl in
         let batches_same = batches_read ∙ batch_count w.batches.items refl in
         (λ k. record {
+          version = (is k).format;
           replicas = (is k).deployment.replicas;
           verifiers = (is k).deployment.verifiers;
           quorum = (is k).deployment.quorum;
@@ -89,8 +93,9 @@ module _ (w : Inside) (value : Workload) (held : IsHeldWorkload w) (is : workloa
           batches = batches_same k;
         })
 
-    pub head_right : IsTrue (is_head head_read)
-    head_right = subst (λ h. IsTrue (is_head h)) (sym head_is) is_workload.head
+    pub head_right : 1 ≤ value.format → value.format ≤ NEWEST_VERSION → IsTrue (is_head head_read)
+    head_right some known = subst (λ h. IsTrue (is_head h)) (sym head_is)
+        (deployments.head_right value is_workload some known)
 
 -- the batch at a place of a workload, of its lists as the code reads them
 module _ (w : Inside) (value : Workload) (batches : List (Vec RequestData Global)) (held : IsHeldWorkload w)

@@ -1,5 +1,5 @@
--- A text is of at most one workload.
-use Rattle.std.proofs.Common.{◌≡◌, ◌<◌, List, [], ◌∷◌, ◌++◌, map, length, Some, inl, inr, refl, sym, ap, ◌∙◌, arith}
+-- A text is of at most one workload in a format.
+use Rattle.std.proofs.Common.{◌≡◌, ◌<◌, List, [], ◌∷◌, ◌++◌, map, length, Some, inl, inr, refl, sym, ap, subst, ◌∙◌, arith}
 use Rattle.std.proofs.Common.{length-append, append_assoc}
 use Rattle.std.specs.List.{flat_map}
 use Rattle.std.proofs.lemmas.Bool.{cases_order}
@@ -8,7 +8,7 @@ use Rattle.eve_grammar.specs.Trace.{Customer, Asked}
 use Rattle.eve_workload.specs.Workload.{Workload, IsWorkload}
 use Rattle.eve_workload.specs.Lines.{Line, HeadLine, CustomerLine, BatchLine, RequestLine, line_text, batch_lines}
 use Rattle.eve_workload.specs.Lines.{lines_of, workload_text}
-use Rattle.eve_workload.specs.Steps.{customers_in}
+use Rattle.eve_workload.specs.Steps.{customers_in, AreRightLines}
 use Rattle.eve_workload.specs.Batches.{push_last}
 use Rattle.eve_workload.specs.Drafts.{listed_in, deployment_in}
 use Rattle.eve_workload.proofs.OneAnswer.{same_lines, follows_fewer}
@@ -94,30 +94,37 @@ module _ (w : Workload) where
       (past_customers listed_in (λ c before. refl) (HeadLine w.deployment ∷ []) w.customers)
 
 -- of two workloads with one text neither has fewer lines
-not_fewer : (w v : Workload) (is : IsWorkload w) (is' : IsWorkload v) → workload_text w ≡ workload_text v
-    → ¬ (length (lines_back w is) < length (lines_back v is'))
-not_fewer w v is is' same fewer =
-    let next = follows_fewer (lines_back w is) (lines_back v is') [] [] (back_right w is).0 (back_right v is').0 fewer
+not_fewer : (w v : Workload) (is : IsWorkload w) (is' : IsWorkload v) → w.format ≡ v.format
+    → workload_text w ≡ workload_text v → ¬ (length (lines_back w is) < length (lines_back v is'))
+not_fewer w v is is' format same fewer =
+    let right = subst (λ f. AreRightLines f (lines_back v is')) (sym format) (back_right v is').0 in
+    let next = follows_fewer w.format (lines_back w is) (lines_back v is') [] [] (back_right w is).0 right fewer
     (sym (back_text w is) ∙ same ∙ back_text v is') in
     let long = ap length next.2 in
     omega (arith, long, length-append (line_text next.0) next.1, line_long next.0)
 
-pub one_workload : (w v : Workload) → IsWorkload w → IsWorkload v → workload_text w ≡ workload_text v → w ≡ v
-one_workload w v is is' same =
+pub one_workload : (w v : Workload) → IsWorkload w → IsWorkload v → w.format ≡ v.format
+    → workload_text w ≡ workload_text v → w ≡ v
+one_workload w v is is' format same =
     let count : length (lines_back w is) ≡ length (lines_back v is') =
     elim (cases_order (length (lines_back w is)) (length (lines_back v is'))) [
       | inl equal ↦ equal
       | inr apart ↦
           elim apart [
-            | inl less ↦ absurd (not_fewer w v is is' same less)
-            | inr more ↦ absurd (not_fewer v w is' is (sym same) more)
+            | inl less ↦ absurd (not_fewer w v is is' format same less)
+            | inr more ↦ absurd (not_fewer v w is' is (sym format) (sym same) more)
           ]
     ] in
     let lines : onto [] (lines_of w) ≡ onto [] (lines_of v) =
-    (same_lines (lines_back w is) (lines_back v is') [] [] (back_right w is).0 (back_right v is').0 count
+    (same_lines w.format v.format (lines_back w is) (lines_back v is') [] [] (back_right w is).0 (back_right v is').0 count
     (sym (back_text w is) ∙ same ∙ back_text v is')).0 in
     let deployment : w.deployment ≡ v.deployment =
     (let e = sym (deployment_is w) ∙ ap deployment_in lines ∙ deployment_is v in cc) in
     let customers : w.customers ≡ v.customers = sym (customers_are w) ∙ ap customers_in lines ∙ customers_are v in
     let batches : w.batches ≡ v.batches = sym (batches_are w) ∙ ap listed_in lines ∙ batches_are v in
-    (λ i. record { deployment = deployment i; customers = customers i; batches = batches i })
+    (λ i. record {
+      format = format i;
+      deployment = deployment i;
+      customers = customers i;
+      batches = batches i;
+    })

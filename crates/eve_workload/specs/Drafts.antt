@@ -57,9 +57,9 @@ pub record IsSmall (d : Draft) : Type 0 where
   pub batches : length d.batches.items ≤ MOST_BATCHES
   pub requests : d.requests ≤ MOST_BATCHES * MOST_REQUESTS
 
--- the draft keeps these lines, which are right
+-- the draft keeps these lines, which are right in its format
 pub record Keeps (d : Draft) (before : List Line) : Type 0 where
-  pub right : AreRightLines before
+  pub right : AreRightLines d.format before
   pub last : d.last ≡ last_in before
   pub deployment : IfSome (deployment_in before) (λ e. d.deployment ≡ e)
   pub customers : map customer d.customers.items ≡ customers_in before
@@ -72,14 +72,15 @@ pub record Keeps (d : Draft) (before : List Line) : Type 0 where
 
 -- the line was taken, or it may not stand after these
 abbrev pub Takes : Draft → List Line → Line → Bool → Type 0
-Takes new before line taken = MatchBool taken (Keeps new (line ∷ before)) (¬ IsRightBehind before line)
+Takes new before line taken = MatchBool taken (Keeps new (line ∷ before))
+    (¬ IsRightBehind new.format before line)
 
--- so many bytes in front of the text are a line that was taken, or none that may stand after these is there
+-- the first `n` bytes of the text are a line that was taken, or none that may stand after these is there
 abbrev pub TakesLine : Draft → List Line → List ℕ → Option ℕ → Type 0
 TakesLine new before text (Some len) =
     (line : Line) × (take len text ≡ line_text line) × (len ≤ length text) × (0 < len) × Keeps new (line ∷ before)
 TakesLine new before text None = (line : Line) (behind : List ℕ) → text ≡ line_text line ++ behind
-    → ¬ IsRightBehind before line
+    → ¬ IsRightBehind new.format before line
 
 -- the draft keeps all lines of the text, which may end after them
 pub record KeepsAll (d : Draft) (text : List ℕ) : Type 0 where

@@ -7,6 +7,7 @@ use Rattle.eve_workload.specs.Workload.{Workload, IsWorkload}
 
 abbrev pub workload_of : Inside → Workload
 workload_of w = record {
+  format = w.format;
   deployment = w.deployment;
   customers = map customer w.customers.items;
   batches = asked_lists w.batches.items;

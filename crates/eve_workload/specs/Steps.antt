@@ -1,12 +1,12 @@
--- Which line may stand after which, and the first that may not. Of the lines before, the nearest stands first.
+-- Which line may stand after which in a format, and the first that may not. Of the lines before, the nearest stands
+-- first.
 -- docs/MODEL.md, "Workload"; docs/TRACE.md, "Workload".
 use Rattle.std.specs.Prelude.{◌≡◌, ℕ, ◌+◌, nat_lt, Bool, true, false, IsTrue, List, [], ◌∷◌, ◌++◌, ⊤, map, length}
 use Rattle.std.specs.Prelude.{Contains}
-use Rattle.eve_grammar.specs.declared.limits.TheConstants.{MOST_CUSTOMERS, MOST_BATCHES, MOST_REQUESTS}
+use Rattle.eve_grammar.specs.declared.limits.TheConstants.{MOST_BATCHES, MOST_REQUESTS}
 use Rattle.eve_grammar.specs.Trace.{Customer, Asked}
-use Rattle.eve_grammar.specs.Limits.{is_customer, is_asked, is_head}
-use Rattle.eve_workload.specs.declared.deployment.Deployment.{Deployment}
-use Rattle.eve_workload.specs.Workload.{head_with, customer_names}
+use Rattle.eve_grammar.specs.Limits.{is_customer, is_asked, most_customers}
+use Rattle.eve_workload.specs.Workload.{is_deployment, customer_names}
 use Rattle.eve_grammar.specs.Trace.{request_id}
 use Rattle.eve_workload.specs.Lines.{Line, HeadLine, CustomerLine, BatchLine, RequestLine, line_text}
 
@@ -73,10 +73,6 @@ may_end (CustomerLine c ∷ before) = true
 may_end (BatchLine ∷ before) = false
 may_end (RequestLine a ∷ before) = true
 
--- the numbers of line 1 lie in the ranges that they have in a header, as that of a trace of one customer and no batch
-abbrev pub is_deployment : Deployment → Bool
-is_deployment d = is_head (head_with d 1 0)
-
 -- whether what the line says lies in its ranges
 abbrev pub is_line : Line → Bool
 is_line (HeadLine d) = is_deployment d
@@ -84,12 +80,13 @@ is_line (CustomerLine c) = is_customer c
 is_line BatchLine = true
 is_line (RequestLine a) = is_asked a
 
--- whether there are fewer of them than there may be: 4,096 customers, 65,535 batches, 256 requests of a batch
-abbrev pub has_room : List Line → Line → Bool
-has_room before (HeadLine d) = true
-has_room before (CustomerLine c) = nat_lt (length (customers_in before)) MOST_CUSTOMERS
-has_room before BatchLine = nat_lt (batches_in before) MOST_BATCHES
-has_room before (RequestLine a) = nat_lt (last_requests before) MOST_REQUESTS
+-- whether there are fewer of them than there may be: as many customers as the format has, 65,535 batches, 256 requests
+-- of a batch
+abbrev pub has_room : ℕ → List Line → Line → Bool
+has_room format before (HeadLine d) = true
+has_room format before (CustomerLine c) = nat_lt (length (customers_in before)) (most_customers format)
+has_room format before BatchLine = nat_lt (batches_in before) MOST_BATCHES
+has_room format before (RequestLine a) = nat_lt (last_requests before) MOST_REQUESTS
 
 -- no customer has the name yet, no request the id
 abbrev pub IsNew : List Line → Line → Type 0
@@ -98,30 +95,31 @@ IsNew before (CustomerLine c) = ¬ Contains (customer_names (customers_in before
 IsNew before BatchLine = ⊤
 IsNew before (RequestLine a) = ¬ Contains (map request_id (requests_in before)) (request_id a)
 
--- the line may stand after these
-pub record IsRightBehind (before : List Line) (line : Line) : Type 0 where
+-- the line may stand after these in this format
+pub record IsRightBehind (format : ℕ) (before : List Line) (line : Line) : Type 0 where
   pub follows : IsTrue (may_follow before line)
   pub ranges : IsTrue (is_line line)
-  pub room : IsTrue (has_room before line)
+  pub room : IsTrue (has_room format before line)
   pub new : IsNew before line
 
 -- each line may stand after those before it
-abbrev pub AreRightLines : List Line → Type 0
-AreRightLines [] = ⊤
-AreRightLines (line ∷ before) = IsRightBehind before line × AreRightLines before
+abbrev pub AreRightLines : ℕ → List Line → Type 0
+AreRightLines format [] = ⊤
+AreRightLines format (line ∷ before) = IsRightBehind format before line × AreRightLines format before
 
 -- the text of lines
 abbrev pub text_before : List Line → List ℕ
 text_before [] = []
 text_before (line ∷ before) = text_before before ++ line_text line
 
--- The first line that isn't right, counted from 1: those before it are complete and right one after another,
--- no complete line that may stand there follows, and the text may not end there.
-pub record IsBadLine (bytes : List ℕ) (number : ℕ) : Type 0 where
+-- The first line that isn't right in this format, counted from 1: those before it are complete and right one after
+-- another, no complete line that may stand there follows, and the text may not end there.
+pub record IsBadLine (format : ℕ) (bytes : List ℕ) (number : ℕ) : Type 0 where
   pub before : List Line
   pub rest : List ℕ
   pub text : bytes ≡ text_before before ++ rest
-  pub right : AreRightLines before
+  pub right : AreRightLines format before
   pub count : number ≡ length before + 1
-  pub wrong : (line : Line) (behind : List ℕ) → rest ≡ line_text line ++ behind → ¬ IsRightBehind before line
+  pub wrong : (line : Line) (behind : List ℕ) → rest ≡ line_text line ++ behind
+      → ¬ IsRightBehind format before line
   pub unended : rest ≡ [] → may_end before ≡ false

@@ -19,7 +19,7 @@ pub record HasLineFeed (text : List ℕ) (from : ℕ) : Type 0 where
   pub within : at < length text
   pub is : slice_index text at ≡ 10
 
--- so many bytes are a first line of these words
+-- the first `len` bytes are a line of these words
 pub record IsFirstLine (text : List ℕ) (words : List (List ℕ)) (len : ℕ) : Type 0 where
   pub line : take len text ≡ text_of_words words
   pub within : len ≤ length text

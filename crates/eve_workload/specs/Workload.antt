@@ -1,21 +1,24 @@
 -- A workload: what a deployment is asked to do. docs/MODEL.md, "Workload".
-use Rattle.std.specs.Prelude.{◌≢◌, ℕ, Bool, ◌&&◌, IsTrue, List, map, length, AllPairs}
+use Rattle.std.specs.Prelude.{◌≢◌, ℕ, ◌≤◌, Bool, ◌&&◌, IsTrue, List, map, length, AllPairs}
 use Rattle.std.specs.List.{list_all, flat_map}
-use Rattle.eve_grammar.specs.declared.limits.TheConstants.{MOST_REQUESTS}
+use Rattle.eve_grammar.specs.declared.limits.TheConstants.{MOST_BATCHES, MOST_REQUESTS}
 use Rattle.eve_grammar.specs.Trace.{Customer, Asked, request_id}
-use Rattle.eve_grammar.specs.Limits.{is_between, is_customer, is_asked, is_head}
+use Rattle.eve_grammar.specs.Limits.{is_between, is_customer, is_asked, most_customers, is_head}
 use Rattle.eve_grammar.specs.declared.head.Head.{Head}
 use Rattle.eve_workload.specs.declared.deployment.Deployment.{Deployment}
 
--- the deployment, its customers, and the requests of each batch as they are listed
+-- the version of the trace that is asked for, the deployment, its customers, and the requests of each batch as they are
+-- listed
 pub record Workload : Type 0 where
+  pub format : ℕ
   pub deployment : Deployment
   pub customers : List Customer
   pub batches : List (List Asked)
 
--- the numbers in the header of a trace of the deployment, with so many customers and batches
-abbrev pub head_with : Deployment → ℕ → ℕ → Head
-head_with d customers batches = record {
+-- the header of a trace of the deployment in a format, with this many customers and batches
+abbrev pub head_with : ℕ → Deployment → ℕ → ℕ → Head
+head_with format d customers batches = record {
+  version = format;
   replicas = d.replicas;
   verifiers = d.verifiers;
   quorum = d.quorum;
@@ -25,9 +28,14 @@ head_with d customers batches = record {
   batches = batches;
 }
 
--- the numbers in the header of its trace
+-- the header of its trace
 abbrev pub head_asked : Workload → Head
-head_asked w = head_with w.deployment (length w.customers) (length w.batches)
+head_asked w = head_with w.format w.deployment (length w.customers) (length w.batches)
+
+-- the numbers of line 1 lie in the ranges that they have in a header of any version, as in that of a trace of version 1
+-- with one customer and no batch
+abbrev pub is_deployment : Deployment → Bool
+is_deployment d = is_head (head_with 1 d 1 0)
 
 -- the customers' names, in their order
 abbrev pub customer_names : List Customer → List (List ℕ)
@@ -41,9 +49,12 @@ requests_of batches = flat_map (λ requests. requests) batches
 abbrev pub is_listed : List Asked → Bool
 is_listed requests = is_between 1 MOST_REQUESTS (length requests) && list_all is_asked requests
 
--- the limits, names that differ, and request ids that differ over all batches
+-- the limits, of customers that of the format, names that differ, and request ids that differ over all batches
 pub record IsWorkload (w : Workload) : Type 0 where
-  pub head : IsTrue (is_head (head_asked w))
+  pub deployment : IsTrue (is_deployment w.deployment)
+  pub some_customers : 1 ≤ length w.customers
+  pub few_customers : length w.customers ≤ most_customers w.format
+  pub few_batches : length w.batches ≤ MOST_BATCHES
   pub customers : IsTrue (list_all is_customer w.customers)
   pub batches : IsTrue (list_all is_listed w.batches)
   pub names : AllPairs (λ a b. a ≢ b) (customer_names w.customers)

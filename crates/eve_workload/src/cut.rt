@@ -24,15 +24,24 @@ pub(crate) struct Cut {
 }
 
 impl Cut {
-    /// No requests, and room for so many.
-    pub(crate) fn new(alloc: Global, requests: usize) -> Result<Cut, AllocError>
-        ensures { IfOk result (λ c. (rows : ℕ → RowKinds) → IsCut c rows []) }
+    /// No requests.
+    pub(crate) fn new(alloc: Global) -> Cut
+        ensures { (rows : ℕ → RowKinds) → IsCut result rows [] }
     {
-        Ok(Cut {
-            marks: RowMarks::new(alloc, requests)?,
+        Cut {
+            marks: RowMarks::new(alloc),
             sizes: Vec::new(alloc),
-            seats: Vec::with_capacity(alloc, requests)?,
-        })
+            seats: Vec::new(alloc),
+        }
+    }
+
+    /// Takes all requests out, and keeps their memory.
+    pub(crate) fn clear(&mut self)
+        ensures { (rows : ℕ → RowKinds) → IsCut self.new rows [] }
+    {
+        self.marks.clear();
+        self.sizes.clear();
+        self.seats.clear();
     }
 
     /// Puts the next request, which touches these rows, into the first group that holds none in conflict with it, or
@@ -54,7 +63,7 @@ impl Cut {
     }
 }
 
-// Counts one more item in a group, or in a new one at the end, and says how many it had.
+/// Counts one more item in a group, or in a new one at the end, and says how many it had.
 fn add_to(sizes: &mut Vec<u16>, group: u16) -> Result<u16, AllocError>
     requires there { group ≤ length sizes.old.items }
     requires small { slice_index sizes.old.items group < MOST_REQUESTS }

@@ -1,8 +1,7 @@
 //! The numbers of a deployment.
 
 ghost use Rattle.std.specs.Prelude.{◌≡◌};
-ghost use Rattle.eve_workload.specs.Workload.{head_with};
-ghost use Rattle.eve_workload.specs.Steps.{is_deployment};
+ghost use Rattle.eve_workload.specs.Workload.{head_with, is_deployment};
 
 use eve_grammar::Head;
 
@@ -24,11 +23,12 @@ pub struct Deployment {
 }
 
 impl Deployment {
-    // The numbers in the header of a trace with so many customers and batches.
-    pub(crate) fn head(&self, customers: u32, batches: u32) -> Head
-        ensures { result ≡ head_with self.now customers batches }
+    /// The header of a trace in this format, with this many customers and batches.
+    pub(crate) fn head(&self, format: u16, customers: u32, batches: u32) -> Head
+        ensures { result ≡ head_with format self.now customers batches }
     {
         Head {
+            version: format,
             replicas: self.replicas,
             verifiers: self.verifiers,
             quorum: self.quorum,
@@ -39,10 +39,10 @@ impl Deployment {
         }
     }
 
-    // Whether the numbers lie in their ranges.
+    /// Whether the numbers lie in their ranges, which are those of every format.
     pub(crate) fn is_right(&self) -> bool
         ensures { result ≡ is_deployment self.now }
     {
-        self.head(1, 0).is_right()
+        self.head(1, 1, 0).is_right()
     }
 }

@@ -1,6 +1,6 @@
 //! A workload, as far as its lines have been read.
 
-ghost use Rattle.std.specs.Prelude.{◌≡◌, ◌≤◌, ℕ, ◌+◌, List, [], not, true, if◌then◌else◌, length, IfOk, IsTrue};
+ghost use Rattle.std.specs.Prelude.{◌≡◌, ◌≤◌, ℕ, ◌+◌, List, [], not, true, if◌then◌else◌, length, IfOk, OnOk, IsTrue};
 ghost use Rattle.std.specs.Prelude.{vec_capacity};
 ghost use Rattle.eve_accounts.specs.Names.{same_name};
 ghost use Rattle.eve_grammar.specs.Trace.{Customer, Asked as AskedValue};
@@ -8,7 +8,8 @@ ghost use Rattle.eve_grammar.specs.Limits.{is_customer, is_asked};
 ghost use Rattle.eve_grammar.specs.Bodies.{borrowed_asked};
 ghost use Rattle.eve_workload.specs.declared.deployment.Deployment.{Deployment as DeploymentValue};
 ghost use Rattle.eve_workload.specs.Lines.{Line as LineValue, HeadLine, CustomerLine, BatchLine, RequestLine};
-ghost use Rattle.eve_workload.specs.Steps.{may_follow, may_end, is_deployment, is_line};
+ghost use Rattle.eve_workload.specs.Workload.{is_deployment};
+ghost use Rattle.eve_workload.specs.Steps.{may_follow, may_end, is_line};
 ghost use Rattle.eve_workload.specs.Said.{borrowed_customer, line_said};
 ghost use Rattle.eve_workload.specs.Drafts.{last_in, next_of, has_name, IsSmall, Keeps, Takes};
 ghost use Rattle.eve_workload.specs.Drafts.{TakesLine};
@@ -21,7 +22,7 @@ use crate::request_ids::RequestIds;
 use crate::requests::add_to_last;
 use crate::words::split_line;
 use eve_accounts::Name;
-use eve_grammar::{Asked, MOST_BATCHES, MOST_CUSTOMERS, MOST_REQUESTS};
+use eve_grammar::{Asked, MOST_BATCHES, MOST_REQUESTS, most_customers};
 use eve_write::{CustomerData, RequestData};
 use std::alloc::{AllocError, Global};
 use std::collections::BTreeSet;
@@ -39,6 +40,8 @@ pub(crate) enum Last {
 /// What the lines that were read say.
 #[derive(Drop)]
 pub(crate) struct Draft<'a> {
+    // The format in which they are read.
+    pub format: u16,
     pub last: Last,
     pub deployment: Deployment,
     pub customers: Vec<CustomerData>,
@@ -53,11 +56,13 @@ pub(crate) struct Draft<'a> {
 }
 
 impl<'a> Draft<'a> {
-    /// Nothing was read.
-    pub(crate) fn new(alloc: Global) -> Draft<'a>
-        ensures { Keeps result [] }
+    /// Nothing was read, and what comes is read in this format.
+    pub(crate) fn new(alloc: Global, format: u16) -> Draft<'a>
+        ensures keeps { Keeps result [] }
+        ensures format { result.format ≡ format }
     {
         Draft {
+            format,
             last: Last::Nothing,
             deployment: Deployment {
                 replicas: 0,
@@ -87,6 +92,7 @@ impl<'a> Draft<'a> {
         requires room { MOST_WORDS ≤ vec_capacity words.old }
         ensures taken { IfOk result (λ taken. (before : List LineValue) → Keeps self.old before
             → TakesLine self.new before text.entry.now taken) }
+        ensures format { OnOk result (self.new.format ≡ self.old.format) }
         ensures room { vec_capacity words.new ≡ vec_capacity words.old }
     {
         let Some(len) = split_line(text, words) else {
@@ -99,12 +105,13 @@ impl<'a> Draft<'a> {
         Ok(if taken { Some(len) } else { None })
     }
 
-    // Takes a line, or says that it may not stand here.
+    /// Takes a line, or says that it may not stand here.
     fn take(&mut self, alloc: Global, line: &Line<'a>) -> Result<bool, AllocError>
         requires keeps { (before : List LineValue) × Keeps self.old before }
         requires right { IsTrue (is_line (line_said line.now)) }
-        ensures { IfOk result (λ taken. (before : List LineValue) → Keeps self.old before
+        ensures taken { IfOk result (λ taken. (before : List LineValue) → Keeps self.old before
             → Takes self.new before (line_said line.now) taken) }
+        ensures format { OnOk result (self.new.format ≡ self.old.format) }
     {
         match line {
             Line::Head(deployment) => Ok(self.take_head(*deployment)),
@@ -116,8 +123,9 @@ impl<'a> Draft<'a> {
 
     fn take_head(&mut self, deployment: Deployment) -> bool
         requires { IsTrue (is_deployment deployment) }
-        ensures { (before : List LineValue) → Keeps self.old before
+        ensures taken { (before : List LineValue) → Keeps self.old before
             → Takes self.new before (HeadLine deployment) result }
+        ensures format { self.new.format ≡ self.old.format }
     {
         if !self.last.takes_head() {
             return false;
@@ -129,13 +137,14 @@ impl<'a> Draft<'a> {
 
     fn take_customer(&mut self, customer: &CustomerFields<'a>) -> Result<bool, AllocError>
         requires { IsTrue (is_customer (borrowed_customer customer.now)) }
-        ensures { IfOk result (λ taken. (before : List LineValue) → Keeps self.old before
+        ensures taken { IfOk result (λ taken. (before : List LineValue) → Keeps self.old before
             → Takes self.new before (CustomerLine (borrowed_customer customer.now)) taken) }
+        ensures format { OnOk result (self.new.format ≡ self.old.format) }
     {
         if !self.last.takes_customer() {
             return Ok(false);
         }
-        if self.customers.len() >= MOST_CUSTOMERS as usize {
+        if self.customers.len() >= most_customers(self.format) as usize {
             return Ok(false);
         }
         let name = customer.name;
@@ -152,8 +161,9 @@ impl<'a> Draft<'a> {
     }
 
     fn take_batch(&mut self, alloc: Global) -> Result<bool, AllocError>
-        ensures { IfOk result (λ taken. (before : List LineValue) → Keeps self.old before
+        ensures taken { IfOk result (λ taken. (before : List LineValue) → Keeps self.old before
             → Takes self.new before BatchLine taken) }
+        ensures format { OnOk result (self.new.format ≡ self.old.format) }
     {
         if !self.last.takes_batch() {
             return Ok(false);
@@ -170,8 +180,9 @@ impl<'a> Draft<'a> {
     fn take_request(&mut self, asked: &Asked<'a>) -> Result<bool, AllocError>
         requires keeps { (before : List LineValue) × Keeps self.old before }
         requires right { IsTrue (is_asked (borrowed_asked asked.now)) }
-        ensures { IfOk result (λ taken. (before : List LineValue) → Keeps self.old before
+        ensures taken { IfOk result (λ taken. (before : List LineValue) → Keeps self.old before
             → Takes self.new before (RequestLine (borrowed_asked asked.now)) taken) }
+        ensures format { OnOk result (self.new.format ≡ self.old.format) }
     {
         if !self.last.takes_request() {
             return Ok(false);
@@ -235,7 +246,7 @@ impl Last {
         matches!(self, Last::Customer | Last::Request)
     }
 
-    // The number of the line after the head, or of the head.
+    /// The number of the line after the head, or of the head.
     fn next_line(self) -> u32
         ensures next { (before : List LineValue) → self ≡ last_in before → result ≡ next_of before }
         ensures small { result ≤ 2 }
@@ -247,7 +258,7 @@ impl Last {
     }
 }
 
-// Adds a name; whether it is new.
+/// Adds a name; whether it is new.
 fn add_name<'a>(names: &mut BTreeSet<&'a [u8]>, name: &'a [u8]) -> Result<bool, AllocError>
     ensures new { IfOk result (λ new. new ≡ not (has_name names.old.keys name.entry.now)) }
     ensures kept { IfOk result (λ new. (other : List ℕ) →

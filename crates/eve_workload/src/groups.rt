@@ -18,23 +18,23 @@ pub(crate) struct Groups {
     pub order: Vec<u16>,
 }
 
-/// Each request in the first group that holds none in conflict with it, or in a new one at the end.
-pub(crate) fn first_fit(alloc: Global, touched: &[Touched]) -> Result<Groups, AllocError>
+/// Each request in the first group that holds none in conflict with it, or in a new one at the end. Whatever was cut
+/// before goes.
+pub(crate) fn first_fit(
+    alloc: Global,
+    cut: &mut Cut,
+    touched: &[Touched],
+) -> Result<Groups, AllocError>
     requires { length touched.now ≤ MOST_REQUESTS }
     ensures groups { IfOk result (λ g. AreGroups g.sizes.items g.order.items
         (first_fit (share_at (rows_at touched.now)) [] (range_with_len 0 (length touched.now)))) }
     ensures within { IfOk result (λ g. All (λ i. i < length touched.now) g.order.items) }
 {
-    let mut cut = Cut::new(alloc, touched.len())?;
+    cut.clear();
     for request in touched {
         cut.place(&request.rows())?;
     }
-    let Cut {
-        marks,
-        sizes,
-        seats,
-    } = cut;
-    drop(marks);
-    let order = in_order(alloc, sizes.as_slice(), seats.as_slice())?;
+    let order = in_order(alloc, cut.sizes.as_slice(), cut.seats.as_slice())?;
+    let sizes = cut.sizes.to_vec(alloc)?;
     Ok(Groups { sizes, order })
 }

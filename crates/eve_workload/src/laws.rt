@@ -10,19 +10,20 @@ ghost use Rattle.eve_workload.specs.Workload.{Workload, IsWorkload};
 ghost use Rattle.eve_workload.specs.Lines.{workload_text};
 ghost use Rattle.eve_workload.specs.Steps.{IsBadLine};
 
-/// A text has at most one bad line.
+/// A text has at most one bad line in a format.
 pub fn bad_lines_are_unique()
-    ensures { (text : List ℕ) → (m n : ℕ) → IsBadLine text m → IsBadLine text n → m ≡ n }
+    ensures { (format : ℕ) → (text : List ℕ) → (m n : ℕ) → IsBadLine format text m → IsBadLine format text n → m ≡ n }
 {}
 
-/// A text is of at most one workload.
+/// A text is of at most one workload in a format.
 pub fn workloads_are_unique()
-    ensures { (w v : Workload) → IsWorkload w → IsWorkload v → workload_text w ≡ workload_text v → w ≡ v }
+    ensures { (w v : Workload) → IsWorkload w → IsWorkload v → w.format ≡ v.format
+        → workload_text w ≡ workload_text v → w ≡ v }
 {}
 
-/// The text of a workload has no bad line.
+/// The text of a workload has no bad line in its format.
 pub fn workloads_have_no_bad_line()
-    ensures { (w : Workload) → IsWorkload w → (n : ℕ) → ¬ IsBadLine (workload_text w) n }
+    ensures { (w : Workload) → IsWorkload w → (n : ℕ) → ¬ IsBadLine w.format (workload_text w) n }
 {}
 
 /// No two requests of a parallelBatch that the first mixer made are in conflict.

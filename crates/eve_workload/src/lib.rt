@@ -22,5 +22,5 @@ mod workload;
 pub use deployment::Deployment;
 pub use fault::WorkloadFault;
 pub use lookups::look_up;
-pub use mixer::{MixedBatch, Mixer, mix, mix_touched};
+pub use mixer::{MixedBatch, Mixer, MixingTable, mix, mix_touched};
 pub use workload::Workload;

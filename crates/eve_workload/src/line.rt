@@ -7,7 +7,8 @@ ghost use Rattle.eve_grammar.specs.Limits.{is_customer, is_asked, is_request};
 ghost use Rattle.eve_workload.specs.declared.deployment.Deployment.{Deployment as DeploymentValue};
 ghost use Rattle.eve_workload.specs.Lines.{Line as LineValue, HeadLine, CustomerLine, RequestLine, request_words};
 ghost use Rattle.eve_workload.specs.Lines.{line_words};
-ghost use Rattle.eve_workload.specs.Steps.{is_deployment, is_line};
+ghost use Rattle.eve_workload.specs.Workload.{is_deployment};
+ghost use Rattle.eve_workload.specs.Steps.{is_line};
 ghost use Rattle.eve_workload.specs.Words.{bytes_of};
 ghost use Rattle.eve_workload.specs.Said.{line_said};
 
@@ -64,7 +65,7 @@ fn line_of_four<'a>(words: &[&'a [u8]]) -> Option<Line<'a>>
     }
 }
 
-// The words of a customer, or of a request with one name.
+/// The words of a customer, or of a request with one name.
 #[derive(Clone, Copy)]
 struct Four<'a> {
     first: &'a [u8],
@@ -96,7 +97,7 @@ fn line_of_five<'a>(words: &[&'a [u8]]) -> Option<Line<'a>>
     long_line(five.kind, five.client, five.number, five.name, five.last)
 }
 
-// The words of a request with a name, and an amount or another name.
+/// The words of a request with a name, and an amount or another name.
 #[derive(Clone, Copy)]
 struct Five<'a> {
     kind: &'a [u8],
@@ -138,7 +139,7 @@ fn line_of_six<'a>(words: &[&'a [u8]]) -> Option<Line<'a>>
     )
 }
 
-// The words of a head.
+/// The words of a head.
 #[derive(Clone, Copy)]
 struct Six<'a> {
     kind: &'a [u8],
@@ -225,7 +226,7 @@ fn customer_line<'a>(name: &'a [u8], saved: &[u8], checked: &[u8]) -> Option<Lin
     }))
 }
 
-// The request with one name and no amount.
+/// The request with one name and no amount.
 fn short_line<'a>(kind: &[u8], client: &[u8], count: &[u8], name: &'a [u8]) -> Option<Line<'a>>
     ensures some { IfSome result (λ l.
         (line_words (line_said l) ≡ kind.now ∷ client.now ∷ count.now ∷ name.entry.now ∷ [])
@@ -243,7 +244,7 @@ fn short_line<'a>(kind: &[u8], client: &[u8], count: &[u8], name: &'a [u8]) -> O
     }))
 }
 
-// A request with a name, and an amount or another name.
+/// A request with a name, and an amount or another name.
 fn long_line<'a>(
     kind: &[u8],
     client: &[u8],

@@ -23,7 +23,7 @@ pub(crate) struct Marks {
 }
 
 /// Marks of rows. Where those of a row stand is read by its number from a table, so no row takes longer than another.
-/// The table grows as far as the greatest row that is marked.
+/// The table grows as far as the greatest row that is marked, and is never emptied.
 #[derive(Drop)]
 pub(crate) struct RowMarks {
     // For each row, where its marks stand. A row has none if those that stand there are another row's.
@@ -33,15 +33,24 @@ pub(crate) struct RowMarks {
 }
 
 impl RowMarks {
-    /// No row is marked, and there is room for so many.
-    pub(crate) fn new(alloc: Global, rows: usize) -> Result<RowMarks, AllocError>
-        ensures none { IfOk result (λ m. (row : ℕ × KindValue) → (group : ℕ) → is_barred m row group ≡ false) }
-        ensures len { IfOk result (λ m. length m.marks.items ≡ 0) }
+    /// No row is marked.
+    pub(crate) fn new(alloc: Global) -> RowMarks
+        ensures none { (row : ℕ × KindValue) → (group : ℕ) → is_barred result row group ≡ false }
+        ensures len { length result.marks.items ≡ 0 }
     {
-        Ok(RowMarks {
+        RowMarks {
             places: Vec::new(alloc),
-            marks: Vec::with_capacity(alloc, rows)?,
-        })
+            marks: Vec::new(alloc),
+        }
+    }
+
+    /// Takes all marks away, in no time. The table stays as it is: a place in it counts only where the row's own marks
+    /// stand there.
+    pub(crate) fn clear(&mut self)
+        ensures none { (row : ℕ × KindValue) → (group : ℕ) → is_barred self.new row group ≡ false }
+        ensures len { length self.new.marks.items ≡ 0 }
+    {
+        self.marks.clear();
     }
 
     /// The groups in which one of these rows is in conflict.
@@ -56,7 +65,7 @@ impl RowMarks {
         all
     }
 
-    // Takes in the groups in which the row is written, or touched if it is to be written.
+    /// Takes in the groups in which the row is written, or touched if it is to be written.
     fn add_barred(&self, row: Row, kind: Kind, groups: &mut GroupSet)
         ensures { (group : ℕ) → has groups.new group ≡ (has groups.old group || is_barred self.now (row, kind) group) }
     {
@@ -69,7 +78,7 @@ impl RowMarks {
         }
     }
 
-    // Where the row's marks stand, if it has any.
+    /// Where the row's marks stand, if it has any.
     fn place_of(&self, row: Row) -> Option<usize>
         ensures some { IfSome result (HasMarksAt self.now row) }
         ensures none { IfNone result ((kind : KindValue) → (group : ℕ) → is_barred self.now (row, kind) group ≡ false) }
@@ -106,7 +115,7 @@ impl RowMarks {
         Ok(())
     }
 
-    // Where the row's marks stand. One that has none yet gets those of no group.
+    /// Where the row's marks stand. One that has none yet gets those of no group.
     fn meet(&mut self, row: Row) -> Result<usize, AllocError>
         requires few { length self.old.marks.items < 3 * MOST_REQUESTS }
         ensures len { OnOk result (length self.new.marks.items ≤ length self.old.marks.items + 1) }

@@ -9,6 +9,7 @@ ghost use Rattle.eve_workload.specs.declared.mixer.Mixer.TheVariants.{First};
 ghost use Rattle.eve_workload.specs.Mixing.{cut, batch_with, mixer_named};
 ghost use Rattle.eve_workload.specs.Mixed.{touched_by, IsMixed};
 
+use crate::cut::Cut;
 use crate::groups::first_fit;
 use crate::lookups::{look_up, pick};
 use crate::requests::listed;
@@ -76,8 +77,8 @@ pub fn mix(
 /// The batch that `mix` makes of these requests, with what each of them touches, so that it needn't be looked up again.
 ///
 /// Names are looked up once a request. The time of a request is that of its rows, whatever the number of
-/// parallelBatches; a batch also fills a table of two bytes a row. 1 to 256 requests. It is refused only where memory
-/// runs out.
+/// parallelBatches. The first mixer also fills a table of two bytes a row: a `MixingTable` spares it where batches
+/// follow one another. 1 to 256 requests. It is refused only where memory runs out.
 pub fn mix_touched(
     alloc: Global,
     requests: &[RequestData],
@@ -93,13 +94,56 @@ pub fn mix_touched(
     ensures right { IfOk result (λ m.
         IsTrue (list_all is_asked (map asked requests.now)) → IsTrue (is_batch (batch m.batch))) }
 {
-    let touched = look_up(alloc, requests, names)?;
-    cut_by(alloc, requests, touched, mixer)
+    let mut table = MixingTable::new(alloc);
+    table.mix_touched(alloc, requests, names, mixer)
 }
 
-// The batch of these requests, which touch this.
+/// The table of rows by which batches are cut, kept from one batch to the next: each batch takes the time of the rows
+/// that it touches, however many rows there are.
+///
+/// It says nothing of the batches before, which have no part in the next.
+#[derive(Drop)]
+pub struct MixingTable {
+    cut: Cut,
+}
+
+impl MixingTable {
+    /// A table that grows as far as the greatest row that is touched, two bytes a row.
+    pub fn new(alloc: Global) -> MixingTable {
+        MixingTable {
+            cut: Cut::new(alloc),
+        }
+    }
+
+    /// The batch of these requests, as the function `mix_touched` makes it, whatever was mixed before.
+    ///
+    /// 1 to 256 requests. It is refused only where memory runs out, and the table serves afterwards as before.
+    pub fn mix_touched(
+        &mut self,
+        alloc: Global,
+        requests: &[RequestData],
+        names: &Names,
+        mixer: Mixer,
+    ) -> Result<MixedBatch, AllocError>
+        requires some { 1 ≤ length requests.now }
+        requires few { length requests.now ≤ MOST_REQUESTS }
+        ensures batch { IfOk result (λ m.
+            batch m.batch ≡ batch_with (cut names.now.items mixer (map asked requests.now))) }
+        ensures touched { IfOk result (λ m.
+            m.touched.items ≡ map (λ a. touched_of names.now.items a.request) (batch m.batch).requests) }
+        ensures each_once { IfOk result (λ m. IsPermutation (map asked requests.now) (batch m.batch).requests) }
+        ensures right { IfOk result (λ m.
+            IsTrue (list_all is_asked (map asked requests.now)) → IsTrue (is_batch (batch m.batch))) }
+    {
+        let touched = look_up(alloc, requests, names)?;
+        cut_by(alloc, &mut self.cut, requests, touched, mixer)
+    }
+}
+
+/// The batch of these requests, which touch this. What was cut before has no part in it.
 fn cut_by(
     alloc: Global,
+    kept: &mut Cut,
     requests: &[RequestData],
     touched: Vec<Touched>,
     mixer: Mixer,
@@ -111,14 +155,15 @@ fn cut_by(
         IsMixed names (cut names mixer (map asked requests.now)) m) }
 {
     match mixer {
-        Mixer::First => cut_first(alloc, requests, touched.as_slice()),
+        Mixer::First => cut_first(alloc, kept, requests, touched.as_slice()),
         Mixer::Whole => cut_whole(alloc, requests, touched),
     }
 }
 
-// Each request in the first group that holds none in conflict with it, or in a new one at the end.
+/// Each request in the first group that holds none in conflict with it, or in a new one at the end.
 fn cut_first(
     alloc: Global,
+    kept: &mut Cut,
     requests: &[RequestData],
     touched: &[Touched],
 ) -> Result<MixedBatch, AllocError>
@@ -128,7 +173,7 @@ fn cut_first(
         touched.now ≡ map (touched_by names) (map asked requests.now) →
         IsMixed names (cut names First (map asked requests.now)) m) }
 {
-    let groups = first_fit(alloc, touched)?;
+    let groups = first_fit(alloc, kept, touched)?;
     let touched = pick(alloc, touched, groups.order.as_slice())?;
     let requests = listed(alloc, requests, groups.order.as_slice())?;
     Ok(MixedBatch {
@@ -140,7 +185,7 @@ fn cut_first(
     })
 }
 
-// All requests in one group.
+/// All requests in one group.
 fn cut_whole(
     alloc: Global,
     requests: &[RequestData],

@@ -28,7 +28,7 @@ pub(crate) fn number(word: &[u8]) -> Option<u64>
     Some(value)
 }
 
-// Whether there is a first byte, and no zero before others.
+/// Whether there is a first byte, and no zero before others.
 fn begins_as_number(word: &[u8]) -> bool
     ensures { IsTrue result ↔ BeginsAsNumber word.now }
 {
@@ -39,7 +39,7 @@ fn begins_as_number(word: &[u8]) -> bool
     }
 }
 
-// The number with one more digit after it.
+/// The number with one more digit after it.
 fn with_digit(value: u64, digit: u8) -> Option<u64>
     ensures more { IfSome result (λ n. (48 ≤ digit) × (digit ≤ 57) × (n ≡ value * 10 + (digit - 48)) × (n < 2 ^ 64)) }
     ensures none { IfNone result (48 ≤ digit → digit ≤ 57 → 2 ^ 64 ≤ value * 10 + (digit - 48)) }
@@ -86,7 +86,7 @@ pub(crate) fn balance(word: &[u8]) -> Option<Cents>
     }
 }
 
-// What stands after a minus sign.
+/// What stands after a minus sign.
 fn behind_minus(word: &[u8]) -> Option<&[u8]>
     ensures some { IfSome result (λ digits. word.now ≡ 45 ∷ digits.now) }
     ensures none { IfNone result (slice_index word.now 0 ≢ 45) }
@@ -97,7 +97,7 @@ fn behind_minus(word: &[u8]) -> Option<&[u8]>
     }
 }
 
-// The balance with these digits after a minus sign.
+/// The balance with these digits after a minus sign.
 fn negative(digits: &[u8]) -> Option<Cents>
     ensures spelled { IfSome result (λ n. 45 ∷ digits.now ≡ signed_decimal n) }
     ensures none { IfNone result ((z : ℤ) → IsTrue (is_balance z) → 45 ∷ digits.now ≢ signed_decimal z) }
@@ -108,7 +108,7 @@ fn negative(digits: &[u8]) -> Option<Cents>
     }
 }
 
-// The balance with these digits and no sign.
+/// The balance with these digits and no sign.
 fn positive(word: &[u8]) -> Option<Cents>
     requires { slice_index word.now 0 ≢ 45 }
     ensures spelled { IfSome result (λ n. word.now ≡ signed_decimal n) }

@@ -10,7 +10,7 @@ use eve_write::RequestData;
 use std::alloc::{AllocError, Global};
 use std::collections::BTreeSet;
 
-// Where a client stands: its number modulo this.
+/// Where a client stands: its number modulo this.
 const PLACES: usize = 256;
 
 /// A request's client, and the client's number for it.
@@ -60,7 +60,7 @@ impl RequestIds {
         self.add_listed(id)
     }
 
-    // Keeps the id's number as the last of its client's place, where it is above the one before; whether it is.
+    /// Keeps the id's number as the last of its client's place, where it is above the one before; whether it is.
     fn rise(&mut self, id: RequestId) -> bool
         ensures refused { IsFalse result → self.new ≡ self.old }
         ensures rises { self.new.rises ≡ self.old.rises }
@@ -79,7 +79,7 @@ impl RequestIds {
         true
     }
 
-    // Puts the ids of these batches' requests into the table, if they aren't there yet.
+    /// Puts the ids of these batches' requests into the table, if they aren't there yet.
     fn list(&mut self, batches: &[Vec<RequestData>]) -> Result<(), AllocError>
         ensures rises { OnOk result (IsFalse self.new.rises) }
         ensures listed { OnOk result (AreMet self.old (ids_in batches.now)
@@ -92,7 +92,7 @@ impl RequestIds {
         Ok(())
     }
 
-    // Adds an id to the table; whether it is new.
+    /// Adds an id to the table; whether it is new.
     fn add_listed(&mut self, id: RequestId) -> Result<bool, AllocError>
         ensures rises { OnOk result (self.new.rises ≡ self.old.rises) }
         ensures new { IfOk result (λ new. new ≡ not (has_id self.old.table.keys id)) }
@@ -103,7 +103,7 @@ impl RequestIds {
     }
 }
 
-// Whether a number is the first of a place, or above the last there.
+/// Whether a number is the first of a place, or above the last there.
 fn follows(last: Option<u64>, number: u64) -> bool
     ensures { IsTrue result → Follows last number }
 {
@@ -113,7 +113,7 @@ fn follows(last: Option<u64>, number: u64) -> bool
     }
 }
 
-// Adds the ids of these batches' requests.
+/// Adds the ids of these batches' requests.
 fn add_batches(
     table: &mut BTreeSet<RequestId>,
     batches: &[Vec<RequestData>],
@@ -127,7 +127,7 @@ fn add_batches(
     Ok(())
 }
 
-// Adds the ids of these requests.
+/// Adds the ids of these requests.
 fn add_all(table: &mut BTreeSet<RequestId>, requests: &[RequestData]) -> Result<(), AllocError>
     ensures { OnOk result ((met : List RequestId) → Lists table.old met
         → Lists table.new (met ++ ids_of requests.now)) }
@@ -139,7 +139,7 @@ fn add_all(table: &mut BTreeSet<RequestId>, requests: &[RequestData]) -> Result<
     Ok(())
 }
 
-// Adds an id; whether it is new.
+/// Adds an id; whether it is new.
 fn add_id(table: &mut BTreeSet<RequestId>, id: RequestId) -> Result<bool, AllocError>
     ensures new { IfOk result (λ new. new ≡ not (has_id table.old.keys id)) }
     ensures kept { IfOk result (λ new. (other : RequestId) →

@@ -30,7 +30,7 @@ pub(crate) fn listed(
     Ok(copies)
 }
 
-// Adds the request with names of its own.
+/// Adds the request with names of its own.
 fn add_owned(requests: &mut Vec<RequestData>, listed: &Asked<'_>) -> Result<(), AllocError>
     requires { IsTrue (is_asked (said listed.now)) }
     ensures { OnOk result (map asked requests.new.items ≡ map asked requests.old.items ++ said listed.now ∷ []) }

@@ -58,7 +58,7 @@ pub(crate) fn split_line<'a>(text: &'a [u8], words: &mut Vec<&'a [u8]>) -> Optio
     }
 }
 
-// Whether the byte may stand in a word.
+/// Whether the byte may stand in a word.
 fn is_inside(byte: u8) -> bool
     ensures { result ≡ is_inside byte }
 {

@@ -15,18 +15,20 @@ use crate::deployment::Deployment;
 use crate::draft::Draft;
 use crate::fault::WorkloadFault;
 use crate::words::{MOST_WORDS, lines_len};
-use eve_grammar::{Head, MOST_BATCHES, MOST_CUSTOMERS, MOST_REQUESTS};
+use eve_grammar::{Head, MOST_BATCHES, MOST_CUSTOMERS, MOST_REQUESTS, NEWEST_VERSION};
 use eve_write::{CustomerData, RequestData};
 use std::alloc::{AllocError, Global};
 use std::marker::Model;
 
 /// What a deployment is asked to do: its numbers, the customers, and batches of requests as they are listed.
 ///
-/// docs/TRACE.md, "Workload". Every workload lies within the limits, its customers' names differ, and so do its
-/// requests' ids. Each batch has a list of its own, so that it can be let go alone. Contracts see it as its deployment,
-/// its customers, and for each batch the list of its requests.
+/// docs/TRACE.md, "Workload". It has a format, the version of the trace that is asked for. Every workload lies within
+/// the limits of its format, its customers' names differ, and so do its requests' ids. Each batch has a list of its
+/// own, so that it can be let go alone. Contracts see it as its format, its deployment, its customers, and for each
+/// batch the list of its requests.
 #[derive(Drop)]
 pub struct Workload {
+    format: u16,
     deployment: Deployment,
     customers: Vec<CustomerData>,
     batches: Vec<Vec<RequestData>>,
@@ -45,32 +47,34 @@ impl Model for Workload {
 }
 
 impl Workload {
-    /// Reads a workload, or finds the first line that isn't right, counted from 1.
+    /// Reads a workload in a format, or finds the first line that isn't right, counted from 1.
     ///
-    /// docs/TRACE.md, "Workload". One pass over the text. While the requests' numbers rise, for each of 256 places of
+    /// docs/TRACE.md, "Workload". The format is 1 or 2: there may be 4,096 customers in the first, 65,536 in the
+    /// second. One pass over the text. While the requests' numbers rise, for each of 256 places of
     /// clients by themselves, the last numbers tell requests apart; from the first that doesn't rise on they are kept
     /// in a tree, so the time is that of a sort, whatever the text. Refused memory decides nothing.
-    pub fn read(alloc: Global, text: &[u8]) -> Result<Workload, WorkloadFault>
+    pub fn read(alloc: Global, text: &[u8], format: u16) -> Result<Workload, WorkloadFault>
         ensures read { IfOk result (λ w. text.now ≡ workload_text w) }
         ensures right { IfOk result IsWorkload }
-        ensures bad { (number : ℕ) → result ≡ Err (WorkloadFault.Line number) → IsBadLine text.now number }
+        ensures format { IfOk result (λ w. w.format ≡ format) }
+        ensures bad { (number : ℕ) → result ≡ Err (WorkloadFault.Line number) → IsBadLine format text.now number }
     {
-        let draft = lines_of(alloc, text)?;
+        let draft = lines_of(alloc, text, format)?;
         Ok(whole(draft))
     }
 
-    /// The numbers in the header of its trace.
+    /// The header of its trace, whose version is the format. It is right where traces of that version are known.
     pub fn head(&self) -> Head
         ensures head { result ≡ head_asked self.now }
-        ensures right { IsTrue (is_head result) }
+        ensures right { 1 ≤ self.now.format → self.now.format ≤ NEWEST_VERSION → IsTrue (is_head result) }
         ensures workload { IsWorkload self.now }
     {
         let customers = self.customers.len() as u32;
         let batches = self.batches.len() as u32;
-        self.deployment.head(customers, batches)
+        self.deployment.head(self.format, customers, batches)
     }
 
-    /// The customers, 1 to 4,096, each with a name of its own.
+    /// The customers, each with a name of its own: 1 to 4,096 in format 1, to 65,536 in format 2.
     pub fn customers(&self) -> &[CustomerData]
         ensures customers { map customer result.now ≡ self.now.customers }
         ensures some { 1 ≤ length result.now }
@@ -109,6 +113,7 @@ impl Workload {
         let customers = self.customers.to_vec(alloc)?;
         let batches = copies_of(alloc, self.batches.as_slice())?;
         Ok(Workload {
+            format: self.format,
             deployment: self.deployment,
             customers,
             batches,
@@ -127,12 +132,13 @@ impl Workload {
     }
 }
 
-// All lines of the text, one after another, if it may end after them.
-fn lines_of<'a>(alloc: Global, text: &'a [u8]) -> Result<Draft<'a>, WorkloadFault>
+/// All lines of the text, one after another, if it may end after them.
+fn lines_of<'a>(alloc: Global, text: &'a [u8], format: u16) -> Result<Draft<'a>, WorkloadFault>
     ensures lines { IfOk result (λ draft. KeepsAll draft text.entry.now) }
-    ensures bad { (number : ℕ) → result ≡ Err (WorkloadFault.Line number) → IsBadLine text.entry.now number }
+    ensures format { IfOk result (λ draft. draft.format ≡ format) }
+    ensures bad { (number : ℕ) → result ≡ Err (WorkloadFault.Line number) → IsBadLine format text.entry.now number }
 {
-    let mut draft = Draft::new(alloc);
+    let mut draft = Draft::new(alloc, format);
     let mut words = Vec::with_capacity(alloc, MOST_WORDS)?;
     let len = lines_len(text);
     let mut at = 0;
@@ -149,21 +155,23 @@ fn lines_of<'a>(alloc: Global, text: &'a [u8]) -> Result<Draft<'a>, WorkloadFaul
     Ok(draft)
 }
 
-// The workload of lines after which the text may end.
+/// The workload of lines after which the text may end.
 fn whole(draft: Draft<'_>) -> Workload
     requires { (before : List Line) × Keeps draft before × IsTrue (may_end before) }
     ensures text { (before : List Line) → Keeps draft.entry before → IsTrue (may_end before) → text_before before
         ≡ workload_text result }
     ensures right { IsWorkload result }
+    ensures format { result.format ≡ draft.entry.format }
 {
     Workload {
+        format: draft.format,
         deployment: draft.deployment,
         customers: draft.customers,
         batches: draft.batches,
     }
 }
 
-// Copies of the batches' lists.
+/// Copies of the batches' lists.
 fn copies_of(
     alloc: Global,
     batches: &[Vec<RequestData>],

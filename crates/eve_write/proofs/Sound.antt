@@ -1,13 +1,13 @@
 -- What it tells of parts that they have a spelling.
-use Rattle.std.proofs.Common.{◌≡◌, ℕ, ◌*◌, ◌≤◌, Bool, true, ◌&&◌, leb, ltb, eqb, IsTrue, List, [], ◌∷◌, length}
+use Rattle.std.proofs.Common.{◌≡◌, ℕ, ◌≤◌, Bool, true, ◌&&◌, eqb, IsTrue, List, [], ◌∷◌, length}
 use Rattle.std.proofs.Common.{map, Vec, refl, sym, ◌∙◌, ap, arith}
 use Rattle.std.specs.declared.alloc.Global.{Global}
 use Rattle.std.specs.List.{list_all}
-use Rattle.std.proofs.lemmas.Bool.{and_parts, and_from, leb-true, le-leb}
+use Rattle.std.proofs.lemmas.Bool.{and_parts, and_from, le-leb}
 use Rattle.std.proofs.lemmas.List.{length-map}
 use Rattle.std.proofs.lemmas.List.Folds.{list_all-map}
 use Rattle.eve_grammar.specs.Trace.{head_of}
-use Rattle.eve_grammar.specs.Limits.{is_number, is_between, is_head, row_count, is_customer, is_batch, is_attempt}
+use Rattle.eve_grammar.specs.Limits.{is_number, is_head, row_count, is_customer, is_batch, is_attempt}
 use Rattle.eve_grammar.specs.Limits.{is_access, is_rising, is_restore, is_step, is_vote, is_sent}
 use Rattle.eve_write.specs.declared.step.Step as code
 use Rattle.eve_write.specs.declared.step.Step.TheVariants.{Attempt, Commit, Rollback}
@@ -16,8 +16,9 @@ use Rattle.eve_write.specs.declared.parts.Parts.{Parts}
 use Rattle.eve_write.specs.Data.{customer, batch, attempt, section, votes, step, vote, sent, trace}
 use Rattle.eve_write.specs.Writable.{fits_vote, HasSpelling}
 use Rattle.eve_write.specs.Passes.{fits_step, right_step, right_vote, are_right_parts}
-use Rattle.eve_grammar.proofs.BodyCodecs.{few_restores}
 use Rattle.eve_grammar.specs.declared.head.Head.{Head}
+use Rattle.eve_grammar.proofs.BodyCodecs.{few_restores}
+use Rattle.eve_grammar.proofs.HeadLimits.{head_has_limits, few_customers}
 
 -- a step that a section may hold can be written
 step_fits : (rows : ℕ) → rows ≤ 131072 → (s : code.Step) → IsTrue (is_step rows (step s)) → IsTrue (fits_step s)
@@ -51,34 +52,6 @@ sections_fit rows few (x ∷ xs) right =
     and_from (list_all fits_step x.items) (list_all (λ s. list_all fits_step s.items) xs)
     (steps_fit rows few x.items p.0) (sections_fit rows few xs p.1)
 
--- what a header's limits say of its counts
-pub record IsCountedHead (h : Head) : Type 0 where
-  pub replicas : h.replicas ≤ 8
-  pub verifiers : h.verifiers ≤ 16
-  pub customers : h.customers ≤ 4096
-  pub batches : h.batches ≤ 65535
-
-IsCountedHead-from_test : (h : Head) → IsTrue (is_head h) → IsCountedHead h
-IsCountedHead-from_test h right =
-    let tail6 = is_between 1 4096 h.customers && leb h.batches 65535 in
-    let tail5 = is_between 1 8 h.workers && tail6 in
-    let tail4 = is_between 1 8 h.window && tail5 in
-    let tail3 = ltb h.verifiers (2 * h.quorum) && tail4 in
-    let tail2 = leb h.quorum h.verifiers && tail3 in
-    let a = and_parts (is_between 1 8 h.replicas) (is_between 1 16 h.verifiers && tail2) right in
-    let b = and_parts (is_between 1 16 h.verifiers) tail2 a.1 in
-    let c = and_parts (leb h.quorum h.verifiers) tail3 b.1 in
-    let d = and_parts (ltb h.verifiers (2 * h.quorum)) tail4 c.1 in
-    let e = and_parts (is_between 1 8 h.window) tail5 d.1 in
-    let f = and_parts (is_between 1 8 h.workers) tail6 e.1 in
-    let k = and_parts (is_between 1 4096 h.customers) (leb h.batches 65535) f.1 in
-    record {
-      replicas = leb-true _ _ (and_parts (leb 1 h.replicas) (leb h.replicas 8) a.0).1;
-      verifiers = leb-true _ _ (and_parts (leb 1 h.verifiers) (leb h.verifiers 16) b.0).1;
-      customers = leb-true _ _ (and_parts (leb 1 h.customers) (leb h.customers 4096) k.0).1;
-      batches = leb-true _ _ k.1;
-    }
-
 -- what is asked of parts that are written
 pub record AreWritable (p : Parts) : Type 0 where
   pub customers : IsTrue (list_all (λ c. is_customer (customer c)) p.customers.items)
@@ -92,16 +65,16 @@ pub record AreWritable (p : Parts) : Type 0 where
 pub AreWritable-from_spelling : (p : Parts) → HasSpelling p → AreWritable p
 AreWritable-from_spelling p spelled =
     let limits = spelled.limits in
-    let head = IsCountedHead-from_test (head_of (trace p)) limits.head in
+    let head = head_has_limits (head_of (trace p)) limits.head in
     record {
       customers = sym (list_all-map is_customer customer p.customers.items) ∙ limits.customers;
       batches = sym (list_all-map is_batch batch p.batches.items) ∙ limits.batches;
-      sections = sections_fit (row_count (head_of (trace p))) (omega (arith, head.customers)) p.sections.items
-          limits.sections;
+      sections = sections_fit (row_count (head_of (trace p))) (omega (arith, few_customers (head_of (trace p)) limits.head))
+          p.sections.items limits.sections;
       verifiers = spelled.tokens;
-      few_batches = omega (arith, head.batches, length-map p.batches.items batch);
-      few_sections = omega (arith, head.replicas, length-map p.sections.items section);
-      few_verifiers = omega (arith, head.verifiers, length-map p.verifiers.items votes);
+      few_batches = omega (arith, head.few_batches, length-map p.batches.items batch);
+      few_sections = omega (arith, head.few_replicas, length-map p.sections.items section);
+      few_verifiers = omega (arith, head.few_verifiers, length-map p.verifiers.items votes);
     }
 
 -- ---- the tests of parts

@@ -7,6 +7,7 @@ use Rattle.eve_grammar.specs.Trace.{Access}
 use Rattle.eve_grammar.specs.Frames.{OfAccess}
 use Rattle.eve_grammar.specs.Spelling.{frame_text}
 use Rattle.eve_grammar.specs.Limits.{is_number}
+use Rattle.eve_grammar.specs.declared.frame_kind.TheConstants.{ACCESS_FRAME}
 use Rattle.eve_write.specs.declared.access_list.AccessNote.{AccessNote}
 
 -- what a worker noted of a request
@@ -33,7 +34,7 @@ access_text x = frame_text (OfAccess x)
 -- what stands in a frame before its entries
 abbrev pub note_text : AccessNote → List ℕ
 note_text note =
-    18 ∷ (big_bytes 4 (6 + 29 * note.count) ++ (big_bytes 1 note.worker
+    ACCESS_FRAME ∷ (big_bytes 4 (6 + 29 * note.count) ++ (big_bytes 1 note.worker
     ++ (big_bytes 2 note.place ++ (big_bytes 2 note.index ++ big_bytes 1 note.count))))
 
 -- the numbers of a note fit their fields

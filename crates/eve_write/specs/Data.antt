@@ -97,6 +97,7 @@ votes v = map vote v.items
 -- the header that counts the parts
 abbrev pub header : Parts → Head
 header p = record {
+  version = p.version;
   replicas = length (map section p.sections.items);
   verifiers = length (map votes p.verifiers.items);
   quorum = p.quorum;

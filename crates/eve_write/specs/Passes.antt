@@ -2,7 +2,7 @@
 -- and the bytes.
 use Rattle.std.specs.Prelude.{ℕ, nat_le, Bool, true, ◌&&◌, List, ◌++◌, length}
 use Rattle.std.specs.List.{list_all, flat_map}
-use Rattle.eve_accounts.specs.declared.limits.TheConstants.{MOST_NAMED_ROWS}
+use Rattle.eve_grammar.specs.declared.limits.TheConstants.{MOST_ROWS}
 use Rattle.eve_grammar.specs.Frames.{OfVote, OfSent, End, batches_of, sections_of, verifiers_of}
 use Rattle.eve_grammar.specs.Spelling.{frame_text, step_text, head_text, customer_text, batch_text, section_text}
 use Rattle.eve_grammar.specs.Spelling.{votes_text}
@@ -19,7 +19,7 @@ use Rattle.eve_write.specs.Writable.{fits_vote}
 abbrev pub fits_step : Step → Bool
 fits_step (Attempt a) = is_attempt (attempt a)
 fits_step (Commit c) = true
-fits_step (Rollback r) = nat_le (length r.restores.items) MOST_NAMED_ROWS
+fits_step (Rollback r) = nat_le (length r.restores.items) MOST_ROWS
 
 -- whether a section of a trace with this header may hold the step
 abbrev pub right_step : Head → Step → Bool

@@ -13,6 +13,7 @@ use crate::fields::{byte, put_few_entries};
 use crate::pieces::{put, send};
 use crate::short::{LONGEST_SHORT, MOST_GATHERED};
 use arrayvec::ArrayVec;
+use eve_grammar::ACCESS_FRAME;
 use eve_smallbank::{Entry, UpToThree};
 use eve_streams::{SendFault, Sink};
 use std::alloc::{AllocError, Global};
@@ -48,7 +49,7 @@ impl Model for AccessList {
 }
 
 impl AccessList {
-    /// No accesses, and room for so many, with so many entries in all. It is refused only where memory runs out.
+    /// No accesses, with room for a number of them and of entries in all. It is refused only where memory runs out.
     pub fn with_capacity(
         alloc: Global,
         accesses: usize,
@@ -101,7 +102,7 @@ impl AccessList {
         Ok(())
     }
 
-    // How many bytes the frames take, and 2^64 - 1 for more.
+    /// How many bytes the frames take, and 2^64 - 1 for more.
     pub(crate) fn text_len(&self) -> u64
         ensures { result ≡ min (length (flat_map access_text self.now)) (2 ^ 64 - 1) }
     {
@@ -109,7 +110,7 @@ impl AccessList {
         notes.saturating_add((self.entries.len() as u64).saturating_mul(29))
     }
 
-    // Whether each lies within the limits of a trace with so many rows.
+    /// Whether each lies within the limits of a trace with `rows` rows.
     pub(crate) fn are_within(&self, rows: usize) -> bool
         ensures { result ≡ list_all (is_access rows) self.now }
     {
@@ -118,7 +119,7 @@ impl AccessList {
     }
 }
 
-// Worker, place and index of each are numbers of one and of two bytes.
+/// Worker, place and index of each are numbers of one and of two bytes.
 fn notes_fit(notes: &[AccessNote])
     ensures { IsTrue (list_all is_note notes.now) }
 {
@@ -135,7 +136,7 @@ fn note_fits(note: &AccessNote)
     let _index = note.index;
 }
 
-// Appends entries to a list that has room for them.
+/// Appends entries to a list that has room for them.
 fn push_all(list: &mut Vec<Entry>, entries: &UpToThree<Entry>)
     requires few { length entries.now ≤ 3 }
     requires room { vec_len list.old + length entries.now ≤ vec_capacity list.old }
@@ -168,7 +169,7 @@ pub fn write_accesses<W: Sink>(out: &mut W, list: &AccessList) -> Result<(), Sen
     send(out, texts.as_slice())
 }
 
-// Appends a frame with these entries.
+/// Appends a frame with these entries.
 fn put_access<const N: usize>(frame: &mut ArrayVec<u8, N>, note: &AccessNote, entries: &[Entry])
     requires count { length entries.now ≡ note.now.count }
     requires few { length entries.now ≤ 3 }
@@ -187,7 +188,7 @@ pub(crate) fn put_note<const N: usize>(frame: &mut ArrayVec<u8, N>, note: &Acces
     ensures len { array_vec_len frame.new ≡ array_vec_len frame.old + 11 }
 {
     let body_len = 6 + 29 * u32::from(note.count);
-    put(frame, &byte(18));
+    put(frame, &byte(ACCESS_FRAME));
     put(frame, &body_len.to_be_bytes());
     put(frame, &byte(note.worker));
     put(frame, &note.place.to_be_bytes());

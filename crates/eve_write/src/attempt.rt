@@ -17,7 +17,7 @@ use crate::fields::{byte, indexes_fit, put_indexes, put_replies};
 use crate::pieces::{put, send};
 use crate::right::{Judge, all_right, row_count};
 use arrayvec::ArrayVec;
-use eve_grammar::{Head, MOST_REQUESTS, token_fits};
+use eve_grammar::{ATTEMPT_FRAME, FRAME_HEAD_LEN, Head, MOST_REQUESTS, token_fits};
 use eve_smallbank::Reply;
 use eve_streams::{SendFault, Sink};
 
@@ -47,7 +47,7 @@ fn mode_byte(serial: bool) -> [u8; 1]
 }
 
 impl AttemptData {
-    // How long the body of its own frame is.
+    /// How long the body of its own frame is.
     pub(crate) fn body_len(&self) -> u32
         requires { IsTrue (is_attempt (plain self.now)) }
         ensures { result ≡ length (body_text (OfAttempt (plain self.now))) }
@@ -55,7 +55,7 @@ impl AttemptData {
         43 + 11 * self.certificate.len() as u32
     }
 
-    // Appends what stands before the certificate.
+    /// Appends what stands before the certificate.
     fn put_front<const N: usize>(&self, frame: &mut ArrayVec<u8, N>)
         requires right { IsTrue (is_attempt (plain self.now)) }
         requires room { array_vec_len frame.old + 16 ≤ N }
@@ -66,7 +66,7 @@ impl AttemptData {
             ++ big_bytes 2 (length self.now.certificate.items)))))) }
         ensures len { array_vec_len frame.new ≡ array_vec_len frame.old + 16 }
     {
-        put(frame, &byte(17));
+        put(frame, &byte(ATTEMPT_FRAME));
         put(frame, &self.body_len().to_be_bytes());
         put(frame, &self.seq.to_be_bytes());
         put(frame, &self.view.to_be_bytes());
@@ -74,7 +74,7 @@ impl AttemptData {
         put(frame, &(self.certificate.len() as u16).to_be_bytes());
     }
 
-    // Appends the certificate, the replies and the token.
+    /// Appends the certificate, the replies and the token.
     fn put_results<const N: usize>(&self, frame: &mut ArrayVec<u8, N>)
         requires right { IsTrue (is_attempt (plain self.now)) }
         requires room { array_vec_len frame.old + 32 + 11 * length self.now.certificate.items ≤ N }
@@ -88,7 +88,7 @@ impl AttemptData {
     }
 }
 
-// How many bytes an Attempt frame has at most.
+/// How many bytes an Attempt frame has at most.
 const LONGEST_ATTEMPT: usize = 48 + 11 * MOST_REQUESTS;
 
 /// Writes an Attempt frame, without the frames of its accesses, of an attempt within the limits but for those.
@@ -105,16 +105,16 @@ pub fn write_attempt<W: Sink>(out: &mut W, attempt: &AttemptData) -> Result<(), 
 }
 
 impl AttemptData {
-    // How many bytes its frames take, those of its accesses included, and 2^64 - 1 for more.
+    /// How many bytes its frames take, those of its accesses included, and 2^64 - 1 for more.
     pub(crate) fn text_len(&self) -> u64
         requires { IsTrue (is_attempt (plain self.now)) }
         ensures { result ≡ min (length (frames_text (attempt_frames (plain self.now)))) (2 ^ 64 - 1) }
     {
-        let frame = 5 + self.body_len() as u64;
+        let frame = FRAME_HEAD_LEN as u64 + self.body_len() as u64;
         self.accesses.text_len().saturating_add(frame)
     }
 
-    // Writes its frames, those of its accesses included.
+    /// Writes its frames, those of its accesses included.
     pub(crate) fn write_frames<W: Sink>(&self, out: &mut W) -> Result<(), SendFault>
         requires { IsTrue (is_attempt (plain self.now)) }
         ensures { Writes W.written W.failures out.old out.new result
@@ -124,7 +124,7 @@ impl AttemptData {
         write_accesses(out, &self.accesses)
     }
 
-    // Whether its own frame lies within the limits.
+    /// Whether its own frame lies within the limits.
     fn is_counted(&self, head: &Head) -> bool
         ensures { result ≡ is_attempt (plain self.now) }
     {
@@ -139,7 +139,7 @@ impl AttemptData {
             && all_right(self.replies.as_slice(), head)
     }
 
-    // Whether it has as many accesses as replies, each within the limits.
+    /// Whether it has as many accesses as replies, each within the limits.
     fn has_accesses(&self, head: &Head) -> bool
         ensures { result ≡ ((length (plain self.now).accesses == length self.now.certificate.items)
             && list_all (is_access (row_count head.now)) (plain self.now).accesses) }
@@ -147,7 +147,7 @@ impl AttemptData {
         self.accesses.len() == self.certificate.len() && self.accesses.are_within(row_count(head))
     }
 
-    // Whether it lies within the limits, with its accesses.
+    /// Whether it lies within the limits, with its accesses.
     pub(crate) fn is_right(&self, head: &Head) -> bool
         ensures { result ≡ is_whole_attempt (row_count head.now) (plain self.now) }
     {

@@ -14,7 +14,7 @@ use crate::request::{RequestData, len_of_requests};
 use crate::right::{Judge, all_right};
 use crate::short::write_short;
 use crate::spell::{send_texts, write_each};
-use eve_grammar::{Head, MOST_REQUESTS};
+use eve_grammar::{BATCH_FRAME, FRAME_HEAD_LEN, Head, MOST_REQUESTS};
 use eve_streams::{SendFault, Sink};
 
 /// A batch of requests, in parallelBatches. Its number is its place among the batches, from 1.
@@ -28,7 +28,7 @@ pub struct BatchData {
 }
 
 impl BatchData {
-    // How long the body of its frame is.
+    /// How long the body of its frame is.
     pub(crate) fn body_len(&self) -> u32
         requires { IsTrue (is_batch (plain self.now)) }
         ensures { result ≡ length (body_text (OfBatch 1 (plain self.now))) }
@@ -36,17 +36,17 @@ impl BatchData {
         6 + 2 * self.sizes.len() as u32 + len_of_requests(self.requests.as_slice())
     }
 
-    // Writes what stands before the sizes.
+    /// Writes what stands before the sizes.
     fn write_front<W: Sink>(&self, out: &mut W, number: u32) -> Result<(), SendFault>
         requires { IsTrue (is_batch (plain self.now)) }
         ensures { Writes W.written W.failures out.old out.new result
-            (2 ∷ (big_bytes 4 (length (body_text (OfBatch number (plain self.now))))
+            (BATCH_FRAME ∷ (big_bytes 4 (length (body_text (OfBatch number (plain self.now))))
             ++ (big_bytes 4 number ++ big_bytes 2 (length self.now.sizes.items)))) }
     {
         let body_len = self.body_len().to_be_bytes();
         let number = number.to_be_bytes();
         let groups = (self.sizes.len() as u16).to_be_bytes();
-        send_texts(out, &[&[2], &body_len, &number, &groups])
+        send_texts(out, &[&[BATCH_FRAME], &body_len, &number, &groups])
     }
 }
 
@@ -63,7 +63,7 @@ pub fn write_batch<W: Sink>(out: &mut W, number: u32, batch: &BatchData) -> Resu
     write_short(out, batch.requests.as_slice())
 }
 
-// The sum of sizes, and 2^32 - 1 for a larger one.
+/// The sum of sizes, and 2^32 - 1 for a larger one.
 fn total_of(sizes: &[u16]) -> u32
     ensures { result ≡ min (sum sizes.now) (2 ^ 32 - 1) }
 {
@@ -86,7 +86,7 @@ impl Measure for BatchData {
     ghost fits = { λ b. is_batch (plain b) };
 
     fn text_len(&self) -> u64 {
-        5 + self.body_len() as u64
+        FRAME_HEAD_LEN as u64 + self.body_len() as u64
     }
 }
 

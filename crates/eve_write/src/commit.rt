@@ -8,7 +8,7 @@ ghost use Rattle.eve_write.specs.Data.{commit as plain};
 ghost use Rattle.eve_write.specs.Writing.{Writes};
 
 use crate::spell::send_texts;
-use eve_grammar::token_fits;
+use eve_grammar::{COMMIT_FRAME, token_fits};
 use eve_streams::{SendFault, Sink};
 
 /// A commit of a batch. Contracts see it by `commit`.
@@ -23,7 +23,7 @@ pub struct CommitData {
 }
 
 impl CommitData {
-    // How long the body of its frame is.
+    /// How long the body of its frame is.
     pub(crate) fn body_len(&self) -> u32
         ensures { result ≡ length (body_text (OfCommit (plain self.now))) }
     {
@@ -40,7 +40,10 @@ pub fn write_commit<W: Sink>(out: &mut W, commit: &CommitData) -> Result<(), Sen
     let body_len = commit.body_len().to_be_bytes();
     let seq = commit.seq.to_be_bytes();
     let view = commit.view.to_be_bytes();
-    send_texts(out, &[&[19], &body_len, &seq, &view, &commit.token])
+    send_texts(
+        out,
+        &[&[COMMIT_FRAME], &body_len, &seq, &view, &commit.token],
+    )
 }
 
 /// A commit lies within the limits as it stands.

@@ -12,7 +12,7 @@ use crate::measure::Measure;
 use crate::right::Judge;
 use crate::spell::{Spell, send_texts};
 use eve_accounts::{Cents, Name};
-use eve_grammar::Head;
+use eve_grammar::{CUSTOMER_FRAME, FRAME_HEAD_LEN, Head};
 use eve_streams::{SendFault, Sink};
 
 /// A customer's name and opening balances. Contracts see it by `customer`.
@@ -27,7 +27,7 @@ pub struct CustomerData {
 }
 
 impl CustomerData {
-    // How long the body of its frame is.
+    /// How long the body of its frame is.
     pub(crate) fn body_len(&self) -> u32
         requires { IsTrue (is_customer (plain self.now)) }
         ensures { result ≡ length (body_text (OfCustomer (plain self.now))) }
@@ -49,7 +49,14 @@ impl Spell for CustomerData {
         let checking = cents_bytes(self.checking);
         send_texts(
             out,
-            &[&[1], &body_len, &[name_len], name, &saving, &checking],
+            &[
+                &[CUSTOMER_FRAME],
+                &body_len,
+                &[name_len],
+                name,
+                &saving,
+                &checking,
+            ],
         )
     }
 }
@@ -70,7 +77,7 @@ impl Measure for CustomerData {
     ghost fits = { λ c. is_customer (plain c) };
 
     fn text_len(&self) -> u64 {
-        5 + self.body_len() as u64
+        FRAME_HEAD_LEN as u64 + self.body_len() as u64
     }
 }
 

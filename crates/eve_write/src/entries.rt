@@ -7,7 +7,7 @@ ghost use Rattle.eve_grammar.specs.Limits.{is_entry};
 use eve_grammar::MOST_VERSIONS;
 use eve_smallbank::{Entry, UpToThree};
 
-// Whether the entry is of one of so many rows, at a version within the limit, and leaves what it saw if it is a read.
+/// Whether the entry is of one of these rows, at a version within the limit, and leaves what it saw if it is a read.
 fn is_entry(entry: &Entry, rows: usize) -> bool
     ensures { result ≡ is_entry rows entry.now }
 {
@@ -17,7 +17,7 @@ fn is_entry(entry: &Entry, rows: usize) -> bool
         && (entry.kind.is_write() || after == seen)
 }
 
-/// Whether each entry is of one of so many rows, at a version within the limit, and leaves what it saw if it is a read.
+/// Whether each entry is of one of these rows, at a version within the limit, and leaves what it saw if it is a read.
 ///
 /// docs/MODEL.md, "Entries" and "Limits".
 pub fn are_entries(entries: &UpToThree<Entry>, rows: usize) -> bool

@@ -1,4 +1,4 @@
-//! How numbers, names, money, replies, entries and restores are spelled.
+//! How numbers, names, money, replies, entries, restores and rows are spelled.
 //!
 //! docs/TRACE.md, "Parts".
 
@@ -9,16 +9,17 @@ ghost use Rattle.byteorder.specs.Endian.{big_bytes};
 ghost use Rattle.eve_smallbank.specs.Spelling.{money_text, reply_text};
 ghost use Rattle.eve_smallbank.specs.SmallBank.{plain};
 ghost use Rattle.eve_smallbank.specs.Access.{is_write};
-ghost use Rattle.eve_grammar.specs.Spelling.{name_text, request_text, entry_text, restore_text};
+ghost use Rattle.eve_grammar.specs.Spelling.{name_text, request_text, entry_text, restore_text, versioned_text};
 ghost use Rattle.eve_grammar.specs.Limits.{is_number, is_request};
 ghost use Rattle.eve_write.specs.Writing.{Puts};
 
 use crate::pieces::put;
+use crate::short::{MOST_GATHERED, Short};
 use crate::spell::{Spell, send_texts};
 use arrayvec::ArrayVec;
 use eve_accounts::{Amount, Cents, MOST_NAME_BYTES, Row};
 use eve_grammar::Restore;
-use eve_smallbank::{Entry, Kind, Reply, Request, UpToThree, reply_bytes};
+use eve_smallbank::{Entry, Kind, Reply, Request, UpToThree, Versioned, reply_bytes};
 use eve_streams::{SendFault, Sink};
 
 /// The length of a name.
@@ -133,16 +134,26 @@ fn put_entry<const N: usize>(frame: &mut ArrayVec<u8, N>, entry: Entry)
     put(frame, &cents_bytes(entry.after));
 }
 
-impl Spell for Restore {
+impl Short for Restore {
     ghost text = { restore_text };
 
     ghost fits = { λ _. true };
 
-    fn write<W: Sink>(&self, out: &mut W) -> Result<(), SendFault> {
-        let row = row_bytes(self.row);
-        let version = self.version.to_be_bytes();
-        let value = cents_bytes(self.value);
-        send_texts(out, &[&row, &version, &value])
+    fn put(&self, texts: &mut ArrayVec<u8, MOST_GATHERED>) {
+        put(texts, &row_bytes(self.row));
+        put(texts, &self.version.to_be_bytes());
+        put(texts, &cents_bytes(self.value));
+    }
+}
+
+impl Short for Versioned {
+    ghost text = { versioned_text };
+
+    ghost fits = { λ _. true };
+
+    fn put(&self, texts: &mut ArrayVec<u8, MOST_GATHERED>) {
+        put(texts, &self.version.to_be_bytes());
+        put(texts, &cents_bytes(self.value));
     }
 }
 
@@ -170,7 +181,7 @@ pub(crate) fn put_few_entries<const N: usize>(frame: &mut ArrayVec<u8, N>, entri
     }
 }
 
-// Appends a name after its length.
+/// Appends a name after its length.
 fn put_name<const N: usize>(frame: &mut ArrayVec<u8, N>, name: &[u8])
     requires short { length name.now ≤ MOST_NAME_BYTES }
     requires room { array_vec_len frame.old + 1 + length name.now ≤ N }
@@ -181,7 +192,7 @@ fn put_name<const N: usize>(frame: &mut ArrayVec<u8, N>, name: &[u8])
     put(frame, name);
 }
 
-// Appends a code, a name and an amount.
+/// Appends a code, a name and an amount.
 fn put_move<const N: usize>(frame: &mut ArrayVec<u8, N>, code: u8, name: &[u8], amount: Amount)
     requires short { length name.now ≤ MOST_NAME_BYTES }
     requires room { array_vec_len frame.old + 34 ≤ N }
@@ -192,7 +203,7 @@ fn put_move<const N: usize>(frame: &mut ArrayVec<u8, N>, code: u8, name: &[u8], 
     put(frame, &amount_bytes(amount));
 }
 
-// Appends a code and two names.
+/// Appends a code and two names.
 fn put_pair<const N: usize>(frame: &mut ArrayVec<u8, N>, code: u8, from: &[u8], to: &[u8])
     requires short { (length from.now ≤ MOST_NAME_BYTES) × (length to.now ≤ MOST_NAME_BYTES) }
     requires room { array_vec_len frame.old + 51 ≤ N }

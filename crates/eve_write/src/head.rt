@@ -15,6 +15,7 @@ use eve_streams::{SendFault, Sink};
 pub fn write_header<W: Sink>(out: &mut W, head: &Head, total: u64) -> Result<(), SendFault>
     ensures { Writes W.written W.failures out.old out.new result (head_text head.now total) }
 {
+    let version = head.version.to_be_bytes();
     let replicas = byte(head.replicas);
     let verifiers = byte(head.verifiers);
     let quorum = byte(head.quorum);
@@ -27,7 +28,7 @@ pub fn write_header<W: Sink>(out: &mut W, head: &Head, total: u64) -> Result<(),
         out,
         &[
             b"EVESBK",
-            &[0, 1],
+            &version,
             &replicas,
             &verifiers,
             &quorum,

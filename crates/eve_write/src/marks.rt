@@ -6,6 +6,7 @@ ghost use Rattle.eve_write.specs.Writing.{Writes};
 
 use crate::fields::byte;
 use crate::spell::send_texts;
+use eve_grammar::{END_FRAME, REPLICA_FRAME, VERIFIER_FRAME};
 use eve_streams::{SendFault, Sink};
 
 /// Writes a Replica frame.
@@ -14,7 +15,7 @@ use eve_streams::{SendFault, Sink};
 pub fn write_replica<W: Sink>(out: &mut W, number: u8) -> Result<(), SendFault>
     ensures { Writes W.written W.failures out.old out.new result (frame_text (OfReplica number)) }
 {
-    send_texts(out, &[&[16, 0, 0, 0, 1], &byte(number)])
+    send_texts(out, &[&[REPLICA_FRAME, 0, 0, 0, 1], &byte(number)])
 }
 
 /// Writes a Verifier frame.
@@ -23,7 +24,7 @@ pub fn write_replica<W: Sink>(out: &mut W, number: u8) -> Result<(), SendFault>
 pub fn write_verifier<W: Sink>(out: &mut W, number: u8) -> Result<(), SendFault>
     ensures { Writes W.written W.failures out.old out.new result (frame_text (OfVerifier number)) }
 {
-    send_texts(out, &[&[32, 0, 0, 0, 1], &byte(number)])
+    send_texts(out, &[&[VERIFIER_FRAME, 0, 0, 0, 1], &byte(number)])
 }
 
 /// Writes the End frame.
@@ -32,5 +33,5 @@ pub fn write_verifier<W: Sink>(out: &mut W, number: u8) -> Result<(), SendFault>
 pub fn write_end<W: Sink>(out: &mut W) -> Result<(), SendFault>
     ensures { Writes W.written W.failures out.old out.new result (frame_text End) }
 {
-    send_texts(out, &[&[127, 0, 0, 0, 0]])
+    send_texts(out, &[&[END_FRAME, 0, 0, 0, 0]])
 }

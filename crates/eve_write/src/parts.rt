@@ -15,12 +15,16 @@ use crate::right::all_right;
 use crate::sent::SentData;
 use crate::step::Step;
 use crate::vote::VoteData;
-use eve_grammar::{Head, MOST_BATCHES, MOST_CUSTOMERS, MOST_REPLICAS, MOST_VERIFIERS};
+use eve_grammar::{
+    FRAME_HEAD_LEN, HEADER_LEN, Head, MOST_BATCHES, MOST_REPLICAS, MOST_VERIFIERS, most_customers,
+};
 
 /// All parts of a trace. What a header counts is how many there are of each here. Contracts see
 /// them by `trace`.
 #[derive(Drop)]
 pub struct Parts {
+    /// The version of the format, 1 to `NEWEST_VERSION`.
+    pub version: u16,
     /// How many votes decide: more than half of the verifiers, at most all.
     pub quorum: u8,
     /// How many batches are attempted before the first is decided, 1 to `MOST_WINDOW`.
@@ -53,7 +57,7 @@ impl Parts {
         }
     }
 
-    // The numbers of the header, where they lie in their ranges.
+    /// The numbers of the header, where they lie in their ranges.
     pub(crate) fn head(&self) -> Option<Head>
         ensures head { IfSome result (λ h. h ≡ head_of (trace self.now)) }
         ensures right { IfSome result (λ h. IsTrue (is_head h)) }
@@ -61,12 +65,13 @@ impl Parts {
     {
         if self.sections.len() > MOST_REPLICAS as usize
             || self.verifiers.len() > MOST_VERIFIERS as usize
-            || self.customers.len() > MOST_CUSTOMERS as usize
+            || self.customers.len() > most_customers(self.version) as usize
             || self.batches.len() > MOST_BATCHES as usize
         {
             return None;
         }
         let head = Head {
+            version: self.version,
             replicas: self.sections.len() as u8,
             verifiers: self.verifiers.len() as u8,
             quorum: self.quorum,
@@ -78,7 +83,7 @@ impl Parts {
         if head.is_right() { Some(head) } else { None }
     }
 
-    // Whether all parts lie within the limits under this header.
+    /// Whether all parts lie within the limits under this header.
     pub(crate) fn are_right(&self, head: &Head) -> bool
         ensures { result ≡ are_right_parts head.now self.now }
     {
@@ -89,7 +94,7 @@ impl Parts {
             && all_right(self.sent.as_slice(), head)
     }
 
-    // How many bytes the trace takes, and 2^64 - 1 for more.
+    /// How many bytes the trace takes, and 2^64 - 1 for more.
     pub(crate) fn text_len(&self) -> u64
         requires { HasSpelling self.now }
         ensures { result ≡ min (length_of (trace self.now)) (2 ^ 64 - 1) }
@@ -99,6 +104,6 @@ impl Parts {
             .saturating_add(len_of_each(self.sections.as_slice()))
             .saturating_add(len_of_each(self.verifiers.as_slice()))
             .saturating_add(len_of_each(self.sent.as_slice()))
-            .saturating_add(37)
+            .saturating_add((HEADER_LEN + FRAME_HEAD_LEN) as u64)
     }
 }

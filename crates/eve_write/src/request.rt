@@ -69,7 +69,7 @@ impl RequestData {
     }
 }
 
-// Appends a request after its client and number.
+/// Appends a request after its client and number.
 fn put_asked<const N: usize>(frame: &mut ArrayVec<u8, N>, asks: &RequestData)
     requires right { IsTrue (is_asked (asked asks.now)) }
     requires room { array_vec_len frame.old + 63 ≤ N }
@@ -90,7 +90,7 @@ impl Short for RequestData {
     }
 }
 
-// How long a request is in bytes, its client and number included.
+/// How long a request is in bytes, its client and number included.
 fn len_of_request(request: &RequestData) -> u32
     requires { IsTrue (is_asked (asked request.now)) }
     ensures len { result ≡ length (asked_text (asked request.now)) }
@@ -119,7 +119,7 @@ pub(crate) fn len_of_requests(requests: &[RequestData]) -> u32
     len
 }
 
-// A transaction lies within the limits as it stands.
+/// A transaction lies within the limits as it stands.
 fn request_fits(asks: &TransactionData)
     ensures { IsTrue (is_request (transaction asks.now)) }
 {

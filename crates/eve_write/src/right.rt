@@ -49,7 +49,7 @@ impl Judge for Restore {
 impl Judge for Reply {
     ghost right = { λ h r. is_reply r };
 
-    // A total lies within the limits as it stands.
+    /// A total lies within the limits as it stands.
     fn is_right(&self, _head: &Head) -> bool {
         match *self {
             Reply::Done => true,

@@ -9,8 +9,9 @@ ghost use Rattle.eve_write.specs.Data.{rollback as plain};
 ghost use Rattle.eve_write.specs.Writing.{Writes};
 
 use crate::right::{Judge, all_right};
-use crate::spell::{send_texts, write_each};
-use eve_grammar::{Head, MOST_NAMED_ROWS, Restore};
+use crate::short::write_short;
+use crate::spell::send_texts;
+use eve_grammar::{Head, MOST_ROWS, ROLLBACK_FRAME, Restore};
 use eve_streams::{SendFault, Sink};
 
 /// The replica goes back to a committed number and on in the next view. Contracts see it by `rollback`.
@@ -25,19 +26,19 @@ pub struct RollbackData {
 }
 
 impl RollbackData {
-    // How long the body of its frame is.
+    /// How long the body of its frame is.
     pub(crate) fn body_len(&self) -> u32
-        requires { length self.now.restores.items ≤ MOST_NAMED_ROWS }
+        requires { length self.now.restores.items ≤ MOST_ROWS }
         ensures { result ≡ length (body_text (OfRollback (plain self.now))) }
     {
         12 + 20 * self.restores.len() as u32
     }
 
-    // Writes what stands before the restores.
+    /// Writes what stands before the restores.
     fn write_front<W: Sink>(&self, out: &mut W) -> Result<(), SendFault>
-        requires { length self.now.restores.items ≤ MOST_NAMED_ROWS }
+        requires { length self.now.restores.items ≤ MOST_ROWS }
         ensures { Writes W.written W.failures out.old out.new result
-            (20 ∷ (big_bytes 4 (length (body_text (OfRollback (plain self.now))))
+            (ROLLBACK_FRAME ∷ (big_bytes 4 (length (body_text (OfRollback (plain self.now))))
             ++ (big_bytes 4 self.now.to ++ (big_bytes 4 self.now.view
             ++ big_bytes 4 (length (plain self.now).restores))))) }
     {
@@ -45,7 +46,7 @@ impl RollbackData {
         let to = self.to.to_be_bytes();
         let view = self.view.to_be_bytes();
         let count = (self.restores.len() as u32).to_be_bytes();
-        send_texts(out, &[&[20], &body_len, &to, &view, &count])
+        send_texts(out, &[&[ROLLBACK_FRAME], &body_len, &to, &view, &count])
     }
 }
 
@@ -53,14 +54,14 @@ impl RollbackData {
 ///
 /// docs/TRACE.md, "Frames". After a fault a front of the frame has been taken, and not all of it.
 pub fn write_rollback<W: Sink>(out: &mut W, rollback: &RollbackData) -> Result<(), SendFault>
-    requires { length rollback.now.restores.items ≤ MOST_NAMED_ROWS }
+    requires { length rollback.now.restores.items ≤ MOST_ROWS }
     ensures { Writes W.written W.failures out.old out.new result (frame_text (OfRollback (plain rollback.now))) }
 {
     rollback.write_front(out)?;
-    write_each(out, rollback.restores.as_slice())
+    write_short(out, rollback.restores.as_slice())
 }
 
-// Whether each row is below the rows after it.
+/// Whether each row is below the rows after it.
 fn is_rising(restores: &[Restore]) -> bool
     ensures { result ≡ is_rising restores.now }
 {
@@ -76,7 +77,7 @@ fn is_rising(restores: &[Restore]) -> bool
 }
 
 impl RollbackData {
-    // Whether it lies within the limits.
+    /// Whether it lies within the limits.
     pub(crate) fn is_right(&self, head: &Head) -> bool
         ensures { result ≡ is_rollback (row_count head.now) (plain self.now) }
     {

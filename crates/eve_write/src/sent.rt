@@ -14,7 +14,7 @@ use crate::pieces::{put, send};
 use crate::right::Judge;
 use crate::short::{MOST_GATHERED, Short};
 use arrayvec::ArrayVec;
-use eve_grammar::Head;
+use eve_grammar::{Head, SENT_FRAME};
 use eve_smallbank::Reply;
 use eve_streams::{SendFault, Sink};
 
@@ -33,15 +33,15 @@ pub struct SentData {
     pub reply: Reply,
 }
 
-// How many bytes a Sent frame has.
+/// How many bytes a Sent frame has.
 const LEN_OF_SENT: usize = 31;
 
-// Appends a Sent frame.
+/// Appends a Sent frame.
 fn put_sent<const N: usize>(frame: &mut ArrayVec<u8, N>, sent: &SentData)
     requires { array_vec_len frame.old + LEN_OF_SENT ≤ N }
     ensures { Puts frame.old.items frame.new.items (frame_text (OfSent (plain sent.now))) }
 {
-    put(frame, &[48, 0, 0, 0, 26]);
+    put(frame, &[SENT_FRAME, 0, 0, 0, 26]);
     put(frame, &sent.client.to_be_bytes());
     put(frame, &sent.number.to_be_bytes());
     put(frame, &byte(sent.replica));

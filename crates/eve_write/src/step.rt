@@ -10,7 +10,7 @@ use crate::measure::Measure;
 use crate::right::Judge;
 use crate::rollback::{RollbackData, write_rollback};
 use crate::spell::Spell;
-use eve_grammar::Head;
+use eve_grammar::{FRAME_HEAD_LEN, Head};
 use eve_streams::{SendFault, Sink};
 
 /// What a replica did. Contracts see it by `step`.
@@ -46,8 +46,8 @@ impl Measure for Step {
     fn text_len(&self) -> u64 {
         match self {
             Step::Attempt(attempt) => attempt.text_len(),
-            Step::Commit(commit) => 5 + commit.body_len() as u64,
-            Step::Rollback(rollback) => 5 + rollback.body_len() as u64,
+            Step::Commit(commit) => FRAME_HEAD_LEN as u64 + commit.body_len() as u64,
+            Step::Rollback(rollback) => FRAME_HEAD_LEN as u64 + rollback.body_len() as u64,
         }
     }
 }

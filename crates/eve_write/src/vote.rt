@@ -12,7 +12,7 @@ use crate::fields::token_len;
 use crate::measure::Measure;
 use crate::right::Judge;
 use crate::spell::{Spell, send_texts};
-use eve_grammar::{Head, is_zeros, token_fits};
+use eve_grammar::{Head, VOTE_FRAME, is_zeros, token_fits};
 use eve_streams::{SendFault, Sink};
 
 /// What a verifier votes for.
@@ -59,7 +59,14 @@ pub fn write_vote<W: Sink>(out: &mut W, vote: &VoteData) -> Result<(), SendFault
     let choice = choice_code(vote.choice);
     send_texts(
         out,
-        &[&[33], &body_len, &seq, &view, &[choice], &vote.token],
+        &[
+            &[VOTE_FRAME],
+            &body_len,
+            &seq,
+            &view,
+            &[choice],
+            &vote.token,
+        ],
     )
 }
 

@@ -1,5 +1,5 @@
 use Rattle.eve_frames.proofs.Fitting.{customer_fits, batch_fits, attempt_fits, access_fits, commit_fits, rollback_fits}
-use Rattle.eve_frames.proofs.Fitting.{vote_fits, sent_fits}
+use Rattle.eve_frames.proofs.Fitting.{transfer_fits, vote_fits, sent_fits}
 use Rattle.eve_frames.proofs.laws.frames_say_what_fits.Goals as goal
 
 pub returns : goal.returns
@@ -10,6 +10,7 @@ returns c = record {
   accesses = access_fits;
   commits = commit_fits;
   rollbacks = rollback_fits;
+  transfers = transfer_fits;
   votes = vote_fits;
   sent = sent_fits;
 }

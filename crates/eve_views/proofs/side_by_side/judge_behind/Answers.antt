@@ -1,6 +1,6 @@
 use Rattle.std.proofs.Common.{◌∙◌, ap, drop, arith}
 use Rattle.eve_grammar.specs.Limits.{row_count}
-use Rattle.eve_grammar.proofs.FrameLaws.{small_head}
+use Rattle.eve_grammar.proofs.HeadLimits.{few_customers}
 use Rattle.eve_views.proofs.Unjudged.{right_whole}
 use Rattle.eve_views.proofs.side_by_side.judge_behind.Goals as goal
 
@@ -12,7 +12,7 @@ ended-requires-clause-right g c =
 
 pub overflow_mul-head : goal.overflow_mul-head
 overflow_mul-head g c =
-    let small = (small_head c.args.head c.requires.says.limits).customers in
+    let small = few_customers c.args.head c.requires.says.limits in
     record { fits = omega (arith, small) }
 
 pub ended-requires-clause-walked : goal.ended-requires-clause-walked

@@ -5,7 +5,7 @@ use Rattle.std.proofs.lemmas.List.{length-drop}
 use Rattle.eve_grammar.specs.Frames.{is_allowed}
 use Rattle.eve_grammar.specs.Kinds.{kind_byte}
 use Rattle.eve_grammar.specs.declared.head.Head.{Head}
-use Rattle.eve_grammar.proofs.FrameLaws.{small_head}
+use Rattle.eve_grammar.proofs.HeadLimits.{few_customers}
 use Rattle.eve_grammar.specs.declared.place.Place.{Place}
 use Rattle.eve_views.specs.Starting.{no_starts, noted}
 use Rattle.eve_views.specs.Indexing.{kept_in}
@@ -38,7 +38,7 @@ returns-in-Err-clause-fault c =
 
 pub frame_in_front-requires : goal.frame_in_front-requires
 frame_in_front-requires c =
-    let small = (small_head c.args.head c.requires.says.limits).customers in
+    let small = few_customers c.args.head c.requires.says.limits in
     omega (arith, small, ap (λ (h : Head). h.customers) c.frames.invariant.1)
 
 pub overflow_cast-len : goal.overflow_cast-len

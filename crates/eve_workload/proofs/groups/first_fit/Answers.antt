@@ -37,7 +37,7 @@ seated cut rows groups sizes seats sizes_are seats_are is =
 
 pub loop-request-init : goal.loop-request-init
 loop-request-init c =
-    let empty = c.in_ok-cut.ensures (rows_at c.args.touched.now) in (sym empty.seating.count, empty)
+    let empty = c.clear.ensures (rows_at c.args.touched.now) in (sym empty.seating.count, empty)
 
 pub place-requires-clause-cut : goal.place-requires-clause-cut
 place-requires-clause-cut c =
@@ -80,8 +80,10 @@ returns-clause-groups c =
     let touched : List Touched = c.args.touched.now in
     let groups : List (List ℕ) = groups_of touched c.loop-request.request-index in
     let end : c.loop-request.request-index ≡ length touched = omega arith in
-    subst (λ n. AreGroups c.loop-request.cut.sizes.items c.in_ok-order.order.items (groups_of touched n)) end record {
-      sizes_are = c.loop-request.invariant.1.seating.sizes_are;
+    let copied : c.in_ok-sizes.sizes.items ≡ c.loop-request.cut.sizes.items =
+    c.in_ok-sizes.ensures.items_if_clones_equal (λ x y e. e) ∙ c.deref.ensures.value in
+    subst (λ n. AreGroups c.in_ok-sizes.sizes.items c.in_ok-order.order.items (groups_of touched n)) end record {
+      sizes_are = copied ∙ c.loop-request.invariant.1.seating.sizes_are;
       order_is = c.in_ok-order.ensures groups
           (seated c.loop-request.cut (rows_at touched) groups c.as_slice.result.now c.as_slice-2.result.now
           c.as_slice.ensures.value c.as_slice-2.ensures.value c.loop-request.invariant.1);

@@ -1,5 +1,5 @@
 use Rattle.std.proofs.Common.{IsTrue, [], ◌∷◌, get_or, sym, ap, subst, ◌∙◌}
-use Rattle.eve_workload.specs.Steps.{is_deployment}
+use Rattle.eve_workload.specs.Workload.{is_deployment}
 use Rattle.eve_workload.proofs.Deployments.{IsSmall, deployment_small, same_deployment}
 use Rattle.eve_workload.proofs.Options.{on_none}
 use Rattle.eve_workload.proofs.line.head_line.Goals as goal

@@ -31,6 +31,7 @@ loop-at-preserved c =
           c.loop-at.invariant.read
           (subst (λ rest. TakesLine c.take_line.new.self c.loop-at.invariant.read.before rest (Some c.in-Some.len))
           (take_rest c.args.text.now c.loop-at.at) (rw c.in-Some.is at taken));
+      format = c.in_ok-len.ensures.format ∙ c.loop-at.invariant.format;
       room = omega (arith, c.in_ok-len.ensures.room, c.loop-at.invariant.room);
     }
 
@@ -38,7 +39,8 @@ pub returns-in-None-clause-bad : goal.returns-in-None-clause-bad
 returns-in-None-clause-bad c = λ number same.
     let is : c.next_line-number.result ≡ number = cc in
     let taken = c.in_ok-len.ensures.taken c.loop-at.invariant.read.before c.loop-at.invariant.read.keeps in
-    read_bad c.args.text.now c.loop-at.at number c.loop-at.draft c.take_line.new.self c.loop-at.invariant.read
+    read_bad c.args.format c.args.text.now c.loop-at.at number c.loop-at.draft c.take_line.new.self
+    c.loop-at.invariant.read c.loop-at.invariant.format (c.in_ok-len.ensures.format ∙ c.loop-at.invariant.format)
     (sym is ∙ c.next_line-number.ensures c.loop-at.invariant.read.before c.loop-at.invariant.read.keeps) (omega arith)
     (subst (λ rest. TakesLine c.take_line.new.self c.loop-at.invariant.read.before rest None)
     (take_rest c.args.text.now c.loop-at.at) (rw c.in-None.is at taken))
@@ -53,7 +55,7 @@ returns-then-at-text-clause-bad c = λ number same.
       | then-at-text-via-else-at-text+then-not-may_end w ↦
           sym (w.may_end.ensures read.before read.keeps.last) ∙ w.if-not-may_end.true
     ] in
-    read_early c.args.text.now c.loop-at.at number c.loop-at.draft read
+    read_early c.args.format c.args.text.now c.loop-at.at number c.loop-at.draft read c.loop-at.invariant.format
     (sym is ∙ c.next_line.ensures read.before read.keeps)
     (λ k behind there. c.lines_len-len.ensures.none k (omega arith) there) open_end
 

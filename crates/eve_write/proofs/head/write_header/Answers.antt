@@ -14,4 +14,5 @@ returns g c =
     (app c.byte-verifiers.ensures
     (app c.byte-quorum.ensures (app c.byte-window.ensures (app c.byte-workers.ensures counts)))) in
     subst (Writes g.W.Sink.written g.W.Sink.failures c.args.out.now c.send_texts.new.out c.send_texts.result)
-    (led 69 (led 86 (led 69 (led 83 (led 66 (led 75 (led 0 (led 1 limits)))))))) c.send_texts.ensures
+    (led 69 (led 86 (led 69 (led 83 (led 66 (led 75 (app c.to_be_bytes-version.ensures limits)))))))
+    c.send_texts.ensures

@@ -12,13 +12,13 @@ returns-in_err-write_front g c =
     (Stopped-before {S = g.row.W.Denot} (flat_map restore_text c.args.rollback.now.restores.items)
     c.in_err-write_front.ensures)
 
-pub write_each-requires : goal.write_each-requires
-write_each-requires g c = all_fit c.as_slice.result.now
+pub write_short-requires : goal.write_short-requires
+write_short-requires g c = all_fit c.as_slice.result.now
 
 pub returns : goal.returns
 returns g c =
     let same = ap (flat_map restore_text) c.as_slice.ensures.value in
-    let restores = subst (Writes g.W.Sink.written g.W.Sink.failures c.write_front.new.out c.write_each.new.out
-    c.write_each.result) same c.write_each.ensures in
-    Writes-then {S = g.row.W.Denot} g.W.Sink.written g.W.Sink.failures _ _ _ _ _ c.write_each.result
+    let restores = subst (Writes g.W.Sink.written g.W.Sink.failures c.write_front.new.out c.write_short.new.out
+    c.write_short.result) same c.write_short.ensures in
+    Writes-then {S = g.row.W.Denot} g.W.Sink.written g.W.Sink.failures _ _ _ _ _ c.write_short.result
     c.in_ok-write_front.ensures restores

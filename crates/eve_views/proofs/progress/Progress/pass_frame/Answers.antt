@@ -1,22 +1,32 @@
 use Rattle.std.proofs.Common.{◌≡◌, ◌+◌, ◌-◌, ◌∙◌, drop, ℕ, List, [], ◌∷◌, ◌++◌, length, sym, ap, subst, rules, arith}
+use Rattle.std.specs.Prelude.{IsTrue}
 use Rattle.std.proofs.lemmas.List.{length-append, length-drop, length-take}
+use Rattle.eve_grammar.specs.Frames.{is_allowed}
 use Rattle.eve_grammar.specs.Kinds.{kind_byte}
 use Rattle.eve_grammar.specs.Limits.{row_count}
 use Rattle.eve_grammar.specs.declared.place.Place.{Place}
 use Rattle.eve_grammar.specs.declared.head.Head.{Head}
-use Rattle.eve_grammar.proofs.FrameLaws.{small_head}
+use Rattle.eve_grammar.proofs.HeadLimits.{few_customers}
 use Rattle.eve_views.specs.Starting.{noted}
 use Rattle.eve_views.specs.Indexing.{kept_in}
 use Rattle.eve_views.specs.SideBySide.{AreRightFrames}
 use Rattle.eve_views.specs.Walking.{Walking}
 use Rattle.eve_views.specs.declared.starts.Starts.{Starts}
+use Rattle.eve_views.proofs.Reaching.{room_of, verifier_room}
 use Rattle.eve_views.proofs.Unjudged.{walking_unjudged}
 use Rattle.eve_views.proofs.progress.Progress.pass_frame.Goals as goal
 
 pub frame_unjudged-requires : goal.frame_unjudged-requires
 frame_unjudged-requires c =
-    let small = (small_head c.args.head c.requires.says.limits).customers in
+    let small = few_customers c.args.head c.requires.says.limits in
     omega (arith, small, ap (λ (h : Head). h.customers) c.requires.walked.head)
+
+pub note-requires-clause-verifier : goal.note-requires-clause-verifier
+note-requires-clause-verifier c =
+    let p = c.args.self.now.reached.place in
+    let kind = kind_byte c.in-Some.frame.kind in
+    let allowed = subst (λ (g : Head). IsTrue (is_allowed g p kind)) c.requires.walked.head c.in-Some.ensures.allowed in
+    (λ is. verifier_room c.args.head p kind (room_of c.args.head c.requires.says.limits) allowed (ap kind_byte is))
 
 pub returns-clause-walked : goal.returns-clause-walked
 returns-clause-walked c = λ _.

@@ -2,7 +2,7 @@ use Rattle.std.proofs.Common.{◌≡◌, ◌≤◌, ◌+◌, ℕ, suc, length, a
 use Rattle.eve_grammar.specs.Trace.{head_of}
 use Rattle.eve_grammar.specs.Limits.{row_count}
 use Rattle.eve_grammar.specs.declared.limits.TheConstants.{MOST_ROWS}
-use Rattle.eve_grammar.proofs.FrameLaws.{small_head}
+use Rattle.eve_grammar.proofs.HeadLimits.{few_customers}
 use Rattle.eve_views.specs.Fronts.{before_section}
 use Rattle.eve_views.proofs.CutLaws.{steps_cut, steps_are_there}
 use Rattle.eve_views.proofs.trace.Trace.section.Goals as goal
@@ -10,7 +10,7 @@ use Rattle.eve_views.proofs.trace.Trace.section.Goals as goal
 pub new-requires : goal.new-requires
 new-requires c =
     let t = c.args.self.now in
-    let small = (small_head (head_of t) c.recall_limits.ensures.head).customers in
+    let small = few_customers (head_of t) c.recall_limits.ensures.head in
     let few : row_count (head_of t) ≤ MOST_ROWS = omega (arith, small) in
     let more : c.args.e + 1 ≡ suc c.args.e = omega arith in
     let next : c.section_from-to.result ≡ length (before_section t (suc c.args.e)) =
@@ -21,7 +21,7 @@ new-requires c =
 pub returns : goal.returns
 returns c =
     let t = c.args.self.now in
-    let small = (small_head (head_of t) c.recall_limits.ensures.head).customers in
+    let small = few_customers (head_of t) c.recall_limits.ensures.head in
     let few : row_count (head_of t) ≤ MOST_ROWS = omega (arith, small) in
     let more : c.args.e + 1 ≡ suc c.args.e = omega arith in
     let next : c.section_from-to.result ≡ length (before_section t (suc c.args.e)) =

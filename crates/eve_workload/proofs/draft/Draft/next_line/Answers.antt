@@ -10,7 +10,7 @@ returns c = λ before keeps.
     let batches : c.len-2.result ≡ length c.args.self.now.batches.items = search rules in
     omega (
       arith,
-      line_count before keeps.right,
+      line_count c.args.self.now.format before keeps.right,
       c.next_line-first.ensures.next before keeps.last,
       length-map c.args.self.now.customers.items customer,
       ap length keeps.customers,

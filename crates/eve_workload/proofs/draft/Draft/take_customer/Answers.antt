@@ -3,18 +3,18 @@ use Rattle.eve_workload.specs.Said.{borrowed_customer}
 use Rattle.eve_workload.proofs.Drafting.{customer_taken, customer_refused, name_refused, is_known, is_fresh}
 use Rattle.eve_workload.proofs.draft.Draft.take_customer.Goals as goal
 
-pub returns-then-len : goal.returns-then-len
-returns-then-len c = λ before keeps.
+pub returns-then-len-most_customers-clause-taken : goal.returns-then-len-most_customers-clause-taken
+returns-then-len-most_customers-clause-taken c = λ before keeps.
     let count : c.len.result ≡ length c.args.self.now.customers.items = search rules in
     customer_refused c.args.self.now (borrowed_customer c.args.customer.now) before (omega arith) keeps
 
-pub returns-then-not-branch : goal.returns-then-not-branch
-returns-then-not-branch c = λ before keeps.
+pub returns-then-not-branch-clause-taken : goal.returns-then-not-branch-clause-taken
+returns-then-not-branch-clause-taken c = λ before keeps.
     name_refused c.args.self.now (borrowed_customer c.args.customer.now) before
     (is_known _ _ c.in_ok-add_name.ensures.new c.if-not-branch.true) keeps
 
-pub returns : goal.returns
-returns c = λ before keeps.
+pub returns-clause-taken : goal.returns-clause-taken
+returns-clause-taken c = λ before keeps.
     let count : c.len.result ≡ length c.args.self.now.customers.items = search rules in
     let name : c.of.result ≡ c.args.customer.now.name.now = search rules in
     customer_taken c.args.self.now c.push.new.self c.add_name.new.names _ (borrowed_customer c.args.customer.now) before

@@ -28,8 +28,8 @@ returns-else-taken-clause-taken c = λ before keeps line behind is right.
     let same = line_here c.args.text.now (bytes_of c.as_slice.result.now) c.in-Some.len
     (line_said c.in-Some-line_of.line)
     first some.0 some.1 line behind is right.ranges in
-    let refused = rw c.if-taken.false at (c.in_ok-taken.ensures before keeps) in
-    refused (subst (IsRightBehind before) same right)
+    let refused = rw c.if-taken.false at (c.in_ok-taken.ensures.taken before keeps) in
+    refused (subst (IsRightBehind _ before) same right)
 
 pub returns-then-taken-clause-taken : goal.returns-then-taken-clause-taken
 returns-then-taken-clause-taken c = λ before keeps.
@@ -37,7 +37,7 @@ returns-then-taken-clause-taken c = λ before keeps.
     let first = subst (λ words. IsFirstLine c.args.text.now (bytes_of words) c.in-Some.len)
     (sym c.as_slice.ensures.value) found in
     let some = c.in-Some-line_of.ensures.some in
-    let kept = rw c.if-taken.true at (c.in_ok-taken.ensures before keeps) in
+    let kept = rw c.if-taken.true at (c.in_ok-taken.ensures.taken before keeps) in
     let spelled : take c.in-Some.len c.args.text.now ≡ line_text (line_said c.in-Some-line_of.line) = first.line
     ∙ ap text_of_words (sym some.0) in (
       line_said c.in-Some-line_of.line,

@@ -11,8 +11,8 @@ use Rattle.eve_workload.proofs.Drafting.{batches_kept, request_taken, id_refused
 use Rattle.eve_workload.proofs.Reading.{keeps_small}
 use Rattle.eve_workload.proofs.draft.Draft.take_request.Goals as goal
 
-pub returns-then-not-branch : goal.returns-then-not-branch
-returns-then-not-branch c = λ before keeps.
+pub returns-then-not-branch-clause-taken : goal.returns-then-not-branch-clause-taken
+returns-then-not-branch-clause-taken c = λ before keeps.
     let there : ids_in c.as_slice.result.now ≡ map request_id (requests_in before) =
     ap (λ bs. map request_id (requests_of (asked_lists bs))) c.as_slice.ensures.value
     ∙ ap (λ lists. map request_id (requests_of lists)) keeps.batches ∙ ap (map request_id) (batches_flat before) in
@@ -31,7 +31,7 @@ add_to_last-requires-clause-some c =
     omega (
       arith,
       some,
-      batches_counted before keeps.right,
+      batches_counted c.args.self.now.format before keeps.right,
       batches_kept c.args.self.now before keeps,
     )
 
@@ -40,8 +40,8 @@ overflow_add-self c =
     let small = keeps_small c.args.self.now c.requires.keeps.0 c.requires.keeps.1 in
     omega (arith, small.requests)
 
-pub returns : goal.returns
-returns c = λ before keeps.
+pub returns-clause-taken : goal.returns-clause-taken
+returns-clause-taken c = λ before keeps.
     let there : ids_in c.as_slice.result.now ≡ map request_id (requests_in before) =
     ap (λ bs. map request_id (requests_of (asked_lists bs))) c.as_slice.ensures.value
     ∙ ap (λ lists. map request_id (requests_of lists)) keeps.batches ∙ ap (map request_id) (batches_flat before) in

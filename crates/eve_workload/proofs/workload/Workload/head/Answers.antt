@@ -27,11 +27,11 @@ returns-clause-head c =
     c.head.ensures ∙ head_is c.self.inside c.args.self.now c.self.invariant c.self.view_is _ _ customers batches
 
 pub returns-clause-right : goal.returns-clause-right
-returns-clause-right c =
+returns-clause-right c = λ some known.
     let customers : c.len-customers.result ≡ length c.self.inside.customers.items = search rules in
     let batches : c.len-batches.result ≡ length c.self.inside.batches.items = search rules in
     subst (λ h. IsTrue (is_head h)) (sym c.head.ensures)
-    (head_right c.self.inside c.args.self.now c.self.invariant c.self.view_is _ _ customers batches)
+    (head_right c.self.inside c.args.self.now c.self.invariant c.self.view_is _ _ customers batches some known)
 
 pub returns-clause-workload : goal.returns-clause-workload
 returns-clause-workload c = is_workload c.self.inside c.args.self.now c.self.invariant c.self.view_is

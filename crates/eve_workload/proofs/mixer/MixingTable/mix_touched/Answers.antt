@@ -9,7 +9,7 @@ use Rattle.eve_write.specs.Data.{asked, batch}
 use Rattle.eve_workload.specs.Mixing.{cut, batch_with}
 use Rattle.eve_workload.specs.Mixed.{touched_by}
 use Rattle.eve_workload.proofs.Mixed.{cut_keeps, cut_is_right}
-use Rattle.eve_workload.proofs.mixer.mix_touched.Goals as goal
+use Rattle.eve_workload.proofs.mixer.MixingTable.mix_touched.Goals as goal
 
 pub returns-clause-batch : goal.returns-clause-batch
 returns-clause-batch c =

@@ -1,0 +1,6 @@
+use Rattle.std.proofs.Common.{◌≡◌, ◌-◌}
+use Rattle.eve_grammar.specs.Scanning.{saved_at}
+use Rattle.eve_grammar.proofs.transfer.pass_rows.Given as goal
+
+abbrev pub invariant-loop-row : goal.invariant-loop-row
+invariant-loop-row l = saved_at l.row (l.rows - l.row) l.rest ≡ saved_at 0 l.rows l.bytes

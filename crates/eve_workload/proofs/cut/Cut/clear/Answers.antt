@@ -1,0 +1,6 @@
+-- Written, so that a wrong body fails soon.
+use Rattle.std.proofs.Common.{rules}
+use Rattle.eve_workload.proofs.cut.Cut.clear.Goals as goal
+
+pub returns : goal.returns
+returns c = search rules
