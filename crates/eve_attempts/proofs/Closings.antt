@@ -23,6 +23,7 @@ use Rattle.eve_attempts.specs.declared.taken.Taken.{Taken}
 use Rattle.eve_attempts.specs.Ledgers.{Opened, Rows, Ledger, ledger_rows, table_of_rows, table_now, values_before}
 use Rattle.eve_attempts.specs.Ledgers.{writes_in}
 use Rattle.eve_attempts.specs.Ledgers.{open_writes, rows_committed, is_write_in, AreLaid, IsLedger}
+use Rattle.eve_attempts.specs.KeptRows.{KeptRows}
 use Rattle.eve_attempts.specs.Closing.{access_noted, AreNoted, IsAttemptOf}
 use Rattle.eve_attempts.specs.Ordering.{records_in}
 use Rattle.eve_attempts.specs.Taking.{IsTakenOf}
@@ -90,10 +91,14 @@ module _ (front : AttemptFront) (b : Batch) (touched : List Touched) (records : 
       (eq-eqb (length t.accesses) (length t.certificate.items) (accesses ∙ sym long))
       (ap (list_all (is_access rows)) taken.accesses ∙ noted.limits))
 
-  pub is_attempt_of : (balances : List ℤ) (token : List ℕ) → front.seq ≤ 65535 → IsTrue (is_number 4 front.view)
-      → IsTrue (is_token token) → token ≡ token_of 1 front.seq balances t.replies.items
-      → IsAttemptOf front rows balances records (records_in records t.order.items) (attempt_of front t token)
-  is_attempt_of balances token seq view is tells = record {
+  -- a batch has a request
+  pub some_replies : 0 < length t.replies.items
+  some_replies = let some = some_requests b right in let many = noted.many in omega (arith, replies_many)
+
+  pub is_attempt_of : (version : ℕ) (balances : List ℤ) (token : List ℕ) → front.seq ≤ 65535 → IsTrue (is_number 4 front.view)
+      → IsTrue (is_token token) → token ≡ token_of version front.seq balances t.replies.items
+      → IsAttemptOf front version rows balances records (records_in records t.order.items) (attempt_of front t token)
+  is_attempt_of version balances token seq view is tells = record {
     seq = refl;
     view = refl;
     serial = refl;
@@ -117,6 +122,15 @@ kept_as front token written = record { view = front.view; token = token; written
 -- with these rows, and with these attempts open
 abbrev pub with_open : Ledger → Rows → List Opened → Ledger
 with_open s rows opened = record s { rows = rows; opened = opened; is_next_serial = false }
+
+-- with rows of a version
+abbrev pub with_kept : Ledger → KeptRows → List Opened → Ledger
+with_kept s kept opened = record s { version = kept.version; rows = kept.rows; opened = opened; is_next_serial = false }
+
+-- what a token leaves as it was
+pub kept_so : (kept written : KeptRows) (version : ℕ) → kept ≡ written → written.version ≡ version
+    → kept ≡ record { version = version; rows = written.rows }
+kept_so kept written version same is = same ∙ ap (λ (v : ℕ). record { version = v; rows = written.rows }) is
 
 pub one_more_open : (s : Ledger) (rows : Rows) (o : Opened) (kept opened : List Opened) → opened ≡ kept ++ o ∷ []
     → kept ≡ s.opened → with_open s rows opened ≡ with_open s rows (s.opened ++ o ∷ [])

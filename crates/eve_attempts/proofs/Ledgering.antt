@@ -1,4 +1,4 @@
--- A ledger after a commit and after a rollback.
+-- A ledger after a commit and after a rollback, and the state that it lends.
 use Rattle.std.proofs.Common.{◌≡◌, ℕ, suc, ◌+◌, ◌<◌, ◌≤◌, ◌==◌, nat_le, Bool, true, false, cond, ◌||◌, ◌&&◌, ltb, leb}
 use Rattle.std.proofs.Common.{IsTrue, List, [], ◌∷◌, map, length, get_or, refl, sym, subst, ap, ap₂, ◌∙◌, inl, inr, ◌⊎◌}
 use Rattle.std.proofs.Common.{arith}
@@ -13,6 +13,8 @@ use Rattle.eve_accounts.specs.Money.{is_balance}
 use Rattle.eve_smallbank.specs.declared.entry.Entry.{Entry}
 use Rattle.eve_smallbank.specs.Access.{is_write, writes_row}
 use Rattle.eve_smallbank.specs.Chain.{Table, table_after}
+use Rattle.eve_smallbank.specs.declared.versioned.Versioned.{Versioned}
+use Rattle.std.proofs.lemmas.List.{length-map}
 use Rattle.eve_smallbank.proofs.Members.{In, here, there, all_in, all_from_in, all_of_list_all, in_cons}
 use Rattle.eve_grammar.specs.Trace.{Rollback}
 use Rattle.eve_grammar.specs.declared.limits.TheConstants.{MOST_VERSIONS}
@@ -23,6 +25,7 @@ use Rattle.eve_attempts.specs.Ledgers.{writes_in}
 use Rattle.eve_attempts.specs.Ledgers.{open_writes, rows_committed, is_write_in, AreLaid, IsLedger}
 use Rattle.eve_attempts.specs.Discarding.{restore_in, AreRestores, RollsBack}
 use Rattle.eve_attempts.specs.Restoring.{entry_rows, rising_from}
+use Rattle.eve_attempts.specs.TakingOver.{rows_of_state, IsStateOf}
 use Rattle.eve_attempts.proofs.Ordered.{all_moved}
 use Rattle.eve_attempts.proofs.TableLaws.{laid_undone, write_there}
 
@@ -285,4 +288,18 @@ rolled_back s l numbers moved up new rows restores is many table are to view = r
       (sym (ap (λ (n : Ledger). n.rows) is));
   as_many = ap (λ (n : Ledger). ledger_rows n) is ∙ many;
   rows = ap (λ (n : Ledger). table_now n) is ∙ table;
+}
+
+-- ---- states
+
+-- rows as they are committed, listed
+pub is_state : (s : Ledger) (copied left : Rows) (opened : List Opened) (state : List Versioned) → copied ≡ s.rows
+    → opened ≡ s.opened → length left.balances ≡ length copied.balances
+    → table_of_rows left ≡ values_before (table_of_rows copied) (writes_in opened) → rows_of_state state ≡ left
+    → IsStateOf s state
+is_state s copied left opened state same all many table are = record {
+  many = sym (length-map state (λ r. r.value)) ∙ ap (λ (r : Rows). length r.balances) are ∙ many
+      ∙ ap (λ (r : Rows). length r.balances) same;
+  rows = ap table_of_rows are ∙ table
+      ∙ ap₂ (λ (r : Rows) (os : List Opened). values_before (table_of_rows r) (writes_in os)) same all;
 }

@@ -21,6 +21,7 @@ use Rattle.eve_grammar.specs.Limits.{is_entry}
 use Rattle.eve_grammar.proofs.EntryLimits.{row_there}
 use Rattle.eve_stamps.specs.Applied.{Applied}
 use Rattle.eve_attempts.specs.Ledgers.{Rows, Opened, table_of_rows, values_before, writes_in, is_write_in, AreLaid}
+use Rattle.eve_attempts.specs.KeptRows.{KeptRows}
 use Rattle.eve_attempts.specs.Closing.{executed, entries_in_order, writes_along}
 use Rattle.eve_attempts.specs.Ordering.{AreSeenAlong, table_after_records}
 
@@ -40,6 +41,10 @@ same_rows a b versions balances same =
     ap₂ (λ (v : List ℕ) (m : List ℤ). record { versions = v; balances = m })
     (same_list a.versions b.versions 0 versions (λ i. ap (λ (t : Table). (t i).version) same))
     (same_list a.balances b.balances (pos 0) balances (λ i. ap (λ (t : Table). (t i).value) same))
+
+-- the same rows of the same version
+pub same_kept : (a b : KeptRows) → a.version ≡ b.version → a.rows ≡ b.rows → a ≡ b
+same_kept a b version rows = ap₂ (λ (v : ℕ) (r : Rows). record { version = v; rows = r }) version rows
 
 get_or-set : {A : Type 0} (xs : List A) (i : ℕ) (x d : A) → i < length xs → (k : ℕ) → get_or (set xs i x) k d
     ≡ cond (i == k) x (get_or xs k d)

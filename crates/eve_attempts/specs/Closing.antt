@@ -60,8 +60,8 @@ indexes_of ordered = map (λ r. r.index) ordered
 
 -- ---- why they are an attempt
 
--- each is of one of so many workers and one of so many indexes, has an index that none before it has, and has its
--- worker's next place
+-- each is of one of this many workers and has one of this many indexes, which none before it has, and its worker's
+-- next place
 abbrev pub are_right_records : ℕ → ℕ → List Access → List Access → Bool
 are_right_records workers count before [] = true
 are_right_records workers count before (x ∷ xs) =
@@ -92,8 +92,8 @@ pub record AreRight (s : Ledger) (serial : Bool) (b : Batch) (touched : List Tou
 -- ---- the attempt
 
 -- What the attempt says: number, view and mode as handed in; the indexes in the order of ticks; each record's reply at
--- its index; the token of these balances; the records as they came. It lies within the limits of the format.
-pub record IsAttemptOf (front : AttemptFront) (rows : ℕ) (balances : List ℤ) (records ordered : List Applied)
+-- its index; the version's token of these balances; the records as they came. It lies within the limits of the format.
+pub record IsAttemptOf (front : AttemptFront) (version rows : ℕ) (balances : List ℤ) (records ordered : List Applied)
     (a : Attempt) : Type 0 where
   pub seq : a.seq ≡ front.seq
   pub view : a.view ≡ front.view
@@ -101,7 +101,7 @@ pub record IsAttemptOf (front : AttemptFront) (rows : ℕ) (balances : List ℤ)
   pub certificate : a.certificate ≡ indexes_of ordered
   pub many : length a.replies ≡ length records
   pub replies : AllByRecursion (λ r. slice_get a.replies r.index ≡ Some r.reply) records
-  pub token : a.token ≡ token_of 1 a.seq balances a.replies
+  pub token : a.token ≡ token_of version a.seq balances a.replies
   pub accesses : a.accesses ≡ map access_noted records
   pub whole : IsTrue (is_whole_attempt rows a)
 
@@ -126,7 +126,7 @@ pub record Closes (front : AttemptFront) (old new : Ledger) (b : Batch) (touched
   pub ordered : List Applied
   pub by_ticks : IsByTicks records ordered
   pub right : AreRight old front.serial b touched records ordered
-  pub attempt : IsAttemptOf front (ledger_rows old) new.rows.balances records ordered a
+  pub attempt : IsAttemptOf front old.version (ledger_rows old) new.rows.balances records ordered a
   pub opens : Opens old new b ordered a
 
 -- In no order of their ticks are the records an attempt.

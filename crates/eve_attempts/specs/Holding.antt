@@ -4,7 +4,8 @@ use Rattle.eve_attempts.specs.Ledgers.{Ledger}
 
 abbrev pub ledger_of : Inside → Ledger
 ledger_of s = record {
-  rows = s.rows;
+  version = s.rows.version;
+  rows = s.rows.rows;
   opened = s.opened.items;
   view = s.view;
   committed = s.committed;

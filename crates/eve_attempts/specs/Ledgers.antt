@@ -19,9 +19,11 @@ pub record Rows : Type 0 where
   pub versions : List ℕ
   pub balances : List ℤ
 
--- The rows as they are now; the open attempts, in order; the view, the last committed number, and whether no attempt
--- came since a rollback; how many workers there are, and how many attempts may be open.
+-- The version of the trace, by which tokens are made; the rows as they are now; the open attempts, in order; the view,
+-- the last committed number, and whether no attempt came since a rollback; how many workers there are, and how many
+-- attempts may be open.
 pub record Ledger : Type 0 where
+  pub version : ℕ
   pub rows : Rows
   pub opened : List Opened
   pub view : ℕ
@@ -35,8 +37,9 @@ abbrev pub rows_at_first : List ℤ → Rows
 rows_at_first balances = record { versions = replicate (length balances) 0; balances = balances }
 
 -- and nothing open or committed
-abbrev pub opening : List ℤ → ℕ → ℕ → Ledger
-opening balances workers window = record {
+abbrev pub opening : ℕ → List ℤ → ℕ → ℕ → Ledger
+opening version balances workers window = record {
+  version = version;
   rows = rows_at_first balances;
   opened = [];
   view = 0;
@@ -83,7 +86,7 @@ rows_committed s = values_before (table_now s) (open_writes s)
 
 -- ---- what holds of every ledger
 
--- a write of one of so many rows, within the limits of the format
+-- a write of one of this many rows, within the limits of the format
 abbrev pub is_write_in : ℕ → Entry → Bool
 is_write_in rows e = is_write e.kind && is_entry rows e
 

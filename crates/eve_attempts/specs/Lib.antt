@@ -5,3 +5,5 @@ pub mod Holding
 pub mod Ordering
 pub mod Taking
 pub mod Restoring
+pub mod KeptRows
+pub mod TakingOver

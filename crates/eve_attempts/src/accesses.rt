@@ -6,7 +6,7 @@ ghost use Rattle.eve_attempts.specs.Closing.{access_noted, are_right_records};
 use eve_grammar::MOST_REQUESTS;
 use eve_stamps::AccessRecord;
 
-/// Whether each record is of one of so many workers and of one of so many indexes, has an index that none before it
+/// Whether each record is of one of `workers` workers and of one of `count` indexes, has an index that none before it
 /// has, and has its worker's next place.
 ///
 /// docs/MODEL.md, "Section state, fate".

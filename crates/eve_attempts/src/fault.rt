@@ -1,4 +1,4 @@
-//! Why an attempt is refused, and a commit.
+//! Why an attempt is refused, a commit, and a state.
 
 /// Why the records of a batch are no attempt.
 #[derive(Clone, Copy, Debug)]
@@ -12,3 +12,7 @@ pub enum CloseFault {
 /// No attempt is open, or the first open one is of another batch.
 #[derive(Clone, Copy, Debug)]
 pub struct NotOpen;
+
+/// The state is of no later batch than the last committed one, or of an earlier view.
+#[derive(Clone, Copy, Debug)]
+pub struct NotDue;

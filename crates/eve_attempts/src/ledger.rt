@@ -1,14 +1,17 @@
 //! A replica's own account of its rows.
 
-ghost use Rattle.std.specs.Prelude.{◌≡◌, ◌<◌, ◌≤◌, ◌+◌, ◌-◌, ◌^◌, ◌↔◌, ℕ, List, length, slice_get, option_map};
+ghost use Rattle.std.specs.Prelude.{◌≡◌, ◌<◌, ◌≤◌, ◌+◌, ◌-◌, ◌^◌, ◌↔◌, ◌⊎◌, ℕ, List, length, slice_get, option_map};
 ghost use Rattle.std.specs.Prelude.{Some, IsTrue, IfOk, OnErr, IsOk, Err};
 ghost use Rattle.eve_grammar.specs.Limits.{is_batch};
+ghost use Rattle.eve_grammar.specs.Bodies.{transfer};
+ghost use Rattle.eve_token.specs.Token.{rows_root};
 ghost use Rattle.eve_write.specs.Data.{batch as plain, attempt, commit, rollback};
-ghost use Rattle.eve_attempts.specs.Ledgers.{IsLedger, opening};
+ghost use Rattle.eve_attempts.specs.Ledgers.{IsLedger, opening, ledger_rows};
 ghost use Rattle.eve_attempts.specs.Closing.{touched_in_batch, worker_limit, Closes, AreMismatched};
 ghost use Rattle.eve_attempts.specs.Discarding.{Commits, RollsBack};
+ghost use Rattle.eve_attempts.specs.TakingOver.{IsStateOf, TakesOver};
 
-use crate::fault::{CloseFault, NotOpen};
+use crate::fault::{CloseFault, NotDue, NotOpen};
 use crate::front::AttemptFront;
 use crate::opened::OpenAttempt;
 use crate::replies::view_fits;
@@ -17,10 +20,9 @@ use crate::rows::Rows;
 use crate::taken::take;
 use crate::walk::write_along;
 use eve_accounts::Balances;
-use eve_grammar::{MOST_BATCHES, token_fits};
-use eve_smallbank::Touched;
+use eve_grammar::{MOST_BATCHES, MOST_ROWS, TransferData, token_fits};
+use eve_smallbank::{Touched, Versioned};
 use eve_stamps::AccessRecord;
-use eve_token::token;
 use eve_write::{AttemptData, BatchData, CommitData, RollbackData};
 use std::alloc::{AllocError, Global};
 use std::marker::Model;
@@ -54,18 +56,21 @@ impl Model for Ledger {
 }
 
 impl Ledger {
-    /// All rows at version 0 with these balances, the view 0, nothing committed and nothing open: for so many workers,
-    /// and with at most so many attempts open at once.
+    /// All rows at version 0 with these balances, the view 0, nothing committed and nothing open: for a version of the
+    /// trace and this many workers, and with at most `window` attempts open at once.
     pub fn new(
         alloc: Global,
+        version: u16,
         balances: &Balances,
         workers: u8,
         window: u8,
     ) -> Result<Ledger, AllocError>
-        ensures { IfOk result (λ ledger. ledger ≡ opening balances.now workers window) }
+        requires version { (version ≡ 1) ⊎ (version ≡ 2) }
+        requires some { version ≡ 2 → 0 < length balances.now }
+        ensures { IfOk result (λ ledger. ledger ≡ opening version balances.now workers window) }
     {
         Ok(Ledger {
-            rows: Rows::new(alloc, balances)?,
+            rows: Rows::new(alloc, version, balances)?,
             opened: Vec::new(alloc),
             view: 0,
             committed: 0,
@@ -80,6 +85,13 @@ impl Ledger {
         ensures { IsLedger self.now }
     {
         let _ = &self.rows;
+    }
+
+    /// The version of the trace.
+    pub fn version(&self) -> u16
+        ensures { result ≡ self.now.version }
+    {
+        self.rows.version()
     }
 
     /// The view.
@@ -140,6 +152,28 @@ impl Ledger {
         self.rows.balances()
     }
 
+    /// The root over what the rows hold after the open attempts, in version 2. It takes no memory.
+    ///
+    /// docs/TRACE.md, "Merkle token".
+    pub fn root(&mut self) -> [u8; 32]
+        requires version { self.old.version ≡ 2 }
+        ensures root { result ≡ rows_root self.old.rows.balances }
+        ensures same { self.new ≡ self.old }
+    {
+        self.rows.root()
+    }
+
+    /// Version and value of each row as it is committed, in row order, whatever attempts are open.
+    ///
+    /// docs/MODEL.md, "Working table, committed table".
+    pub fn state(&self, alloc: Global) -> Result<Vec<Versioned>, AllocError>
+        ensures { IfOk result (λ state. IsStateOf self.now state.items) }
+    {
+        let mut rows = self.rows.copy(alloc)?;
+        undo_all(&mut rows, self.opened.as_slice());
+        rows.listed(alloc)
+    }
+
     /// How many workers an attempt may have: worker 0 alone in serial mode.
     fn workers_for(&self, serial: bool) -> u8
         ensures { result ≡ worker_limit self.now serial }
@@ -152,8 +186,9 @@ impl Ledger {
     /// `has_room`, `next_number`, `view` and `is_next_serial` say what the conditions ask; the number is at most
     /// `MOST_BATCHES`. `touched` is what each of the batch's requests touches: the answers of `eve_smallbank::touched`,
     /// so that names are looked up once for all replicas. The certificate is the indexes by rising tick, equal ticks by
-    /// index. Refused with `Mismatch` are records that are no attempt on these rows (`AreRight`). All memory is asked
-    /// for before a row changes, and a refusal changes nothing.
+    /// index. The token is that of the version; of version 2 it hashes what the rows written since the last one make
+    /// stale, once. Refused with `Mismatch` are records that are no attempt on these rows (`AreRight`). All memory is
+    /// asked for before a row changes, and a refusal changes nothing.
     ///
     /// docs/MODEL.md, "Section state, fate", "A record fits its request" and "Visible version, chained".
     pub fn close(
@@ -188,7 +223,7 @@ impl Ledger {
         if !write_along(&mut self.rows, records, order, &mut taken.written) {
             return Err(CloseFault::Mismatch);
         }
-        let token = token(1, front.seq, self.rows.balances(), taken.replies.as_slice());
+        let token = self.rows.token(front.seq, taken.replies.as_slice());
         token_fits(&token);
         self.opened.push_reserved(OpenAttempt {
             view: front.view,
@@ -248,5 +283,29 @@ impl Ledger {
             view: self.view,
             restores,
         })
+    }
+
+    /// Takes over a state of a batch that isn't committed here, in a view that isn't behind: rows, number and view are
+    /// its, nothing is open any more, and the next attempt is parallel. It takes no memory.
+    ///
+    /// docs/MODEL.md, "Section state, fate". The number is at most `MOST_BATCHES`. A refusal changes nothing.
+    pub fn take_over(&mut self, state: &TransferData) -> Result<(), NotDue>
+        requires rows { length state.now.rows.items ≡ ledger_rows self.old }
+        requires few { ledger_rows self.old ≤ MOST_ROWS }
+        requires last { state.now.seq ≤ MOST_BATCHES }
+        ensures taken { IfOk result (λ _. TakesOver (transfer state.now) self.old self.new) }
+        ensures due { IsOk result
+            ↔ ((self.old.committed < state.now.seq) × (self.old.view ≤ state.now.view)) }
+        ensures refused { OnErr result (self.new ≡ self.old) }
+    {
+        if state.seq <= self.committed || state.view < self.view {
+            return Err(NotDue);
+        }
+        self.rows.install(state.rows.as_slice());
+        self.opened.clear();
+        self.view = state.view;
+        self.committed = state.seq;
+        self.is_next_serial = false;
+        Ok(())
     }
 }

@@ -17,6 +17,6 @@ mod rows;
 mod taken;
 mod walk;
 
-pub use fault::{CloseFault, NotOpen};
+pub use fault::{CloseFault, NotDue, NotOpen};
 pub use front::AttemptFront;
 pub use ledger::Ledger;

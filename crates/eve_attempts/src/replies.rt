@@ -30,7 +30,7 @@ pub fn replies_of(alloc: Global, records: &[AccessRecord]) -> Result<Vec<Reply>,
     Ok(replies)
 }
 
-// How many entries the records have together.
+/// How many entries the records have together.
 fn entries_in(records: &[AccessRecord]) -> usize {
     let mut count: usize = 0;
     for record in records {

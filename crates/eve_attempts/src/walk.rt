@@ -18,11 +18,12 @@ use eve_stamps::AccessRecord;
 
 /// Takes the entry and appends it, if it is a write.
 fn write_one(rows: &mut Rows, entry: &Entry, written: &mut Vec<Entry>)
-    requires entry { IsTrue (is_entry (length rows.old.balances) entry.now) }
+    requires entry { IsTrue (is_entry (length rows.old.rows.balances) entry.now) }
     requires room { vec_len written.old < vec_capacity written.old }
-    ensures as_many { length rows.new.balances ≡ length rows.old.balances }
-    ensures versions { length rows.new.versions ≡ length rows.old.versions }
-    ensures table { table_of_rows rows.new ≡ table_after (table_of_rows rows.old) (entry.now ∷ []) }
+    ensures as_many { length rows.new.rows.balances ≡ length rows.old.rows.balances }
+    ensures versions { length rows.new.rows.versions ≡ length rows.old.rows.versions }
+    ensures version { rows.new.version ≡ rows.old.version }
+    ensures table { table_of_rows rows.new.rows ≡ table_after (table_of_rows rows.old.rows) (entry.now ∷ []) }
     ensures written { written.new.items ≡ written.old.items ++ filter (λ e. is_write e.kind) (entry.now ∷ []) }
     ensures len { vec_len written.new ≤ vec_len written.old + 1 }
     ensures capacity { vec_capacity written.new ≡ vec_capacity written.old }
@@ -35,11 +36,12 @@ fn write_one(rows: &mut Rows, entry: &Entry, written: &mut Vec<Entry>)
 
 /// Takes the writes among the entries, and appends them.
 fn write_all(rows: &mut Rows, entries: &UpToThree<Entry>, written: &mut Vec<Entry>)
-    requires entries { IsTrue (list_all (is_entry (length rows.old.balances)) entries.now) }
+    requires entries { IsTrue (list_all (is_entry (length rows.old.rows.balances)) entries.now) }
     requires room { vec_len written.old + length entries.now ≤ vec_capacity written.old }
-    ensures as_many { length rows.new.balances ≡ length rows.old.balances }
-    ensures versions { length rows.new.versions ≡ length rows.old.versions }
-    ensures table { table_of_rows rows.new ≡ table_after (table_of_rows rows.old) entries.now }
+    ensures as_many { length rows.new.rows.balances ≡ length rows.old.rows.balances }
+    ensures versions { length rows.new.rows.versions ≡ length rows.old.rows.versions }
+    ensures version { rows.new.version ≡ rows.old.version }
+    ensures table { table_of_rows rows.new.rows ≡ table_after (table_of_rows rows.old.rows) entries.now }
     ensures written { written.new.items ≡ written.old.items ++ filter (λ e. is_write e.kind) entries.now }
     ensures len { vec_len written.new ≤ vec_len written.old + length entries.now }
     ensures capacity { vec_capacity written.new ≡ vec_capacity written.old }
@@ -59,20 +61,21 @@ pub fn write_along(
     order: &[Key],
     written: &mut Vec<Entry>,
 ) -> bool
-    requires paired { length rows.old.versions ≡ length rows.old.balances }
+    requires paired { length rows.old.rows.versions ≡ length rows.old.rows.balances }
     requires there { AllByRecursion (IsKeyOf records.now) order.now }
-    requires limits { IsTrue (list_all (is_access (length rows.old.balances)) (map access_noted records.now)) }
+    requires limits { IsTrue (list_all (is_access (length rows.old.rows.balances)) (map access_noted records.now)) }
     requires none { written.old.items ≡ [] }
     requires empty { vec_len written.old ≡ 0 }
     requires room { 3 * length order.now ≤ vec_capacity written.old }
-    ensures seen { Decides result (AreSeenAlong (table_of_rows rows.old) (records_in records.now order.now)) }
-    ensures as_many { length rows.new.balances ≡ length rows.old.balances }
-    ensures versions { length rows.new.versions ≡ length rows.old.versions }
+    ensures seen { Decides result (AreSeenAlong (table_of_rows rows.old.rows) (records_in records.now order.now)) }
+    ensures as_many { length rows.new.rows.balances ≡ length rows.old.rows.balances }
+    ensures versions { length rows.new.rows.versions ≡ length rows.old.rows.versions }
+    ensures version { rows.new.version ≡ rows.old.version }
     ensures table { OnTrue result
-        (table_of_rows rows.new ≡ table_after_records (table_of_rows rows.old) (records_in records.now order.now)) }
+        (table_of_rows rows.new.rows ≡ table_after_records (table_of_rows rows.old.rows) (records_in records.now order.now)) }
     ensures written { OnTrue result (written.new.items ≡ writes_along (records_in records.now order.now)) }
-    ensures right { OnTrue result (IsTrue (list_all (is_write_in (length rows.new.balances)) written.new.items)) }
-    ensures undone { OnTrue result (values_before (table_of_rows rows.new) written.new.items ≡ table_of_rows rows.old) }
+    ensures right { OnTrue result (IsTrue (list_all (is_write_in (length rows.new.rows.balances)) written.new.items)) }
+    ensures undone { OnTrue result (values_before (table_of_rows rows.new.rows) written.new.items ≡ table_of_rows rows.old.rows) }
     ensures kept { OnFalse result (rows.new ≡ rows.old) }
 {
     for key in order {

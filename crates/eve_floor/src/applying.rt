@@ -1,4 +1,4 @@
-//! A request applied under the locks of its stripes.
+//! Requests applied under the locks of their stripes.
 
 ghost use Rattle.std.specs.Prelude.{◌≡◌, ℕ, List, IfOk, IfErr};
 ghost use Rattle.eve_smallbank.specs.declared.request.Abort.{Abort};
@@ -12,14 +12,14 @@ use eve_smallbank::{Request, Touched, laws};
 use eve_stamps::{AccessRecord, Stamp, Stripe, apply, apply_two, span_of, untouched};
 use std::sync::{Mutex, Wait};
 
-/// What is to be executed, and what its record says of who does it.
+/// What is to be executed, and who does it.
 #[derive(Clone, Copy)]
 pub struct Task<'t> {
     /// The request.
     pub request: &'t Request<'t>,
-    /// The rows that it touches, as they were looked up.
+    /// The rows that the request touches, as they were looked up.
     pub reached: &'t Touched,
-    /// Its index in the batch.
+    /// The request's index in the batch.
     pub index: u16,
     /// The worker.
     pub worker: u8,
@@ -28,7 +28,7 @@ pub struct Task<'t> {
 }
 
 impl Task<'_> {
-    // What its record says of who does it, and when.
+    /// Who does it, and at which tick.
     fn stamp(&self, tick: u64) -> Stamp
         ensures { result ≡ record {
           worker = self.now.worker;
@@ -46,7 +46,7 @@ impl Task<'_> {
     }
 }
 
-/// The record of the task, at a number that is drawn under the locks of its stripes.
+/// Applies the task at a number that is drawn under the locks of its stripes, and returns its record.
 pub fn applied<R: Wait, G: Gate>(
     rt: &R,
     floor: &Floor,
@@ -71,7 +71,7 @@ pub fn applied<R: Wait, G: Gate>(
     on_two(rt, first, last, tickets, drawer, task, gate)
 }
 
-// A task that is refused before it touches a row takes no lock.
+/// Applies a task that is refused before it touches a row. It takes no lock.
 fn on_none<R: Wait, G: Gate>(
     rt: &R,
     tickets: &Tickets,
@@ -92,7 +92,7 @@ fn on_none<R: Wait, G: Gate>(
     Ok(untouched(*why, task.stamp(tick)))
 }
 
-// A task whose rows lie in one stripe.
+/// Applies a task whose rows lie in one stripe.
 fn on_one<R: Wait, G: Gate>(
     rt: &R,
     lock: &Mutex<Stripe>,
@@ -111,7 +111,7 @@ fn on_one<R: Wait, G: Gate>(
     Ok(apply(&mut stripe, task.request, task.reached, task.stamp(tick))?)
 }
 
-// A task whose rows lie in two stripes, of which the first is locked first.
+/// Applies a task whose rows lie in two stripes, and locks the first of these first.
 fn on_two<R: Wait, G: Gate>(
     rt: &R,
     first: &Mutex<Stripe>,
@@ -138,7 +138,7 @@ fn on_two<R: Wait, G: Gate>(
     )?)
 }
 
-// Enters the gate with the index, and draws a number.
+/// Enters the gate with the index, and draws a number.
 fn ticket<R: Wait, G: Gate>(
     rt: &R,
     tickets: &Tickets,

@@ -1,4 +1,4 @@
-//! One request executed under the locks of its stripes, and its record noted.
+//! Requests executed under the locks of their stripes, whose records are noted.
 
 ghost use Rattle.std.specs.Prelude.{◌≡◌, ◌<◌, length};
 ghost use Rattle.eve_smallbank.specs.SmallBank.{plain};
@@ -22,10 +22,10 @@ use std::sync::Wait;
 /// for its tick; then the request is applied, the locks are released, and the record is noted. A request that is
 /// refused before it touches a row takes no lock; the gate is entered and a number is drawn all the same.
 ///
-/// The ticks of a floor are drawn from one `Tickets`; numbers of others can be TickOrder.
+/// The ticks of a floor are drawn from one `Tickets`. Those of another can be refused with TickOrder.
 ///
-/// Refused, in the order of the tests: Full, where a record waits already; Spent; NoRow; TickOrder; Worn; Memory, and
-/// the stripes are then as they were; and Full, where the queue was full: the request stands, and its record waits.
+/// Refusals, in the order of the tests: Full, where a record waits already; Spent; NoRow; TickOrder; Worn; Memory. They
+/// leave the stripes as they were. Last comes Full, where the queue was full: the request stands, and its record waits.
 /// May wait for other threads.
 ///
 /// docs/MODEL.md, "Executions".
@@ -82,8 +82,8 @@ pub fn execute_touched<R: Wait, G: Gate>(
     )
 }
 
-/// Executes the request as `execute_touched` does, for a first worker that keeps its records itself: the record, of
-/// worker 0 and with this place, is given and noted nowhere.
+/// Executes the request as `execute_touched` does, for a first worker that keeps its records itself: the record is
+/// returned, of worker 0 and with this place, and noted nowhere.
 ///
 /// docs/MODEL.md, "Executions".
 pub fn execute_kept<R: Wait, G: Gate>(
@@ -114,7 +114,7 @@ pub fn execute_kept<R: Wait, G: Gate>(
     applied(rt, floor, tickets, drawer, &task, gate)
 }
 
-// Executes the request, which has this index in its batch, and notes its record.
+/// Executes the request, which has this index in its batch, and notes its record.
 fn execute_request<R: Wait, G: Gate>(
     rt: &R,
     floor: &Floor,
@@ -151,7 +151,7 @@ fn execute_request<R: Wait, G: Gate>(
     }
 }
 
-// The request with this index in the batch.
+/// The request with this index in the batch.
 fn request_at(batch: &BatchData, index: u16) -> Request<'_>
     requires { index < length batch.now.requests.items }
     ensures { plain result ≡ request_with (plain_batch batch.now) index }
@@ -159,8 +159,8 @@ fn request_at(batch: &BatchData, index: u16) -> Request<'_>
     batch.requests[index as usize].request()
 }
 
-/// Notes the record that waits. Full where the queue is full at one moment, and Ok where none waits. May wait for other
-/// threads.
+/// Notes the record that waits, if there is one. It is refused with Full where the queue is full at one moment. May
+/// wait for other threads.
 ///
 /// docs/MODEL.md, "Executions".
 pub fn flush<R: Wait>(rt: &R, recorder: &Recorder, worker: &mut Worker) -> Result<(), ExecFault>

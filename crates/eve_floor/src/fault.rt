@@ -7,20 +7,20 @@ ghost use Rattle.eve_floor.specs.declared.fault.ExecFault.TheVariants as fault;
 use eve_stamps::StampFault;
 use std::alloc::AllocError;
 
-/// Why an execution notes no record. `flush` answers Full alone.
+/// Why an execution notes no record. Of these `flush` returns Full alone.
 #[derive(Clone, Copy, Debug, PartialEq, Eq)]
 pub enum ExecFault {
-    /// A record waits already, and nothing is done; or the queue was full at one moment, and the record waits.
+    /// A record waits already, and nothing was done; or the queue was full at one moment, and the record waits.
     Full,
-    /// The worker has drawn as many numbers as it may.
+    /// The worker may draw no more numbers.
     Spent,
     /// A row that the request touches lies in no stripe that was locked.
     NoRow,
     /// The number drawn isn't above the greatest tick that a locked stripe has had.
     TickOrder,
-    /// A row that the request is to write is at version 2^40.
+    /// A row that the request writes is at version 2^40.
     Worn,
-    /// No memory is left.
+    /// Memory ran out.
     Memory,
 }
 

@@ -1,9 +1,12 @@
 //! The stripes of all rows, each behind a lock of its own.
 
 ghost use Rattle.std.specs.Prelude.{◌≡◌, ◌*◌, IfOk, length};
+ghost use Rattle.eve_grammar.specs.Bodies.{transfer as plain};
+ghost use Rattle.eve_stamps.specs.Stripes.{HaveRightVersions};
 
 use crossbeam_utils::CachePadded;
 use eve_accounts::{Balances, Names};
+use eve_grammar::TransferData;
 use eve_stamps::{STRIPES, Stripe, opening_stripe};
 use std::alloc::{AllocError, Global};
 use std::marker::Model;
@@ -31,7 +34,7 @@ impl<'n> Model for Floor<'n> {
 }
 
 impl<'n> Floor<'n> {
-    /// The opening balances in stripes: each row at version 0. Two rows for each name.
+    /// A floor with these opening balances, each row at version 0. There are two rows for each name.
     pub fn new(
         alloc: Global,
         names: &'n Names<'n>,
@@ -49,7 +52,7 @@ impl<'n> Floor<'n> {
         Ok(Floor { names, stripes })
     }
 
-    /// Makes what was journaled up to that tick part of the committed base, in all stripes. The rows stay as they are
+    /// Makes what was journaled up to the tick part of the committed base, in all stripes. The rows stay as they are
     /// now.
     pub fn settle(&mut self, tick: u64)
         ensures { self.new ≡ self.old }
@@ -65,6 +68,19 @@ impl<'n> Floor<'n> {
     {
         for stripe in self.stripes.iter_mut() {
             stripe.get_mut().go_back();
+        }
+    }
+
+    /// Takes over a state: each row that the state has gets its version and its value, committed and now, and nothing
+    /// is journaled any more, in all stripes. It takes no memory and can't be refused.
+    ///
+    /// docs/MODEL.md, "Executions". No version of the state is above `MOST_VERSIONS`.
+    pub fn install(&mut self, transfer: &TransferData)
+        requires versions { HaveRightVersions (plain transfer.now).rows }
+        ensures { self.new ≡ self.old }
+    {
+        for stripe in self.stripes.iter_mut() {
+            stripe.get_mut().install(transfer);
         }
     }
 }

@@ -1,4 +1,4 @@
-//! Stripes behind locks, and workers that execute requests on them: each execution notes one record, or gives it.
+//! Stripes behind locks, and workers that execute requests on them. Each execution notes one record, or returns it.
 #![tactic(auto)]
 
 mod applying;

@@ -7,8 +7,8 @@ use eve_recorder::{TicketSeat, WorkerSeat};
 use eve_stamps::AccessRecord;
 use std::marker::Model;
 
-/// One worker of a floor: its seat at a recorder, its seat at the tickets that give ticks, and the record that waits
-/// where the queue was full. Contracts see these three (`Executor`).
+/// A worker of a floor: its seat at a recorder, its seat at the tickets that give ticks, and the record that waits
+/// since the queue was full. Contracts see these three (`Executor`).
 ///
 /// docs/MODEL.md, "Executions".
 #[derive(Drop)]
@@ -41,7 +41,7 @@ impl Worker {
         }
     }
 
-    /// The seats, or the worker again where a record waits in it.
+    /// The seats; where a record waits, the worker is returned as it is.
     pub fn into_seats(self) -> Result<(WorkerSeat, TicketSeat), Worker>
         ensures seats { IfOk result (λ s. (s.0 ≡ self.seat) × (s.1 ≡ self.tickets) × (self.waiting ≡ None)) }
         ensures waits { IfErr result (λ w. (w ≡ self) × IsSome self.waiting) }
@@ -53,7 +53,7 @@ impl Worker {
         Ok((seat, tickets))
     }
 
-    /// Takes out the record that waits, if one does: it is noted no more. The worker can then be taken apart.
+    /// Takes out the record that waits, if there is one. It is noted no more, and the worker can be taken apart.
     pub fn take_waiting(&mut self) -> Option<AccessRecord>
         ensures out { result ≡ self.old.waiting }
         ensures rest { self.new ≡ record self.old { waiting = None } }
@@ -61,7 +61,7 @@ impl Worker {
         self.waiting.take()
     }
 
-    /// The place of the record that it notes next, from 0.
+    /// The place of the next record that it notes, from 0.
     pub fn place(&self) -> u32
         ensures { result ≡ length self.now.seat.noted }
     {

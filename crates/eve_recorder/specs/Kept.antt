@@ -26,9 +26,8 @@ FitsPass workers taker seat taken all pass v =
     → (pass ≡ seat w) × (of_worker w v.noted ≡ of_worker w all) × (v.workers ≡ workers) × (w < workers))
     × ((w : ℕ) → ¬ (StandsFor v w) → of_worker w v.noted ≡ [])
 
--- At every moment there are so many workers, at most one pass takes and each worker has one at most; and all that there
--- is, what was taken and then what is queued, is of these workers, has each worker's records in their places, and fits
--- each pass.
+-- At every moment at most one pass takes, and each of the `workers` has at most one. All records, what was taken and
+-- then what is queued, are of these workers, each worker's in their places, and fit each pass.
 pub record FitsPasses (queued : List Applied) (passes : List Knowledge) : Type 0 where
   pub workers : ℕ
   pub taker : ℕ
@@ -39,7 +38,7 @@ pub record FitsPasses (queued : List Applied) (passes : List Knowledge) : Type 0
   pub fits : (pass : ℕ) (v : Knowledge) → get_elem? passes pass ≡ some v
       → FitsPass workers taker seat taken (taken ++ queued) pass v
 
--- a worker's pass stands for that worker alone, and has noted so many records, all of that worker
+-- a worker's pass stands for that worker alone, and has noted `count` records, all of that worker
 abbrev pub IsWorkers : ℕ → ℕ → Knowledge → Type 0
 IsWorkers worker count v =
     (v ≡ knowledge false [] v.workers worker (suc worker) v.noted) × (worker < v.workers) × (v.workers ≤ MOST_SEATS)
@@ -53,7 +52,7 @@ noting v x = knowledge v.takes v.taken v.workers v.from v.below (v.noted ++ x �
 abbrev pub taking : Knowledge → Applied → Knowledge
 taking v x = knowledge v.takes (v.taken ++ x ∷ []) v.workers v.from v.below v.noted
 
--- the first pass stands for as many workers as there may be, and takes
+-- the first pass stands for all workers that there may be, and takes
 abbrev pub newcomer : Knowledge
 newcomer = knowledge true [] MOST_SEATS 0 MOST_SEATS []
 

@@ -21,6 +21,6 @@ IsPlaced n (r ∷ rs) = (r.place ≡ n) × IsPlaced (suc n) rs
 abbrev pub IsOrderly : List Applied → Type 0
 IsOrderly rs = (w : ℕ) → IsPlaced 0 (of_worker w rs)
 
--- they are of the first so many workers alone
+-- they are of workers below this number alone
 abbrev pub ComeFrom : ℕ → List Applied → Type 0
 ComeFrom workers rs = (w : ℕ) → workers ≤ w → of_worker w rs ≡ []

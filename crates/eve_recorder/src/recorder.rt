@@ -51,7 +51,7 @@ impl Model for Recorder {
 }
 
 impl Recorder {
-    /// A recorder with room for so many queued records, and its seats: one for each worker, and the taker's.
+    /// A recorder with room for `room` queued records, and its seats: one for each worker, and the taker's.
     pub fn new(alloc: Global, workers: u8, room: usize) -> Result<(Recorder, Seats), AllocError>
         requires workers { (1 ≤ workers) × (workers ≤ MOST_SEATS) }
         requires room { (1 ≤ room) × (room ≤ MOST_QUEUED) }
@@ -89,7 +89,7 @@ impl Recorder {
 
     /// Appends the record to its worker's list. The record names the worker and the next place of the seat, and the
     /// seat is of this recorder. Full where the queue was full at one moment: of a recorder of one worker, only once
-    /// that worker has noted as many records as there is room for.
+    /// that worker has noted `room` records.
     pub fn note<R: Wait>(
         &self,
         rt: &R,
@@ -115,7 +115,7 @@ impl Recorder {
 
     /// Takes the next record that is queued, None where the queue was empty at one moment. The seat is of this
     /// recorder. What is taken is of a worker that is there, and what was taken of each has the places 0, 1, 2, ..,
-    /// each once; the order across workers is the queue's, of which no clause speaks.
+    /// each once. No clause speaks of the order across workers, which is the queue's.
     pub fn take<R: Wait>(&self, rt: &R, seat: &mut TakerSeat) -> Option<AccessRecord>
         requires { seat.old.recorder ≡ self.now.recorder }
         ensures some { IfSome result (λ x. seat.new ≡ record seat.old { taken = seat.old.taken ++ x ∷ [] }) }
@@ -128,7 +128,7 @@ impl Recorder {
         self.queue.pop_as::<Takes, R>(rt, &mut seat.pass)
     }
 
-    /// Ends the recorder, of which all seats are back. What is queued can still be taken, by `Taken::next`.
+    /// Ends the recorder once all its seats are back. What is queued can still be taken, by `Taken::next`.
     pub fn finish(self, seats: Seats) -> Taken
         requires own { seats.recorder ≡ self.recorder }
         requires whole { HasAllSeats seats }
@@ -169,7 +169,7 @@ impl Recorder {
     }
 }
 
-// Cuts the last of the workers 0 to w off: its seat, if it is to be there, and else it is no worker.
+/// Cuts the last of the workers 0 to w off: its seat, if it is to be there, and else it is no worker.
 fn cut(queue: &Queue, main: &mut QueuePass, w: u8, workers: u8) -> Option<WorkerSeat>
     requires queue { IsPassOf queue.now main.old }
     requires main { view main.old ≡ knowledge true [] (max workers (w + 1)) 0 (w + 1) [] }
@@ -190,7 +190,7 @@ fn cut(queue: &Queue, main: &mut QueuePass, w: u8, workers: u8) -> Option<Worker
     })
 }
 
-// Joins the seat of worker `w`, if there is one, after those of the workers before it.
+/// Joins the seat of worker `w`, if there is one, after those of the workers before it.
 fn put_back(queue: &Queue, main: &mut QueuePass, seat: Option<WorkerSeat>, w: u8, workers: u8)
     requires queue { IsPassOf queue.now main.old }
     requires main { view main.old ≡ knowledge false [] workers 0 (min workers w) (view main.old).noted }

@@ -55,7 +55,7 @@ impl<T: Drop> SeatTable<T> {
         }
     }
 
-    /// Whether a seat lies at each of the first so many places.
+    /// Whether a seat lies at each of the first `count` places.
     pub fn has_below(&self, count: u8) -> bool
         ensures { IsTrue result ↔ HasBelow count (seats_in_table self.now) }
     {

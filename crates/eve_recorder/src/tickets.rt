@@ -40,8 +40,8 @@ impl Model for Tickets {
 }
 
 impl Tickets {
-    /// Tickets with so many seats, at most `MOST_SEATS`, each of which may draw `limit` numbers, at most `MOST_DRAWN`;
-    /// and the seats. Nothing is drawn yet.
+    /// Tickets and their seats, at most `MOST_SEATS`. Each seat may draw `limit` numbers, at most `MOST_DRAWN`. Nothing
+    /// is drawn yet.
     pub fn new(alloc: Global, seats: u8, limit: u64) -> Result<(Tickets, TicketSeats), AllocError>
         requires seats { seats ≤ MOST_SEATS }
         requires limit { limit ≤ MOST_DRAWN }
@@ -74,9 +74,9 @@ impl Tickets {
         Ok((tickets, all))
     }
 
-    /// The next number of these tickets, above all that this seat drew. No other draw gives it: `close`
-    /// says so of all seats together. None exactly where this seat has drawn as many as it may, and then
-    /// nothing changes. One step of the counter, which waits for no other thread.
+    /// The next number of these tickets, above all that this seat drew. No other draw returns it: `close` says so of
+    /// all seats together. None exactly where this seat has drawn its limit, and then nothing changes. It is one step
+    /// of the counter, and waits for no other thread.
     pub fn draw(&self, seat: &mut TicketSeat) -> Option<u64>
         requires { seat.old.tickets ≡ self.now }
         ensures drawn { IfSome result (λ n.
@@ -93,8 +93,8 @@ impl Tickets {
         Some(number)
     }
 
-    /// Ends the tickets, once every seat is back, and answers how many numbers were drawn: n, where the
-    /// lists of all seats together are the numbers 0..n-1, each once.
+    /// Ends the tickets once every seat is back, and returns how many numbers were drawn: n, where the lists of all
+    /// seats together are the numbers 0..n-1, each once.
     pub fn close(self, seats: TicketSeats) -> u64
         requires tickets { seats.tickets ≡ self }
         requires whole { HasAllDrawers seats }
@@ -130,7 +130,7 @@ impl Tickets {
         n
     }
 
-    // Splits the seat with this number off, if there is to be one. What stays has a part less for each.
+    /// Splits the seat with this number off, if there is to be one. What stays has a part less for each.
     fn split_off(&self, rest: &mut CounterSeat, number: u8) -> Option<TicketSeat>
         requires table { rest.old.table_id ≡ self.now.table }
         requires rest { rest.old.me ≡ (drawn (all_parts - min self.now.seats number) [], []) }
@@ -152,7 +152,7 @@ impl Tickets {
         })
     }
 
-    // Joins the seat with this number, if there is to be one, to the part that stayed.
+    /// Joins the seat with this number, if there is to be one, to the part that stayed.
     fn join_back(&self, rest: &mut CounterSeat, seat: Option<TicketSeat>, number: u8)
         requires table { rest.old.table_id ≡ self.now.table }
         requires there { number < self.now.seats → IsSome seat }

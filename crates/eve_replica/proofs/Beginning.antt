@@ -7,9 +7,7 @@ use Rattle.std.proofs.lemmas.List.Elements.{All-nil}
 use Rattle.std.specs.List.{list_all}
 use Rattle.eve_grammar.specs.Trace.{Step}
 use Rattle.eve_grammar.specs.declared.head.Head.{Head}
-use Rattle.eve_grammar.specs.declared.limits.TheConstants.{MOST_REPLICAS, MOST_WINDOW, MOST_WORKERS}
-use Rattle.eve_grammar.specs.declared.limits.TheConstants.{MOST_CUSTOMERS}
-use Rattle.eve_grammar.specs.Limits.{is_head, is_step}
+use Rattle.eve_grammar.specs.Limits.{is_step}
 use Rattle.eve_write.specs.declared.vote.VoteData.{VoteData}
 use Rattle.eve_write.specs.Data.{section, vote}
 use Rattle.eve_workload.specs.declared.mixer.MixedBatch.{MixedBatch}
@@ -21,28 +19,13 @@ use Rattle.eve_replica.specs.Serving.{IsPlanFor, Serves, AreVotesOn, AreOfItsVie
 use Rattle.eve_replica.specs.Serving.{standing_of, first_standing, ComesTo, window_at}
 use Rattle.eve_replica.specs.Windows.{WindowState, window_with}
 
--- the numbers of a head with which replicas begin lie within their limits
-pub record IsWithin (h : Head) : Type 0 where
-  pub replicas : (1 ≤ h.replicas) × (h.replicas ≤ MOST_REPLICAS)
-  pub workers : (1 ≤ h.workers) × (h.workers ≤ MOST_WORKERS)
-  pub window : (1 ≤ h.window) × (h.window ≤ MOST_WINDOW)
-  pub customers : h.customers ≤ MOST_CUSTOMERS
-
-pub head_within : (h : Head) → IsTrue (is_head h) → IsWithin h
-head_within h right = record {
-  replicas = search rules;
-  workers = search rules;
-  window = search rules;
-  customers = search rules;
-}
-
 -- a replica with the opening balances that has done nothing
 pub begins : (p : RunPlan) (names : List (List ℕ)) (balances : List ℤ) (h : Head) (s : Server)
     → IsPlanFor names balances h p → length balances ≡ 2 * length names
-    → s.replica ≡ record { names = names; ledger = opening balances h.workers h.window; is_broken = false }
+    → s.replica ≡ record { names = names; ledger = opening 1 balances h.workers h.window; is_broken = false }
     → section s.steps ≡ [] → s.is_live ≡ true → Serves p first_standing [] s
 begins p names balances h s plan rows is none live =
-    let ledger : s.replica.ledger ≡ opening balances h.workers h.window = ap (λ (r : Replica). r.ledger) is in
+    let ledger : s.replica.ledger ≡ opening 1 balances h.workers h.window = ap (λ (r : Replica). r.ledger) is in
     let first : p.first ≡ s.replica.ledger = plan.1 ∙ sym ledger in
     let window_of : Ledger → WindowState = λ x. window_at p (standing_of x) in
     let all_left : length p.batches ≡ length p.batches - 0 = omega arith in

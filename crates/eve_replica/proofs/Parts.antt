@@ -55,6 +55,7 @@ pub same_head : (p : Parts) (replicas verifiers customers batches : ℕ) → len
     → length p.verifiers.items ≡ verifiers
     → length (trace p).customers ≡ customers → length (trace p).batches ≡ batches
     → head_of (trace p) ≡ record {
+      version = p.version;
       replicas = replicas;
       verifiers = verifiers;
       quorum = p.quorum;

@@ -223,11 +223,11 @@ pub plan_is : (w : Workload) (mixer : Mixer) (names : List (List ℕ)) (balances
     → h.workers ≡ w.deployment.workers → h.window ≡ w.deployment.window
     → map (λ m. batch m.batch) batches ≡ batches_cut w mixer → plan_with names balances h batches ≡ run_plan w mixer
 plan_is w mixer names balances h batches named opened workers window cut =
-    let first : opening balances h.workers h.window
-    ≡ opening (opening_rows w.customers) w.deployment.workers w.deployment.window =
-    ap (λ (zs : List ℤ). opening zs h.workers h.window) opened
-    ∙ ap (λ (n : ℕ). opening (opening_rows w.customers) n h.window) workers
-    ∙ ap (opening (opening_rows w.customers) w.deployment.workers) window in
+    let first : opening 1 balances h.workers h.window
+    ≡ opening 1 (opening_rows w.customers) w.deployment.workers w.deployment.window =
+    ap (λ (zs : List ℤ). opening 1 zs h.workers h.window) opened
+    ∙ ap (λ (n : ℕ). opening 1 (opening_rows w.customers) n h.window) workers
+    ∙ ap (opening 1 (opening_rows w.customers) w.deployment.workers) window in
     all names (customer_names w.customers) (map (λ m. batch m.batch) batches) (batches_cut w mixer) _ _ named cut first
   where
     all : (a a' : List (List ℕ)) (b b' : List Batch) (c c' : Ledger) → a ≡ a' → b ≡ b' → c ≡ c'

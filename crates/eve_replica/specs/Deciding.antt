@@ -22,7 +22,7 @@ token_given_up view opened (Commits c ∷ steps) = token_given_up view (drop 1 o
 token_given_up view opened (RollsBack r ∷ steps) =
     if r.view == view then slice_get opened 0 else token_given_up view [] steps
 
--- how many replicas give up this token by their rollback to this view
+-- the number of replicas that give up this token by their rollback to this view
 abbrev pub count_given_up : ℕ → List ℕ → List (List Step) → ℕ
 count_given_up view token sections = count_by (λ steps. is_some_of token (token_given_up view [] steps)) sections
 

@@ -4,7 +4,7 @@ use Rattle.eve_smallbank.specs.declared.rows.Touched.{Touched}
 use Rattle.eve_grammar.specs.declared.limits.TheConstants.{MOST_BATCHES}
 use Rattle.eve_grammar.specs.Limits.{is_batch}
 use Rattle.eve_stamps.specs.Applied.{Applied}
-use Rattle.eve_grammar.specs.Trace.{Batch, Attempt, Commit}
+use Rattle.eve_grammar.specs.Trace.{Batch, Attempt, Commit, Transfer}
 use Rattle.eve_attempts.specs.declared.front.AttemptFront.{AttemptFront}
 use Rattle.eve_attempts.specs.Ledgers.{Ledger}
 use Rattle.eve_attempts.specs.Closing.{touched_in_batch, Closes}
@@ -28,7 +28,7 @@ pub record ClosesThese (front : AttemptFront) (old new : Replica) (b : Batch) (r
 abbrev pub ClosesSome : AttemptFront → Replica → Replica → Batch → Attempt → Type 0
 ClosesSome front old new b a = (records : List Applied) × ClosesThese front old new b records a
 
--- what an attempt of the batch that is due says of itself, in this view and this mode
+-- number, view and mode of an attempt of the batch that is due, in this view and this mode
 abbrev pub front_of : Ledger → ℕ → Bool → AttemptFront
 front_of s view serial = record { seq = s.committed + 1 + length s.opened; view = view; serial = serial }
 
@@ -56,7 +56,7 @@ FailsAttempt attempt_fault.Spent old new = Breaks old new
 FailsAttempt attempt_fault.NoRow old new = Breaks old new
 FailsAttempt attempt_fault.Mismatch old new = Breaks old new
 
--- As much where a fault is given; none is where a worker gave a request up, which leaves the account as it was.
+-- The same for an error with a fault. One without comes where a worker gave a request up, and leaves the account.
 abbrev pub GivesUp : Option AttemptFault → Replica → Replica → Type 0
 GivesUp (Some why) old new = FailsAttempt why old new
 GivesUp None old new = new ≡ old
@@ -70,11 +70,11 @@ pub record MayAttempt (r : Replica) (b : Batch) (touched : List Touched) : Type 
   pub batch : IsTrue (is_batch b)
   pub reached : touched ≡ touched_in_batch r.names b
 
--- its names stay, and for how many workers it is
+-- its names stay, and its number of workers
 abbrev pub KeepsCrew : Replica → Replica → Type 0
 KeepsCrew old new = (new.names ≡ old.names) × (new.ledger.workers ≡ old.ledger.workers)
 
--- it isn't that the replica was broken before
+-- the fault isn't that the replica was broken before
 abbrev pub IsFresh : AttemptFault → Type 0
 IsFresh attempt_fault.Broken = ⊥
 IsFresh attempt_fault.Memory = ⊤
@@ -97,3 +97,7 @@ IsFirstOpen s seq = (seq ≡ s.committed + 1) × (0 < length s.opened)
 abbrev pub CommitsFirst : Replica → Replica → Commit → Type 0
 CommitsFirst old new c =
     (old.is_broken ≡ false) × Commits old.ledger new.ledger c × (new ≡ record old { ledger = new.ledger })
+
+-- the state is of a later batch than the last committed one, and of no earlier view
+abbrev pub IsDue : Transfer → Ledger → Type 0
+IsDue x s = (s.committed < x.seq) × (s.view ≤ x.view)

@@ -24,7 +24,7 @@ abbrev pub run_plan : Workload → Mixer → RunPlan
 run_plan w mixer = record {
   names = customer_names w.customers;
   batches = batches_cut w mixer;
-  first = opening (opening_rows w.customers) w.deployment.workers w.deployment.window;
+  first = opening 1 (opening_rows w.customers) w.deployment.workers w.deployment.window;
 }
 
 -- The section of a replica: its steps are what its account went through, which began with the opening balances; they
@@ -35,12 +35,12 @@ pub record IsSectionOf (p : RunPlan) (steps : List Step) : Type 0 where
   pub windows : GoByWindows p.first.window (window_with p.first.window (length p.batches) 0) steps
   pub views : last.view ≤ 2 * length p.batches
 
--- whether so many batches are committed in a section
+-- whether this number of batches are committed in a section
 abbrev pub has_committed : ℕ → List Step → Bool
 has_committed batches steps = commits_in steps == batches
 
--- Of these votes the first ones are those on which the replica took its steps. Where it committed so many batches they
--- are all, and else the next one says why it stopped.
+-- The first of these votes are those on which the replica took its steps. Where it committed this number of batches
+-- they are all, and else the next one says why it stopped.
 pub record IsDecidedBy (batches : ℕ) (steps : List Step) (votes : List Vote) : Type 0 where
   pub later : List Vote
   pub first : votes ≡ votes_along steps ++ later

@@ -1,10 +1,21 @@
--- Why a run ends, by the fault of an attempt.
+-- Why an attempt fails, by the fault of a worker, and why a run ends, by the fault of an attempt.
+use Rattle.eve_floor.specs.declared.fault.ExecFault.{ExecFault}
+use Rattle.eve_floor.specs.declared.fault.ExecFault.TheVariants as exec
 use Rattle.eve_replica.specs.declared.fault.AttemptFault.{AttemptFault}
 use Rattle.eve_replica.specs.declared.fault.AttemptFault.TheVariants as attempt
 use Rattle.eve_replica.specs.declared.fault.RunFault.{RunFault}
 use Rattle.eve_replica.specs.declared.fault.RunFault.TheVariants as run
 
--- refused memory stays what it is, and every other fault breaks the run
+-- a worker's fault is the attempt's of the same name
+abbrev pub attempt_fault_of : ExecFault → AttemptFault
+attempt_fault_of exec.Memory = attempt.Memory
+attempt_fault_of exec.TickOrder = attempt.TickOrder
+attempt_fault_of exec.Full = attempt.Full
+attempt_fault_of exec.Worn = attempt.Worn
+attempt_fault_of exec.Spent = attempt.Spent
+attempt_fault_of exec.NoRow = attempt.NoRow
+
+-- out of memory stays what it is, and every other fault breaks the run
 abbrev pub run_fault_of : AttemptFault → RunFault
 run_fault_of attempt.Memory = run.Memory
 run_fault_of attempt.TickOrder = run.Broken

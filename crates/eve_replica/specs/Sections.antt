@@ -49,7 +49,7 @@ votes_on (RollsBack r) = record { seq = r.to + 1; view = r.view - 1; choice = Fo
 abbrev pub votes_along : List Step → List Vote
 votes_along steps = flat_map votes_on steps
 
--- how many batches are committed in a section
+-- the number of batches that are committed in a section
 abbrev pub commits_in : List Step → ℕ
 commits_in [] = 0
 commits_in (Attempts a ∷ steps) = commits_in steps

@@ -35,12 +35,12 @@ abbrev pub plan_with : List (List ℕ) → List ℤ → Head → List MixedBatch
 plan_with names balances h batches = record {
   names = names;
   batches = map (λ m. plain m.batch) batches;
-  first = opening balances h.workers h.window;
+  first = opening 1 balances h.workers h.window;
 }
 
 -- whatever its batches are, the plan has these names, opening balances and numbers
 abbrev pub IsPlanFor : List (List ℕ) → List ℤ → Head → RunPlan → Type 0
-IsPlanFor names balances h p = (p.names ≡ names) × (p.first ≡ opening balances h.workers h.window)
+IsPlanFor names balances h p = (p.names ≡ names) × (p.first ≡ opening 1 balances h.workers h.window)
 
 -- ---- where live replicas stand
 
@@ -52,7 +52,7 @@ standing_of s = record { view = s.view; committed = s.committed; opened = length
 abbrev pub first_standing : Standing
 first_standing = record { view = 0; committed = 0; opened = 0 }
 
--- so many attempts on
+-- this number of attempts on
 abbrev pub after_attempts : ℕ → Standing → Standing
 after_attempts many at = record { view = at.view; committed = at.committed; opened = at.opened + many }
 
@@ -64,7 +64,7 @@ after_commit at = record { view = at.view; committed = at.committed + 1; opened 
 abbrev pub after_rollback : Standing → Standing
 after_rollback at = record { view = at.view + 1; committed = at.committed; opened = 0 }
 
--- so many more attempts are due: there is room for them, and for their numbers
+-- this number of attempts are due: there is room for them, and for their numbers
 pub record AreDue (many : ℕ) (s : Ledger) : Type 0 where
   pub last : s.committed + length s.opened + many ≤ MOST_BATCHES
   pub room : length s.opened + many ≤ s.window
@@ -81,7 +81,7 @@ ComesTo window batches steps at =
 abbrev pub window_at : RunPlan → Standing → WindowState
 window_at p at = window_with p.first.window (length p.batches - at.committed) at.opened
 
--- So many attempts are those of a whole window: none is open; there is one for each batch that is left, but no more
+-- This is the number of attempts of a whole window: none is open; there is one for each batch that is left, but no more
 -- than a window has.
 pub record AreWholeWindow (p : RunPlan) (at : Standing) (many : ℕ) : Type 0 where
   pub none_open : at.opened ≡ 0
@@ -148,7 +148,7 @@ pub record Move : Type 1 where
   pub window : List Batch
   pub votes : Standing → List Vote
 
--- so many attempts, of the first batches of a window
+-- this number of attempts, of the first batches of a window
 abbrev pub attempt_move : ℕ → List Batch → Move
 attempt_move many window = record {
   further = after_attempts many;
@@ -226,7 +226,7 @@ pub record GoesOn (m : Move) (old new : Server) : Type 0 where
 abbrev pub next_token : Server → Option (List ℕ)
 next_token s = if s.is_live then option_map (λ o. o.token) (slice_get s.replica.ledger.opened 0) else None
 
--- how many live replicas have this token for the next batch
+-- the number of live replicas that have this token for the next batch
 abbrev pub count_with : List ℕ → List Server → ℕ
 count_with token servers = count_by (λ s. is_some_of token (next_token s)) servers
 
@@ -243,12 +243,12 @@ GivesUpNext p old new =
 
 -- ---- votes and replies
 
--- votes on so many batches
+-- votes on batches up to this number
 pub record AreVotesOn (batches : ℕ) (votes : List VoteData) : Type 0 where
   pub limits : IsTrue (list_all (is_vote batches) (map vote votes))
   pub tokens : IsTrue (list_all fits_vote votes)
 
--- replies of so many replicas in so many batches
+-- replies within the limits, by the numbers of replicas and batches
 abbrev pub AreReplies : ℕ → ℕ → List SentData → Type 0
 AreReplies replicas batches replies = IsTrue (list_all (is_sent replicas batches) (map sent replies))
 
@@ -258,7 +258,7 @@ AreReplies replicas batches replies = IsTrue (list_all (is_sent replicas batches
 abbrev pub sections_in : List Server → List (List Step)
 sections_in servers = map (λ s. section s.steps) servers
 
--- how many replicas are live
+-- the number of live replicas
 abbrev pub live_in : List Server → ℕ
 live_in servers = count_by (λ s. s.is_live) servers
 

@@ -2,14 +2,14 @@
 use Rattle.std.specs.Prelude.{◌≡◌, ℕ, ◌+◌, ◌-◌, ◌<◌, ◌==◌, min, if◌then◌else◌, List, [], ◌∷◌}
 use Rattle.eve_grammar.specs.Trace.{Step, Attempts, Commits, RollsBack}
 
--- How far a section is in a window: so many batches aren't committed, so many attempts of the window are still to be
--- made, and so many are open.
+-- How far a section is in a window: the numbers of batches that aren't committed, of attempts of the window that are
+-- still due, and of open attempts.
 pub record WindowState : Type 0 where
   pub left : ℕ
   pub due : ℕ
   pub opened : ℕ
 
--- The state at first, after a commit, and after a rollback, with so many batches left and so many attempts open. Where
+-- The state at first, after a commit, and after a rollback, by the numbers of batches left and of open attempts. Where
 -- none is open a window begins: an attempt is due for each batch that is left, but for no more than a window has. Where
 -- some are open no more are due.
 abbrev pub window_with : (window left opened : ℕ) → WindowState

@@ -1,19 +1,21 @@
 //! A replica's own account of its rows.
 
-ghost use Rattle.std.specs.Prelude.{◌≡◌, ◌+◌, ◌-◌, ◌*◌, ◌^◌, ◌<◌, ◌≤◌, ◌↔◌, true, false, Err, All, length};
+ghost use Rattle.std.specs.Prelude.{◌≡◌, ◌+◌, ◌-◌, ◌*◌, ◌^◌, ◌<◌, ◌≤◌, ◌↔◌, ◌⊎◌, true, false, Err, All, length};
 ghost use Rattle.std.specs.Prelude.{IsTrue, IfOk, IfErr, IfSome, IfNone, OnOk, OnErr, IsOk, Contains, [], map};
+ghost use Rattle.eve_grammar.specs.Bodies.{transfer as plain_state};
 ghost use Rattle.eve_grammar.specs.Limits.{is_batch};
 ghost use Rattle.eve_write.specs.Data.{batch as plain, attempt, commit, rollback};
-ghost use Rattle.eve_attempts.specs.Ledgers.{opening};
+ghost use Rattle.eve_attempts.specs.Ledgers.{ledger_rows, opening};
 ghost use Rattle.eve_attempts.specs.Closing.{touched_in_batch, AreMismatched};
 ghost use Rattle.eve_attempts.specs.Discarding.{RollsBack};
+ghost use Rattle.eve_attempts.specs.TakingOver.{TakesOver};
 ghost use Rattle.eve_replica.specs.Replicas.{AttemptsDue, ClosesThese, IsFirstOpen, CommitsFirst};
-ghost use Rattle.eve_replica.specs.Replicas.{GivesUp, KeepsCrew, MayAttempt, front_of};
+ghost use Rattle.eve_replica.specs.Replicas.{GivesUp, IsDue, KeepsCrew, MayAttempt, front_of};
 
-use crate::fault::{AttemptFault, CommitFault};
+use crate::fault::{AttemptFault, CommitFault, TransferFault};
 use eve_accounts::{Balances, Names};
 use eve_attempts::{AttemptFront, CloseFault as Unclosed, Ledger};
-use eve_grammar::{MOST_BATCHES, MOST_WINDOW, MOST_WORKERS};
+use eve_grammar::{MOST_BATCHES, MOST_WINDOW, MOST_WORKERS, TransferData};
 use eve_recorder::Gate;
 use eve_replica_crew::Lead;
 use eve_smallbank::Touched;
@@ -29,7 +31,7 @@ use std::sync::Wait;
 pub(crate) struct Account<'n> {
     pub names: &'n Names<'n>,
     pub ledger: Ledger,
-    // for each open attempt the greatest tick of its records, where this replica's workers ran it
+    // of each open attempt the greatest tick of its records, where this replica's workers ran it
     pub settles: Vec<Option<u64>>,
     pub is_broken: bool,
 }
@@ -48,23 +50,26 @@ impl<'n> Model for Account<'n> {
 }
 
 impl<'n> Account<'n> {
-    /// The account of a replica with these opening balances, for so many workers, and with at most `window` attempts
-    /// open at once.
+    /// The account of a replica with these opening balances, for the given number of workers, and with at most `window`
+    /// attempts open at once.
     pub(crate) fn new(
         alloc: Global,
+        version: u16,
         names: &'n Names<'n>,
         balances: &Balances,
         workers: u8,
         window: u8,
     ) -> Result<Account<'n>, AllocError>
+        requires version { (version ≡ 1) ⊎ (version ≡ 2) }
+        requires some { version ≡ 2 → 0 < length balances.now }
         requires rows { length balances.now ≡ 2 * length names.now.items }
         requires workers { (1 ≤ workers) × (workers ≤ MOST_WORKERS) }
         requires window { (1 ≤ window) × (window ≤ MOST_WINDOW) }
-        ensures { let ledger = opening balances.now workers window in
+        ensures { let ledger = opening version balances.now workers window in
             IfOk result (λ r. r ≡ record { names = names.now.items; ledger = ledger; is_broken = false }) }
     {
         let settles = Vec::with_capacity(alloc, window as usize)?;
-        let ledger = Ledger::new(alloc, balances, workers, window)?;
+        let ledger = Ledger::new(alloc, version, balances, workers, window)?;
         Ok(Account {
             names,
             ledger,
@@ -73,8 +78,8 @@ impl<'n> Account<'n> {
         })
     }
 
-    /// The first worker runs its part in the next batch, and an attempt is made of what was noted of it, which is open
-    /// then, in the view and in the mode that are due. No fault is given where a worker gave a request up; any other
+    /// The first worker runs its part in the next batch. What was noted of it becomes an attempt in the view and in the
+    /// mode that are due, and is opened. An error without a fault comes where a worker gave a request up; any fault
     /// breaks the replica.
     pub(crate) fn attempt_next<R: Wait, G: Gate>(
         &mut self,
@@ -104,7 +109,7 @@ impl<'n> Account<'n> {
         }
     }
 
-    // What the attempt that is due says of itself.
+    /// Number, view and mode of the attempt that is due.
     fn next_front(&self) -> AttemptFront
         ensures { result ≡ front_of self.now.ledger self.now.ledger.view self.now.ledger.is_next_serial }
     {
@@ -115,7 +120,7 @@ impl<'n> Account<'n> {
         }
     }
 
-    /// The replica is broken from now on, by this fault.
+    /// Breaks the replica, and returns the fault.
     pub(crate) fn broken_by(&mut self, why: AttemptFault) -> AttemptFault
         ensures broken { self.new ≡ record self.old { is_broken = true } }
         ensures why { result ≡ why }
@@ -124,7 +129,7 @@ impl<'n> Account<'n> {
         why
     }
 
-    /// Closes the records, and keeps up to which tick the stripes are settled when the attempt is committed.
+    /// Closes the records, and keeps the tick up to which the stripes are settled at the attempt's commit.
     pub(crate) fn close(
         &mut self,
         alloc: Global,
@@ -161,8 +166,8 @@ impl<'n> Account<'n> {
         }
     }
 
-    /// Commits the batch with this number, of which the first open attempt must be. With it the tick up to which the
-    /// stripes are settled then, if there is one.
+    /// Commits the batch with this number, of which the first open attempt must be. Returns also the tick up to which
+    /// the stripes are to be settled, if there is one.
     pub(crate) fn commit(&mut self, seq: u32) -> Result<(CommitData, Option<u64>), CommitFault>
         ensures committed { IfOk result (λ c. CommitsFirst self.old self.new (commit c.0)) }
         ensures there { IsOk result ↔ ((self.old.is_broken ≡ false) × IsFirstOpen self.old.ledger seq) }
@@ -177,6 +182,28 @@ impl<'n> Account<'n> {
             Ok(commit) => Ok((commit, self.settles.remove(0))),
             Err(_) => Err(CommitFault::NotOpen),
         }
+    }
+
+    /// Takes over the state, with nothing open.
+    pub(crate) fn transfer(&mut self, state: &TransferData) -> Result<(), TransferFault>
+        requires rows { length state.now.rows.items ≡ ledger_rows self.old.ledger }
+        requires last { state.now.seq ≤ MOST_BATCHES }
+        ensures taken { OnOk result (TakesOver (plain_state state.now) self.old.ledger self.new.ledger) }
+        ensures whole { OnOk result (self.new ≡ record self.old { ledger = self.new.ledger }) }
+        ensures there { IsOk result ↔ ((self.old.is_broken ≡ false) × IsDue (plain_state state.now) self.old.ledger) }
+        ensures broken { (result ≡ Err TransferFault.Broken) ↔ (self.old.is_broken ≡ true) }
+        ensures refused { OnErr result (self.new ≡ self.old) }
+        ensures same { KeepsCrew self.old self.new }
+    {
+        if self.is_broken {
+            return Err(TransferFault::Broken);
+        }
+        let _many = self.names.len();
+        if self.ledger.take_over(state).is_err() {
+            return Err(TransferFault::NotDue);
+        }
+        self.settles.clear();
+        Ok(())
     }
 
     /// Discards all open attempts, and goes on in the next view. The replica isn't broken any more.
@@ -194,7 +221,7 @@ impl<'n> Account<'n> {
     }
 }
 
-// The greatest tick of the records.
+/// The greatest tick of the records.
 fn greatest_tick(records: &[AccessRecord]) -> Option<u64>
     ensures none { IfNone result (records.now ≡ []) }
     ensures greatest { IfSome result (λ t. All (λ r. r.tick ≤ t) records.now) }

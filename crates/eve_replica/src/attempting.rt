@@ -1,4 +1,4 @@
-//! Attempts that are made while a replica's workers run.
+//! Attempts made while a replica's workers run.
 
 ghost use Rattle.std.specs.Prelude.{◌≡◌, ◌+◌, ◌≤◌, true, false, ℕ, [], ◌∷◌, ◌++◌, All, length, map};
 ghost use Rattle.std.specs.Prelude.{IsTrue, IfOk, IfErr, IfSome, OnOk, OnErr};
@@ -10,6 +10,7 @@ ghost use Rattle.eve_replica.specs.Replicas.{AttemptsDue, FailsAttempt, GivesUp,
 ghost use Rattle.eve_replica.specs.Serving.{AreDue, GoesOn, IsRightMixed, MayAttemptAll, AttemptsAll, attempt_move};
 ghost use Rattle.eve_replica.specs.Serving.{server_with};
 ghost use Rattle.eve_replica.specs.Replicas.{IsFresh};
+ghost use Rattle.eve_replica.specs.RunFaults.{attempt_fault_of};
 
 use crate::account::Account;
 use crate::fault::{AttemptFault, RunFault, fault_of};
@@ -22,8 +23,7 @@ use std::alloc::{AllocError, Global};
 use std::sync::Wait;
 use std::thread::Threads;
 
-/// Runs one batch by the workers, and makes an attempt of what they noted, which is open then. A fault breaks the
-/// replica.
+/// Runs one batch by the workers, makes an attempt of what they noted, and opens it. A fault breaks the replica.
 pub(crate) fn attempt_one<R: Threads + Wait + Sync, G: Gate>(
     rt: &R,
     alloc: Global,
@@ -60,7 +60,7 @@ pub(crate) fn attempt_one<R: Threads + Wait + Sync, G: Gate>(
     }
 }
 
-/// Runs the batches of a window by the workers, one after another, and makes an attempt of what they noted of each,
+/// Runs the batches of a window by the workers, one after another, and makes an attempt of what they noted of each
 /// while the other workers run the next. A fault breaks the replica; the attempts before it stay open.
 pub(crate) fn attempt_legs<R: Threads + Wait + Sync, G: Gate>(
     rt: &R,
@@ -97,8 +97,8 @@ pub(crate) fn attempt_legs<R: Threads + Wait + Sync, G: Gate>(
     }
 }
 
-// The first worker runs its part in each batch of the window, and attempts it. A fault that is given has broken the
-// replica; none is given where a worker gave a request up.
+/// The first worker runs its part in each batch of the window, and attempts it. An error with a fault has broken the
+/// replica; one without comes where a worker gave a request up.
 fn attempt_each<R: Wait, G: Gate>(
     rt: &R,
     alloc: Global,
@@ -120,7 +120,7 @@ fn attempt_each<R: Wait, G: Gate>(
     Ok(())
 }
 
-// The first worker runs its part in the next batch, and attempts it.
+/// The first worker runs its part in the next batch, and attempts it.
 fn attempt_mixed<R: Wait, G: Gate>(
     rt: &R,
     alloc: Global,
@@ -150,7 +150,7 @@ fn attempt_mixed<R: Wait, G: Gate>(
     }
 }
 
-/// One more thing that a replica did.
+/// Adds a step that a replica took.
 pub(crate) fn add_step(steps: &mut Vec<Step>, step: Step) -> Result<(), AllocError>
     ensures right { (rows : ℕ) → IsTrue (is_step rows (plain step))
         → OnOk result (IsTrue (list_all (is_step rows) (section steps.old))
@@ -161,9 +161,10 @@ pub(crate) fn add_step(steps: &mut Vec<Step>, step: Step) -> Result<(), AllocErr
     Ok(())
 }
 
-// The fault of an attempt in which this one is told: where no worker tells of one, that what they noted is no attempt.
+/// The attempt's fault for a worker's. Where no worker has one, what they noted is no attempt.
 fn fault_told(told: Option<ExecFault>) -> AttemptFault
-    ensures { IsFresh result }
+    ensures fresh { IsFresh result }
+    ensures same { IfSome told (λ why. result ≡ attempt_fault_of why) }
 {
     match told {
         Some(why) => fault_of(why),

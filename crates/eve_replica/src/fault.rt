@@ -2,7 +2,7 @@
 
 ghost use Rattle.std.specs.Prelude.{◌≡◌};
 ghost use Rattle.eve_replica.specs.Replicas.{IsFresh};
-ghost use Rattle.eve_replica.specs.RunFaults.{run_fault_of};
+ghost use Rattle.eve_replica.specs.RunFaults.{attempt_fault_of, run_fault_of};
 ghost use Rattle.eve_replica.specs.declared.fault.RunFault.TheVariants as run;
 
 use eve_floor::ExecFault;
@@ -20,11 +20,11 @@ pub enum AttemptFault {
     Full,
     /// A row that a request writes is at version 2^40.
     Worn,
-    /// A worker has drawn as many ticks as it may.
+    /// A worker may draw no more ticks.
     Spent,
     /// A row that a request touches is not there.
     NoRow,
-    /// What the workers noted is no attempt of the batch.
+    /// What the workers noted makes no attempt of the batch.
     Mismatch,
     /// An earlier attempt failed, and no rollback has succeeded since.
     Broken,
@@ -35,7 +35,7 @@ pub enum AttemptFault {
 pub enum CloseFault {
     /// Memory ran out.
     Memory,
-    /// The records are no attempt of the batch.
+    /// The records make no attempt of the batch.
     Mismatch,
     /// An attempt failed, and no rollback has succeeded since.
     Broken,
@@ -50,13 +50,22 @@ pub enum CommitFault {
     Broken,
 }
 
+/// Why no state was taken over.
+#[derive(Clone, Copy, Debug, PartialEq, Eq)]
+pub enum TransferFault {
+    /// Its batch isn't later than the last committed one, or its view is an earlier one than the replica's.
+    NotDue,
+    /// An attempt failed, and no rollback has succeeded since.
+    Broken,
+}
+
 /// Why a workload was not run.
 #[derive(Clone, Copy, Debug, Error)]
 pub enum RunFault {
     /// Memory ran out.
     #[error("out of memory")]
     Memory,
-    /// A replica failed otherwise, or a batch wasn't committed after twice as many windows as there are batches.
+    /// A replica failed otherwise, or some batch wasn't committed after two windows for each batch.
     #[error("the run is broken")]
     Broken,
 }
@@ -80,9 +89,10 @@ impl From<AttemptFault> for RunFault {
     }
 }
 
-/// The fault of an attempt in which a worker met this one.
+/// The attempt's fault for a worker's.
 pub(crate) fn fault_of(why: ExecFault) -> AttemptFault
-    ensures { IsFresh result }
+    ensures fresh { IsFresh result }
+    ensures same { result ≡ attempt_fault_of why }
 {
     match why {
         ExecFault::Memory => AttemptFault::Memory,

@@ -16,6 +16,6 @@ mod votes;
 pub use eve_attempts;
 pub use eve_floor;
 pub use eve_workload;
-pub use fault::{AttemptFault, CloseFault, CommitFault, RunFault};
+pub use fault::{AttemptFault, CloseFault, CommitFault, RunFault, TransferFault};
 pub use replica::Replica;
 pub use running::{run, run_consuming};

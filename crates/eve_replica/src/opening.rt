@@ -13,7 +13,7 @@ ghost use Rattle.eve_replica.specs.Serving.{IsRightMixed};
 
 use eve_accounts::{Balances, Names, Row};
 use eve_grammar::MOST_CUSTOMERS;
-use eve_workload::{MixedBatch, Mixer, mix_touched};
+use eve_workload::{MixedBatch, Mixer, MixingTable};
 use eve_write::{CustomerData, RequestData};
 use std::alloc::{AllocError, Global};
 use std::hash::RandomState;
@@ -51,8 +51,8 @@ pub(crate) fn balances_of(alloc: Global, customers: &[CustomerData]) -> Result<B
     Ok(balances)
 }
 
-/// Each batch, cut into parallelBatches; what was listed of it goes once it is cut. Here alone the names of the
-/// requests are looked up.
+/// The batches, cut into parallelBatches. Each list is used up as it is cut. The names of the requests are looked up
+/// here and nowhere else.
 pub(crate) fn batches_of(
     alloc: Global,
     listed: Vec<Vec<RequestData>>,
@@ -65,16 +65,18 @@ pub(crate) fn batches_of(
     ensures mixed { IfOk result (λ batches. All (IsRightMixed names.now.items) batches.items) }
 {
     let mut batches = Vec::with_capacity(alloc, listed.len())?;
+    let mut table = MixingTable::new(alloc);
     for requests in listed {
-        let batch = cut_batch(alloc, requests, names, mixer)?;
+        let batch = cut_batch(alloc, &mut table, requests, names, mixer)?;
         batches.push_reserved(batch);
     }
     Ok(batches)
 }
 
-// The batch of these requests, cut into parallelBatches.
+/// The batch of these requests, cut into parallelBatches.
 fn cut_batch(
     alloc: Global,
+    table: &mut MixingTable,
     requests: Vec<RequestData>,
     names: &Names,
     mixer: Mixer,
@@ -84,5 +86,5 @@ fn cut_batch(
         plain m.batch ≡ batch_with (cut names.now.items mixer (map asked requests.items))) }
     ensures mixed { IfOk result (IsRightMixed names.now.items) }
 {
-    mix_touched(alloc, requests.as_slice(), names, mixer)
+    table.mix_touched(alloc, requests.as_slice(), names, mixer)
 }

@@ -1,28 +1,32 @@
-//! One replica.
+//! Replicas.
 
-ghost use Rattle.std.specs.Prelude.{◌≡◌, ◌+◌, ◌-◌, ◌*◌, ◌^◌, ◌<◌, ◌≤◌, ◌↔◌, true, false, Err, Some, All, length};
+ghost use Rattle.std.specs.Prelude.{◌≡◌, ◌+◌, ◌-◌, ◌*◌, ◌^◌, ◌<◌, ◌≤◌, ◌↔◌, ◌⊎◌, true, false, Err, Some, All, length};
 ghost use Rattle.std.specs.Prelude.{vec_len, option_map, slice_get};
 ghost use Rattle.std.specs.Prelude.{IsTrue, IfOk, IfErr, IfSome, IfNone, OnOk, OnErr, IsOk, Contains, [], map};
+ghost use Rattle.eve_grammar.specs.Bodies.{transfer as plain_state};
 ghost use Rattle.eve_grammar.specs.Limits.{is_batch};
 ghost use Rattle.eve_write.specs.Data.{batch as plain, attempt, commit, rollback};
-ghost use Rattle.eve_attempts.specs.Ledgers.{opening};
+ghost use Rattle.eve_stamps.specs.Stripes.{HaveRightVersions};
+ghost use Rattle.eve_token.specs.Token.{rows_root};
+ghost use Rattle.eve_attempts.specs.Ledgers.{ledger_rows, opening};
 ghost use Rattle.eve_attempts.specs.Closing.{touched_in_batch, AreMismatched};
 ghost use Rattle.eve_attempts.specs.Discarding.{RollsBack};
+ghost use Rattle.eve_attempts.specs.TakingOver.{IsStateOf, TakesOver};
 ghost use Rattle.eve_replica.specs.Replicas.{Attempts, AttemptsDue, FailsAttempt, ClosesThese, ClosesOwn};
-ghost use Rattle.eve_replica.specs.Replicas.{IsFirstOpen, CommitsFirst};
+ghost use Rattle.eve_replica.specs.Replicas.{IsDue, IsFirstOpen, CommitsFirst};
 ghost use Rattle.eve_replica.specs.Serving.{IsRightMixed, MayAttemptAll, AttemptsAll};
 ghost use Rattle.eve_replica_crew.specs.Sharing.{IsRightLeg};
 
 use crate::account::Account;
 use crate::attempting::{attempt_legs, attempt_one};
-use crate::fault::{AttemptFault, CloseFault, CommitFault, RunFault};
+use crate::fault::{AttemptFault, CloseFault, CommitFault, RunFault, TransferFault};
 use eve_accounts::{Balances, Names};
 use eve_attempts::{AttemptFront, CloseFault as Unclosed};
 use eve_floor::Floor;
-use eve_grammar::{MOST_BATCHES, MOST_WINDOW, MOST_WORKERS};
+use eve_grammar::{MOST_BATCHES, MOST_WINDOW, MOST_WORKERS, TransferData};
 use eve_recorder::Gate;
 use eve_replica_crew::{Leg, Workers, crew_size};
-use eve_smallbank::Touched;
+use eve_smallbank::{Touched, Versioned};
 use eve_stamps::AccessRecord;
 use eve_workload::{MixedBatch, look_up};
 use eve_write::{AttemptData, BatchData, CommitData, RollbackData, Step};
@@ -55,29 +59,41 @@ impl<'n> Model for Replica<'n> {
 }
 
 impl<'n> Replica<'n> {
-    /// A replica with these opening balances, for so many workers, and with at most `window` attempts open at once. Two
-    /// rows for each name. It is refused only where memory runs out.
+    /// A replica with these opening balances, for the given number of workers, and with at most `window` attempts open
+    /// at once. Its tokens are those of the version, 1 or 2.
+    ///
+    /// There are two rows for each name, and in version 2 some name. It is refused only where memory runs out.
     pub fn new(
         alloc: Global,
+        version: u16,
         names: &'n Names<'n>,
         balances: &Balances,
         workers: u8,
         window: u8,
     ) -> Result<Replica<'n>, AllocError>
+        requires version { (version ≡ 1) ⊎ (version ≡ 2) }
+        requires some { version ≡ 2 → 0 < length balances.now }
         requires rows { length balances.now ≡ 2 * length names.now.items }
         requires workers { (1 ≤ workers) × (workers ≤ MOST_WORKERS) }
         requires window { (1 ≤ window) × (window ≤ MOST_WINDOW) }
-        ensures { let ledger = opening balances.now workers window in
+        ensures { let ledger = opening version balances.now workers window in
             IfOk result (λ r. r ≡ record { names = names.now.items; ledger = ledger; is_broken = false }) }
     {
         let crew = Workers::new(alloc, workers)?;
         let floor = Floor::new(alloc, names, balances)?;
-        let account = Account::new(alloc, names, balances, workers, window)?;
+        let account = Account::new(alloc, version, names, balances, workers, window)?;
         Ok(Replica {
             floor,
             workers: crew,
             account,
         })
+    }
+
+    /// The version of the format that its tokens are of.
+    pub fn version(&self) -> u16
+        ensures { result ≡ self.now.ledger.version }
+    {
+        self.account.ledger.version()
     }
 
     /// The view.
@@ -87,14 +103,14 @@ impl<'n> Replica<'n> {
         self.account.ledger.view()
     }
 
-    /// The number of the last batch that was committed, 0 where none was.
+    /// The number of the last batch that was committed, 0 if there is none.
     pub fn committed(&self) -> u32
         ensures { result ≡ self.now.ledger.committed }
     {
         self.account.ledger.committed()
     }
 
-    /// How many attempts are open.
+    /// The number of open attempts.
     pub fn opened(&self) -> usize
         ensures { result ≡ length self.now.ledger.opened }
     {
@@ -130,6 +146,35 @@ impl<'n> Replica<'n> {
         self.account.ledger.token(place)
     }
 
+    /// What the rows hold after the open attempts. An attempt that failed isn't one of these, so a broken replica
+    /// answers too.
+    pub fn balances(&self) -> &Balances
+        ensures { result.now ≡ self.now.ledger.rows.balances }
+    {
+        self.account.ledger.balances()
+    }
+
+    /// The root of the Merkle tree over `balances`, of a replica of version 2. It takes no memory, and a broken replica
+    /// answers too.
+    ///
+    /// docs/TRACE.md, "Version 2". What changed since the last root or token is hashed then.
+    pub fn root(&mut self) -> [u8; 32]
+        requires version { self.old.ledger.version ≡ 2 }
+        ensures root { result ≡ rows_root self.old.ledger.rows.balances }
+        ensures kept { self.new ≡ self.old }
+    {
+        self.account.ledger.root()
+    }
+
+    /// Version and value of each row as it is committed, in row order, whatever is open; a broken replica answers too.
+    ///
+    /// docs/MODEL.md, "Working table, committed table".
+    pub fn state(&self, alloc: Global) -> Result<Vec<Versioned>, AllocError>
+        ensures { IfOk result (λ state. IsStateOf self.now.ledger state.items) }
+    {
+        self.account.ledger.state(alloc)
+    }
+
     /// Whether an attempt failed, and no rollback has succeeded since.
     pub fn is_broken(&self) -> bool
         ensures { result ≡ self.now.is_broken }
@@ -139,13 +184,13 @@ impl<'n> Replica<'n> {
 }
 
 impl<'n> Replica<'n> {
-    /// Runs the batch by the replica's workers in threads, and makes an attempt of what they noted, which is open then.
+    /// Runs the batch by the replica's workers in threads, makes an attempt of what they noted, and opens it.
     ///
     /// docs/TRACE.md, "The deployment's procedure". `has_room`, `next_number`, `view` and `is_next_serial` say what the
     /// conditions ask; the next number is at most `MOST_BATCHES`. The gate is entered before each execution, with the
-    /// request's index. Nothing that the threads did is believed: the attempt is what the replica's own account says of
-    /// the records (`Closes`). Of the faults of workers one is told; each fault but `Broken` leaves the account as it
-    /// was, and breaks the replica until `rollback` succeeds. May wait for other threads.
+    /// request's index. Nothing that the threads did is believed: the attempt is what the replica's own account makes
+    /// of the records (`Closes`). The fault is one worker's, where several have one. Each fault but `Broken` leaves the
+    /// account as it was, and breaks the replica until `rollback` succeeds. May wait for other threads.
     pub fn run_attempt<R: Threads + Wait + Sync, G: Gate>(
         &mut self,
         rt: &R,
@@ -182,8 +227,8 @@ impl<'n> Replica<'n> {
         )
     }
 
-    /// Runs the batches of a window, which are the next, by the replica's workers, of a replica that isn't broken, and
-    /// makes an attempt of what they noted of each. A fault breaks the replica; what was attempted before it is open.
+    /// Runs the batches of a window, which are the next, by the workers of a replica that isn't broken, and makes an
+    /// attempt of what they noted of each. A fault breaks the replica; the attempts before it stay open.
     pub(crate) fn attempt_window<R: Threads + Wait + Sync, G: Gate>(
         &mut self,
         rt: &R,
@@ -214,7 +259,7 @@ impl<'n> Replica<'n> {
         )
     }
 
-    /// Makes an attempt of records that a caller took, which is open then.
+    /// Makes an attempt of records that a caller took, and opens it.
     ///
     /// `has_room`, `next_number`, `view` and `is_next_serial` say what the conditions ask; the number is at most
     /// `MOST_BATCHES`. The stripes stay as they were: a later `run_attempt` over the rows that it wrote can be
@@ -280,8 +325,30 @@ impl<'n> Replica<'n> {
         Ok(commit)
     }
 
-    /// Discards all open attempts, puts the rows back to what is committed, also those that only an attempt that failed
-    /// has written, and goes on in the next view. The replica isn't broken any more.
+    /// Takes over a state that another replica committed: rows, number and view are its, nothing is open, and the next
+    /// attempt is parallel. It takes no memory and waits for nobody.
+    ///
+    /// docs/TRACE.md, "Version 2". The state has each row of the replica, its versions are at most `MOST_VERSIONS` and
+    /// its number is at most `MOST_BATCHES`: a trace has no later batch. `Broken` is tested first, so that
+    /// `NotDue` comes exactly where the replica isn't broken, and the number isn't above the last committed one or the
+    /// view is below the replica's. A refusal changes nothing.
+    pub fn transfer(&mut self, state: &TransferData) -> Result<(), TransferFault>
+        requires rows { length state.now.rows.items ≡ ledger_rows self.old.ledger }
+        requires versions { HaveRightVersions (plain_state state.now).rows }
+        requires last { state.now.seq ≤ MOST_BATCHES }
+        ensures taken { OnOk result (TakesOver (plain_state state.now) self.old.ledger self.new.ledger) }
+        ensures whole { OnOk result (self.new ≡ record self.old { ledger = self.new.ledger }) }
+        ensures there { IsOk result ↔ ((self.old.is_broken ≡ false) × IsDue (plain_state state.now) self.old.ledger) }
+        ensures broken { (result ≡ Err TransferFault.Broken) ↔ (self.old.is_broken ≡ true) }
+        ensures refused { OnErr result (self.new ≡ self.old) }
+    {
+        self.account.transfer(state)?;
+        self.floor.install(state);
+        Ok(())
+    }
+
+    /// Discards all open attempts, returns all rows to what is committed, also those that only a failed attempt wrote,
+    /// and goes on in the next view. The replica isn't broken any more.
     ///
     /// docs/MODEL.md, "Working table, committed table". All memory is asked for before a first stripe goes back, and
     /// nothing else is refused; where it runs out nothing has changed.
@@ -297,7 +364,7 @@ impl<'n> Replica<'n> {
     }
 }
 
-// The batches of a window, for so many workers: only the first can be one in serial mode.
+/// The batches of a window, for the given number of workers. Only the first can be in serial mode.
 fn legs_of<'b>(
     alloc: Global,
     floor: &Floor,
@@ -325,7 +392,7 @@ fn legs_of<'b>(
     Ok(legs)
 }
 
-// The batch with as many of so many workers as can have something to do in it.
+/// The batch with those of the workers that can have something to do in it.
 fn leg_of<'b>(
     floor: &Floor,
     workers: u8,

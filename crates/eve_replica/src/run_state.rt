@@ -23,8 +23,8 @@ use std::alloc::{AllocError, Global};
 use std::sync::Wait;
 use std::thread::Threads;
 
-/// How far a run is: its numbers and its batches, its replicas, where those of them that are live stand, and the votes
-/// that each verifier gave.
+/// How far a run is: its numbers and its batches, its replicas, where the live ones stand, and the votes of each
+/// verifier.
 #[derive(Drop)]
 pub(crate) struct RunState<'n, 'b> {
     pub head: Head,
@@ -35,7 +35,7 @@ pub(crate) struct RunState<'n, 'b> {
 }
 
 impl<'n, 'b> RunState<'n, 'b> {
-    /// One window: the batches that aren't committed are attempted, as many as a window has, and decided in order.
+    /// Runs one window: the next batches are attempted, at most a window's number of them, and decided in order.
     ///
     /// docs/TRACE.md, "The deployment's procedure".
     pub(crate) fn run_window<R: Threads + Wait + Sync, G: Gate>(
@@ -60,8 +60,8 @@ impl<'n, 'b> RunState<'n, 'b> {
         Ok(())
     }
 
-    // Each live replica, one after another, attempts the batches of the window: as many as it has, or as there are
-    // left.
+    /// Each live replica, one after another, attempts the batches of the window: its number of them, or all that are
+    /// left.
     fn attempt<R: Threads + Wait + Sync, G: Gate>(
         &mut self,
         rt: &R,
@@ -86,7 +86,7 @@ impl<'n, 'b> RunState<'n, 'b> {
         Ok(())
     }
 
-    // The first open batch is committed where its token is decided, and rolled back else, with all others.
+    /// Commits the first open batch where its token is decided, and else rolls back all open batches.
     fn decide(&mut self, alloc: Global) -> Result<(), AllocError>
         requires under_way { (p : RunPlan) × IsUnderWay p self.old }
         requires open { 0 < self.old.standing.opened }
@@ -104,7 +104,8 @@ impl<'n, 'b> RunState<'n, 'b> {
         }
     }
 
-    // Every verifier votes for the commit of the first open batch; who has the token commits it, and who hasn't stops.
+    /// Every verifier votes for the commit of the first open batch. A replica with this token commits it; any other
+    /// stops.
     fn commit(&mut self, token: [u8; 32]) -> Result<(), AllocError>
         requires under_way { (p : RunPlan) × IsUnderWay p self.old }
         requires open { 0 < self.old.standing.opened }
@@ -122,7 +123,7 @@ impl<'n, 'b> RunState<'n, 'b> {
         Ok(())
     }
 
-    // Every verifier votes for the rollback of the first open batch, and who is live rolls back.
+    /// Every verifier votes for the rollback of the first open batch, and each live replica rolls back.
     fn roll_back(&mut self, alloc: Global) -> Result<(), AllocError>
         requires under_way { (p : RunPlan) × IsUnderWay p self.old }
         requires open { 0 < self.old.standing.opened }
@@ -142,7 +143,7 @@ impl<'n, 'b> RunState<'n, 'b> {
     }
 }
 
-// Each live replica, one after another, attempts the batches of the window, which are the next from where they stand.
+/// Each live replica, one after another, attempts the batches of the window, which are the next from where they stand.
 fn attempt_all<R: Threads + Wait + Sync, G: Gate>(
     rt: &R,
     alloc: Global,
@@ -167,7 +168,7 @@ fn attempt_all<R: Threads + Wait + Sync, G: Gate>(
     Ok(())
 }
 
-// Each live replica commits this batch, which is the next, or stops.
+/// Each live replica commits this batch, which is the next, or stops.
 fn commit_all(servers: &mut [Server], seq: u32, token: [u8; 32]) -> Result<(), AllocError>
     requires { (p : RunPlan) × (at : Standing) × (votes : List Vote) × All (Serves p at votes) servers.old
         × (seq ≡ at.committed + 1) × (0 < at.opened) }
@@ -182,7 +183,7 @@ fn commit_all(servers: &mut [Server], seq: u32, token: [u8; 32]) -> Result<(), A
     Ok(())
 }
 
-// Each live replica rolls back.
+/// Each live replica rolls back.
 fn roll_back_all(servers: &mut [Server], alloc: Global) -> Result<(), AllocError>
     requires { (p : RunPlan) × (at : Standing) × (votes : List Vote) × All (Serves p at votes) servers.old
         × (at.view < MOST_VIEWS) × (0 < at.opened) }
@@ -199,7 +200,7 @@ fn roll_back_all(servers: &mut [Server], alloc: Global) -> Result<(), AllocError
     Ok(())
 }
 
-// The token that live replicas, in number more than half of all replicas, have for the next batch.
+/// The token that more than half of all replicas are live and have for the next batch, if there is one.
 fn decided(servers: &[Server]) -> Option<[u8; 32]>
     ensures { IsDecision result servers.now }
 {
@@ -214,7 +215,7 @@ fn decided(servers: &[Server]) -> Option<[u8; 32]>
     None
 }
 
-// How many live replicas have this token for the next batch.
+/// The number of live replicas that have this token for the next batch.
 fn count_with(servers: &[Server], token: [u8; 32]) -> usize
     ensures { result ≡ count_with token servers.now }
 {

@@ -27,12 +27,13 @@ use std::hash::RandomState;
 use std::sync::Wait;
 use std::thread::Threads;
 
-/// Runs the workload on as many replicas as it says, each with its workers in threads, and answers all parts of the
+/// Runs the workload on the replicas of its deployment, each with its workers in threads, and returns all parts of the
 /// trace of that run.
 ///
-/// docs/TRACE.md, "The deployment's procedure". The gate is entered before each execution, with the request's index.
-/// `Memory` comes where memory runs out, `Broken` where a replica fails otherwise, or where a batch isn't committed
-/// after twice as many windows as there are batches. May wait for other threads.
+/// docs/TRACE.md, "The deployment's procedure". The workload is of format 1, the one that runs have so far. The gate is
+/// entered before each execution, with the request's index. It fails with `Memory` where memory runs out, and with
+/// `Broken` where a replica fails otherwise, or where some batch isn't committed after two windows for each batch. May
+/// wait for other threads.
 pub fn run<R: Threads + Wait + Sync, G: Gate>(
     rt: &R,
     alloc: Global,
@@ -41,15 +42,16 @@ pub fn run<R: Threads + Wait + Sync, G: Gate>(
     random: RandomState,
     gate: &G,
 ) -> Result<Parts, RunFault>
+    requires { workload.now.format ≡ 1 }
     ensures { IfOk result (IsRunOf workload.now mixer) }
 {
     run_consuming(rt, alloc, workload.copy(alloc)?, mixer, random, gate)
 }
 
-/// Runs the workload, as `run` does, and uses it up: what is listed of a batch goes once the batch is cut into
-/// parallelBatches, so no batch but that stands in memory twice.
+/// Runs the workload as `run` does, and uses it up. The list of a batch is dropped once the batch is cut into
+/// parallelBatches, so that only one batch at a time stands in memory twice.
 ///
-/// docs/TRACE.md, "The deployment's procedure". It refuses where `run` does.
+/// docs/TRACE.md, "The deployment's procedure". It fails where `run` does.
 pub fn run_consuming<R: Threads + Wait + Sync, G: Gate>(
     rt: &R,
     alloc: Global,
@@ -58,6 +60,7 @@ pub fn run_consuming<R: Threads + Wait + Sync, G: Gate>(
     random: RandomState,
     gate: &G,
 ) -> Result<Parts, RunFault>
+    requires { workload.format ≡ 1 }
     ensures { IfOk result (IsRunOf workload mixer) }
 {
     let customers = workload.customers().to_vec(alloc)?;
@@ -65,7 +68,7 @@ pub fn run_consuming<R: Threads + Wait + Sync, G: Gate>(
     run_named(rt, alloc, workload, mixer, &names, gate)
 }
 
-// The run, with the customers' names looked up.
+/// Runs the workload, with the customers' names looked up.
 fn run_named<R: Threads + Wait + Sync, G: Gate>(
     rt: &R,
     alloc: Global,
@@ -74,7 +77,8 @@ fn run_named<R: Threads + Wait + Sync, G: Gate>(
     names: &Names,
     gate: &G,
 ) -> Result<Parts, RunFault>
-    requires { names.now.items ≡ customer_names workload.customers }
+    requires named { names.now.items ≡ customer_names workload.customers }
+    requires format { workload.format ≡ 1 }
     ensures { IfOk result (IsRunOf workload mixer) }
 {
     let head = workload.head();
@@ -91,6 +95,7 @@ fn run_named<R: Threads + Wait + Sync, G: Gate>(
     let outcome = outcome_of(alloc, state)?;
     let batches = plain_batches(alloc, batches)?;
     Ok(Parts {
+        version: head.version,
         quorum: head.quorum,
         window: head.window,
         workers: head.workers,
@@ -102,7 +107,7 @@ fn run_named<R: Threads + Wait + Sync, G: Gate>(
     })
 }
 
-// The state in which a run of these batches begins.
+/// The state in which a run of these batches begins.
 fn first_state<'n, 'b>(
     alloc: Global,
     head: &Head,
@@ -139,7 +144,7 @@ fn first_state<'n, 'b>(
     })
 }
 
-// Windows, until all batches are committed.
+/// Runs windows until all batches are committed.
 fn run_windows<R: Threads + Wait + Sync, G: Gate>(
     rt: &R,
     alloc: Global,
@@ -166,7 +171,7 @@ fn run_windows<R: Threads + Wait + Sync, G: Gate>(
     Ok(())
 }
 
-// What the replicas of a run did and sent, and what its verifiers gave.
+/// What the replicas of a run did and sent, and the votes of its verifiers.
 #[derive(Drop)]
 struct Outcome {
     sections: Vec<Vec<Step>>,
@@ -174,7 +179,7 @@ struct Outcome {
     sent: Vec<SentData>,
 }
 
-// What a run gives that has come to this state.
+/// What comes of a run that has come to this state.
 fn outcome_of(alloc: Global, state: RunState) -> Result<Outcome, AllocError>
     requires few { vec_len state.servers ≤ MOST_REPLICAS }
     ensures sections { IfOk result (λ o. map section o.sections.items
@@ -197,7 +202,7 @@ fn outcome_of(alloc: Global, state: RunState) -> Result<Outcome, AllocError>
     })
 }
 
-// The replicas of the run.
+/// The replicas of the run.
 fn servers_in<'n>(state: RunState<'n, '_>) -> Vec<Server<'n>>
     ensures { result ≡ state.entry.servers }
 {
@@ -228,7 +233,7 @@ fn servers_of<'n>(
     Ok(servers)
 }
 
-// A replica that has done nothing.
+/// A replica that has done nothing.
 fn server_of<'n>(
     alloc: Global,
     head: &Head,
@@ -243,13 +248,13 @@ fn server_of<'n>(
     ensures live { IfOk result (λ s. s.is_live ≡ true) }
 {
     Ok(Server {
-        replica: Replica::new(alloc, names, balances, head.workers, head.window)?,
+        replica: Replica::new(alloc, 1, names, balances, head.workers, head.window)?,
         is_live: true,
         steps: Vec::new(alloc),
     })
 }
 
-// The batches, without what their requests touch.
+/// The batches, without what their requests touch.
 fn plain_batches(alloc: Global, mixed: Vec<MixedBatch>) -> Result<Vec<BatchData>, AllocError>
     ensures { IfOk result (λ batches. map plain batches.items ≡ map (λ m. plain m.batch) mixed.items) }
 {
@@ -261,7 +266,7 @@ fn plain_batches(alloc: Global, mixed: Vec<MixedBatch>) -> Result<Vec<BatchData>
     Ok(batches)
 }
 
-// What each replica did.
+/// What each replica did.
 fn sections_of(alloc: Global, servers: Vec<Server>) -> Result<Vec<Vec<Step>>, AllocError>
     ensures { IfOk result (λ sections. map section sections.items ≡ map (λ s. section s.steps) servers.entry.items) }
 {
@@ -272,7 +277,7 @@ fn sections_of(alloc: Global, servers: Vec<Server>) -> Result<Vec<Vec<Step>>, Al
     Ok(sections)
 }
 
-// What the replica did.
+/// What the replica did.
 fn steps_of(server: Server) -> Vec<Step>
     ensures { result ≡ server.entry.steps }
 {

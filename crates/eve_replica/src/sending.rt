@@ -35,7 +35,7 @@ pub(crate) fn replies_of(
     Ok(replies)
 }
 
-// Of each batch that the replica at this place committed, the replies.
+/// The replies to each batch that the replica at this place committed.
 fn send_section(
     alloc: Global,
     replies: &mut Vec<SentData>,
@@ -67,7 +67,7 @@ fn send_section(
     Ok(())
 }
 
-// The replies of the attempt, of the replica at this place among so many.
+/// The replies of the attempt, which the replica at this place sends.
 fn send_attempt(
     replies: &mut Vec<SentData>,
     place: u8,
@@ -97,7 +97,7 @@ fn send_attempt(
     )
 }
 
-// The replies to the requests, which are of the batch with this number.
+/// The replies to the requests of the batch with this number.
 fn send_answers(
     replies: &mut Vec<SentData>,
     place: u8,
@@ -130,7 +130,7 @@ fn send_answers(
     Ok(())
 }
 
-// The reply to the request, which is in the batch with this number, where there is room for it.
+/// The reply to a request of the batch with this number, where there is room for it.
 fn send(
     replies: &mut Vec<SentData>,
     place: u8,
@@ -161,7 +161,8 @@ fn send(
     replies.push_reserved(sent);
 }
 
-// A reply of one of so many replicas, in one of so many batches.
+/// Does nothing: its contract says that the reply lies within the limits of the format, by the numbers of replicas and
+/// batches.
 fn sent_fits(sent: &SentData, replicas: usize, batches: usize)
     requires replica { sent.now.replica < replicas }
     requires seq { (1 ≤ sent.now.seq) × (sent.now.seq ≤ batches) }

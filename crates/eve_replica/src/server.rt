@@ -1,4 +1,4 @@
-//! A replica of a run, with what it did.
+//! Replicas of a run, with what they did.
 
 ghost use Rattle.std.specs.Prelude.{◌≡◌, true, false, ◌+◌, ◌-◌, ◌<◌, ◌^◌, [], ◌∷◌, ◌++◌, All, IsTrue, IsSome, OnErr};
 ghost use Rattle.std.specs.Prelude.{OnOk, length, map};
@@ -76,8 +76,8 @@ impl<'n> Server<'n> {
             .attempt_window(rt, alloc, &mut self.steps, window, gate)
     }
 
-    /// Commits the batch, which is the next, where the replica is live and its first open attempt has this token. Else
-    /// it goes on no more, and keeps its open attempts.
+    /// Commits the batch, which is the next, where the replica is live and its first open attempt has this token. Any
+    /// other replica stops, and keeps its open attempts.
     pub(crate) fn commit_or_stop(&mut self, seq: u32, token: [u8; 32]) -> Result<(), AllocError>
         requires whole { self.old.replica.is_broken ≡ false }
         requires next { self.old.is_live ≡ true → seq ≡ self.old.replica.ledger.committed + 1 }
@@ -111,7 +111,7 @@ impl<'n> Server<'n> {
         self.did(Step::Rollback(rollback))
     }
 
-    // One more thing that the replica did.
+    /// Adds a step that the replica took.
     fn did(&mut self, step: Step) -> Result<(), AllocError>
         requires right { IsTrue (is_step (ledger_rows self.old.replica.ledger) (plain step)) }
         ensures replica { self.new.replica ≡ self.old.replica }

@@ -1,4 +1,4 @@
-//! The votes of a run, which each verifier gives.
+//! The votes of a run, which are those of each verifier.
 
 ghost use Rattle.std.specs.Prelude.{◌≡◌, ◌≤◌, [], ◌∷◌, ◌++◌, map, OnOk};
 ghost use Rattle.eve_grammar.specs.Trace.{ForCommit, ForRollback};
@@ -9,7 +9,7 @@ use eve_grammar::token_fits;
 use eve_write::{ChoiceData, VoteData};
 use std::alloc::AllocError;
 
-/// One more vote, for the commit of one of so many batches.
+/// Adds a vote for the commit of a batch.
 pub(crate) fn vote_for_commit(
     votes: &mut Vec<VoteData>,
     batches: usize,
@@ -33,7 +33,7 @@ pub(crate) fn vote_for_commit(
     Ok(())
 }
 
-/// One more vote, for the rollback of one of so many batches.
+/// Adds a vote for the rollback of a batch.
 pub(crate) fn vote_for_rollback(
     votes: &mut Vec<VoteData>,
     batches: usize,

@@ -21,8 +21,8 @@ abbrev pub largest : List ℕ → ℕ
 largest [] = 0
 largest (size ∷ sizes) = max size (largest sizes)
 
--- How many of so many workers can have something to do at once, one at least: in serial mode one, else as many as the
--- largest parallelBatch has requests.
+-- How many of the workers can have something to do at once, one at least: one in serial mode, else at most as many as
+-- the largest parallelBatch has requests.
 abbrev pub crew_of : List ℕ → ℕ → Bool → ℕ
 crew_of sizes workers serial = if serial then 1 else min workers (max 1 (largest sizes))
 

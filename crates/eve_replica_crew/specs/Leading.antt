@@ -1,4 +1,4 @@
--- What a caller's part has to say of itself, which is called once with the first worker of a crew.
+-- What a caller's part ensures. It is called once, with the first worker of a crew.
 use Rattle.std.specs.Prelude.{◌≡◌}
 use denote.Ref.{MutBor}
 use denote.Param.Members.{Mut}
@@ -12,7 +12,7 @@ module _ {F A : Type 0} (g : Mut F (MutBor TicketSource × Unit {0}) (A × (MutB
     pub keeps : (p q : MutBor TicketSource) (a : A) (h : F) → p.now ≡ ticks → g.steps f (p, tt) (a, (q, tt)) h
         → q.now ≡ ticks
 
-  -- it was called with such a worker, answered this, and became that
+  -- it was called with such a worker, returned this, and became that
   pub record Led (a : A) (h : F) : Type 0 where
     pub given : MutBor TicketSource
     pub there : given.now ≡ ticks

@@ -11,7 +11,7 @@ AreRecordsFrom names b index [] = ⊤
 AreRecordsFrom names b index (r ∷ records) =
     IsRecordOf names (request_with b index) index 0 index r × AreRecordsFrom names b (index + 1) records
 
--- The first of several: records of such requests as it claimed, of worker 0, at the places from this one on.
+-- The first of several: records of the requests that it claimed, of worker 0, at the places from this one on.
 abbrev pub AreKeptFrom : List (List ℕ) → Batch → ℕ → List Applied → Type 0
 AreKeptFrom names b place [] = ⊤
 AreKeptFrom names b place (r ∷ records) =

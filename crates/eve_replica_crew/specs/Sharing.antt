@@ -25,8 +25,8 @@ pub record IsSet (s : Shared) : Type 0 where
   pub starts : length s.starts.now ≡ length s.batch.now.requests.items
   pub touched : AreLookedUp s.floor.now (plain s.batch.now) s.touched.now
 
--- A batch of several, for at most so many workers over stripes of these names: it is one, what its requests touch was
--- looked up among the names, and some workers take part.
+-- A batch of a window, for at most the given number of workers, over stripes of these names: it is a batch, what its
+-- requests touch was looked up among the names, and some workers take part.
 pub record IsRightLeg (names : List (List ℕ)) (workers : ℕ) (l : Leg) : Type 0 where
   pub batch : IsTrue (is_batch (plain l.batch.now))
   pub touched : AreLookedUp names (plain l.batch.now) l.touched.now
@@ -60,7 +60,7 @@ pub record AreSeatsAt (recorder : RecorderId) (tickets : TicketSource) (n : ℕ)
 abbrev pub IsSeatingOf : Room → Seating → Type 0
 IsSeatingOf r s = AreSeatsAt r.recorder.recorder r.claims r.leg.crew s
 
--- the seats of each of the first rooms, as many as there are seats of
+-- each room's seats, for the first rooms: one room for each of these seats
 abbrev pub AreSeatingsOf : List Room → List Seating → Type 0
 AreSeatingsOf rooms [] = ⊤
 AreSeatingsOf [] (s ∷ seatings) = ⊥

@@ -1,4 +1,4 @@
-//! Batches that are run by a crew.
+//! Batches run by a crew.
 
 ghost use Rattle.std.specs.Prelude.{◌≡◌, ◌+◌, ◌≤◌, ℕ, All, IfOk, OnErr, IsTrue, List, length, vec_len};
 ghost use Rattle.eve_grammar.specs.Limits.{is_batch};
@@ -26,13 +26,12 @@ use std::alloc::{AllocError, Global};
 use std::sync::Wait;
 use std::thread::Threads;
 
-/// Runs the batches one after another by up to all of the workers. Each worker has one thread for all the batches, so
-/// that no thread is started anew for each of them, and the first worker has this one: `own` is called in it once, with
-/// the first worker, and runs its parts by `Lead::next`. What `own` answers, and the fault of the lowest worker that
-/// has one.
+/// Runs the batches one after another, by at most all of the workers. Returns what `own` returns, and the fault of the
+/// lowest worker that has one.
 ///
-/// The workers are lent the last of the seats at the tickets of ticks, and give them back whatever comes. The lists of
-/// what they note are asked for before the first request is run.
+/// Each worker has one thread for all batches. The first worker's is the caller's: `own` is called in it once, with
+/// that worker, and runs its parts by `Lead::next`. The workers are lent the last of the seats at the tickets of ticks, and
+/// give them back whatever happens. Memory for what they note is asked for before the first request runs.
 pub fn run_batches<R: Threads + Wait + Sync, G: Gate, A, F: FnMut(&mut Lead<'_>) -> A>(
     rt: &R,
     alloc: Global,
@@ -67,7 +66,7 @@ pub fn run_batches<R: Threads + Wait + Sync, G: Gate, A, F: FnMut(&mut Lead<'_>)
     run_hands(rt, alloc, workers, &progress, hands, gate, own)
 }
 
-// The rooms of the batches, and the seats of each.
+/// The rooms of the batches, and the seats of each.
 fn furnish_all<'b>(
     alloc: Global,
     legs: &[Leg<'b>],
@@ -90,7 +89,7 @@ fn furnish_all<'b>(
     Ok((rooms, seatings))
 }
 
-// For each worker its parts in the batches, the first batch last.
+/// Each worker's parts in the batches, the first batch last.
 fn deal_all<'s, 'b>(
     alloc: Global,
     floor: &'s Floor<'s>,
@@ -120,7 +119,7 @@ fn deal_all<'s, 'b>(
     Ok(hands)
 }
 
-// What the workers share while a room's batch is run, before which there are so many requests.
+/// What the workers share while a room's batch is run, after batches with the given number of requests.
 fn shared_of<'s, 'b>(
     floor: &'s Floor<'s>,
     progress: &'s Progress,
@@ -144,7 +143,7 @@ fn shared_of<'s, 'b>(
     }
 }
 
-// For each of so many workers a list of its parts, with room for one in each batch.
+/// An empty list of parts for each worker, with room for one in each batch.
 fn empty_hands<'s>(
     alloc: Global,
     workers: usize,
@@ -160,7 +159,7 @@ fn empty_hands<'s>(
     Ok(hands)
 }
 
-// The room of a batch, with its seats.
+/// The room of a batch, with its seats.
 fn furnish<'b>(
     alloc: Global,
     leg: &Leg<'b>,
@@ -198,7 +197,7 @@ fn furnish<'b>(
     ))
 }
 
-// How many requests the largest of the batches has. Nothing rests on it but for what recorders are made.
+/// The number of requests of the largest batch. It says only how large new recorders are.
 fn most_requests(legs: &[Leg]) -> usize {
     let mut most = 0;
     for leg in legs {
@@ -207,7 +206,7 @@ fn most_requests(legs: &[Leg]) -> usize {
     most
 }
 
-// How many requests the batch has.
+/// The number of the batch's requests.
 fn count_of(batch: &BatchData) -> usize
     requires { IsTrue (is_batch (plain batch.now)) }
     ensures is { result ≡ length batch.now.requests.items }

@@ -1,4 +1,4 @@
-//! The workers that take part in batches.
+//! Workers that take part in batches.
 
 ghost use Rattle.std.specs.Prelude.{◌≡◌, ◌+◌, ◌<◌, ◌≤◌, All, IfOk, OnOk, OnErr, vec_len, vec_capacity};
 ghost use Rattle.std.specs.Option.{option_or};
@@ -28,7 +28,7 @@ use std::thread::Threads;
 /// A worker that takes part in batches.
 #[derive(Drop)]
 pub(crate) struct Member<'s> {
-    // its parts that are left, the first batch last
+    // the parts that are left, the first batch last
     pub shares: Vec<Share<'s>>,
     // its seat at the tickets of ticks
     pub tick: Option<TicketSeat>,
@@ -38,7 +38,7 @@ pub(crate) struct Member<'s> {
     pub stock: Stock,
 }
 
-/// How many of so many workers can have something to do at once: in serial mode one, else as many as the largest
+/// How many of the workers can have something to do at once: one in serial mode, else at most as many as the largest
 /// parallelBatch has requests.
 pub fn crew_size(sizes: &[u16], workers: u8, serial: bool) -> u8
     requires { 1 ≤ workers }
@@ -62,7 +62,7 @@ pub fn crew_size(sizes: &[u16], workers: u8, serial: bool) -> u8
     }
 }
 
-/// Gives each worker of the crew its part in the batch, after those that it has in later batches.
+/// Gives each worker of the crew its part in the batch, behind its parts in later batches.
 pub(crate) fn deal<'s>(
     shared: &Shared<'s>,
     crew: u8,
@@ -83,7 +83,7 @@ pub(crate) fn deal<'s>(
     Ok(())
 }
 
-// The part of the first worker, where its seats are there.
+/// The first worker's part, if its seats are there.
 fn turn_of<'s>(shared: &Shared<'s>, seating: &mut Seating) -> Turn<'s>
     requires set { IsSet shared.now }
     requires seats { AreSeatsAt shared.now.recorder.now.recorder shared.now.claims.now 1 seating.old }
@@ -102,7 +102,7 @@ fn turn_of<'s>(shared: &Shared<'s>, seating: &mut Seating) -> Turn<'s>
     }
 }
 
-// The parts of the workers below this number but the first, where the seats up to it are there.
+/// The parts of the workers from the second on and below this number, if their seats are there.
 fn deal_parts<'s>(
     shared: &Shared<'s>,
     crew: u8,
@@ -124,7 +124,7 @@ fn deal_parts<'s>(
     Ok(())
 }
 
-// The part of the worker with this number, where the seats up to it are there.
+/// The part of the worker with this number, if its seats are there.
 fn part_of<'s>(shared: &Shared<'s>, number: u8, seating: &mut Seating) -> Share<'s>
     requires set { IsSet shared.now }
     requires seats { AreSeatsAt shared.now.recorder.now.recorder shared.now.claims.now (number + 1) seating.old }
@@ -144,9 +144,9 @@ fn part_of<'s>(shared: &Shared<'s>, number: u8, seating: &mut Seating) -> Share<
     }
 }
 
-/// Each worker runs its parts, in a thread of its own where one can be started, and the first worker in this one, as
-/// its caller says. The seats at the tickets of ticks are lent to them and given back. What the caller's part answers,
-/// and the fault of the lowest worker that has one.
+/// Each worker runs its parts, in a thread of its own where one can be started; the first worker runs in this one, as
+/// its caller says. The seats at the tickets of ticks are lent to them and given back. Returns what the caller's part
+/// returns, and the fault of the lowest worker that has one.
 pub(crate) fn run_hands<R: Threads + Wait + Sync, G: Gate, A, F: FnMut(&mut Lead<'_>) -> A>(
     rt: &R,
     alloc: Global,
@@ -178,7 +178,7 @@ pub(crate) fn run_hands<R: Threads + Wait + Sync, G: Gate, A, F: FnMut(&mut Lead
     Ok((answer, dismiss(ticks, fault, members, seats, stock)))
 }
 
-// The first worker, with the last of the seats.
+/// The first worker, with the last of the seats.
 fn lead_of<'s>(
     ticks: &'s Tickets,
     progress: &'s Progress,
@@ -207,8 +207,8 @@ fn lead_of<'s>(
     }
 }
 
-// The caller's part in this thread, beside the other workers, where there are any. It begins before one of them that
-// gets no thread, which then finds no request left: so nobody waits for one that has not begun.
+/// Runs the caller's part in this thread, beside the other workers, if there are any. A worker that gets no thread
+/// begins after it, and finds no request left, so nobody waits for a worker that has not begun.
 fn run_beside<'s, R: Threads + Wait + Sync, G: Gate, A, F: FnMut(&mut Lead<'_>) -> A>(
     rt: &R,
     ticks: &Tickets,
@@ -241,7 +241,7 @@ fn run_beside<'s, R: Threads + Wait + Sync, G: Gate, A, F: FnMut(&mut Lead<'_>) 
     answer
 }
 
-// The caller's part. Where it didn't run the first worker's parts in all batches, nobody waits for that worker.
+/// Runs the caller's part. Where it leaves parts of the first worker alone, nobody waits for that worker.
 fn lead_on<A, F: FnMut(&mut Lead<'_>) -> A>(lead: &mut Lead<'_>, own: &mut F) -> A
     requires { Leads F.FnMut lead.old own.old }
     ensures lead { lead.new ≡ lead.old }
@@ -252,7 +252,7 @@ fn lead_on<A, F: FnMut(&mut Lead<'_>) -> A>(lead: &mut Lead<'_>, own: &mut F) ->
     answer
 }
 
-// The workers that have a part in some batch, the last one first, each with one of the seats at the tickets of ticks.
+/// The workers that have a part in some batch, the last one first, each with one of the seats at the tickets of ticks.
 fn muster<'s>(
     tickets: &Tickets,
     mut hands: Vec<Vec<Share<'s>>>,
@@ -286,7 +286,7 @@ fn muster<'s>(
     members
 }
 
-// Each of the other workers runs its parts.
+/// Each of the other workers runs its parts.
 fn run_members<'s, R: Threads + Wait + Sync, G: Gate>(
     rt: &R,
     tickets: &Tickets,
@@ -312,8 +312,8 @@ fn run_members<'s, R: Threads + Wait + Sync, G: Gate>(
     );
 }
 
-// The workers but the first give the seats at the tickets of ticks back, and the recorders that they made. The fault of
-// the lowest worker that has one, where this is the first worker's.
+/// Takes the seats at the tickets of ticks and the new recorders back from all workers but the first. Returns the fault
+/// of the lowest worker that has one, where this is the first worker's.
 fn dismiss(
     tickets: &Tickets,
     first: Option<ExecFault>,
@@ -339,7 +339,7 @@ fn dismiss(
     told
 }
 
-// The seat at the tickets of ticks, and the recorders that were made.
+/// The seat at the tickets of ticks, and the recorders that were made.
 fn leavings_of(tickets: &Tickets, member: Member<'_>) -> (TicketSeat, Stock)
     requires { IsSeated tickets.now member }
     ensures { result.0.tickets ≡ tickets.now }

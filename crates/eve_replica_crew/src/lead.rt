@@ -11,7 +11,7 @@ use eve_stamps::AccessRecord;
 use std::marker::Model;
 use std::sync::Wait;
 
-/// The first worker of a crew, which has a part in every batch. Between two batches it may do something else, while the
+/// The first worker of a crew, which has a part in every batch. Between two batches it may do something else while the
 /// other workers run the next one. Contracts see the tickets of ticks at which it has its seat.
 #[derive(Drop)]
 pub struct Lead<'s> {
@@ -22,7 +22,7 @@ pub struct Lead<'s> {
     pub(crate) tick: Option<TicketSeat>,
     // why it gave a request up
     pub(crate) fault: Option<ExecFault>,
-    // what was noted of the batch that was run last, with room for as many records as a batch has requests
+    // what was noted of the last batch, with room for a record of each request of a batch
     pub(crate) records: Vec<AccessRecord>,
 }
 
@@ -41,9 +41,9 @@ impl<'s> Model for Lead<'s> {
 
 impl<'s> Lead<'s> {
     /// Runs its part in the next batch, waits until the other workers have noted theirs, and takes what was noted.
-    /// Whether all of it is there: not where a request was given up, or no batch is left.
+    /// Returns whether all of it is there: not where a request was given up, or no batch is left.
     ///
-    /// Nothing is said of the records, or of when they are there: both hang on what threads did.
+    /// No clause speaks of the records, or of when they are there: both depend on what the threads did.
     pub fn next<R: Wait, G: Gate>(&mut self, rt: &R, gate: &G) -> bool
         ensures { self.new ≡ self.old }
     {
@@ -65,7 +65,7 @@ impl<'s> Lead<'s> {
         }
     }
 
-    /// What was noted of the batch that was run last.
+    /// What was noted of the last batch.
     pub fn records(&self) -> &[AccessRecord] {
         self.records.as_slice()
     }
@@ -81,7 +81,7 @@ impl<'s> Lead<'s> {
         }
     }
 
-    /// Where it hasn't run its parts in all batches, nobody is to wait for it.
+    /// Where it hasn't run all its parts, nobody is to wait for it.
     pub(crate) fn end(&self) {
         if !self.turns.is_empty() {
             self.progress.give_up();

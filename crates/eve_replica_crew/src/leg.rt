@@ -10,6 +10,6 @@ pub struct Leg<'b> {
     pub batch: &'b BatchData,
     /// What each of its requests touches, as it was looked up.
     pub touched: &'b [Touched],
-    /// How many workers take part, from 1 on.
+    /// The number of workers that take part, at least 1.
     pub crew: u8,
 }

@@ -1,5 +1,5 @@
-//! Batches run one after another by workers in threads: what they share, how they claim requests and wait for one
-//! another, and what they noted.
+//! Batches run one after another by workers in threads: what the workers share, how they claim requests and wait for
+//! one another, and what they note.
 #![tactic(auto)]
 
 mod batch;

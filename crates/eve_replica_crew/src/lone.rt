@@ -1,4 +1,4 @@
-//! Batches that one worker runs alone.
+//! Batches that a single worker runs.
 
 ghost use Rattle.std.specs.Prelude.{◌≡◌, ◌<◌, ◌≤◌, All, IfOk, IfErr, OnOk, length, vec_len, vec_capacity};
 ghost use Rattle.eve_smallbank.specs.Touch.{touched_of};
@@ -19,8 +19,8 @@ use eve_stamps::AccessRecord;
 use std::alloc::{AllocError, Global};
 use std::sync::Wait;
 
-/// A batch in which no other worker takes part. So nobody claims its requests or is waited for, and what is noted needs
-/// no queue.
+/// A batch in which no other worker takes part. Nobody claims its requests or is waited for, and its records need no
+/// queue.
 #[derive(Drop)]
 pub(crate) struct Lone<'s> {
     pub floor: &'s Floor<'s>,
@@ -28,7 +28,7 @@ pub(crate) struct Lone<'s> {
     pub ghost right: { IsRightLeg floor.now 1 leg },
 }
 
-/// The parts of the only worker there is: each batch, the first one last.
+/// The parts of the only worker: each batch, the first one last.
 pub(crate) fn lone_hands<'s>(
     alloc: Global,
     floor: &'s Floor<'s>,
@@ -81,7 +81,7 @@ pub(crate) fn run_lone<R: Wait, G: Gate>(
     Ok(())
 }
 
-// What the request with this index touches.
+/// What the request with this index touches.
 fn touched_at(lone: &Lone<'_>, index: usize) -> Touched
     requires { index < length lone.now.leg.batch.now.requests.items }
     ensures { result ≡ touched_of lone.now.floor.now (request_with (plain lone.now.leg.batch.now) index) }

@@ -1,4 +1,4 @@
-//! How far the workers are with the batches of a window.
+//! How far the workers of a window are.
 
 use crossbeam_utils::CachePadded;
 use std::hint::spin_loop;
@@ -6,14 +6,14 @@ use std::sync::Wait;
 use std::sync::atomic::{AtomicU64, Ordering};
 use std::thread::yield_now;
 
-/// What the word is raised by where a worker gives a request up: more than all requests of a window.
+/// By this the word is raised where a worker gives a request up: more than all requests of a window.
 const GIVEN_UP: u64 = 1 << 32;
 
 /// How often a worker looks at the word before it lets another thread run.
 const LOOKS: u32 = 64;
 
-/// A word that counts the requests that were noted, on cache lines of its own. Workers wait on it, and nothing else
-/// rests on it: no clause says what it counts.
+/// A word that counts the requests that were noted, on cache lines of its own. Workers only wait on it: no clause says
+/// what it counts.
 #[derive(Drop)]
 pub(crate) struct Progress {
     ended: CachePadded<AtomicU64>,
@@ -26,17 +26,17 @@ impl Progress {
         }
     }
 
-    /// So many more requests are noted. Whether to go on.
+    /// Counts `count` more requests as noted. Returns whether to go on.
     fn note(&self, count: u64) -> bool {
         self.ended.fetch_add(count, Ordering::SeqCst) < GIVEN_UP
     }
 
-    /// A request is given up, and nobody is to wait for it.
+    /// Says that a request is given up, so that nobody waits for it.
     pub(crate) fn give_up(&self) {
         self.ended.fetch_add(GIVEN_UP, Ordering::SeqCst);
     }
 
-    /// Waits until so many requests are noted or one is given up. Whether to go on.
+    /// Waits until the given number of requests are noted, or one is given up. Returns whether to go on.
     pub(crate) fn wait_for<R: Wait>(&self, rt: &R, count: u64) -> bool {
         let mut looks = 0u32;
         for _ in rt.forever() {
@@ -55,14 +55,14 @@ impl Progress {
     }
 }
 
-/// What a worker knows of the others, and what it hasn't told them yet: it counts for itself, and looks at the word and
-/// adds to it only where its next request is of a parallelBatch that may not have begun, and at its end. So workers
-/// that are in one parallelBatch don't take the word from each other at each request.
+/// What a worker knows of the others, and what they don't know of it yet. It counts for itself, and looks at the word
+/// and adds to it only at its end, and where its next request is of a parallelBatch that may not have begun. So workers
+/// in one parallelBatch don't take the word from each other at each request.
 #[derive(Drop)]
 pub(crate) struct Pace {
-    // how many requests it knows to be noted
+    // how many requests are noted, as far as it knows
     reached: u64,
-    // how many it noted since it told the others
+    // how many it noted that the word doesn't count yet
     untold: u64,
 }
 
@@ -74,13 +74,13 @@ impl Pace {
         }
     }
 
-    /// One more request is noted.
+    /// Counts one more request as noted.
     pub(crate) fn note(&mut self) {
         self.untold = self.untold.wrapping_add(1);
     }
 
-    /// Waits until so many requests are noted or one is given up, and tells what it has noted before it does. Whether
-    /// to go on.
+    /// Adds what it noted to the word, and waits until the given number of requests are noted, or one is given up.
+    /// Returns whether to go on.
     pub(crate) fn wait_for<R: Wait>(&mut self, rt: &R, progress: &Progress, count: u64) -> bool {
         if count <= self.reached {
             return true;
@@ -92,7 +92,7 @@ impl Pace {
         true
     }
 
-    /// Tells the others what it has noted. Whether to go on.
+    /// Adds what it noted to the word. Returns whether to go on.
     pub(crate) fn tell(&mut self, progress: &Progress) -> bool {
         let untold = self.untold;
         self.untold = 0;

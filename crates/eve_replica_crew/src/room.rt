@@ -1,9 +1,9 @@
-//! Where the workers of a batch note its records and claim its requests.
+//! The recorder and the tickets of one batch.
 
 use crate::leg::Leg;
 use eve_recorder::{Recorder, Seats, TicketSeats, Tickets};
 
-/// Where the workers of a batch note its records and claim its requests.
+/// The recorder on which a batch's workers note its records, and the tickets by which they claim its requests.
 #[derive(Drop)]
 pub(crate) struct Room<'b> {
     pub leg: Leg<'b>,
@@ -21,7 +21,7 @@ pub(crate) struct Seating {
     pub claims: TicketSeats,
 }
 
-/// How many requests the first so many batches have. Nothing rests on it but who waits for how long.
+/// The number of requests of the first batches, up to the given one. It says only who waits for how long.
 pub(crate) fn requests_before(rooms: &[Room<'_>], count: usize) -> u64 {
     let mut all = 0u64;
     for room in rooms.iter().take(count) {

@@ -6,7 +6,7 @@ use crate::lone::Lone;
 use crate::shared::Shared;
 use eve_recorder::{TakerSeat, TicketSeat, WorkerSeat};
 
-/// A worker's part in a batch, with its seats there, on which nothing is noted.
+/// A worker's part in a batch, with its seats there, on which nothing is noted yet.
 #[derive(Drop)]
 pub(crate) struct Share<'s> {
     pub shared: Shared<'s>,
@@ -35,11 +35,11 @@ pub(crate) enum Part<'s> {
     Beside(Turn<'s>),
 }
 
-/// The parts of the workers, of each the first batch last.
+/// The parts of the workers, each worker's first batch last.
 #[derive(Drop)]
 pub(crate) struct Hands<'s> {
-    // of the first worker, which has a part in every batch
+    // those of the first worker, which has a part in every batch
     pub turns: Vec<Part<'s>>,
-    // of each worker, but none of the first
+    // those of each worker, none for the first
     pub others: Vec<Vec<Share<'s>>>,
 }

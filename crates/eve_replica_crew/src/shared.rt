@@ -9,8 +9,8 @@ use eve_smallbank::Touched;
 use eve_write::BatchData;
 use std::alloc::{AllocError, Global};
 
-/// What the workers share while a batch is run: the stripes of the replica, the batch, the recorder, the tickets by
-/// which requests are claimed, and how far they are.
+/// What the workers share while a batch is run: the replica's stripes, the batch, the recorder, the tickets by which
+/// requests are claimed, and how far the workers are.
 #[derive(Clone, Copy)]
 pub(crate) struct Shared<'s> {
     pub floor: &'s Floor<'s>,
@@ -22,11 +22,11 @@ pub(crate) struct Shared<'s> {
     // for each request the index of the first of its parallelBatch
     pub starts: &'s [u16],
     pub progress: &'s Progress,
-    // how many requests the batches before it have
+    // the number of requests of the batches before it
     pub before: u64,
 }
 
-/// For each of so many requests the index of the first in its parallelBatch.
+/// For each request of the batch the index of the first in its parallelBatch.
 pub(crate) fn starts_of(alloc: Global, sizes: &[u16], count: u16) -> Result<Vec<u16>, AllocError>
     ensures { IfOk result (λ starts. vec_len starts ≡ count) }
 {

@@ -1,4 +1,4 @@
-//! Recorders that are made before there is a batch for them.
+//! Recorders that are made ahead of their batches.
 
 ghost use Rattle.std.specs.Prelude.{◌≡◌, ◌≤◌};
 ghost use Rattle.eve_grammar.specs.declared.limits.TheConstants.{MOST_WORKERS};
@@ -13,7 +13,7 @@ use std::alloc::{AllocError, Global};
 pub(crate) struct Spare {
     pub recorder: Recorder,
     pub places: Seats,
-    // for a batch of how many requests it was made
+    // the number of requests of the batches that it is for
     room: usize,
     pub ghost many: { recorder.recorder.workers ≡ MOST_WORKERS },
     pub ghost fresh: { places ≡ fresh_places recorder.recorder },
@@ -32,19 +32,19 @@ impl Spare {
 }
 
 /// Recorders for batches to come. Making one takes time, so the other workers make them while the first one has more to
-/// do than they have. Nothing rests on how many there are: one that is lacking is made when it is needed.
+/// do than they have. One that is lacking is made when it is needed.
 #[derive(Drop)]
 pub(crate) struct Stock {
     alloc: Global,
     spares: Vec<Spare>,
-    // how many there are to be
+    // the number of them that there should be
     wanted: usize,
-    // for batches of how many requests they are made
+    // the number of requests of the batches that they are for
     room: usize,
 }
 
 impl Stock {
-    /// None yet, of so many, for batches of so many requests.
+    /// None yet: there should be `wanted` of them, for batches of `room` requests.
     pub(crate) fn new(alloc: Global, wanted: usize, room: usize) -> Stock {
         Stock {
             alloc,
@@ -54,7 +54,7 @@ impl Stock {
         }
     }
 
-    /// One for a batch of so many requests: one that is there, or a new one.
+    /// One for a batch of the given number of requests: one that is there, or a new one.
     pub(crate) fn take(&mut self, room: usize) -> Result<Spare, AllocError> {
         if let Some(spare) = self.spares.pop() {
             if room <= spare.room {
@@ -65,13 +65,13 @@ impl Stock {
         Spare::new(self.alloc, room)
     }
 
-    /// From now on there are to be so many, for batches of so many requests.
+    /// From now on there should be `count` of them, for batches of `room` requests.
     pub(crate) fn want(&mut self, count: usize, room: usize) {
         self.wanted = count;
         self.room = room;
     }
 
-    /// What is lacking, for one of so many workers to make its part of it.
+    /// One worker's part of what is lacking, where the given number of workers make it.
     pub(crate) fn part(&self, workers: usize) -> Stock
         requires { 1 ≤ workers }
     {
@@ -79,7 +79,7 @@ impl Stock {
         Stock::new(self.alloc, lacking.div_ceil(workers), self.room)
     }
 
-    /// Makes what is lacking, as far as there is memory.
+    /// Makes what is lacking, as long as there is memory.
     pub(crate) fn fill(&mut self) {
         for number in self.spares.len()..self.wanted {
             if self.spares.reserve(1).is_err() {
@@ -92,7 +92,7 @@ impl Stock {
         }
     }
 
-    /// Takes what another has, where there is memory for it.
+    /// Takes over those of another, if there is memory for them.
     pub(crate) fn absorb(&mut self, mut part: Stock) {
         let _ = self.spares.append(&mut part.spares);
     }

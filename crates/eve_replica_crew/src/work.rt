@@ -1,4 +1,4 @@
-//! What each worker does in its batches.
+//! A worker's parts in its batches.
 
 ghost use Rattle.std.specs.Prelude.{◌≡◌, ◌+◌, ◌<◌, ◌≤◌, IfOk, IfSome, OnOk, length, vec_len, vec_capacity};
 ghost use Rattle.eve_smallbank.specs.Touch.{touched_of};
@@ -21,7 +21,7 @@ use eve_smallbank::Touched;
 use eve_stamps::{AccessRecord, MOST_PLACES};
 use std::sync::Wait;
 
-/// Runs the worker's parts in one batch after another, until one is given up, by it or by another worker.
+/// Runs the worker's parts in one batch after another, until it or another worker gives a request up.
 pub(crate) fn run_parts<R: Wait, G: Gate>(
     rt: &R,
     ticks: &Tickets,
@@ -44,8 +44,8 @@ pub(crate) fn run_parts<R: Wait, G: Gate>(
     }
 }
 
-/// Runs what the first worker has to do of a batch, and then knows what was noted of all of it. Its fault, where it
-/// gives a request up, and none where another worker did.
+/// Runs the first worker's part in a batch, and takes what was noted of the whole batch. The error is the worker's own
+/// fault, or none where another worker gave a request up.
 pub(crate) fn run_own<R: Wait, G: Gate>(
     rt: &R,
     ticks: &Tickets,
@@ -69,8 +69,8 @@ pub(crate) fn run_own<R: Wait, G: Gate>(
     }
 }
 
-// Runs the first worker's part in one batch, whose records it keeps, and takes what the others noted of the batch, once
-// all of it is. Its fault, where it gives a request up, and none where another worker did.
+/// Runs the first worker's part in one batch, keeps its records, and takes what the others noted, once all is noted.
+/// The error is the worker's own fault, or none where another worker gave a request up.
 fn run_turn<R: Wait, G: Gate>(
     rt: &R,
     ticks: &Tickets,
@@ -99,7 +99,7 @@ fn run_turn<R: Wait, G: Gate>(
     Ok(())
 }
 
-// Claims requests of the batch and runs them, as `run_share` does, and keeps the record of each.
+/// Claims requests of the batch and runs them, as `run_share` does, and keeps their records.
 fn run_kept<R: Wait, G: Gate>(
     rt: &R,
     ticks: &Tickets,
@@ -148,8 +148,8 @@ fn run_kept<R: Wait, G: Gate>(
     tell(&mut pace, shared.progress)
 }
 
-// The next request that nobody has claimed, by its index, once those of all batches before and of all parallelBatches
-// before its own are noted. An error where one was given up.
+/// Claims the next request and returns its index, once all requests of earlier batches and of earlier parallelBatches
+/// are noted. An error where one was given up.
 fn next_due<R: Wait>(
     rt: &R,
     shared: &Shared<'_>,
@@ -174,14 +174,14 @@ fn next_due<R: Wait>(
     }
 }
 
-// How many requests are noted once the batch is. Nothing rests on it but for how long the first worker waits.
+/// The number of requests that are noted once the batch is. It says only for how long the first worker waits.
 fn noted_after(shared: &Shared<'_>) -> u64 {
     shared
         .before
         .saturating_add(shared.batch.requests.len() as u64)
 }
 
-// Tells the others what the worker has noted, at the end of its part. An error where a request was given up.
+/// Counts for the others what the worker noted, at the end of its part. An error where a request was given up.
 fn tell(pace: &mut Pace, progress: &Progress) -> Result<(), Option<ExecFault>> {
     if pace.tell(progress) {
         Ok(())
@@ -190,7 +190,7 @@ fn tell(pace: &mut Pace, progress: &Progress) -> Result<(), Option<ExecFault>> {
     }
 }
 
-// Takes what the others noted of the batch, until there are as many records as it has requests.
+/// Takes what the others noted of the batch, until there is a record of each request.
 fn take_rest<R: Wait>(
     rt: &R,
     shared: &Shared<'_>,
@@ -211,8 +211,8 @@ fn take_rest<R: Wait>(
     }
 }
 
-// Runs the worker's part in one batch, and gives the seat at the tickets of ticks back. Its fault, where it gives a
-// request up, and none where another worker did.
+/// Runs the worker's part in one batch, and returns the seat at the tickets of ticks. The error is the worker's own
+/// fault, or none where another worker gave a request up.
 fn run_part<R: Wait, G: Gate>(
     rt: &R,
     ticks: &Tickets,
@@ -234,7 +234,7 @@ fn run_part<R: Wait, G: Gate>(
     (tick_of(worker), end)
 }
 
-// The worker's seat at the tickets of ticks.
+/// The worker's seat at the tickets of ticks.
 fn tick_of(mut worker: Worker) -> TicketSeat
     ensures { result.tickets ≡ worker.tickets.tickets }
 {
@@ -246,8 +246,8 @@ fn tick_of(mut worker: Worker) -> TicketSeat
     }
 }
 
-// Claims requests of the batch and runs them, one after another, until they run out. A request waits until those of
-// all batches before and of all parallelBatches before its own are noted.
+/// Claims requests of the batch and runs them, one after another, until none is left. A request waits until those of
+/// earlier batches and of earlier parallelBatches are noted.
 fn run_share<R: Wait, G: Gate>(
     rt: &R,
     ticks: &Tickets,
@@ -275,7 +275,7 @@ fn run_share<R: Wait, G: Gate>(
     tell(&mut pace, shared.progress)
 }
 
-// The next request that nobody has claimed, by its index.
+/// Claims the next request and returns its index.
 fn claim(shared: &Shared<'_>, claims: &mut TicketSeat) -> Option<u16>
     requires set { IsSet shared.now }
     requires own { claims.old.tickets ≡ shared.now.claims.now }
@@ -290,7 +290,7 @@ fn claim(shared: &Shared<'_>, claims: &mut TicketSeat) -> Option<u16>
     }
 }
 
-// Runs the request with this index. Why it is given up, if it is.
+/// Runs the request with this index. The error is why it is given up.
 fn run_one<R: Wait, G: Gate>(
     rt: &R,
     ticks: &Tickets,
@@ -327,7 +327,7 @@ fn run_one<R: Wait, G: Gate>(
     }
 }
 
-// What the request with this index touches.
+/// What the request with this index touches.
 fn touched_at(shared: &Shared<'_>, index: u16) -> Touched
     requires set { IsSet shared.now }
     requires there { index < length shared.now.batch.now.requests.items }

@@ -11,7 +11,7 @@ use std::alloc::{AllocError, Global};
 use std::marker::Model;
 
 /// The workers of a replica: the tickets from which ticks are drawn, a seat there for each worker, and recorders for
-/// batches to come. Contracts see the tickets and how many workers there are (`Workforce`).
+/// batches to come. Contracts see the tickets and the number of workers (`Workforce`).
 #[derive(Drop)]
 pub struct Workers {
     pub(crate) ticks: Tickets,
@@ -34,7 +34,7 @@ impl Model for Workers {
 }
 
 impl Workers {
-    /// So many workers, from 1 on, which have run nothing.
+    /// The given number of workers, at least 1, which have run nothing.
     pub fn new(alloc: Global, many: u8) -> Result<Workers, AllocError>
         requires { (1 ≤ many) × (many ≤ MOST_WORKERS) }
         ensures { IfOk result (λ w. w.many ≡ many) }
@@ -49,7 +49,7 @@ impl Workers {
         })
     }
 
-    /// How many workers there are.
+    /// The number of workers.
     pub fn many(&self) -> u8
         ensures is { result ≡ self.now.many }
         ensures range { (1 ≤ result) × (result ≤ MOST_WORKERS) }
@@ -58,7 +58,7 @@ impl Workers {
     }
 }
 
-// The seats of so many workers.
+/// The seats of all workers.
 fn seats_of(
     tickets: &Tickets,
     mut all: TicketSeats,

@@ -1,19 +1,20 @@
 -- What is held stays a stripe: when it is made, noted in, settled and undone.
 use Rattle.std.proofs.Common.{◌≡◌, ℕ, ◌<◌, ◌≤◌, nat_le, nat_lt, Bool, true, false, cond, ◌||◌, not, IsTrue, List, []}
-use Rattle.std.proofs.Common.{◌∷◌, ◌++◌, filter, slice_get, get_or, Option, Some, None, refl, sym, subst, ap, ◌∙◌}
+use Rattle.std.proofs.Common.{◌∷◌, ◌++◌, map, filter, slice_get, get_or, Option, Some, None, refl, sym, subst, ap, ◌∙◌}
 use Rattle.std.proofs.Common.{arith}
 use Rattle.std.specs.List.{AllByRecursion}
 use Rattle.std.proofs.lemmas.Bool.{ltb-true, leb-true, le-leb, le-ltb, false≢true, not-true}
 use Rattle.std.proofs.lemmas.Option.{get_or_from_slice_get}
 use Rattle.eve_smallbank.specs.declared.entry.Entry.{Entry}
+use Rattle.eve_smallbank.specs.declared.versioned.Versioned.{Versioned}
 use Rattle.eve_smallbank.specs.Chain.{Table, Sees, table_after}
 use Rattle.eve_grammar.specs.declared.limits.TheConstants.{MOST_VERSIONS}
-use Rattle.eve_grammar.proofs.Lists.{all-push, all-filter}
+use Rattle.eve_grammar.proofs.Lists.{all-push, all-filter, all-slice_get}
 use Rattle.eve_stamps.specs.declared.journal.Journaled.{Journaled}
 use Rattle.eve_stamps.specs.Stripes.{HeldRow, Stripe, IsStripe, lies_in, has_row, table_in, row_in, rows_in_table}
 use Rattle.eve_stamps.specs.Stripes.{RowsRise, AreWithinLimit, committed, rows_now, table_after_journal, AreJournaled}
 use Rattle.eve_stamps.specs.Stripes.{JournalRises, IsEntryIn, is_within, is_above, stripe_with}
-use Rattle.eve_stamps.specs.Stripes.{settled_to}
+use Rattle.eve_stamps.specs.Stripes.{settled_to, row_with, row_installed, HaveRightVersions}
 use Rattle.eve_stamps.specs.Stamping.{has_row_in_two, rows_in_two, entries_within, entries_outside}
 use Rattle.eve_stamps.specs.Holding.{stripe_held, IsHeldStripe, IsPlaceOf, CanBeNoted}
 use Rattle.eve_stamps.proofs.RowLaws.{rows_in_table-self, rows_in_table-twice, RowsRise-rows, row_at, lies_at}
@@ -22,10 +23,11 @@ use Rattle.eve_stamps.proofs.JournalLaws.{split_at_tick}
 use Rattle.eve_stamps.proofs.Settling.{all_still_in, all_own_still}
 use Rattle.eve_stamps.proofs.Versions.{limit_at, limit_after, limit_before, all_sees}
 
--- ---- at first
+-- ---- nothing journaled
 
-pub held_first : (rows : List HeldRow) → RowsRise rows → AreWithinLimit rows → IsHeldStripe rows rows [] None
-held_first rows rise limit = record {
+pub held_alone : (rows : List HeldRow) (greatest : Option ℕ) → RowsRise rows → AreWithinLimit rows
+    → IsHeldStripe rows rows [] greatest
+held_alone rows greatest rise limit = record {
   stands = record {
     rows = rise;
     own = tt;
@@ -36,6 +38,59 @@ held_first rows rise limit = record {
   };
   as_now = sym (rows_in_table-self rows rise);
 }
+
+-- the committed rows lie within the limit, too
+committed_limit : (base rows : List HeldRow) (journal : List Journaled) (greatest : Option ℕ)
+    → IsHeldStripe base rows journal greatest → AreWithinLimit base
+committed_limit base rows journal greatest holds =
+    subst AreWithinLimit (rows_in_table-self base holds.stands.rows)
+    (limit_before (table_in base) journal base holds.stands.seen holds.stands.limit)
+
+pub held_undone : (base rows : List HeldRow) (journal : List Journaled) (greatest : Option ℕ)
+    → IsHeldStripe base rows journal greatest → IsHeldStripe base base [] greatest
+held_undone base rows journal greatest holds =
+    held_alone base greatest holds.stands.rows (committed_limit base rows journal greatest holds)
+
+-- ---- a state installed
+
+same_row : (from : List Versioned) (r : HeldRow) → (row_installed from r).row ≡ r.row
+same_row from r = step (slice_get from r.row)
+  where
+    step : (o : Option Versioned) → (row_with r o).row ≡ r.row
+    step None = refl
+    step (Some v) = refl
+
+all_above : (from : List Versioned) (row : ℕ) (rows : List HeldRow) → AllByRecursion (λ q. row < q.row) rows
+    → AllByRecursion (λ q. row < q.row) (map (row_installed from) rows)
+all_above from row [] above = tt
+all_above from row (r ∷ rows) above =
+    (subst (λ n. row < n) (sym (same_row from r)) above.0, all_above from row rows above.1)
+
+installed_rise : (from : List Versioned) (rows : List HeldRow) → RowsRise rows
+    → RowsRise (map (row_installed from) rows)
+installed_rise from [] rise = tt
+installed_rise from (r ∷ rows) rise = (
+  subst (λ n. AllByRecursion (λ q. n < q.row) (map (row_installed from) rows)) (sym (same_row from r))
+      (all_above from r.row rows rise.0),
+  installed_rise from rows rise.1,
+)
+
+installed_limit : (from : List Versioned) (rows : List HeldRow) → HaveRightVersions from → AreWithinLimit rows
+    → AreWithinLimit (map (row_installed from) rows)
+installed_limit from [] versions limit = tt
+installed_limit from (r ∷ rows) versions limit =
+    (step (slice_get from r.row) refl, installed_limit from rows versions limit.1)
+  where
+    step : (o : Option Versioned) → slice_get from r.row ≡ o → (row_with r o).version ≤ MOST_VERSIONS
+    step None at = limit.0
+    step (Some v) at = all-slice_get (λ (w : Versioned). w.version ≤ MOST_VERSIONS) from r.row v versions at
+
+pub held_installed : (from : List Versioned) (base rows : List HeldRow) (journal : List Journaled)
+    (greatest : Option ℕ) → HaveRightVersions from → IsHeldStripe base rows journal greatest
+    → IsHeldStripe (map (row_installed from) base) (map (row_installed from) base) [] greatest
+held_installed from base rows journal greatest versions holds =
+    held_alone (map (row_installed from) base) greatest (installed_rise from base holds.stands.rows)
+    (installed_limit from base versions (committed_limit base rows journal greatest holds))
 
 -- ---- one row
 
@@ -257,19 +312,3 @@ held_settled base rows settled journal rest greatest tick holds e f =
     } in
     subst (λ (bs : List HeldRow). IsHeldStripe bs rows rest greatest) (sym e)
     (subst (λ (js : List Journaled). IsHeldStripe t.base rows js greatest) (sym f) whole)
-
--- ---- undone
-
-pub held_undone : (base rows : List HeldRow) (journal : List Journaled) (greatest : Option ℕ)
-    → IsHeldStripe base rows journal greatest → IsHeldStripe base base [] greatest
-held_undone base rows journal greatest holds = record {
-  stands = record {
-    rows = holds.stands.rows;
-    own = tt;
-    rising = tt;
-    within = tt;
-    seen = tt;
-    limit = limit_before (table_in base) journal base holds.stands.seen holds.stands.limit;
-  };
-  as_now = sym (rows_in_table-self base holds.stands.rows);
-}

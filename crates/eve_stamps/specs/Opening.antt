@@ -29,7 +29,7 @@ abbrev pub rows_of_customer : List ℤ → ℕ → List HeldRow
 rows_of_customer balances customer =
     opening_row balances (saving_row customer) ∷ opening_row balances (checking_row customer) ∷ []
 
--- the rows of the stripe, where there are so many customers
+-- the rows of the stripe, of the given number of customers
 abbrev pub rows_of_stripe : List ℤ → ℕ → ℕ → List HeldRow
 rows_of_stripe balances stripe customers =
     flat_map (rows_of_customer balances) (filter (λ c. stripe_of_customer c == stripe) (range_with_len 0 customers))

@@ -1,9 +1,10 @@
 -- Rows with a committed base and a journal of what was written since. docs/MODEL.md, "Stripe".
 use Rattle.std.specs.Prelude.{ℕ, pos, ◌<◌, ◌≤◌, nat_le, nat_lt, ◌==◌, Bool, true, false, IsTrue, if◌then◌else◌, ⊤, List}
-use Rattle.std.specs.Prelude.{[], ◌∷◌, ◌++◌, map, filter, Option, Some, None}
+use Rattle.std.specs.Prelude.{[], ◌∷◌, ◌++◌, map, filter, slice_get, Option, Some, None}
 use Rattle.std.specs.List.{AllByRecursion, list_any}
 use Rattle.eve_smallbank.specs.declared.entry.Entry.{Entry}
 use Rattle.eve_smallbank.specs.Access.{writes_row}
+use Rattle.eve_smallbank.specs.declared.versioned.Versioned.{Versioned}
 use Rattle.eve_smallbank.specs.Chain.{Table, Sees, table_after}
 use Rattle.eve_grammar.specs.declared.restore.Restore.{Restore}
 use Rattle.eve_grammar.specs.declared.limits.TheConstants.{MOST_VERSIONS}
@@ -126,6 +127,23 @@ settled_to tick s = record {
 -- the journal is gone
 abbrev pub without_journal : Stripe → Stripe
 without_journal s = record { base = s.base; journal = []; greatest = s.greatest }
+
+-- no version of these is past the limit
+abbrev pub HaveRightVersions : List Versioned → Type 0
+HaveRightVersions rows = AllByRecursion (λ v. v.version ≤ MOST_VERSIONS) rows
+
+-- the row with this version and value, if there are any
+abbrev pub row_with : HeldRow → Option Versioned → HeldRow
+row_with r (Some v) = record { row = r.row; version = v.version; value = v.value }
+row_with r None = r
+
+-- the row as it is among these rows, which are listed by number; as it was where it isn't among them
+abbrev pub row_installed : List Versioned → HeldRow → HeldRow
+row_installed rows r = row_with r (slice_get rows r.row)
+
+-- the base has what these rows have, and the journal is gone
+abbrev pub installed : List Versioned → Stripe → Stripe
+installed rows s = record { base = map (row_installed rows) s.base; journal = []; greatest = s.greatest }
 
 -- whether the journal wrote the row
 abbrev pub was_written : List Journaled → ℕ → Bool

@@ -1,4 +1,4 @@
-//! A request on the stripes that it is lent.
+//! Requests applied to the stripes that are lent to them.
 
 ghost use Rattle.std.specs.Prelude.{◌≡◌, ◌<◌, ◌≤◌, ◌+◌, ℕ, Bool, List, IsTrue, IfSome, IfOk, OnOk, OnErr, ◌&&◌};
 ghost use Rattle.std.specs.Prelude.{not, map, if◌then◌else◌, [], ◌∷◌, ◌++◌, length};
@@ -28,7 +28,7 @@ use std::collections::VecDeque;
 /// Runs the request on the stripe's rows as they are now, and notes it in the stripe's journal.
 ///
 /// `touched` is the answer of `touched` for this request and the customers; all its rows have to lie in the stripe.
-/// A request that touches no row is noted too, with no entries. After a refusal the stripe is as it was.
+/// A request that touches no row is noted too, with no entries. A refusal changes nothing.
 ///
 /// docs/MODEL.md, "Stripe", "Entries", "A record fits its request".
 pub fn apply(
@@ -70,12 +70,12 @@ pub fn apply(
     Ok(AccessRecord::new(stamp, reply, entries))
 }
 
-/// Runs the request on the rows of both stripes as they are now: a row that lies in both is seen and written in the
+/// Runs the request on the rows of both stripes as they are now. A row that lies in both is seen and written in the
 /// first alone.
 ///
-/// The first stripe's journal gains the entries of its rows, the second's the others, each at the tick and each also
-/// where it has none. Conditions and refusals are those of `apply`, with both stripes; after a refusal both are as
-/// they were.
+/// The first stripe's journal gains the entries of its rows, the second's the others, each at the tick, and an empty
+/// item where there are none. Conditions and refusals are those of `apply`, with both stripes. A refusal changes
+/// nothing.
 ///
 /// docs/MODEL.md, "Stripe", "Entries", "A record fits its request".
 pub fn apply_two(
@@ -166,7 +166,7 @@ fn run(
     Ok(executed(request, touched, &seen))
 }
 
-/// Takes the writes of one more request, and journals its entries.
+/// Writes the entries of one more request, and journals them.
 fn note(
     base: &[HeldRow],
     rows: &mut [HeldRow],
@@ -248,7 +248,7 @@ fn are_above(first: &Stripe, second: &Stripe, tick: u64) -> bool
     first.is_above(tick) && second.is_above(tick)
 }
 
-/// Room for one more item in each.
+/// Reserves room for one more item in each.
 fn reserve_in_both(
     first: &mut VecDeque<Journaled>,
     second: &mut VecDeque<Journaled>,
@@ -262,7 +262,7 @@ fn reserve_in_both(
     second.reserve(1)
 }
 
-/// Whether a row that is to be written has the greatest version.
+/// Whether some row that is to be written has the greatest version.
 fn are_worn(rows: &UpToThree<(Row, Kind)>, seen: &UpToThree<HeldRow>) -> bool
     requires { length seen.now ≡ length rows.now }
     ensures { (now : Table) → seen.now ≡ map (λ r. row_in now r.0) rows.now → result ≡ is_worn now rows.now }

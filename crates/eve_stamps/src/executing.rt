@@ -1,4 +1,4 @@
-//! What a request does where it meets rows.
+//! What a request does to the rows that it sees.
 
 ghost use Rattle.std.specs.Prelude.{◌≡◌, ◌<◌, ℕ, Bool, true, false, List, Some, length, map, take, slice_get};
 ghost use Rattle.std.specs.List.{list_all, AllByRecursion};
@@ -14,7 +14,7 @@ use crate::HeldRow;
 use eve_accounts::Cents;
 use eve_smallbank::{Effect, Entry, Reply, Request, Touched, UpToThree, decide, laws};
 
-/// What the request replies, and its entries, where it meets these rows.
+/// The request's reply and its entries where it sees these rows.
 pub fn executed(
     request: &Request,
     touched: &Touched,
@@ -38,7 +38,7 @@ pub fn executed(
     (decision.reply, entries_of(seen, &decision.effects))
 }
 
-/// The values of the rows, first in an array.
+/// The values of the rows, at the front of an array.
 fn values_in(seen: &UpToThree<HeldRow>) -> [Cents; 3]
     ensures { take (length seen.now) result ≡ map (λ r. r.value) seen.now }
 {

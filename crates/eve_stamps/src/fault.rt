@@ -1,14 +1,13 @@
-//! Why a request isn't applied.
+//! Why a request isn't applied to stripes.
 
-/// Why a request is refused by the stripes that it is lent, in the order in which it is tested. The stripes are then
-/// as they were.
+/// Why stripes refuse a request, in the order of the tests. A refusal changes nothing.
 #[derive(Clone, Copy, Debug, PartialEq, Eq)]
 pub enum StampFault {
-    /// A row that it touches lies in no lent stripe.
+    /// A row that the request touches lies in no lent stripe.
     NoRow,
     /// The tick isn't above the greatest that a lent stripe has had.
     TickOrder,
-    /// A row that it is to write is at version 2^40.
+    /// A row that the request writes is at version 2^40.
     Worn,
     /// No memory is left.
     Memory,

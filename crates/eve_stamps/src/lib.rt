@@ -5,6 +5,7 @@ mod applying;
 mod executing;
 mod fault;
 mod held_row;
+mod installing;
 mod journal;
 pub mod laws;
 mod limits;

@@ -1,7 +1,7 @@
-//! How many stripes there are, and how many records a worker notes.
+//! The number of stripes, and of places for a worker's records.
 
-/// How many stripes the rows of all customers lie in.
+/// The number of stripes in which the rows of all customers lie.
 pub const STRIPES: u32 = 16;
 
-/// Places of a worker's records: the place of each is below it.
+/// The place of each record that a worker notes is below this number.
 pub const MOST_PLACES: usize = 65_536;

@@ -1,4 +1,4 @@
-//! What each stripe has at first.
+//! The stripes of an opening.
 
 ghost use Rattle.std.specs.Prelude.{◌≡◌, ◌*◌, ◌≤◌, ◌<◌, IfOk, length, None, []};
 ghost use Rattle.eve_stamps.specs.Opening.{opening_row, rows_of_stripe};
@@ -8,7 +8,7 @@ use crate::{HeldRow, Stripe};
 use eve_accounts::{Balances, MOST_NAMES, Row};
 use std::alloc::{AllocError, Global};
 
-/// The stripe with its rows of so many customers, at version 0 with their opening balances.
+/// The stripe with this number, for the given number of customers: its rows at version 0, with their opening balances.
 pub fn opening_stripe(
     alloc: Global,
     balances: &Balances,
@@ -24,7 +24,7 @@ pub fn opening_stripe(
     Stripe::new(alloc, rows.as_slice())
 }
 
-// The rows of so many customers that lie in the stripe, at version 0 with their opening balances.
+/// The stripe's rows for the given number of customers, at version 0 with their opening balances.
 fn opening_rows(
     alloc: Global,
     balances: &Balances,

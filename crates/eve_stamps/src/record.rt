@@ -1,4 +1,4 @@
-//! What a worker noted of a request.
+//! Access records: what a worker noted of a request.
 
 ghost use Rattle.std.specs.Prelude.{◌≡◌, []};
 ghost use Rattle.eve_smallbank.specs.declared.request.Reply.TheVariants.{Aborted};
@@ -86,7 +86,7 @@ impl AccessRecord {
         self.stamp.tick
     }
 
-    /// What the request was told.
+    /// The reply to the request.
     pub fn reply(&self) -> Reply
         ensures { result ≡ self.now.reply }
     {

@@ -16,8 +16,8 @@ use eve_grammar::Restore;
 use eve_smallbank::{Entry, Kind, UpToThree};
 use std::collections::VecDeque;
 
-/// Where the row stands, if it does. It is looked for first where it stands in a stripe of an opening, and by halving
-/// where it isn't there.
+/// The row's place among these, if it is one of them. It is looked for first at its place in an opening's stripe, then
+/// by binary search.
 pub fn place_of(rows: &[HeldRow], row: Row) -> Option<usize>
     requires { RowsRise rows.now }
     ensures { IsPlaceOf rows.now row result }
@@ -30,12 +30,12 @@ pub fn place_of(rows: &[HeldRow], row: Row) -> Option<usize>
         .ok()
 }
 
-// Where the row stands in a stripe that has both rows of every sixteenth customer.
+/// The row's place in a stripe that has both rows of every sixteenth customer.
 fn opening_place(row: Row) -> usize {
     (row.number() / 2 / STRIPES * 2 + row.number() % 2) as usize
 }
 
-/// Takes the writes among the entries.
+/// Writes the rows as the entries do.
 pub fn write(rows: &mut [HeldRow], entries: &UpToThree<Entry>)
     requires rise { RowsRise rows.old }
     requires entries { AllByRecursion (IsEntryIn rows.old) entries.now }
@@ -66,7 +66,7 @@ fn write_one(rows: &mut [HeldRow], entry: &Entry)
     }
 }
 
-/// Takes the writes of the journal up to the tick, off the front of the journal.
+/// Writes the rows as the journal does up to the tick, and takes these items off its front.
 pub fn settle_up_to(rows: &mut [HeldRow], journal: &mut VecDeque<Journaled>, tick: u64)
     requires rise { RowsRise rows.old }
     requires ticks { JournalRises journal.old.items }
@@ -84,7 +84,7 @@ pub fn settle_up_to(rows: &mut [HeldRow], journal: &mut VecDeque<Journaled>, tic
     }
 }
 
-/// How many rows have another version now.
+/// The number of rows that have another version now.
 pub fn changed_count(base: &[HeldRow], now: &[HeldRow]) -> usize
     requires { length now.now ≡ length base.now }
     ensures { result ≡ length (rows_changed base.now now.now) }
@@ -96,7 +96,7 @@ pub fn changed_count(base: &[HeldRow], now: &[HeldRow]) -> usize
     count
 }
 
-/// Appends the rows that have another version now, where there is room.
+/// Appends the rows that have another version now, as they are in the base.
 pub fn append_changed(base: &[HeldRow], now: &[HeldRow], restores: &mut Vec<Restore>)
     requires as_many { length now.now ≡ length base.now }
     requires room { vec_len restores.old + length (rows_changed base.now now.now) ≤ vec_capacity restores.old }

@@ -17,7 +17,7 @@ fn stripe_of(row: Row) -> usize
     (row.number() / 2 % STRIPES) as usize
 }
 
-/// The first and the last of the stripes that a request locks. They are one where its rows lie in one stripe.
+/// The first and the last of the stripes that a request locks: the same one where its rows lie in one stripe.
 #[derive(Clone, Copy)]
 pub struct Span {
     /// The stripe that is locked first.
@@ -26,8 +26,8 @@ pub struct Span {
     pub last: usize,
 }
 
-/// The stripes of a request's rows: those of its first row and of its last, since a request has the rows of two
-/// customers at most, one after the other. Of no rows it says nothing.
+/// The stripes of a request's rows: those of its first row and of its last, since a request has the rows of at most
+/// two customers, one customer after the other. There is some row, or the answer means nothing.
 ///
 /// docs/MODEL.md, "Schedule".
 pub fn span_of(rows: &UpToThree<(Row, Kind)>) -> Span

@@ -1,6 +1,6 @@
 //! Who ran a request, and when.
 
-/// Who ran which request, and at which tick. Contracts see the same four numbers in its record (`Applied`).
+/// Who ran which request, and at which tick. Contracts see these numbers in the record (`Applied`).
 ///
 /// docs/MODEL.md, "Schedule".
 #[derive(Clone, Copy, PartialEq, Eq)]

@@ -84,7 +84,7 @@ impl Stripe {
         ensures { self.new ≡ settled_to tick self.old }
     {
         if self.is_all_up_to(tick) && self.rows.len() / 8 <= self.journal.len() {
-            // So few rows are copied sooner than written entry by entry.
+            // Copying is faster here than writing entry by entry.
             self.base.copy_from_slice(&self.rows);
             self.journal.clear();
             return;
@@ -112,7 +112,7 @@ impl Stripe {
         Ok(())
     }
 
-    /// Returns to the committed base, and tells nothing. It takes no memory.
+    /// Returns to the committed base, and lists nothing. It takes no memory.
     pub fn go_back(&mut self)
         ensures { self.new ≡ without_journal self.old }
     {
@@ -130,7 +130,7 @@ impl Stripe {
         }
     }
 
-    /// Whether it has had no tick past this one. Then the journal is all up to it.
+    /// Whether its greatest tick is at most this one. Then the whole journal is up to it.
     fn is_all_up_to(&self, tick: u64) -> bool
         ensures journal { IsTrue result → filter (λ j. nat_le j.tick tick) self.now.journal ≡ self.now.journal }
         ensures rest { IsTrue result → filter (λ j. nat_lt tick j.tick) self.now.journal ≡ [] }
@@ -141,7 +141,7 @@ impl Stripe {
         }
     }
 
-    /// Whether the tick is above all that it has had.
+    /// Whether the tick is above each that it has had.
     pub(crate) fn is_above(&self, tick: u64) -> bool
         ensures { result ≡ is_above tick self.now.greatest }
     {

@@ -7,7 +7,7 @@ use Rattle.eve_stamps.specs.declared.limits.TheConstants.{STRIPES}
 use Rattle.eve_stamps.specs.Opening.{stripe_of}
 use Rattle.eve_stamps_schedule.specs.Schedule.{stripe_at}
 
--- each stripe has the rows of its customers, of whom there are so many
+-- each stripe has the rows of its customers, of this number of customers
 abbrev pub HaveTheirRows : ℕ → List Stripe → Type 0
 HaveTheirRows customers stripes =
     (i row : ℕ) → i < STRIPES → has_row (stripe_at stripes i) row

@@ -27,7 +27,7 @@ worker_of (Note worker) = worker
 abbrev pub current_group : Plan → World → ℕ
 current_group p w = group_of p.sizes (noted_count w.noted p.workers)
 
--- The least unclaimed index is as many as are claimed. It is there, in the current parallelBatch.
+-- The least unclaimed index is the number of claimed requests. It is there, in the current parallelBatch.
 abbrev pub may_claim : Plan → World → Bool
 may_claim p w = nat_lt w.claimed (length p.requests) && (group_of p.sizes w.claimed == current_group p w)
 

@@ -37,7 +37,7 @@ pub record Schedule : Type 0 where
 abbrev pub requests_of_batch : Batch → List Request
 requests_of_batch b = map (λ a. a.request) b.requests
 
--- the batch of these customers, from their opening balances, by so many workers
+-- the batch of these customers, from their opening balances, by this number of workers
 abbrev pub opening_plan : List (List ℕ) → List ℤ → Batch → ℕ → Plan
 opening_plan names balances batch workers = record {
   names = names;

@@ -33,7 +33,7 @@ pub record IsTimely (count : ℕ) (owner : Option ℕ) (stages : List Stage) (gr
   pub owned : (v index tick : ℕ) → slice_index_or stages v at.Idle ≡ at.Ticked index tick → is_owner v owner ≡ true
       → is_above tick greatest ≡ true
 
--- so many records are noted, and the world is reached
+-- `count` records are noted, and the world is reached
 pub record IsHeldSchedule (s : Schedule) (count : ℕ) : Type 0 where
   pub few : length s.requests < MOST_PLACES
   pub stripes : length s.stripes ≡ STRIPES

@@ -7,7 +7,7 @@ use Rattle.eve_stamps.specs.Applied.{Applied, executed_as}
 use Rattle.eve_stamps_schedule.specs.declared.stage.Stage.{Stage}
 use Rattle.eve_stamps_schedule.specs.declared.stage.Stage.TheVariants as at
 
--- what is executed: a batch of these customers, from what the rows have at first, by so many workers
+-- what is executed: a batch of these customers, from what the rows have at first, by `workers` workers
 pub record Plan : Type 0 where
   pub names : List (List ℕ)
   pub base : Table

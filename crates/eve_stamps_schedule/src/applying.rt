@@ -56,7 +56,7 @@ pub fn applied_on(
     on_two(stripes, span, request, &reached, stamp)
 }
 
-// On one stripe, in which all rows lie.
+/// On one stripe, in which all rows lie.
 fn on_one(
     stripes: &mut [Stripe],
     at: usize,
@@ -77,7 +77,7 @@ fn on_one(
     apply(&mut stripes[at], request, reached, stamp)
 }
 
-// On two stripes, of which the first comes before the last.
+/// On two stripes, of which the first comes before the last.
 fn on_two(
     stripes: &mut [Stripe],
     span: Span,

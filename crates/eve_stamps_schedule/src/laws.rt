@@ -11,10 +11,10 @@ ghost use Rattle.eve_stamps_schedule.specs.Worked.{same_stripe, two_groups, two_
 ghost use Rattle.eve_stamps_schedule.specs.Worked.{the_rest_of, one_after_the_other, applied_out_of_order};
 ghost use Rattle.eve_stamps_schedule.specs.Worked.{world_of_events};
 
-/// Whatever events came, if each was allowed where it came, the applied records are serial in the order of their
-/// ticks, also where requests on different stripes were applied in another order.
+/// If each event was allowed where it came, the applied records are serial in the order of their ticks, also where
+/// requests on different stripes were applied in another order.
 ///
-/// docs/MODEL.md, "Schedule". That a schedule ever is done isn't promised.
+/// docs/MODEL.md, "Schedule". That a schedule is ever done isn't promised.
 pub fn every_schedule_is_serial()
     ensures serial { (p : Plan) (w : World) → IsReachedWorld p w → IsSerialWorld p w }
     // The records that the workers noted or are about to note are the applied ones.

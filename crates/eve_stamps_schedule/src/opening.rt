@@ -10,7 +10,7 @@ use eve_accounts::{Balances, MOST_NAMES};
 use eve_stamps::{AccessRecord, STRIPES, Stripe, opening_stripe};
 use std::alloc::{AllocError, Global};
 
-/// The stripes of so many customers, with their opening balances.
+/// The stripes of the given number of customers, with their opening balances.
 pub fn opening_stripes(
     alloc: Global,
     balances: &Balances,

@@ -48,8 +48,8 @@ impl<'s> Model for Schedule<'s> {
 }
 
 impl<'s> Schedule<'s> {
-    /// The batch, of which no request is claimed, with the opening balances in the stripes. Fewer than 65,536 requests,
-    /// as a batch of a trace has, and two rows for each name.
+    /// A schedule in which no request of the batch is claimed, with the opening balances in the stripes. The batch has
+    /// fewer than 65,536 requests, as one of a trace has, and there are two rows for each name.
     pub fn new(
         alloc: Global,
         names: &'s Names<'s>,
@@ -80,8 +80,8 @@ impl<'s> Schedule<'s> {
     /// Takes a step.
     ///
     /// A claim looks through the sizes of the parallelBatches; an Apply searches rows in their stripes and goes back
-    /// over the records that others applied since its tick; every other step costs the same whatever the batch. After a
-    /// refusal nothing has changed, and the step can be taken again.
+    /// over the records that others applied since its tick; every other step takes constant time. After a refusal
+    /// nothing has changed, and the step can be taken again.
     ///
     /// docs/MODEL.md, "Schedule".
     pub fn step(&mut self, event: Event) -> Result<(), StepFault>

@@ -139,7 +139,7 @@ impl<'s> Schedule<'s> {
         }
     }
 
-    // Whether the current parallelBatch has an unclaimed index.
+    /// Whether the current parallelBatch has an unclaimed index.
     fn may_claim(&self) -> bool
         ensures { result ≡ may_claim_now (plan_of self.now) (world_of self.now) }
     {
@@ -150,7 +150,7 @@ impl<'s> Schedule<'s> {
         group_of(sizes, self.claimed) == group_of(sizes, self.noted_count)
     }
 
-    // What the worker is at.
+    /// What the worker is at.
     fn stage(&self, worker: u8) -> Stage
         requires there { worker < length self.now.stages }
         ensures stage { result ≡ (world_of self.now).stages worker }
@@ -160,7 +160,7 @@ impl<'s> Schedule<'s> {
         self.stages[worker as usize]
     }
 
-    // The request of an index.
+    /// The request of an index.
     fn request(&self, index: u16) -> Request<'s>
         requires there { index < length self.now.requests }
         ensures { plain result ≡ planned_request (plan_of self.now) index }
@@ -169,7 +169,7 @@ impl<'s> Schedule<'s> {
         batch.requests[index as usize].request()
     }
 
-    // Whether the worker owns all stripes that the request of an index needs.
+    /// Whether the worker owns all stripes that the request of an index needs.
     fn owns_all(&self, worker: u8, index: u16) -> bool
         requires there { index < length self.now.requests }
         ensures { result ≡ is_none (next_stripe_of (plan_of self.now) (world_of self.now) worker index) }
@@ -177,7 +177,7 @@ impl<'s> Schedule<'s> {
         self.next_stripe(worker, index).is_none()
     }
 
-    // The least stripe that the request of an index needs and the worker doesn't own.
+    /// The least stripe that the request of an index needs and the worker doesn't own.
     fn next_stripe(&self, worker: u8, index: u16) -> Option<usize>
         requires there { index < length self.now.requests }
         ensures { result ≡ next_stripe_of (plan_of self.now) (world_of self.now) worker index }

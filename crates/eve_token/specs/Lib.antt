@@ -1,3 +1,5 @@
 pub mod Merkle
 pub mod Token
 pub mod Places
+pub mod TokenRows
+pub mod Holding

@@ -12,7 +12,7 @@ pub fn roots_are_split()
         → merkle_root hashes ≡ node_hash (merkle_root (take k hashes)) (merkle_root (drop k hashes)) }
 {}
 
-/// Of one hash or more, so many levels up one is left, which is the root.
+/// Of n hashes, at least one, n levels up one is left, which is the root.
 pub fn one_hash_is_left()
     ensures { (hashes : List (List ℕ)) → 0 < length hashes
         → levels_up (length hashes) hashes ≡ merkle_root hashes ∷ [] }

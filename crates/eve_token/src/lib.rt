@@ -12,11 +12,13 @@ ghost use Rattle.eve_token.specs.Token.{flat_token, token_of};
 pub mod laws;
 mod merkle;
 mod spell;
+mod token_rows;
 mod tree;
 
 use crate::merkle::root_over;
 pub use crate::merkle::token_of;
 use crate::spell::Spell;
+pub use crate::token_rows::TokenRows;
 pub use crate::tree::RowTree;
 use eve_accounts::Balances;
 use eve_smallbank::Reply;
@@ -54,7 +56,7 @@ pub fn token_of_spelled(seq: u32, balances: &Balances, spelled: &[u8]) -> [u8; 3
     hasher.finalize()
 }
 
-// The token of version 1.
+/// The token of version 1.
 fn hash_flat(seq: u32, balances: &Balances, replies: &[Reply]) -> [u8; 32]
     ensures { result ≡ flat_token seq balances.now replies.now }
 {
@@ -63,7 +65,7 @@ fn hash_flat(seq: u32, balances: &Balances, replies: &[Reply]) -> [u8; 32]
     hasher.finalize()
 }
 
-// A hasher that holds what a token of version 1 says before its replies.
+/// A hasher that holds what a token of version 1 says before its replies.
 fn hash_balances(seq: u32, balances: &Balances) -> Sha256
     ensures { Holds256 result (codes "EVESB1" ++ (big_bytes 4 seq ++ flat_map money_text balances.now)) }
 {
@@ -74,7 +76,7 @@ fn hash_balances(seq: u32, balances: &Balances) -> Sha256
     hasher
 }
 
-// The message that the hasher holds grows by the bytes of all items.
+/// The message that the hasher holds grows by the bytes of all items.
 fn hash_all<T: Spell>(hasher: &mut Sha256, items: &[T])
     ensures { (m : List ℕ) → Holds256 hasher.old m
         → Holds256 hasher.new (m ++ flat_map T.text items.now) }
@@ -86,7 +88,7 @@ fn hash_all<T: Spell>(hasher: &mut Sha256, items: &[T])
     }
 }
 
-// Writes the bytes of all items, one after another, from the start of `out`.
+/// Writes the bytes of all items, one after another, from the start of `out`.
 fn spell_all<T: Spell>(items: &[T], out: &mut [u8])
     requires { length items.now * T.LEN ≤ length out.old }
     ensures { take (length items.now * T.LEN) out.new ≡ flat_map T.text items.now }

@@ -33,7 +33,7 @@ pub(crate) fn hash_node(left: &[u8; 32], right: &[u8; 32]) -> [u8; 32]
     Sha256::digest(&pair)
 }
 
-/// The greatest power of two below a number: how many of so many leaves go to the left.
+/// The greatest power of two below the number of leaves: how many of them go to the left.
 pub(crate) fn left_part(leaves: usize) -> usize
     requires { 1 < leaves }
     ensures { IsGreatestPowerBelow result leaves }

@@ -47,6 +47,13 @@ impl RowTree {
         })
     }
 
+    /// The balances.
+    pub fn balances(&self) -> &Balances
+        ensures { result.now ≡ self.now }
+    {
+        &self.balances
+    }
+
     /// Changes the balance of a row. It hashes nothing, and the same balance again does nothing.
     pub fn set(&mut self, row: Row, balance: Cents)
         requires there { row < length self.old }

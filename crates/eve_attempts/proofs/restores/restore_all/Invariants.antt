@@ -6,8 +6,8 @@ use Rattle.eve_attempts.proofs.restores.restore_all.Given as goal
 
 abbrev pub invariant-loop-number : goal.invariant-loop-number
 invariant-loop-number l = record {
-  restores : l.restores.items ++ map (restore_in (table_of_rows l.rows))
-      (rising_from l.least (drop l.number-index l.numbers)) ≡ map (restore_in (table_of_rows l.rows))
+  restores : l.restores.items ++ map (restore_in (table_of_rows l.rows.rows))
+      (rising_from l.least (drop l.number-index l.numbers)) ≡ map (restore_in (table_of_rows l.rows.rows))
       (rising_from 0 l.numbers);
   len : vec_len l.restores ≤ l.number-index;
   room : vec_capacity l.restores ≡ vec_capacity l.initial.restores;

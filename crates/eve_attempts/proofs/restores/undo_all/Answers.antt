@@ -11,7 +11,8 @@ pub loop-end-init : goal.loop-end-init
 loop-end-init c = record {
   within = omega arith;
   as_many = refl;
-  table = ap (λ (os : List Opened). values_before (table_of_rows c.args.rows.now) (writes_in os))
+  version = refl;
+  table = ap (λ (os : List Opened). values_before (table_of_rows c.args.rows.now.rows) (writes_in os))
       (sym (drop_all (length c.args.opened.now) c.args.opened.now (omega arith)));
 }
 
@@ -23,24 +24,25 @@ pub undo-requires : goal.undo-requires
 undo-requires c =
     let at : ℕ = c.loop-end.end - 1 in
     let o = c.index-opened-end.result in
-    let right = writes_of_one (is_write_in (length c.args.rows.now.balances)) c.args.opened.now at o c.requires
+    let right = writes_of_one (is_write_in (length c.args.rows.now.rows.balances)) c.args.opened.now at o c.requires
     (omega (arith, c.loop-end.invariant.within, c.loop-end-test.true)) c.index-opened-end.is in
     let is : o.written ≡ c.as_slice.result.now = sym (written_is c) in
     subst (λ n. IsTrue (list_all (is_write_in n) c.as_slice.result.now)) (sym c.loop-end.invariant.as_many)
-    (subst (λ es. IsTrue (list_all (is_write_in (length c.args.rows.now.balances)) es)) is right)
+    (subst (λ es. IsTrue (list_all (is_write_in (length c.args.rows.now.rows.balances)) es)) is right)
 
 pub loop-end-preserved : goal.loop-end-preserved
 loop-end-preserved c =
     let within = c.loop-end.invariant.within in
     let some = c.loop-end-test.true in
-    let T = table_of_rows c.args.rows.now in
+    let T = table_of_rows c.args.rows.now.rows in
     let rest = writes_in (drop c.loop-end.end c.args.opened.now) in
     let o = c.index-opened-end.result in
     record {
       within = omega arith;
       as_many = c.undo.ensures.as_many ∙ c.loop-end.invariant.as_many;
+      version = c.undo.ensures.version ∙ c.loop-end.invariant.version;
       table = c.undo.ensures.table
-          ∙ ap (values_before (table_of_rows c.loop-end.rows))
+          ∙ ap (values_before (table_of_rows c.loop-end.rows.rows))
           (c.as_slice.ensures.value ∙ ap (λ (p : Opened). p.written) c.open.view_is)
           ∙ ap (λ (t : Table). values_before t o.written) c.loop-end.invariant.table
           ∙ sym (values_before-append T o.written rest)
@@ -51,7 +53,7 @@ loop-end-preserved c =
 pub returns-clause-table : goal.returns-clause-table
 returns-clause-table c =
     c.loop-end.invariant.table
-    ∙ ap (λ (n : ℕ). values_before (table_of_rows c.args.rows.now) (writes_in (drop n c.args.opened.now)))
+    ∙ ap (λ (n : ℕ). values_before (table_of_rows c.args.rows.now.rows) (writes_in (drop n c.args.opened.now)))
     (none c.loop-end.end c.loop-end-test.false)
   where
     none : (n : ℕ) → n ≤ 0 → n ≡ 0

@@ -15,7 +15,7 @@ use Rattle.eve_attempts.proofs.walk.write_all.Goals as goal
 pub write_one-requires-clause-entry : goal.write_one-requires-clause-entry
 write_one-requires-clause-entry c =
     subst (λ n. IsTrue (is_entry n c.at.result)) (sym c.loop-place.invariant.as_many)
-    (all_at (is_entry (length c.args.rows.now.balances)) c.args.entries.now c.loop-place.place c.at.result
+    (all_at (is_entry (length c.args.rows.now.rows.balances)) c.args.entries.now c.loop-place.place c.at.result
     c.requires.entries c.at.ensures)
 
 pub write_one-requires-clause-room : goal.write_one-requires-clause-room
@@ -33,6 +33,7 @@ pub loop-place-init : goal.loop-place-init
 loop-place-init c = record {
   as_many = refl;
   versions = refl;
+  version = refl;
   table = refl;
   written = refl;
   len = omega arith;
@@ -46,8 +47,9 @@ loop-place-preserved c =
     record {
       as_many = c.write_one.ensures.as_many ∙ c.loop-place.invariant.as_many;
       versions = c.write_one.ensures.versions ∙ c.loop-place.invariant.versions;
+      version = c.write_one.ensures.version ∙ c.loop-place.invariant.version;
       table = ap (λ (t : Table). table_after t (drop (c.loop-place.place + 1) es)) c.write_one.ensures.table
-          ∙ ap (table_after (table_of_rows c.loop-place.rows)) (sym is) ∙ c.loop-place.invariant.table;
+          ∙ ap (table_after (table_of_rows c.loop-place.rows.rows)) (sym is) ∙ c.loop-place.invariant.table;
       written = ap (λ (ws : List Entry). ws ++ writes_among (drop (c.loop-place.place + 1) es))
           c.write_one.ensures.written
           ∙ append_assoc c.loop-place.written.items (writes_among (c.at.result ∷ []))
@@ -62,7 +64,7 @@ loop-place-preserved c =
 
 pub returns-clause-table : goal.returns-clause-table
 returns-clause-table c =
-    ap (table_after (table_of_rows c.loop-place.rows))
+    ap (table_after (table_of_rows c.loop-place.rows.rows))
     (sym (drop_all c.loop-place.place c.args.entries.now (omega (arith, c.len-place-end.ensures.len))))
     ∙ c.loop-place.invariant.table
 

@@ -6,9 +6,10 @@ use Rattle.eve_attempts.proofs.walk.write_all.Given as goal
 
 abbrev pub invariant-loop-place : goal.invariant-loop-place
 invariant-loop-place l = record {
-  as_many : length l.rows.balances ≡ length l.initial.rows.balances;
-  versions : length l.rows.versions ≡ length l.initial.rows.versions;
-  table : table_after (table_of_rows l.rows) (drop l.place l.entries) ≡ table_after (table_of_rows l.initial.rows)
+  as_many : length l.rows.rows.balances ≡ length l.initial.rows.rows.balances;
+  versions : length l.rows.rows.versions ≡ length l.initial.rows.rows.versions;
+  version : l.rows.version ≡ l.initial.rows.version;
+  table : table_after (table_of_rows l.rows.rows) (drop l.place l.entries) ≡ table_after (table_of_rows l.initial.rows.rows)
       l.entries;
   written : l.written.items ++ writes_among (drop l.place l.entries)
       ≡ l.initial.written.items ++ writes_among l.entries;

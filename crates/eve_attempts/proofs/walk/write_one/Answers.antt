@@ -21,5 +21,5 @@ returns-else-is_write-clause-written c =
     (sym (sym c.is_write.ensures ∙ c.if-is_write.false))
 
 pub returns-else-is_write-clause-table : goal.returns-else-is_write-clause-table
-returns-else-is_write-clause-table c = read_left (table_of_rows c.args.rows.now) c.args.entry.now
+returns-else-is_write-clause-table c = read_left (table_of_rows c.args.rows.now.rows) c.args.entry.now
     (sym c.is_write.ensures ∙ c.if-is_write.false)

@@ -23,7 +23,7 @@ returns-clause-under_way c =
     let servers = c.in_ok-servers.servers in
     let begun : p.first.opened ≡ [] =
     plan_begun c.args.names.now.items opened c.args.head.now c.args.batches.now in
-    let first = ap (λ zs. opening zs c.args.head.now.workers c.args.head.now.window) (sym c.in_ok-balances.ensures) in
+    let first = ap (λ zs. opening 1 zs c.args.head.now.workers c.args.head.now.window) (sym c.in_ok-balances.ensures) in
     let serve = c.in_ok-servers.ensures.serve p (refl, first) in
     record {
       begun = begun;

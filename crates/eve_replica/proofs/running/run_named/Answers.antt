@@ -1,9 +1,10 @@
-use Rattle.std.proofs.Common.{◌≡◌, All, IsTrue, List, length, map, sym, ◌∙◌, ap, subst, arith}
+use Rattle.std.proofs.Common.{◌≡◌, ℕ, ◌≤◌, All, IsTrue, List, length, map, sym, ◌∙◌, ap, subst, arith}
 use Rattle.std.proofs.lemmas.List.{length-map}
 use Rattle.std.specs.List.{list_all}
 use Rattle.eve_grammar.specs.Trace.{Customer, Vote, head_of, opening_rows}
 use Rattle.eve_grammar.specs.declared.head.Head as header
-use Rattle.eve_grammar.specs.Limits.{is_customer}
+use Rattle.eve_grammar.specs.declared.limits.TheConstants.{NEWEST_VERSION}
+use Rattle.eve_grammar.specs.Limits.{is_customer, is_head}
 use Rattle.eve_grammar.specs.declared.head.Head.{Head}
 use Rattle.eve_write.specs.declared.parts.Parts.{Parts}
 use Rattle.eve_write.specs.declared.customer.CustomerData.{CustomerData}
@@ -17,16 +18,22 @@ use Rattle.eve_workload.specs.Mixing.{cut, batch_with}
 use Rattle.eve_workload.specs.Workload.{customer_names, head_asked, is_listed}
 use Rattle.eve_replica.specs.Run.{batches_cut, run_plan}
 use Rattle.eve_replica.specs.Sending.{sent_from_on}
-use Rattle.eve_replica.proofs.Beginning.{head_within}
+use Rattle.eve_grammar.proofs.HeadLimits.{head_has_limits, few_customers}
 use Rattle.eve_replica.proofs.Parts.{same_head, spelled}
 use Rattle.eve_replica.proofs.Sectioned.{run_of, plan_is, copies_gave}
 use Rattle.eve_replica.proofs.running.run_named.Goals as goal
+
+-- what is right of every known format is right of format 1
+known : (format : ℕ) (h : Head) → format ≡ 1 → (1 ≤ format → format ≤ NEWEST_VERSION → IsTrue (is_head h))
+    → IsTrue (is_head h)
+known format h is right = right (omega (arith, is)) (omega (arith, is))
 
 pub returns : goal.returns
 returns g c =
     let w = c.args.workload in
     let h : Head = c.head-head.result in
     let p : Parts = record {
+      version = h.version;
       quorum = h.quorum;
       window = h.window;
       workers = h.workers;
@@ -56,7 +63,7 @@ returns g c =
     let customers : (trace p).customers ≡ w.customers = c.into_lists-customers.ensures.customers in
     let cuts : map (λ m. batch m.batch) mixed ≡ batches_cut w c.args.mixer =
     c.in_ok-batches.ensures.cut
-    ∙ (λ k. map (λ requests. batch_with (cut (c.requires k) c.args.mixer requests))
+    ∙ (λ k. map (λ requests. batch_with (cut (c.requires.named k) c.args.mixer requests))
     (c.into_lists-customers.ensures.batches k)) in
     let batches : (trace p).batches ≡ batches_cut w c.args.mixer = c.in_ok-batches-2.ensures ∙ cuts in
     let asked : h ≡ head_asked w = c.head-head.ensures.head in
@@ -90,11 +97,12 @@ returns g c =
     (map (λ s. section s.steps) servers)) (all ∙ sym c.as_slice-2.ensures.value) in
     let is : plan ≡ run_plan w c.args.mixer =
     plan_is w c.args.mixer c.args.names.now.items opened h slice
-    c.requires start (ap (λ (x : Head). x.workers) asked) (ap (λ (x : Head). x.window) asked)
+    c.requires.named start (ap (λ (x : Head). x.workers) asked) (ap (λ (x : Head). x.window) asked)
     (ap (map (λ m. batch m.batch)) c.as_slice-2.ensures.value ∙ cuts) in
     record {
       spelled = spelled p h plan mixed at led servers given
-          head c.head-head.ensures.right counted right c.in_ok-batches-2.ensures mix gave.sections
+          head (known c.args.workload.format c.head-head.result c.requires.format c.head-head.ensures.right)
+          counted right c.in_ok-batches-2.ensures mix gave.sections
           under.servers votes gave.each replies;
       run = run_of w c.args.mixer p plan at led servers is (head ∙ asked) customers batches
           gave.sections under.servers done
@@ -109,7 +117,7 @@ returns g c =
 
 pub first_state-requires-clause-named : goal.first_state-requires-clause-named
 first_state-requires-clause-named g c =
-    c.requires
+    c.requires.named
     ∙ ap customer_names (sym (ap (map customer) c.as_slice.ensures.value ∙ c.into_lists-customers.ensures.customers))
 
 pub first_state-requires-clause-customers : goal.first_state-requires-clause-customers
@@ -123,17 +131,26 @@ first_state-requires-clause-known g c =
     omega (
       arith,
       first_state-requires-clause-customers g c,
-      (head_within c.head-head.result c.head-head.ensures.right).customers,
+      few_customers c.head-head.result
+          (known c.args.workload.format c.head-head.result c.requires.format c.head-head.ensures.right),
     )
 
 pub first_state-requires-clause-workers : goal.first_state-requires-clause-workers
-first_state-requires-clause-workers g c = (head_within c.head-head.result c.head-head.ensures.right).workers
+first_state-requires-clause-workers g c =
+    let head = head_has_limits c.head-head.result
+    (known c.args.workload.format c.head-head.result c.requires.format c.head-head.ensures.right) in
+    (head.some_workers, head.few_workers)
 
 pub first_state-requires-clause-window : goal.first_state-requires-clause-window
-first_state-requires-clause-window g c = (head_within c.head-head.result c.head-head.ensures.right).window
+first_state-requires-clause-window g c =
+    let head = head_has_limits c.head-head.result
+    (known c.args.workload.format c.head-head.result c.requires.format c.head-head.ensures.right) in
+    (head.some_window, head.few_window)
 
 pub first_state-requires-clause-replicas : goal.first_state-requires-clause-replicas
-first_state-requires-clause-replicas g c = (head_within c.head-head.result c.head-head.ensures.right).replicas.0
+first_state-requires-clause-replicas g c =
+    (head_has_limits c.head-head.result
+    (known c.args.workload.format c.head-head.result c.requires.format c.head-head.ensures.right)).some_replicas
 
 pub first_state-requires-clause-mixed : goal.first_state-requires-clause-mixed
 first_state-requires-clause-mixed g c =
@@ -154,7 +171,8 @@ outcome_of-requires g c =
     let same : last.head ≡ h = c.in_ok-run_windows.ensures.same.0 ∙ c.in_ok-state.ensures.head in
     omega (
       arith,
-      (head_within h c.head-head.ensures.right).replicas,
+      (head_has_limits h
+          (known c.args.workload.format c.head-head.result c.requires.format c.head-head.ensures.right)).few_replicas,
       under.many,
       ap (λ (x : header.Head). x.replicas) same,
     )

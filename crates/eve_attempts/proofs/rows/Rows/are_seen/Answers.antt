@@ -8,26 +8,26 @@ use Rattle.eve_attempts.proofs.Listing.{goes_start, goes_more, goes_stop, goes_e
 use Rattle.eve_attempts.proofs.rows.Rows.are_seen.Goals as goal
 
 pub is_seen-requires : goal.is_seen-requires
-is_seen-requires c = all_at (is_entry (length c.args.self.now.balances)) c.args.entries.now c.loop-place.place
+is_seen-requires c = all_at (is_entry (length c.args.self.now.rows.balances)) c.args.entries.now c.loop-place.place
     c.at.result c.requires c.at.ensures
 
 pub loop-place-init : goal.loop-place-init
-loop-place-init c = goes_start (Sees (table_of_rows c.args.self.now)) c.args.entries.now
+loop-place-init c = goes_start (Sees (table_of_rows c.args.self.now.rows)) c.args.entries.now
 
 pub returns-then-not-is_seen : goal.returns-then-not-is_seen
 returns-then-not-is_seen c =
-    goes_stop (Sees (table_of_rows c.args.self.now)) c.args.entries.now c.loop-place.place c.at.result
+    goes_stop (Sees (table_of_rows c.args.self.now.rows)) c.args.entries.now c.loop-place.place c.at.result
     c.loop-place.invariant
     (drop_here c.args.entries.now c.loop-place.place c.at.result c.at.ensures)
     (fails_by c.is_seen.result c.is_seen.ensures c.if-not-is_seen.true)
 
 pub loop-place-preserved : goal.loop-place-preserved
 loop-place-preserved c =
-    goes_more (Sees (table_of_rows c.args.self.now)) c.args.entries.now c.loop-place.place c.at.result
+    goes_more (Sees (table_of_rows c.args.self.now.rows)) c.args.entries.now c.loop-place.place c.at.result
     c.loop-place.invariant
     (drop_here c.args.entries.now c.loop-place.place c.at.result c.at.ensures)
     (c.is_seen.ensures.0 c.if-not-is_seen.false)
 
 pub returns : goal.returns
-returns c = goes_end (Sees (table_of_rows c.args.self.now)) c.args.entries.now c.loop-place.place c.loop-place.invariant
+returns c = goes_end (Sees (table_of_rows c.args.self.now.rows)) c.args.entries.now c.loop-place.place c.loop-place.invariant
     (omega (arith, c.len-place-end.ensures.len))

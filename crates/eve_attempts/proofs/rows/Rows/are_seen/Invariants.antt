@@ -4,4 +4,4 @@ use Rattle.eve_attempts.proofs.Listing.{Goes}
 use Rattle.eve_attempts.proofs.rows.Rows.are_seen.Given as goal
 
 abbrev pub invariant-loop-place : goal.invariant-loop-place
-invariant-loop-place l = Goes (Sees (table_of_rows l.self)) l.entries l.place
+invariant-loop-place l = Goes (Sees (table_of_rows l.self.rows)) l.entries l.place

@@ -1,7 +1,8 @@
-use Rattle.eve_stamps.proofs.Keeping.{held_first}
+use Rattle.std.proofs.Common.{None}
+use Rattle.eve_stamps.proofs.Keeping.{held_alone}
 use Rattle.eve_stamps.proofs.stripe.Stripe.new.Goals as goal
 
 pub invariant_of-result : goal.invariant_of-result
 invariant_of-result c =
     rw (c.in_ok-from_slice.ensures.items, c.in_ok-from_slice-2.ensures.items, c.new.ensures.items)
-    (held_first c.args.rows.now c.requires.rise c.requires.limit)
+    (held_alone c.args.rows.now None c.requires.rise c.requires.limit)
