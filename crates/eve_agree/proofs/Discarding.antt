@@ -19,8 +19,7 @@ use Rattle.eve_chains.specs.Visible.{opening_table, execution, executions, execu
 use Rattle.eve_chains.specs.Committed.{attempts_of}
 use Rattle.eve_chains.specs.Sound.{IsSoundAlong, SettledAreSound}
 use Rattle.eve_chains.specs.Along.{entries_along}
-use Rattle.eve_chains.specs.Walking.{ArePlaced}
-use Rattle.eve_chains.proofs.Linked.{placed_push}
+use Rattle.eve_chains.proofs.Linked.{placed_push, ArePlaced}
 use Rattle.eve_chains.proofs.AlongLaws.{table_after_all-append}
 use Rattle.eve_chains.proofs.Distinct.{in_right}
 use Rattle.eve_chains.proofs.Walks.{record_at, same_entries, right_one, complete_one}

@@ -109,11 +109,11 @@ balances_are t e n b after law = rows_are b
     ∙ (λ k. first_rows ((after.rows ∙ rows_told t e) k) ((after.values ∙ law) k))
 
 -- past the last batch nothing changes
-pub values_past : (s : Settling) (n : ℕ) → length s.batches < n → values_in s (n - 1) ≡ values_in s n
+pub values_past : (s : Settling) (n : ℕ) → length s.numbers < n → values_in s (n - 1) ≡ values_in s n
 unfolding values_in
 values_past s n past =
-    let less : take (n - 1) s.batches ≡ s.batches = take_all (n - 1) s.batches (omega arith) in
-    let all : take n s.batches ≡ s.batches = take_all n s.batches (omega arith) in
+    let less : take (n - 1) s.numbers ≡ s.numbers = take_all (n - 1) s.numbers (omega arith) in
+    let all : take n s.numbers ≡ s.numbers = take_all n s.numbers (omega arith) in
     rw (less, all) refl
 
 -- ---- both

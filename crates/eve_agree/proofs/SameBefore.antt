@@ -130,10 +130,10 @@ first_committed t f n h told right le =
 
 -- batches that a replica committed are settled
 pub settled_there : (t : Trace) (e n : ℕ) (s : Settling) → s ≡ settling t e → IsRightSection t e
-    → n ≤ (history t e).last → n ≤ length s.batches
+    → n ≤ (history t e).last → n ≤ length s.numbers
 settled_there t e n s is right le =
     let count = batches_counted t e in
-    let many = ap (λ (x : Settling). length x.batches) is in
+    let many = ap (λ (x : Settling). length x.numbers) is in
     let last = last_committed t e right in
     omega arith
 

@@ -71,9 +71,9 @@ module _ (t : Trace) (e : ℕ) where
 
   -- of stretches that follow one another, each judged, the first that was found
   pub all_judged : (s : Settling) (before : ℕ) (xs ys : List Stretch) → length ys ≡ length xs →
-      ReachesBatch before (length s.batches) xs → All (IsReadyStretch s) xs
+      ReachesBatch before (length s.numbers) xs → All (IsReadyStretch s) xs
       → ((i : ℕ) (d : Stretch) → i < length xs → IsJudgedStretch t e (get_or xs i d) (get_or ys i d)) →
-      (before ≤ length s.batches) × IsFirstWrong t e before (length s.batches) (first_found ys)
+      (before ≤ length s.numbers) × IsFirstWrong t e before (length s.numbers) (first_found ys)
   all_judged s before [] [] same follow ready judged = (
     (let at = follow in omega arith),
     λ n above below. absurd (let at = follow in omega arith),
@@ -93,7 +93,7 @@ module _ (t : Trace) (e : ℕ) where
       let at = follow.0 in
       let low : before ≤ x.last = omega arith in (
         (let le = rest.0 in omega arith),
-        join before x.last (length s.batches) y.wrong (first_found ys) low rest.0 first rest.1,
+        join before x.last (length s.numbers) y.wrong (first_found ys) low rest.0 first rest.1,
       )
 
   -- ---- what stands for all
@@ -196,11 +196,11 @@ module _ (t : Trace) (e : ℕ) where
       first_version said.seq b said.replies ∙ (λ k. flat_token (of.seq k) (same k) (of.replies k))
 
   pub commits_there : (h : SectionHistory) (s : Settling) → h ≡ section_history t e → s ≡ settling t e →
-      length h.commits ≡ length s.batches
+      length h.commits ≡ length s.numbers
   commits_there h s is settled =
       ap (λ (x : SectionHistory). length x.commits) is ∙ ap length (commits_told t e) ∙
       length-map (history t e).committed (λ p. executed_attempt (placed_at p))
-      ∙ sym (ap (λ (x : Settling). length x.batches) settled ∙ batches_counted t e)
+      ∙ sym (ap (λ (x : Settling). length x.numbers) settled ∙ batches_counted t e)
 
   one_due : (n offset : ℕ) (said : Attempt) (of : IsOfBatch (suc n) offset said) → said.token ≡ due_token t e of.item
       → IsFirstWrong t e n (n + 1) None

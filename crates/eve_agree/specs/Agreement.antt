@@ -1,11 +1,10 @@
 -- Where replicas differ in what a batch came to. docs/MODEL.md, "Agreement".
-use Rattle.std.specs.Prelude.{◌≡◌, ℕ, ◌+◌, ◌≤◌, nat_le, map, length, Option, Some, IfSome, find}
+use Rattle.std.specs.Prelude.{◌≡◌, ℕ, ◌+◌, ◌≤◌, nat_le, map, length, Option, IfSome, find}
 use Rattle.std.specs.Option.{option_map}
 use Rattle.eve_grammar.specs.Trace.{Trace}
 use Rattle.eve_grammar.specs.Frames.{sections_of}
 use Rattle.eve_views.specs.declared.fault.Code.{Code}
 use Rattle.eve_views.specs.declared.fault.Code.TheVariants as code
-use Rattle.eve_views.specs.declared.fault.Fault.{Fault}
 use Rattle.eve_views.specs.Form.{SomePlace}
 use Rattle.eve_history.specs.SectionHistory.{history, committed_at}
 use Rattle.eve_chains.specs.Committed.{balances_to}

@@ -4,7 +4,6 @@ use Rattle.std.specs.List.{AllByRecursion}
 use Rattle.eve_grammar.specs.Trace.{Trace}
 use Rattle.eve_views.specs.declared.fault.Code.{Code}
 use Rattle.eve_views.specs.declared.fault.Code.TheVariants as code
-use Rattle.eve_views.specs.declared.fault.Fault.{Fault}
 use Rattle.eve_views.specs.Form.{SomePlace}
 use Rattle.eve_token.specs.Token.{flat_token}
 use Rattle.eve_history.specs.Section.{Placed}

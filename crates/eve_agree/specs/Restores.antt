@@ -1,10 +1,9 @@
 -- The faults of restores, and where they stand. docs/MODEL.md, "Working table, committed table" and "Faults".
-use Rattle.std.specs.Prelude.{◌≡◌, ℕ, IsFalse, Some}
+use Rattle.std.specs.Prelude.{◌≡◌, ℕ, IsFalse}
 use Rattle.eve_grammar.specs.Trace.{Trace}
 use Rattle.eve_grammar.specs.Spelling.{steps_at}
 use Rattle.eve_views.specs.declared.fault.Code.{Code}
 use Rattle.eve_views.specs.declared.fault.Code.TheVariants as code
-use Rattle.eve_views.specs.declared.fault.Fault.{Fault}
 use Rattle.eve_views.specs.Form.{SomePlace}
 use Rattle.eve_history.specs.Section.{start, state_after}
 use Rattle.eve_history.specs.Faults.{OfRollback}

@@ -1,11 +1,10 @@
 -- Replies sent that no committed attempt gave. docs/MODEL.md, "Sent replies".
-use Rattle.std.specs.Prelude.{◌≡◌, ℕ, None, Some, slice_get, option_map}
+use Rattle.std.specs.Prelude.{◌≡◌, ℕ, Some, slice_get, option_map}
 use Rattle.std.specs.List.{AllByRecursion}
 use Rattle.eve_grammar.specs.Trace.{Sent, Trace, request_id}
 use Rattle.eve_grammar.specs.Spelling.{sent_at}
 use Rattle.eve_views.specs.declared.fault.Code.{Code}
 use Rattle.eve_views.specs.declared.fault.Code.TheVariants as code
-use Rattle.eve_views.specs.declared.fault.Fault.{Fault}
 use Rattle.eve_views.specs.Form.{SomePlace}
 use Rattle.eve_history.specs.Section.{Placed, batch_at}
 use Rattle.eve_history.specs.SectionHistory.{committed_at}

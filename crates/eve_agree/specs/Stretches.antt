@@ -15,7 +15,7 @@ pub record AreOfSection (t : Trace) (h : SectionHistory) (s : Settling) : Type 0
 -- it has the balances before it, and its batches are there
 pub record IsReadyStretch (s : Settling) (x : Stretch) : Type 0 where
   pub rising : x.before ≤ x.last
-  pub there : x.last ≤ length s.batches
+  pub there : x.last ≤ length s.numbers
   pub balances : IsAfter s x.before x.balances
 
 -- it was judged
@@ -24,7 +24,7 @@ pub record IsJudgedStretch (t : Trace) (e : ℕ) (old new : Stretch) : Type 0 wh
   pub last : new.last ≡ old.last
   pub wrong : IsFirstWrong t e old.before old.last new.wrong
 
--- the stretches follow one another, the first after so many batches, and reach to the last
+-- the stretches follow one another, the first after the given number of batches, and reach to the last
 abbrev pub ReachesBatch : ℕ → ℕ → List Stretch → Type 0
 ReachesBatch before last [] = before ≡ last
 ReachesBatch before last (x ∷ xs) = (x.before ≡ before) × ReachesBatch x.last last xs

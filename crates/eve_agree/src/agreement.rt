@@ -33,7 +33,7 @@ pub fn equal_balances(
     alloc: Global,
     trace: &Trace<'_>,
     histories: &[History<'_>],
-    settled: &[Settled<'_>],
+    settled: &[Settled],
 ) -> Result<(), CheckFault>
     requires histories { histories.now ≡ section_histories trace.now }
     requires settled { settled.now ≡ settlings trace.now }
@@ -60,7 +60,7 @@ pub fn equal_balances(
 }
 
 /// The opening balances, for each replica.
-fn opening_of_each(alloc: Global, settled: &[Settled<'_>]) -> Result<Vec<Balances>, AllocError>
+fn opening_of_each(alloc: Global, settled: &[Settled]) -> Result<Vec<Balances>, AllocError>
     ensures { IfOk result (λ all. AreAfter settled.now 0 all.items) }
 {
     let mut all = Vec::new(alloc);
@@ -83,7 +83,7 @@ fn last_of_all(histories: &[History<'_>]) -> u32
 }
 
 /// Goes with each replica from its balances after the batch before to those after batch n.
-fn advance_all(settled: &[Settled<'_>], n: u32, all: &mut Vec<Balances>)
+fn advance_all(settled: &[Settled], n: u32, all: &mut Vec<Balances>)
     requires one { 1 ≤ n }
     requires before { AreAfter settled.now (n - 1) all.old.items }
     ensures { AreAfter settled.now n all.new.items }
@@ -94,7 +94,7 @@ fn advance_all(settled: &[Settled<'_>], n: u32, all: &mut Vec<Balances>)
 }
 
 /// Goes from a replica's balances after the batch before to those after batch n, the same where it didn't commit it.
-pub(crate) fn advance(settled: &Settled<'_>, n: u32, balances: &mut Balances)
+pub(crate) fn advance(settled: &Settled, n: u32, balances: &mut Balances)
     requires one { 1 ≤ n }
     requires before { IsAfter settled.now (n - 1) balances.old }
     ensures { IsAfter settled.now n balances.new }
@@ -108,7 +108,7 @@ pub(crate) fn advance(settled: &Settled<'_>, n: u32, balances: &mut Balances)
 fn judge_batch(
     trace: &Trace<'_>,
     histories: &[History<'_>],
-    settled: &[Settled<'_>],
+    settled: &[Settled],
     all: &[Balances],
     n: u32,
     least: Option<Fault>,
@@ -192,21 +192,21 @@ pub(crate) fn committed_attempt<'a>(history: &History<'a>, n: u32) -> AttemptVie
     history.attempt(history.committed_attempt(n))
 }
 
-/// Whether two replicas' attempts of batch n have the same replies, and the balances after them are the same. It is
-/// told whether those after the batch before are known to be.
+/// Whether two replicas' attempts of batch n have the same replies, and the balances after them are the same.
+/// `before` says that those after the batch before are known to be.
 fn is_same(
     attempt: &AttemptView<'_>,
-    settled: &Settled<'_>,
+    settled: &Settled,
     balances: &Balances,
     other: &AttemptView<'_>,
-    others_settled: &Settled<'_>,
+    others_settled: &Settled,
     others: &Balances,
     n: u32,
     before: bool,
 ) -> bool
     requires one { 1 ≤ n }
-    requires there { n ≤ length settled.now.batches }
-    requires others_there { n ≤ length others_settled.now.batches }
+    requires there { n ≤ length settled.now.numbers }
+    requires others_there { n ≤ length others_settled.now.numbers }
     requires after { IsAfter settled.now n balances.now }
     requires others_after { IsAfter others_settled.now n others.now }
     requires before { IsTrue before → HaveSameBalances settled.now others_settled.now (n - 1) }

@@ -21,8 +21,11 @@ use eve_history::History;
 use eve_token::token_of_spelled;
 use eve_views::{CheckFault, Code, Fault, Trace};
 use std::alloc::{AllocError, Global};
+use std::thread;
 use std::thread::Threads;
-use std::{mem, thread};
+
+/// The fewest batches of a stretch but the last.
+const LEAST_BATCHES: u32 = 16;
 
 /// Whether the attempt has the token of these balances and of its replies.
 fn is_due(attempt: &AttemptView<'_>, balances: &Balances) -> bool
@@ -50,13 +53,13 @@ struct Stretch {
 pub(crate) fn wrong_at(
     trace: &Trace<'_>,
     history: &History<'_>,
-    settled: &Settled<'_>,
+    settled: &Settled,
     n: u32,
     balances: &Balances,
 ) -> Option<u64>
     requires section { AreOfSection trace.now history.now settled.now }
     requires one { 1 ≤ n }
-    requires there { n ≤ length settled.now.batches }
+    requires there { n ≤ length settled.now.numbers }
     requires after { IsAfter settled.now n balances.now }
     ensures { IsFirstWrong trace.now history.now.replica (n - 1) n result }
 {
@@ -76,13 +79,13 @@ pub(crate) fn wrong_at(
 fn first_wrong(
     trace: &Trace<'_>,
     history: &History<'_>,
-    settled: &Settled<'_>,
+    settled: &Settled,
     before: u32,
     last: u32,
     balances: &mut Balances,
 ) -> Option<u64>
     requires section { AreOfSection trace.now history.now settled.now }
-    requires there { last ≤ length settled.now.batches }
+    requires there { last ≤ length settled.now.numbers }
     requires balances { IsAfter settled.now before balances.old }
     ensures { IsFirstWrong trace.now history.now.replica before last result }
 {
@@ -97,7 +100,7 @@ fn first_wrong(
 }
 
 /// Judges a stretch, from the balances that the batches before it leave.
-fn judge(trace: &Trace<'_>, history: &History<'_>, settled: &Settled<'_>, stretch: &mut Stretch)
+fn judge(trace: &Trace<'_>, history: &History<'_>, settled: &Settled, stretch: &mut Stretch)
     requires section { AreOfSection trace.now history.now settled.now }
     requires ready { IsReadyStretch settled.now stretch.old }
     ensures { IsJudgedStretch trace.now history.now.replica stretch.old stretch.new }
@@ -114,7 +117,7 @@ fn judge(trace: &Trace<'_>, history: &History<'_>, settled: &Settled<'_>, stretc
 
 /// Appends a stretch that follows the others.
 fn append(
-    settled: &Settled<'_>,
+    settled: &Settled,
     stretch: Stretch,
     stretches: &mut Vec<Stretch>,
 ) -> Result<(), AllocError>
@@ -126,65 +129,77 @@ fn append(
     Ok(())
 }
 
-/// Cuts the stretch that is still to come, where balances are at hand under that place: what comes before them is
-/// appended.
-fn cut_at(
+/// Goes on with a stretch to a later start: the batches up to there are left out.
+fn start_at(settled: &Settled, before: u32, rest: &mut Stretch)
+    requires later { rest.old.before ≤ before }
+    requires there { before ≤ rest.old.last }
+    requires rest { IsReadyStretch settled.now rest.old }
+    ensures before { rest.new.before ≡ before }
+    ensures last { rest.new.last ≡ rest.old.last }
+    ensures rest { IsReadyStretch settled.now rest.new }
+{
+    for n in rest.before..before {
+        settled.advance(n + 1, &mut rest.balances);
+    }
+    rest.before = before;
+}
+
+/// Cuts the given number of batches off the stretch that is still to come, where it has more: they are appended.
+fn cut_off(
     alloc: Global,
-    settled: &Settled<'_>,
-    place: usize,
+    settled: &Settled,
+    size: u32,
     rest: &mut Stretch,
     stretches: &mut Vec<Stretch>,
 ) -> Result<(), AllocError>
-    requires last { rest.old.last ≡ length settled.now.batches }
+    requires last { rest.old.last ≡ length settled.now.numbers }
     requires rest { IsReadyStretch settled.now rest.old }
     requires ready { AreReadyStretches settled.now rest.old.before stretches.old.items }
     ensures last { rest.new.last ≡ rest.old.last }
     ensures rest { OnOk result (IsReadyStretch settled.now rest.new) }
     ensures ready { OnOk result (AreReadyStretches settled.now rest.new.before stretches.new.items) }
 {
-    let Some((after, balances)) = settled.mark(alloc, place)? else {
-        return Ok(());
-    };
-    if after <= rest.before {
+    if rest.last - rest.before <= size {
         return Ok(());
     }
-    let mut next = Stretch {
-        before: after,
-        last: rest.last,
-        balances,
+    let first = Stretch {
+        before: rest.before,
+        last: rest.before + size,
+        balances: rest.balances.copy(alloc)?,
         wrong: None,
     };
-    mem::swap(rest, &mut next);
-    next.last = after;
-    append(settled, next, stretches)
+    start_at(settled, first.last, rest);
+    append(settled, first, stretches)
 }
 
-/// Cuts a replica's committed batches into stretches, no more than there are jobs: each begins where balances are at
-/// hand.
-fn cut(alloc: Global, settled: &Settled<'_>, jobs: u8) -> Result<Vec<Stretch>, AllocError>
+/// Cuts a replica's committed batches into stretches, no more than there are jobs, all but the last of one length: one
+/// pass over what the batches changed gives each the balances before it.
+fn cut(alloc: Global, settled: &Settled, jobs: u8) -> Result<Vec<Stretch>, AllocError>
     requires { 1 ≤ jobs }
-    ensures { IfOk result (λ stretches. AreReadyStretches settled.now (length settled.now.batches) stretches.items) }
+    ensures { IfOk result (λ stretches. AreReadyStretches settled.now (length settled.now.numbers) stretches.items) }
 {
+    let last = settled.committed();
+    let size = last.div_ceil(u32::from(jobs)).max(LEAST_BATCHES);
     let mut stretches = Vec::new(alloc);
     let mut rest = Stretch {
         before: 0,
-        last: settled.committed(),
+        last,
         balances: settled.balances_after(alloc, 0)?,
         wrong: None,
     };
-    for place in 0..jobs - 1 {
-        cut_at(alloc, settled, place as usize, &mut rest, &mut stretches)?;
+    for _ in 1..jobs {
+        cut_off(alloc, settled, size, &mut rest, &mut stretches)?;
     }
     append(settled, rest, &mut stretches)?;
     Ok(stretches)
 }
 
-/// Judges the stretches, up to so many of them side by side.
+/// Judges the stretches, up to the given number of them side by side.
 fn judge_all<R: Threads + Sync>(
     rt: &R,
     trace: &Trace<'_>,
     history: &History<'_>,
-    settled: &Settled<'_>,
+    settled: &Settled,
     stretches: &mut [Stretch],
     jobs: u8,
 )
@@ -225,12 +240,12 @@ fn first_in<R: Threads + Sync>(
     alloc: Global,
     trace: &Trace<'_>,
     history: &History<'_>,
-    settled: &Settled<'_>,
+    settled: &Settled,
     jobs: u8,
 ) -> Result<Option<u64>, AllocError>
     requires section { AreOfSection trace.now history.now settled.now }
     requires some { 1 ≤ jobs }
-    ensures { IfOk result (IsFirstWrong trace.now history.now.replica 0 (length settled.now.batches)) }
+    ensures { IfOk result (IsFirstWrong trace.now history.now.replica 0 (length settled.now.numbers)) }
 {
     let mut stretches = cut(alloc, settled, jobs)?;
     judge_all(rt, trace, history, settled, stretches.as_mut_slice(), jobs);
@@ -241,11 +256,11 @@ fn first_in<R: Threads + Sync>(
 pub(crate) fn answer(
     trace: &Trace<'_>,
     history: &History<'_>,
-    settled: &Settled<'_>,
+    settled: &Settled,
     wrong: Option<u64>,
 ) -> Result<(), CheckFault>
     requires section { AreOfSection trace.now history.now settled.now }
-    requires wrong { IsFirstWrong trace.now history.now.replica 0 (length settled.now.batches) wrong }
+    requires wrong { IsFirstWrong trace.now history.now.replica 0 (length settled.now.numbers) wrong }
     ensures due { IfOk result (λ _. TokensAreDue trace.now history.now.replica) }
     ensures none { IfOk result (λ _. HasNone (IsFaultIn StandsInTokens trace.now history.now.replica)) }
     ensures least { IfErr result (λ why. IfFound why
@@ -265,16 +280,16 @@ pub(crate) fn answer(
 /// replies; else the first that is not.
 ///
 /// docs/MODEL.md, "Due tokens"; docs/TRACE.md, "Token". It hashes each batch's balances once. The batches are cut into
-/// up to so many stretches as there are jobs, from 1 on, and judged in as many threads; of one job none is started.
-/// Each thread has balances of its own, which were noted where its stretch begins while the chains were judged
-/// (`check`, with as many jobs). What is found doesn't rest on which ends first. `tokens_beside`, which is lent another
-/// replica whose tokens are due, hashes less. Refused memory decides nothing.
+/// as many stretches as there are jobs at most, from 1 on, and judged in as many threads; of one job none is started.
+/// Each thread has balances of its own: one pass over what the batches changed copies them where a stretch begins. What
+/// is found doesn't depend on which ends first. `tokens_beside`, which is lent another replica whose tokens are due,
+/// hashes less. Refused memory decides nothing.
 pub fn tokens<R: Threads + Sync>(
     rt: &R,
     alloc: Global,
     trace: &Trace<'_>,
     history: &History<'_>,
-    settled: &Settled<'_>,
+    settled: &Settled,
     jobs: u8,
 ) -> Result<(), CheckFault>
     requires history { history.now ≡ section_history trace.now history.now.replica }

@@ -126,7 +126,7 @@ pub fn rollbacks(
     alloc: Global,
     trace: &Trace<'_>,
     history: &History<'_>,
-    _settled: &Settled<'_>,
+    _settled: &Settled,
 ) -> Result<(), CheckFault>
     requires history { history.now ≡ section_history trace.now history.now.replica }
     requires sound { SettledAreSound trace.now history.now.replica }

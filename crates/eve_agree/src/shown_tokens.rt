@@ -28,24 +28,24 @@ pub struct Peer<'b, 'a> {
     /// What its section tells.
     pub history: &'b History<'a>,
     /// What its committed batches wrote.
-    pub settled: &'b Settled<'a>,
+    pub settled: &'b Settled,
 }
 
 /// Whether two replicas' attempts of batch n have the same token and the same replies, and the balances after them are
-/// the same. It is told whether those after the batch before are known to be.
+/// the same. `before` says that those after the batch before are known to be.
 fn is_alike(
     attempt: &AttemptView<'_>,
-    settled: &Settled<'_>,
+    settled: &Settled,
     balances: &Balances,
     other: &AttemptView<'_>,
-    others_settled: &Settled<'_>,
+    others_settled: &Settled,
     others: &Balances,
     n: u32,
     before: bool,
 ) -> bool
     requires one { 1 ≤ n }
-    requires there { n ≤ length settled.now.batches }
-    requires others_there { n ≤ length others_settled.now.batches }
+    requires there { n ≤ length settled.now.numbers }
+    requires others_there { n ≤ length others_settled.now.numbers }
     requires after { IsAfter settled.now n balances.now }
     requires others_after { IsAfter others_settled.now n others.now }
     requires before { IsTrue before → HaveSameBalances settled.now others_settled.now (n - 1) }
@@ -60,12 +60,12 @@ fn is_alike(
 }
 
 /// Whether the peer shows the token of batch n, from 1, to be due: it committed the batch too, with that token and
-/// those replies, and the balances after it are the same. It is told whether those after the batch before are known to
-/// be.
+/// those replies, and the balances after it are the same. `before` says that those after the batch before are known
+/// to be.
 fn is_shown(
     trace: &Trace<'_>,
     history: &History<'_>,
-    settled: &Settled<'_>,
+    settled: &Settled,
     n: u32,
     balances: &Balances,
     peer: Peer<'_, '_>,
@@ -75,7 +75,7 @@ fn is_shown(
     requires section { AreOfSection trace.now history.now settled.now }
     requires peer { IsDueReplica trace.now peer.history.now peer.settled.now }
     requires one { 1 ≤ n }
-    requires there { n ≤ length settled.now.batches }
+    requires there { n ≤ length settled.now.numbers }
     requires after { IsAfter settled.now n balances.now }
     requires others { IsAfter peer.settled.now n others.now }
     requires before { IsTrue before → HaveSameBalances settled.now peer.settled.now (n - 1) }
@@ -108,14 +108,14 @@ fn is_shown(
 fn wrong_beside(
     trace: &Trace<'_>,
     history: &History<'_>,
-    settled: &Settled<'_>,
+    settled: &Settled,
     n: u32,
     balances: &Balances,
     shown: bool,
 ) -> Option<u64>
     requires section { AreOfSection trace.now history.now settled.now }
     requires one { 1 ≤ n }
-    requires there { n ≤ length settled.now.batches }
+    requires there { n ≤ length settled.now.numbers }
     requires after { IsAfter settled.now n balances.now }
     requires shown { IsTrue shown → IsDueIn trace.now history.now.replica n }
     ensures { IsFirstWrong trace.now history.now.replica (n - 1) n result }
@@ -132,7 +132,7 @@ fn wrong_beside(
 fn first_wrong_beside(
     trace: &Trace<'_>,
     history: &History<'_>,
-    settled: &Settled<'_>,
+    settled: &Settled,
     peer: Peer<'_, '_>,
     balances: &mut Balances,
     others: &mut Balances,
@@ -141,7 +141,7 @@ fn first_wrong_beside(
     requires peer { IsDueReplica trace.now peer.history.now peer.settled.now }
     requires balances { IsAfter settled.now 0 balances.old }
     requires others { IsAfter peer.settled.now 0 others.old }
-    ensures { IsFirstWrong trace.now history.now.replica 0 (length settled.now.batches) result }
+    ensures { IsFirstWrong trace.now history.now.replica 0 (length settled.now.numbers) result }
 {
     let mut same = true;
     for n in 0..settled.committed() {
@@ -161,12 +161,12 @@ fn first_beside(
     alloc: Global,
     trace: &Trace<'_>,
     history: &History<'_>,
-    settled: &Settled<'_>,
+    settled: &Settled,
     peer: Peer<'_, '_>,
 ) -> Result<Option<u64>, AllocError>
     requires section { AreOfSection trace.now history.now settled.now }
     requires peer { IsDueReplica trace.now peer.history.now peer.settled.now }
-    ensures { IfOk result (IsFirstWrong trace.now history.now.replica 0 (length settled.now.batches)) }
+    ensures { IfOk result (IsFirstWrong trace.now history.now.replica 0 (length settled.now.numbers)) }
 {
     let mut balances = settled.balances_after(alloc, 0)?;
     let mut others = peer.settled.balances_after(alloc, 0)?;
@@ -185,7 +185,7 @@ pub fn tokens_beside(
     alloc: Global,
     trace: &Trace<'_>,
     history: &History<'_>,
-    settled: &Settled<'_>,
+    settled: &Settled,
     peer: Peer<'_, '_>,
 ) -> Result<(), CheckFault>
     requires history { history.now ≡ section_history trace.now history.now.replica }

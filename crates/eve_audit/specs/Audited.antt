@@ -21,7 +21,7 @@ pub record IsAudited (t : Trace) : Type 0 where
       → IsSerialBetween (bank_after t e (n - 1)) (bank_after t e n) (execution t p.attempt)
   -- and all of them, from the opening balances
   pub from_opening : (e n : ℕ) → Leads (opening_bank t) (executions t (committed_to t e n)) (bank_after t e n)
-  -- each certificate has every index once, parallelBatch after parallelBatch
+  -- the certificate of each committed batch has every index once, parallelBatch after parallelBatch
   pub keeps_groups : (e n : ℕ) (p : Placed) → committed_at t e n ≡ Some p
       → IsTrue (keeps_groups (batch_at t n).sizes (length (batch_at t n).requests) p.attempt.certificate)
   -- replicas that committed a batch have the same bank after it, and the same replies by request index

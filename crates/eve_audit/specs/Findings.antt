@@ -19,7 +19,7 @@ finding e answer = record { replica = e; answer = answer }
 abbrev pub AreTrue : Trace → Slot → Type 0
 AreTrue t slot = All (λ f. IsAnswerOf t f.replica f.answer) slot.findings.items
 
--- each slot has the share of the worker with its number, of so many workers
+-- each slot has the share of the worker with its number, among this number of workers
 abbrev pub AreDealt : ℕ → List Slot → Type 0
 AreDealt workers slots = (w : ℕ) (d : Slot) → w < length slots
     → ((slice_index_or slots w d).share.worker ≡ w) × ((slice_index_or slots w d).share.workers ≡ workers)

@@ -42,7 +42,7 @@ struct Opened<'a> {
     names: Names<'a>,
 }
 
-/// Reads a trace and judges its orders, both with up to so many jobs.
+/// Reads a trace and judges its orders, both with up to `jobs` jobs.
 fn open<'a, R: Threads + Sync>(
     rt: &R,
     alloc: Global,
@@ -74,7 +74,7 @@ fn judge_together(
     alloc: Global,
     trace: &Trace<'_>,
     histories: &[History<'_>],
-    settled: &[Settled<'_>],
+    settled: &[Settled],
 ) -> Result<(), CheckFault>
     requires histories { histories.now ≡ section_histories trace.now }
     requires settled { settled.now ≡ settlings trace.now }
@@ -151,7 +151,7 @@ fn verdict_on<'a, R: Threads + Sync>(
 /// first fault stands within the bytes, or at their end, and names the replica in whose section it lies, if it lies in
 /// one.
 ///
-/// docs/MODEL.md, "Verdict" and "The audit theorem". Nothing recorded is trusted. Refused memory decides nothing. The
+/// docs/MODEL.md, "Verdict" and "The audit theorem". No recorded claim is trusted. Refused memory decides nothing. The
 /// time is linear in the trace, but for the tokens: for each batch all balances are hashed, once where the replicas
 /// came to the same, and compared once for each replica. It waits for nobody.
 pub fn audit_one<R: Threads + Sync>(
@@ -175,14 +175,18 @@ pub fn audit_one<R: Threads + Sync>(
 /// Audits the bytes of a trace as `audit_one` does, the replicas side by side on up to `MOST_AUDIT_WORKERS` workers:
 /// the same verdict, for every number of workers and every order in which they end.
 ///
-/// docs/MODEL.md, "Verdict" and "The audit theorem". The caller reads the trace and judges its orders first: the bodies
-/// of batches, attempts and access records, and then the requests' numbers, in up to as many threads as there are
-/// workers, which have ended before a worker begins. Then worker e mod `workers` judges replica e by itself, and enters
-/// the gate with e first; a batch that came to the same in a sound replica that it judged before isn't hashed again. No
-/// more threads than workers work at once: with one worker no thread is started, and a replica has more than one where
-/// there are two workers or more to each. A worker that can't be started is run by the caller, and a replica for which
-/// a worker had no memory is judged again by the caller. What the replicas come to together is judged once all workers
-/// have ended. Nothing is promised of which threads run, and it returns where the gate does.
+/// docs/MODEL.md, "Verdict" and "The audit theorem".
+///
+/// - First the caller reads the trace and judges its orders: the bodies of batches, attempts and access records, and
+///   then the requests' numbers, in up to `workers` threads, which end before a worker begins.
+/// - Then worker e mod `workers` judges replica e by itself, and enters the gate with e first. A batch that came to the
+///   same in a sound replica that it judged before isn't hashed again.
+/// - At last, once all workers have ended, the caller judges what the replicas come to together.
+///
+/// At most `workers` threads work at once: with one worker none is started, and a replica has more than one thread
+/// where there are two workers or more to each. The caller runs a worker that can't be started, and judges a replica
+/// for which a worker had no memory. Nothing is promised of which threads run, and the call returns where the gate
+/// does.
 pub fn audit<R: Threads + Wait + Sync, G: Gate>(
     rt: &R,
     alloc: Global,

@@ -66,16 +66,16 @@ pub fn standing_faults_name_their_section()
 }
 
 /// Each replica is judged by itself: two traces that agree in the header, the customers, the batches and a replica's
-/// section, which begins at the same byte, have the same faults of that replica's own, whatever the other replicas did,
-/// was voted and was sent.
+/// section, which begins at the same byte, have the same faults of that replica's own. They may differ in what the
+/// other replicas did, and in votes and replies sent.
 ///
 /// docs/MODEL.md, "Faults".
 pub fn replicas_are_judged_by_themselves()
     ensures { (t u : Trace) (e : ℕ) (f : Fault) → AgreeFor t u e → IsOwnFault t e f → IsOwnFault u e f }
 {}
 
-/// Where the verdict on bytes is yes, they spell a trace, and the trace that they spell is audited: whatever call found
-/// the verdict. Each fault can be decided, so where none stands all is as `IsAudited` says.
+/// Where the verdict on bytes is yes, they spell a trace, and that trace is audited, by whichever call the verdict was
+/// found. Each fault can be decided, so where none stands all is as `IsAudited` says.
 ///
 /// docs/MODEL.md, "The audit theorem".
 pub fn a_yes_is_audited()

@@ -14,7 +14,7 @@ use eve_views::Trace;
 pub fn most_committed<'b, 'a>(
     trace: &Trace<'a>,
     histories: &'b [History<'a>],
-    settled: &'b [Settled<'a>],
+    settled: &'b [Settled],
 ) -> Option<Peer<'b, 'a>>
     requires as_many { length histories.now ≡ length settled.now }
     requires due { AreDueReplicas trace.now histories.now settled.now }

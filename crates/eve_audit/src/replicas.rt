@@ -26,7 +26,7 @@ pub struct Report<'a> {
     /// What its section tells.
     pub history: History<'a>,
     /// What its committed batches wrote.
-    pub settled: Settled<'a>,
+    pub settled: Settled,
 }
 
 impl<'a> Report<'a> {
@@ -48,7 +48,7 @@ pub struct Reports<'a> {
     /// What each section tells.
     pub histories: Vec<History<'a>>,
     /// What the committed batches of each wrote.
-    pub settled: Vec<Settled<'a>>,
+    pub settled: Vec<Settled>,
     /// The least last committed number over the replicas.
     pub committed: u32,
 }
@@ -93,9 +93,9 @@ pub fn judge_replicas<'a, R: Threads + Sync>(
     }
 }
 
-/// A replica's report, or the first of its own faults, by the replica's number from 0. Its structure, its records, its
-/// chains and its tokens are judged in up to so many threads as there are jobs, from 1 on; of one job none is started.
-/// Where there is another replica whose tokens are due, its tokens are judged beside that one's, in one thread.
+/// A replica's report, or the first of its own faults, by the replica's number from 0. Its structure, records, chains
+/// and tokens are judged in up to `jobs` threads, at least 1; for one job no thread is started. Where there is another
+/// replica whose tokens are due, its tokens are judged beside that one's, in one thread.
 pub fn judge_replica<'a, R: Threads + Sync>(
     rt: &R,
     alloc: Global,
@@ -122,7 +122,7 @@ pub fn judge_replica<'a, R: Threads + Sync>(
     }
 }
 
-// What a replica with a right section committed, or the first of its own faults.
+/// What a replica with a right section committed, or the first of its own faults.
 fn settle<'a, R: Threads + Sync>(
     rt: &R,
     alloc: Global,
@@ -131,7 +131,7 @@ fn settle<'a, R: Threads + Sync>(
     history: &History<'a>,
     jobs: u8,
     peer: Option<Peer<'_, 'a>>,
-) -> Result<Settled<'a>, CheckFault>
+) -> Result<Settled, CheckFault>
     requires history { history.now ≡ section_history trace.now history.now.replica }
     requires none { HasNone (IsFaultIn StandsInStructure trace.now history.now.replica) }
     requires names { names.now.items ≡ names_of trace.now }
@@ -152,8 +152,8 @@ fn settle<'a, R: Threads + Sync>(
     Ok(settled)
 }
 
-// A replica's report, or the first of its own faults: as was found before, or else as it is judged here, beside a peer
-// if there is one, which starts no thread and takes no memory for one.
+/// A replica's report, or the first of its own faults: as was found before, or else as it is judged here, beside a peer
+/// if there is one, which starts no thread and takes no memory for one.
 fn judge_missing<'a, R: Threads + Sync>(
     rt: &R,
     alloc: Global,
@@ -178,7 +178,7 @@ fn judge_missing<'a, R: Threads + Sync>(
     }
 }
 
-// Takes what was found of a replica, if that comes next in its worker's slot.
+/// Takes what was found of a replica, if that comes next in its worker's slot.
 fn take_found<'a>(
     trace: &Trace<'a>,
     slots: &mut [Slot<'a>],
@@ -195,7 +195,7 @@ fn take_found<'a>(
     slots[worker].take(e)
 }
 
-// Keeps the next replica's report.
+/// Keeps the next replica's report.
 fn keep<'a>(reports: &mut Reports<'a>, report: Report<'a>) -> Result<(), AllocError>
     ensures histories { OnOk result
         (reports.new.histories.items ≡ reports.old.histories.items ++ report.entry.history ∷ []) }

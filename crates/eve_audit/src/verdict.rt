@@ -1,8 +1,8 @@
-//! What an audit answers.
+//! What an audit returns.
 
 use eve_views::Fault;
 
-/// What a trace without a fault comes to.
+/// The counts of a trace without a fault.
 #[derive(Clone, Copy, Debug, PartialEq, Eq)]
 pub struct Summary {
     /// How many replicas there are.
@@ -24,7 +24,7 @@ pub enum Verdict {
     No(Fault),
 }
 
-/// Why an audit answers nothing.
+/// Why an audit has no verdict.
 #[derive(Clone, Copy, Debug, PartialEq, Eq)]
 pub enum AuditFault {
     /// Memory was refused, which decides nothing.

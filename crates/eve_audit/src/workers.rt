@@ -17,7 +17,7 @@ use std::sync::Wait;
 use std::thread;
 use std::thread::Threads;
 
-/// Which replicas are one worker's to judge: of as many as there are workers, every one whose number leaves its own.
+/// The replicas that one worker judges: each replica `e` with `e % workers == worker`.
 #[derive(Clone, Copy)]
 pub struct Share {
     worker: u8,
@@ -26,7 +26,7 @@ pub struct Share {
 }
 
 impl Share {
-    /// The share of a worker, by its number from 0, among so many.
+    /// The share of the worker with this number, from 0, among `workers`.
     pub fn new(worker: u8, workers: u8) -> Self
         requires { worker < workers }
         ensures worker { result.worker ≡ worker }
@@ -35,7 +35,7 @@ impl Share {
         Share { worker, workers }
     }
 
-    /// Whether a replica is in it: its number leaves the worker's when it is divided by the number of workers.
+    /// Whether a replica is in it: whether `e % workers == worker`.
     pub fn has(self, e: u8) -> bool
         ensures { IsTrue result ↔ (e % self.workers ≡ self.worker) }
     {
@@ -67,10 +67,9 @@ impl<'a> Slot<'a> {
     ghost use Rattle.eve_audit.specs.Peers.{IsSoundPeer};
 
     /// What workers find of the replicas, side by side, each replica judged by itself. Worker e mod `workers` judges
-    /// replica e, and enters the gate with e first. Where there are more workers than replicas, each replica is judged
-    /// in up to as many threads as its part of them: no more threads than workers work at once, and with one worker
-    /// none is started. A worker that can't be started is run by the caller; where a worker has no memory for a
-    /// replica, nothing is found of it.
+    /// replica e, and enters the gate with e first. Where there are more workers than replicas, each replica has its
+    /// part of the threads: at most `workers` threads work at once, and with one worker none is started. The caller
+    /// runs a worker that can't be started. Where a worker has no memory for a replica, it finds nothing of it.
     pub fn judge_side_by_side<R: Threads + Wait + Sync, G: Gate>(
         rt: &R,
         alloc: Global,
@@ -110,7 +109,7 @@ impl<'a> Slot<'a> {
         }
     }
 
-    // A worker's slot, before it has judged a replica.
+    /// A worker's slot, before it has judged a replica.
     fn new(alloc: Global, share: Share) -> Self
         ensures share { result.share ≡ share }
         ensures none { result.findings.items ≡ [] }
@@ -121,7 +120,7 @@ impl<'a> Slot<'a> {
         }
     }
 
-    // A slot for each worker that has a replica to judge.
+    /// A slot for each worker that has a replica to judge.
     fn empty_slots(alloc: Global, workers: u8) -> Result<Vec<Slot<'a>>, AllocError>
         ensures len { IfOk result (λ slots. length slots.items ≡ workers) }
         ensures shares { IfOk result (λ slots. AreDealt workers slots.items) }
@@ -134,7 +133,7 @@ impl<'a> Slot<'a> {
         Ok(slots)
     }
 
-    // Judges the workers' replicas, each worker's in a thread of its own where one can be started.
+    /// Judges the workers' replicas, each worker's in a thread of its own where one can be started.
     fn judge_shares<R: Threads + Wait + Sync, G: Gate>(
         rt: &R,
         alloc: Global,
@@ -166,7 +165,7 @@ impl<'a> Slot<'a> {
         );
     }
 
-    // Judges the worker's replicas.
+    /// Judges the worker's replicas.
     fn judge_share<R: Threads + Wait + Sync, G: Gate>(
         &mut self,
         rt: &R,
@@ -191,8 +190,8 @@ impl<'a> Slot<'a> {
         }
     }
 
-    // Judges a replica by itself, in up to so many threads as there are jobs, from 1 on, and keeps what that comes to;
-    // beside a replica that it found sound before, if there is one. Where memory runs out nothing is kept.
+    /// Judges a replica by itself in up to `jobs` threads, at least 1, beside a replica that it found sound before, if
+    /// there is one. It keeps what it finds; where memory runs out it keeps nothing.
     fn judge<R: Threads + Sync>(
         &mut self,
         rt: &R,
@@ -222,7 +221,7 @@ impl<'a> Slot<'a> {
             .push_back_reserved(Finding { replica: e, answer });
     }
 
-    // Of the replicas that it found sound, the one that committed most.
+    /// Of the replicas that it found sound, the one that committed most.
     fn most_committed(&self, trace: &Trace<'a>) -> Option<Peer<'_, 'a>>
         requires { AreTrue trace.now self.now }
         ensures { IsSoundPeer trace.now result }
@@ -237,7 +236,7 @@ impl<'a> Slot<'a> {
     }
 }
 
-// In how many threads a replica is judged, so that there are no more than workers.
+/// In how many threads a replica is judged, so that there are no more than workers.
 fn jobs_of_each(workers: u8, replicas: u8) -> u8
     requires { 1 ≤ workers }
     ensures some { 1 ≤ result }

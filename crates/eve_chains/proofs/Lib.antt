@@ -1,7 +1,10 @@
 pub mod AttemptRecords
-pub mod Judging
-pub mod Rolling
 pub mod Steps
+mod Told
+mod ByRow
+mod WalkedRows
+mod Collecting
+mod JudgedRows
 mod Paths
 mod RowWalks
 mod Meeting
@@ -16,17 +19,21 @@ pub mod Soundness
 pub mod Faultless
 pub mod Once
 pub mod Arrivals
-pub mod TableLaws
+mod Openings
 pub mod AlongLaws
 pub mod Walks
 pub mod Advancing
 mod WorkedCases
 pub mod Nearest
 pub mod Least
-pub mod Noting
 pub mod Attempts
 pub mod Judged
 pub mod Stretches
 mod CommittedBatches
+mod Changing
+mod ByNumber
+mod ChangedRows
+mod CommittedChanges
+mod SettingRows
 mod AdvancingBanks
 mod SameAgain

@@ -14,7 +14,6 @@ use Rattle.eve_history.specs.SectionHistory.{history, committed_at, IsRightSecti
 use Rattle.eve_smallbank.proofs.Members.{In, here, there}
 use Rattle.eve_chains.specs.Committed.{attempts_of}
 use Rattle.eve_chains.specs.Settling.{settling}
-use Rattle.eve_chains.specs.Walking.{ArePlaced}
 
 -- The attempt's path is what stands before it, its number is the next, and its certificate is right.
 pub record IsLinked (t : Trace) (before : List Attempt) (p : Placed) : Type 0 where
@@ -41,6 +40,11 @@ linked-front : (t : Trace) (before : List Attempt) (ps qs : List Placed) → Are
     → AreLinked t before ps
 linked-front t before [] qs linked = tt
 linked-front t before (p ∷ ps) qs linked = (linked.0, linked-front t (before ++ p.attempt ∷ []) ps qs linked.1)
+
+-- each attempt's path is what stands before it
+abbrev pub ArePlaced : List Attempt → List Placed → Type 0
+ArePlaced before [] = Unit {0}
+ArePlaced before (p ∷ ps) = (p.path ≡ before) × ArePlaced (before ++ p.attempt ∷ []) ps
 
 -- of paths alone: an attempt more, which stands on the path of those before it
 pub placed_push : (before : List Attempt) (ps : List Placed) (q : Placed) → ArePlaced before ps
@@ -162,7 +166,7 @@ take_length (y ∷ xs) zero x e = refl
 take_length (y ∷ xs) (suc n) x e = ap suc (take_length xs n x e)
 
 -- as many batches are kept as were committed
-pub batches_counted : (t : Trace) (e : ℕ) → length (settling t e).batches ≡ length (history t e).committed
+pub batches_counted : (t : Trace) (e : ℕ) → length (settling t e).numbers ≡ length (history t e).committed
 unfolding settling
 batches_counted t e = length-map (history t e).committed _
 

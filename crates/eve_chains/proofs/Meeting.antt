@@ -23,10 +23,9 @@ use Rattle.eve_chains.proofs.Distinct.{in_map, in_right}
 use Rattle.eve_chains.specs.Rows.{Fated, told_of, settles, Noted, noted_by, noted_in, all_noted}
 use Rattle.eve_chains.specs.Rows.{of_row, met_by, pair_after}
 use Rattle.eve_chains.proofs.AttemptRecords.{own}
-use Rattle.eve_chains.proofs.Judging.{Advances}
-use Rattle.eve_chains.proofs.Steps.{lead_all}
-use Rattle.eve_chains.proofs.Paths.{all_placed, counts_in, counting, will_commit, will_fall, view_of, AreCounting}
-use Rattle.eve_chains.proofs.Paths.{counting_told, committed_told, discarded_told}
+use Rattle.eve_chains.proofs.Steps.{Advances, lead_all}
+use Rattle.eve_chains.proofs.Paths.{all_placed, counts_in, counting, will_commit, will_fall, view_of, number_of}
+use Rattle.eve_chains.proofs.Paths.{AreCounting, counting_told, committed_told, discarded_told}
 use Rattle.eve_chains.proofs.RowWalks.{counts, entries, after_all, AreRising, own_of, table_row, meets_what_counts}
 
 -- ---- lists
@@ -63,33 +62,33 @@ from_filter {A} {y} test (x ∷ xs) i = by (test x) (λ j. from_filter test xs j
 
 -- ---- the entries that were noted
 
-entries_noted : (at view : ℕ) (commits : Bool) (es : List Entry)
+entries_noted : (at view number : ℕ) (commits : Bool) (es : List Entry)
     → map (λ (n : Noted). n.entry)
-    (map (λ (e : Entry). record { offset = at; view = view; commits = commits; entry = e }) es) ≡ es
-entries_noted at view commits [] = refl
-entries_noted at view commits (e ∷ es) = ap (λ ys. e ∷ ys) (entries_noted at view commits es)
+    (map (λ (e : Entry). record { offset = at; view = view; number = number; commits = commits; entry = e }) es) ≡ es
+entries_noted at view number commits [] = refl
+entries_noted at view number commits (e ∷ es) = ap (λ ys. e ∷ ys) (entries_noted at view number commits es)
 
-entries_are : (view : ℕ) (commits : Bool) (xs : List (ℕ × Access)) → entries (flat_map (noted_by view commits) xs)
+entries_are : (view number : ℕ) (commits : Bool) (xs : List (ℕ × Access)) → entries (flat_map (noted_by view number commits) xs)
     ≡ entries_along xs
-entries_are view commits [] = refl
-entries_are view commits (x ∷ xs) =
-    map-append (λ (n : Noted). n.entry) (noted_by view commits x) (flat_map (noted_by view commits) xs)
-    ∙ (λ i. entries_noted x.0 view commits x.1.entries i ++ entries_are view commits xs i)
+entries_are view number commits [] = refl
+entries_are view number commits (x ∷ xs) =
+    map-append (λ (n : Noted). n.entry) (noted_by view number commits x) (flat_map (noted_by view number commits) xs)
+    ∙ (λ i. entries_noted x.0 view number commits x.1.entries i ++ entries_are view number commits xs i)
 
 abbrev IsAlike : ℕ → Bool → Noted → Type 0
 IsAlike view commits n = (n.view ≡ view) × (n.commits ≡ commits)
 
-alike_by : (at view : ℕ) (commits : Bool) (es : List Entry)
+alike_by : (at view number : ℕ) (commits : Bool) (es : List Entry)
     → AllByRecursion (IsAlike view commits)
-    (map (λ (e : Entry). record { offset = at; view = view; commits = commits; entry = e }) es)
-alike_by at view commits [] = tt
-alike_by at view commits (e ∷ es) = ((refl, refl), alike_by at view commits es)
+    (map (λ (e : Entry). record { offset = at; view = view; number = number; commits = commits; entry = e }) es)
+alike_by at view number commits [] = tt
+alike_by at view number commits (e ∷ es) = ((refl, refl), alike_by at view number commits es)
 
-alike : (view : ℕ) (commits : Bool) (xs : List (ℕ × Access))
-    → AllByRecursion (IsAlike view commits) (flat_map (noted_by view commits) xs)
-alike view commits [] = tt
-alike view commits (x ∷ xs) = all-append (IsAlike view commits) (noted_by view commits x)
-    (flat_map (noted_by view commits) xs) (alike_by x.0 view commits x.1.entries) (alike view commits xs)
+alike : (view number : ℕ) (commits : Bool) (xs : List (ℕ × Access))
+    → AllByRecursion (IsAlike view commits) (flat_map (noted_by view number commits) xs)
+alike view number commits [] = tt
+alike view number commits (x ∷ xs) = all-append (IsAlike view commits) (noted_by view number commits x)
+    (flat_map (noted_by view number commits) xs) (alike_by x.0 view number commits x.1.entries) (alike view number commits xs)
 
 counts_alike : (w view : ℕ) (commits b : Bool) (ns : List Noted) → (commits || (view == w)) ≡ b
     → AllByRecursion (IsAlike view commits) ns → AllByRecursion (λ n. counts w n ≡ b) ns
@@ -119,12 +118,12 @@ counting_noted w (y ∷ ys) all = by (settles y) (counts_in w y) refl refl (λ h
         filter-append (counts w) own_noted (all_noted ys)
         ∙ (λ i. filter_all (counts w) own_noted
         (counts_alike w (view_of y) (is_committed y.fate) true own_noted k
-        (alike (view_of y) (is_committed y.fate) (own y.placed))) i ++ more h.1 i)
+        (alike (view_of y) (number_of y) (is_committed y.fate) (own y.placed))) i ++ more h.1 i)
     by true false s k more h =
         filter-append (counts w) own_noted (all_noted ys)
         ∙ (λ i. filter_none (counts w) own_noted
         (counts_alike w (view_of y) (is_committed y.fate) false own_noted k
-        (alike (view_of y) (is_committed y.fate) (own y.placed))) i ++ more h i)
+        (alike (view_of y) (number_of y) (is_committed y.fate) (own y.placed))) i ++ more h i)
     by false true s k more h = absurd (false≢true (sym s ∙ h.0))
     by false false s k more h = more h
 
@@ -133,7 +132,7 @@ entries_of_all : (ys : List Fated) → entries (flat_map noted_in ys) ≡ flat_m
 entries_of_all [] = refl
 entries_of_all (y ∷ ys) =
     map-append (λ (n : Noted). n.entry) (noted_in y) (flat_map noted_in ys)
-    ∙ (λ i. entries_are (view_of y) (is_committed y.fate) (own y.placed) i ++ entries_of_all ys i)
+    ∙ (λ i. entries_are (view_of y) (number_of y) (is_committed y.fate) (own y.placed) i ++ entries_of_all ys i)
 
 -- the row's own, of those that pass
 entries_filter : (test : Noted → Bool) (row : ℕ) (ns : List Noted) → entries (filter test (of_row row ns))
@@ -198,7 +197,7 @@ noted_from : (view : ℕ) (ys : List Fated) → AllByRecursion (λ y. view ≤ v
 noted_from view [] all = tt
 noted_from view (y ∷ ys) all =
     all-append (λ n. view ≤ n.view) (noted_in y) (flat_map noted_in ys)
-    (up (noted_in y) (alike (view_of y) (is_committed y.fate) (own y.placed))) (noted_from view ys all.1)
+    (up (noted_in y) (alike (view_of y) (number_of y) (is_committed y.fate) (own y.placed))) (noted_from view ys all.1)
   where
     up : (ns : List Noted) → AllByRecursion (IsAlike (view_of y) (is_committed y.fate)) ns
         → AllByRecursion (λ n. view ≤ n.view) ns
@@ -210,7 +209,7 @@ noted_up : (view : ℕ) (ys : List Fated) → AllByRecursion (λ y. view_of y �
 noted_up view [] all = tt
 noted_up view (y ∷ ys) all =
     all-append (λ n. n.view ≤ view) (noted_in y) (flat_map noted_in ys)
-    (up (noted_in y) (alike (view_of y) (is_committed y.fate) (own y.placed))) (noted_up view ys all.1)
+    (up (noted_in y) (alike (view_of y) (number_of y) (is_committed y.fate) (own y.placed))) (noted_up view ys all.1)
   where
     up : (ns : List Noted) → AllByRecursion (IsAlike (view_of y) (is_committed y.fate)) ns
         → AllByRecursion (λ n. n.view ≤ view) ns
@@ -225,7 +224,7 @@ noted_rising (y ∷ ys) order =
     (below (noted_in y) alike_own)
   where
     alike_own : AllByRecursion (IsAlike (view_of y) (is_committed y.fate)) (noted_in y)
-    alike_own = alike (view_of y) (is_committed y.fate) (own y.placed)
+    alike_own = alike (view_of y) (number_of y) (is_committed y.fate) (own y.placed)
 
     below : (ns : List Noted) → AllByRecursion (IsAlike (view_of y) (is_committed y.fate)) ns
         → AllByRecursion (λ n. AllByRecursion (λ m. n.view ≤ m.view) (flat_map noted_in ys)) ns
@@ -324,7 +323,7 @@ module _ (t : Trace) (e : ℕ) (limits : HasLimits t) (right : IsRightSection t 
     -- what the row's walk meets after the attempts before it and some of its own records
     pub meets_visible : (xs : List (ℕ × Access)) (row : ℕ) (n : Noted) → n.view ≡ view_of x
         → met_by (pair_after (opening_table t row)
-        (of_row row (all_noted before ++ flat_map (noted_by (view_of x) (is_committed x.fate)) xs))) n
+        (of_row row (all_noted before ++ flat_map (noted_by (view_of x) (number_of x) (is_committed x.fate)) xs))) n
         ≡ table_after (table_along t x.placed.path) (entries_along xs) row
     meets_visible xs row n same =
         meets_what_counts (opening_table t row) (of_row row ns) n (rising_filter (λ m. m.entry.row == row) ns rising)
@@ -340,11 +339,14 @@ module _ (t : Trace) (e : ℕ) (limits : HasLimits t) (right : IsRightSection t 
         v : ℕ
         v = view_of x
 
+        its : ℕ
+        its = number_of x
+
         c : Bool
         c = is_committed x.fate
 
         mine : List Noted
-        mine = flat_map (noted_by v c) xs
+        mine = flat_map (noted_by v its c) xs
 
         ns : List Noted
         ns = all_noted before ++ mine
@@ -359,8 +361,8 @@ module _ (t : Trace) (e : ℕ) (limits : HasLimits t) (right : IsRightSection t 
             ∙ ap entries (filter-append (counts v) (all_noted before) mine)
             ∙ map-append (λ (m : Noted). m.entry) (filter (counts v) (all_noted before)) (filter (counts v) mine)
             ∙ ap (λ (es : List Entry). entries (filter (counts v) (all_noted before)) ++ es)
-            (ap entries (filter_all (counts v) mine (counts_alike v v c true mine (own_counts c) (alike v c xs)))
-            ∙ entries_are v c xs)
+            (ap entries (filter_all (counts v) mine (counts_alike v v c true mine (own_counts c) (alike v its c xs)))
+            ∙ entries_are v its c xs)
 
         before_up : AllByRecursion (λ m. m.view ≤ v) (all_noted before)
         before_up = noted_up v (filter settles before) (all-filter (λ y. view_of y ≤ v) settles before known.1)
@@ -371,7 +373,7 @@ module _ (t : Trace) (e : ℕ) (limits : HasLimits t) (right : IsRightSection t 
 
         up : AllByRecursion (λ m. m.view ≤ n.view) ns
         up = subst (λ (w : ℕ). AllByRecursion (λ m. m.view ≤ w) ns) (sym same)
-            (all-append (λ m. m.view ≤ v) (all_noted before) mine before_up (mine_same mine (alike v c xs)))
+            (all-append (λ m. m.view ≤ v) (all_noted before) mine before_up (mine_same mine (alike v its c xs)))
 
         mine_above : (k : ℕ) → k ≤ v → (ms : List Noted) → AllByRecursion (IsAlike v c) ms
             → AllByRecursion (λ m. k ≤ m.view) ms
@@ -381,7 +383,7 @@ module _ (t : Trace) (e : ℕ) (limits : HasLimits t) (right : IsRightSection t 
         all_above : (ks : List Noted) → AllByRecursion (λ m. m.view ≤ v) ks
             → AllByRecursion (λ k. AllByRecursion (λ m. k.view ≤ m.view) mine) ks
         all_above [] h = tt
-        all_above (k ∷ ks) h = (mine_above k.view h.0 mine (alike v c xs), all_above ks h.1)
+        all_above (k ∷ ks) h = (mine_above k.view h.0 mine (alike v its c xs), all_above ks h.1)
 
         rising : AreRising ns
         rising =
@@ -390,4 +392,4 @@ module _ (t : Trace) (e : ℕ) (limits : HasLimits t) (right : IsRightSection t 
             (order_filter settles before
             (order_front before (x ∷ after)
             (subst AreInOrder is (in_order [] (told_of t e) (counting_told t e right))))))
-            (rising_alike v c mine (alike v c xs)) (all_above (all_noted before) before_up)
+            (rising_alike v c mine (alike v its c xs)) (all_above (all_noted before) before_up)

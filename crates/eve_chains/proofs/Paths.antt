@@ -31,6 +31,9 @@ will_fall x = is_discarded x.fate
 abbrev pub view_of : Fated → ℕ
 view_of x = x.placed.attempt.view
 
+abbrev pub number_of : Fated → ℕ
+number_of x = x.placed.attempt.seq
+
 -- its writes count for what comes in this view: it will be committed, or no rollback came since
 abbrev pub counts_in : ℕ → Fated → Bool
 counts_in view x = is_committed x.fate || (x.placed.attempt.view == view)

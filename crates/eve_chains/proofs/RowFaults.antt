@@ -35,26 +35,27 @@ use Rattle.eve_chains.proofs.Attempts.{from_ordered}
 use Rattle.eve_chains.specs.Rows.{Fated, told_of, settles, Noted, noted_by, noted_in, all_noted, of_row, met_by}
 use Rattle.eve_chains.specs.Rows.{pair_after, IsWrongOnRow, EachSees}
 use Rattle.eve_chains.proofs.AttemptRecords.{own}
-use Rattle.eve_chains.proofs.Paths.{all_placed, view_of, committed_told, discarded_told}
+use Rattle.eve_chains.proofs.Paths.{all_placed, view_of, number_of, committed_told, discarded_told}
 use Rattle.eve_chains.proofs.Meeting.{settled_there, meets_visible}
 use Rattle.eve_chains.proofs.Cuts.{filter_cut, flat_cut, map_cut}
 
-abbrev noted_entry : ℕ → ℕ → Bool → Entry → Noted
-noted_entry at view commits e = record { offset = at; view = view; commits = commits; entry = e }
+abbrev noted_entry : ℕ → ℕ → ℕ → Bool → Entry → Noted
+noted_entry at view number commits e =
+    record { offset = at; view = view; number = number; commits = commits; entry = e }
 
 -- what stands between a front and a back is there
 in_cut : {A : Type 0} (xs front : List A) (x : A) (back : List A) → xs ≡ front ++ x ∷ back → In x xs
 in_cut xs front x back is = subst (In x) (sym is) (in_middle x front back)
 
 -- of a request's entries on distinct rows none before this one is of its row
-none_before : (at view : ℕ) (commits : Bool) (row : ℕ) (before : List Entry) (e : Entry) (rest : List Entry)
+none_before : (at view number : ℕ) (commits : Bool) (row : ℕ) (before : List Entry) (e : Entry) (rest : List Entry)
     → AreDistinct (map (λ d. d.row) (before ++ e ∷ rest)) → e.row ≡ row
-    → of_row row (map (noted_entry at view commits) before) ≡ []
-none_before at view commits row [] e rest apart its = refl
-none_before at view commits row (d ∷ before) e rest apart its =
-    filter_dropped (λ (n : Noted). n.entry.row == row) (noted_entry at view commits d)
-    (map (noted_entry at view commits) before) (ne_eqb d.row row other)
-    ∙ none_before at view commits row before e rest apart.1 its
+    → of_row row (map (noted_entry at view number commits) before) ≡ []
+none_before at view number commits row [] e rest apart its = refl
+none_before at view number commits row (d ∷ before) e rest apart its =
+    filter_dropped (λ (n : Noted). n.entry.row == row) (noted_entry at view number commits d)
+    (map (noted_entry at view number commits) before) (ne_eqb d.row row other)
+    ∙ none_before at view number commits row before e rest apart.1 its
   where
     other : d.row ≡ row → ⊥
     other same = all_in (λ n. ¬ (n ≡ d.row)) apart.0
@@ -111,9 +112,9 @@ module _ (t : Trace) (e : ℕ) (limits : HasLimits t) (right : IsRightSection t 
       place.is in
       let b = flat_cut noted_in (filter settles (told_of t e)) a.front n a.back a.is in
       let c = filter_cut settles (told_of t e) b.earlier b.item b.later b.is in
-      let d = flat_cut (noted_by (view_of b.item) (is_committed b.item.fate)) (own b.item.placed) b.front n b.back
+      let d = flat_cut (noted_by (view_of b.item) (number_of b.item) (is_committed b.item.fate)) (own b.item.placed) b.front n b.back
       b.inner in
-      let m = map_cut (noted_entry d.item.0 (view_of b.item) (is_committed b.item.fate)) d.item.1.entries d.front n
+      let m = map_cut (noted_entry d.item.0 (view_of b.item) (number_of b.item) (is_committed b.item.fate)) d.item.1.entries d.front n
       d.back d.inner in
       let its : n.entry.row ≡ row = eqb-true n.entry.row row a.passes in
       let same : n.entry ≡ m.item = ap (λ (k : Noted). k.entry) m.it in
@@ -121,11 +122,11 @@ module _ (t : Trace) (e : ℕ) (limits : HasLimits t) (right : IsRightSection t 
       let record_there : In d.item (own b.item.placed) =
       in_cut (own b.item.placed) d.earlier d.item d.later d.is in
       let none : of_row row d.front ≡ [] =
-      ap (of_row row) m.same ∙ none_before d.item.0 (view_of b.item) (is_committed b.item.fate) row m.earlier m.item
+      ap (of_row row) m.same ∙ none_before d.item.0 (view_of b.item) (number_of b.item) (is_committed b.item.fate) row m.earlier m.item
       m.later
       (subst (λ (es : List Entry). AreDistinct (map (λ k. k.row) es)) m.is
       (apart b.item there_is c.passes d.item record_there)) (ap (λ (k : Entry). k.row) (sym same) ∙ its) in
-      let mine = flat_map (noted_by (view_of b.item) (is_committed b.item.fate)) d.earlier in
+      let mine = flat_map (noted_by (view_of b.item) (number_of b.item) (is_committed b.item.fate)) d.earlier in
       let all : a.front ≡ (all_noted c.front ++ mine) ++ d.front =
       b.same ∙ (λ i. flat_map noted_in (sym c.same i) ++ d.same i)
       ∙ sym (append_assoc (all_noted c.front) mine d.front) in
@@ -175,28 +176,28 @@ module _ (t : Trace) (e : ℕ) (limits : HasLimits t) (right : IsRightSection t 
       (xs : List (ℕ × Access)) (x : ℕ × Access) (zs : List (ℕ × Access)) (its : own y.placed ≡ xs ++ x ∷ zs)
       (before : List Entry) (en : Entry) (rest : List Entry) (entries_is : x.1.entries ≡ before ++ en ∷ rest) where
     abbrev note : Noted
-    note = noted_entry x.0 (view_of y) (is_committed y.fate) en
+    note = noted_entry x.0 (view_of y) (number_of y) (is_committed y.fate) en
 
     abbrev mine : List Noted
-    mine = flat_map (noted_by (view_of y) (is_committed y.fate)) xs
+    mine = flat_map (noted_by (view_of y) (number_of y) (is_committed y.fate)) xs
 
     abbrev own_before : List Noted
-    own_before = map (noted_entry x.0 (view_of y) (is_committed y.fate)) before
+    own_before = map (noted_entry x.0 (view_of y) (number_of y) (is_committed y.fate)) before
 
     abbrev others : List Noted
     others =
-        map (noted_entry x.0 (view_of y) (is_committed y.fate)) rest ++
-        (flat_map (noted_by (view_of y) (is_committed y.fate)) zs ++ all_noted back)
+        map (noted_entry x.0 (view_of y) (number_of y) (is_committed y.fate)) rest ++
+        (flat_map (noted_by (view_of y) (number_of y) (is_committed y.fate)) zs ++ all_noted back)
 
-    in_record : noted_by (view_of y) (is_committed y.fate) x
-        ≡ own_before ++ note ∷ map (noted_entry x.0 (view_of y) (is_committed y.fate)) rest
-    in_record = ap (map (noted_entry x.0 (view_of y) (is_committed y.fate))) entries_is
-        ∙ map-append (noted_entry x.0 (view_of y) (is_committed y.fate)) before (en ∷ rest)
+    in_record : noted_by (view_of y) (number_of y) (is_committed y.fate) x
+        ≡ own_before ++ note ∷ map (noted_entry x.0 (view_of y) (number_of y) (is_committed y.fate)) rest
+    in_record = ap (map (noted_entry x.0 (view_of y) (number_of y) (is_committed y.fate))) entries_is
+        ∙ map-append (noted_entry x.0 (view_of y) (number_of y) (is_committed y.fate)) before (en ∷ rest)
 
     in_attempt : noted_in y ≡ mine ++
-        (noted_by (view_of y) (is_committed y.fate) x ++ flat_map (noted_by (view_of y) (is_committed y.fate)) zs)
-    in_attempt = ap (flat_map (noted_by (view_of y) (is_committed y.fate))) its
-        ∙ flat_map-append (noted_by (view_of y) (is_committed y.fate)) xs (x ∷ zs)
+        (noted_by (view_of y) (number_of y) (is_committed y.fate) x ++ flat_map (noted_by (view_of y) (number_of y) (is_committed y.fate)) zs)
+    in_attempt = ap (flat_map (noted_by (view_of y) (number_of y) (is_committed y.fate))) its
+        ∙ flat_map-append (noted_by (view_of y) (number_of y) (is_committed y.fate)) xs (x ∷ zs)
 
     in_all : all_noted (told_of t e) ≡ all_noted front ++ (noted_in y ++ all_noted back)
     in_all =
@@ -207,18 +208,18 @@ module _ (t : Trace) (e : ℕ) (limits : HasLimits t) (right : IsRightSection t 
     all_is : all_noted (told_of t e) ≡ ((all_noted front ++ mine) ++ own_before) ++ note ∷ others
     all_is =
         in_all ∙ ap (λ ns. all_noted front ++ (ns ++ all_noted back))
-        (in_attempt ∙ ap (λ ns. mine ++ (ns ++ flat_map (noted_by (view_of y) (is_committed y.fate)) zs)) in_record)
+        (in_attempt ∙ ap (λ ns. mine ++ (ns ++ flat_map (noted_by (view_of y) (number_of y) (is_committed y.fate)) zs)) in_record)
         ∙ ap (λ ns. all_noted front ++ ns)
-        (append_assoc mine ((own_before ++ note ∷ map (noted_entry x.0 (view_of y) (is_committed y.fate)) rest)
-        ++ flat_map (noted_by (view_of y) (is_committed y.fate)) zs) (all_noted back))
+        (append_assoc mine ((own_before ++ note ∷ map (noted_entry x.0 (view_of y) (number_of y) (is_committed y.fate)) rest)
+        ++ flat_map (noted_by (view_of y) (number_of y) (is_committed y.fate)) zs) (all_noted back))
         ∙ sym (append_assoc (all_noted front) mine
-        (((own_before ++ note ∷ map (noted_entry x.0 (view_of y) (is_committed y.fate)) rest) ++ flat_map
-        (noted_by (view_of y) (is_committed y.fate)) zs) ++ all_noted back))
+        (((own_before ++ note ∷ map (noted_entry x.0 (view_of y) (number_of y) (is_committed y.fate)) rest) ++ flat_map
+        (noted_by (view_of y) (number_of y) (is_committed y.fate)) zs) ++ all_noted back))
         ∙ ap (λ ns. (all_noted front ++ mine) ++ ns)
-        (append_assoc (own_before ++ note ∷ map (noted_entry x.0 (view_of y) (is_committed y.fate)) rest)
-        (flat_map (noted_by (view_of y) (is_committed y.fate)) zs) (all_noted back)
-        ∙ append_assoc own_before (note ∷ map (noted_entry x.0 (view_of y) (is_committed y.fate)) rest)
-        (flat_map (noted_by (view_of y) (is_committed y.fate)) zs ++ all_noted back))
+        (append_assoc (own_before ++ note ∷ map (noted_entry x.0 (view_of y) (number_of y) (is_committed y.fate)) rest)
+        (flat_map (noted_by (view_of y) (number_of y) (is_committed y.fate)) zs) (all_noted back)
+        ∙ append_assoc own_before (note ∷ map (noted_entry x.0 (view_of y) (number_of y) (is_committed y.fate)) rest)
+        (flat_map (noted_by (view_of y) (number_of y) (is_committed y.fate)) zs ++ all_noted back))
         ∙ sym (append_assoc (all_noted front ++ mine) own_before (note ∷ others))
 
     there_is : In y (told_of t e)
@@ -239,7 +240,7 @@ module _ (t : Trace) (e : ℕ) (limits : HasLimits t) (right : IsRightSection t 
         front_is =
             filter-append (λ (n : Noted). n.entry.row == en.row) (all_noted front ++ mine) own_before
             ∙ ap (λ ns. of_row en.row (all_noted front ++ mine) ++ ns)
-            (none_before x.0 (view_of y) (is_committed y.fate) en.row before en rest
+            (none_before x.0 (view_of y) (number_of y) (is_committed y.fate) en.row before en rest
             (subst (λ (es : List Entry). AreDistinct (map (λ k. k.row) es)) entries_is
             (apart y there_is done x record_there)) refl)
             ∙ append-nil (of_row en.row (all_noted front ++ mine))

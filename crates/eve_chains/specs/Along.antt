@@ -8,7 +8,7 @@ use Rattle.eve_grammar.specs.Trace.{Access, Trace}
 use Rattle.eve_grammar.specs.Limits.{is_entry}
 use Rattle.eve_frames.specs.Said.{access_said}
 use Rattle.eve_frames.specs.declared.access.AccessView.{AccessView}
-use Rattle.eve_views.specs.Form.{IsUpTo, SomePlace}
+use Rattle.eve_views.specs.Form.{SomePlace}
 use Rattle.eve_views.specs.declared.fault.Code.{Code}
 use Rattle.eve_views.specs.declared.fault.Code.TheVariants as code
 use Rattle.eve_views.specs.declared.fault.Fault.{Fault}
@@ -48,11 +48,6 @@ pub record IsWrongAlong (e : ℕ) (table : Table) (xs : List (ℕ × Access)) (f
 abbrev pub AllSee : Table → List (ℕ × Access) → Type 0
 AllSee table [] = ⊤
 AllSee table (x ∷ xs) = AllByRecursion (Sees table) x.1.entries × AllSee (table_after table x.1.entries) xs
-
--- nothing is wrong, or this is the first of what is, by offset and then by number
-abbrev pub IsFirstAlong : ℕ → Table → List (ℕ × Access) → Option Fault → Type 0
-IsFirstAlong e table xs None = AllSee table xs
-IsFirstAlong e table xs (Some f) = IsWrongAlong e table xs f × ((g : Fault) → IsWrongAlong e table xs g → IsUpTo f g)
 
 -- ---- all settled attempts
 

@@ -1,6 +1,6 @@
 -- What a replica committed: the bank and the replies after each batch.
 -- docs/MODEL.md, "Bank and replies after a committed batch".
-use Rattle.std.specs.Prelude.{◌≡◌, ◌≢◌, ℕ, ℤ, zero, suc, List, [], ◌∷◌, ◌++◌, map, take, length, ◌*◌, AllPairs}
+use Rattle.std.specs.Prelude.{◌≡◌, ℕ, ℤ, zero, suc, List, [], ◌∷◌, ◌++◌, map, take, length, ◌*◌}
 use Rattle.std.specs.List.{flat_map}
 use Rattle.eve_smallbank.specs.SmallBank.{Bank, run}
 use Rattle.eve_smallbank.specs.Access.{Executed, bank_of}

@@ -1,5 +1,5 @@
 -- The faults of records and of chains, and where they stand. docs/MODEL.md, "Faults".
-use Rattle.std.specs.Prelude.{◌≡◌, ◌≢◌, ℕ, Some, ◌⊎◌}
+use Rattle.std.specs.Prelude.{◌≡◌, ◌≢◌, ℕ, ◌⊎◌}
 use Rattle.eve_smallbank.specs.Access.{Fits}
 use Rattle.eve_grammar.specs.Trace.{Access, Trace}
 use Rattle.eve_grammar.specs.Spelling.{accesses_at}

@@ -41,20 +41,24 @@ told_of t e = to_come start (steps_at t e)
 
 -- ---- their entries
 
--- an entry with its access frame's offset, its attempt's view, and whether its attempt is committed in the end
+-- an entry with its access frame's offset, its attempt's view and number, and whether its attempt is committed in the end
 pub record Noted : Type 0 where
   pub offset : ℕ
   pub view : ℕ
+  pub number : ℕ
   pub commits : Bool
   pub entry : Entry
 
 -- those of an access record
-abbrev pub noted_by : ℕ → Bool → ℕ × Access → List Noted
-noted_by view commits x = map (λ e. record { offset = x.0; view = view; commits = commits; entry = e }) x.1.entries
+abbrev pub noted_by : ℕ → ℕ → Bool → ℕ × Access → List Noted
+noted_by view number commits x =
+    map (λ e. record { offset = x.0; view = view; number = number; commits = commits; entry = e }) x.1.entries
 
 -- those of an attempt, in its certificate's order
 abbrev pub noted_in : Fated → List Noted
-noted_in y = flat_map (noted_by y.placed.attempt.view (is_committed y.fate)) (ordered y.placed.offset y.placed.attempt)
+noted_in y =
+    flat_map (noted_by y.placed.attempt.view y.placed.attempt.seq (is_committed y.fate))
+    (ordered y.placed.offset y.placed.attempt)
 
 -- those of the attempts that settle
 abbrev pub all_noted : List Fated → List Noted

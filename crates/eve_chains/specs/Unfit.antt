@@ -1,7 +1,7 @@
 -- The records of settled attempts, one after another, and the first that doesn't fit its request.
 -- docs/MODEL.md, "A record fits its request".
 use Rattle.std.specs.Prelude.{◌≡◌, ℕ, ◌<◌, ◌≤◌, nat_lt, Bool, ◌||◌, if◌then◌else◌, List, [], ◌∷◌, ◌++◌, map}
-use Rattle.std.specs.Prelude.{length, Option, Some, None, Result, Ok, Err, slice_get, slice_index_or}
+use Rattle.std.specs.Prelude.{length, Option, Some, None, slice_get, slice_index_or}
 use Rattle.std.specs.List.{AllByRecursion, slice_range}
 use Rattle.eve_smallbank.specs.declared.request.Reply.{Reply}
 use Rattle.eve_smallbank.specs.declared.request.Reply.TheVariants.{Done}
@@ -38,15 +38,23 @@ is_settled fate = is_committed fate || is_discarded fate
 abbrev pub records_if_settled : Trace → ExecutedAttempt → Fate → List (ℕ × Executed)
 records_if_settled t r fate = if is_settled fate then records_along t r else []
 
+-- of attempts with these fates, one after another
+abbrev pub by_fates : {A : Type 0} → (ExecutedAttempt → Fate → List A) → List ExecutedAttempt → List Fate → List A
+by_fates of [] fates = []
+by_fates of (r ∷ rs) [] = []
+by_fates of (r ∷ rs) (fate ∷ fates) = of r fate ++ by_fates of rs fates
+
+-- of those from one place up to another
+abbrev pub by_fates_between : {A : Type 0} → (ExecutedAttempt → Fate → List A) → SectionHistory → ℕ → ℕ → List A
+by_fates_between of h from to = by_fates of (slice_range h.attempts from to) (slice_range h.fates from to)
+
 -- of the settled ones among attempts with these fates
 abbrev pub settled_records : Trace → List ExecutedAttempt → List Fate → List (ℕ × Executed)
-settled_records t [] fates = []
-settled_records t (r ∷ rs) [] = []
-settled_records t (r ∷ rs) (fate ∷ fates) = records_if_settled t r fate ++ settled_records t rs fates
+settled_records t rs fates = by_fates (records_if_settled t) rs fates
 
 -- of those from one place up to another
 abbrev pub records_between : Trace → SectionHistory → ℕ → ℕ → List (ℕ × Executed)
-records_between t h from to = settled_records t (slice_range h.attempts from to) (slice_range h.fates from to)
+records_between t h from to = by_fates_between (records_if_settled t) h from to
 
 -- ---- the first that doesn't fit
 
@@ -73,9 +81,3 @@ abbrev pub lesser : Option ℕ → Option ℕ → Option ℕ
 lesser None other = other
 lesser (Some m) None = Some m
 lesser (Some m) (Some n) = if nat_lt n m then Some n else Some m
-
--- the lesser of two that were found, where the memory was there for both
-abbrev pub lesser_found : {E : Type 0} → Result (Option ℕ) E → Result (Option ℕ) E → Result (Option ℕ) E
-lesser_found (Ok first) (Ok other) = Ok (lesser first other)
-lesser_found (Ok first) (Err why) = Err why
-lesser_found (Err why) other = Err why

@@ -21,7 +21,6 @@ ghost use Rattle.eve_views.specs.declared.fault.Code.TheVariants as code;
 ghost use Rattle.eve_history.specs.Faults.{StandsInOrders};
 ghost use Rattle.eve_chains.specs.Committed.{committed_to, values_to, opening_bank, bank_after, Leads, IsSerialBetween};
 ghost use Rattle.eve_chains.specs.Committed.{committed_request_ids, batch_request_ids};
-ghost use Rattle.eve_chains.specs.Tables.{undone};
 ghost use Rattle.eve_chains.specs.Along.{entries_along, IsWrongSomewhere, AllSettledSee};
 ghost use Rattle.eve_chains.specs.Settling.{settling, values_in};
 
@@ -126,11 +125,6 @@ pub fn rows_have_what_the_nearest_writes_left()
     ensures rows { (t : Trace) (path : List Attempt) → rows_after t path ≡ table_along t path }
     ensures seen { (t : Trace) (p : Placed) (index : ℕ) → visible_to t p index ≡ visible_at (opening_table t)
         (before_rest (entries_before t p.path) (executed_in t p.attempt (before_index index p.attempt.certificate))) }
-{}
-
-/// Where what was written is undone row by row, the table is again the one before the writes.
-pub fn undoing_gives_the_table_again()
-    ensures { (table : Table) (es : List Entry) → undone table (table_after table es) es ≡ table }
 {}
 
 /// What is kept of a right section gives the balances of the committed batches.

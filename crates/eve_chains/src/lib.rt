@@ -1,19 +1,22 @@
 //! Records and chains judged: what a replica's settled attempts amount to.
 #![tactic(auto)]
 
-mod along;
+mod changed;
 mod checking;
 mod fitting;
 pub mod laws;
+mod looked;
+mod note;
 mod noted;
-mod noted_balances;
+mod noting;
+mod numbered;
 mod opening;
+mod row_walk;
 mod settled;
 mod stretch;
-mod table;
 mod unfit;
-mod walk;
-mod written;
+mod walked;
+mod walked_row;
 
 pub use checking::check;
 pub use settled::Settled;

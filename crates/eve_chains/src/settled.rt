@@ -1,101 +1,135 @@
 //! What a replica committed.
 
-ghost use Rattle.std.specs.Prelude.{◌≡◌, ◌≤◌, ◌-◌, ◌↔◌, ℕ, List, Some, All, IsTrue, IfOk, IfSome, length, slice_get};
-ghost use Rattle.std.specs.List.{AllByRecursion, list_all};
-ghost use Rattle.eve_smallbank.specs.Access.{balance_of_row, values_after};
-ghost use Rattle.eve_grammar.specs.Trace.{Access, opening_rows};
+ghost use Rattle.std.specs.Prelude.{◌≡◌, ◌≤◌, ◌-◌, ◌↔◌, Some, All, IsTrue, IfOk, length, map, slice_get};
+ghost use Rattle.std.specs.List.{list_all, flat_map};
+ghost use Rattle.eve_smallbank.specs.Access.{balance_of_row};
+ghost use Rattle.eve_grammar.specs.Trace.{opening_rows, head_of};
+ghost use Rattle.eve_grammar.specs.Limits.{row_count};
 ghost use Rattle.eve_history.specs.SectionHistory.{section_history};
-ghost use Rattle.eve_chains.specs.Along.{entries_along, AreWithin};
+ghost use Rattle.eve_chains.specs.Changes.{change_of, by_number, values_changed};
+ghost use Rattle.eve_chains.specs.Numbered.{HasNumber, IsRowBelow, is_same_where_changed};
 ghost use Rattle.eve_chains.specs.Settling.{settling, values_in, AreBankAfter, HaveSameBalances};
-ghost use Rattle.eve_chains.specs.Written.{is_same_if_written};
-ghost use Rattle.eve_chains.specs.NotedBalances.{AreBalancesAfter};
+ghost use Rattle.eve_chains.specs.Walked.{AreWalked};
 
-use crate::noted_balances::BalancesAfter;
+use crate::changed::Changed;
+use crate::numbered::Numbered;
 use crate::opening::opening_balances;
-use crate::written::{are_same_where_written, write_values};
+use crate::walked::{Walked, walk_section};
 use eve_accounts::Balances;
-use eve_history::{CommittedRecords, History};
+use eve_history::History;
 use eve_views::Trace;
 use std::alloc::{AllocError, Global};
 use std::marker::Model;
 
-/// So many balances are compared in the time in which one record of each of two replicas is read, and what it wrote is
-/// compared.
-const ROWS_A_RECORD: usize = 64;
+/// How many balances are compared, one after another, in the time that one changed row of a batch takes: the row is
+/// looked up in both replicas, and the other's batch mostly changed as many rows.
+const ROWS_A_CHANGE: usize = 2;
 
-/// The opening balances, and the records of the batches that a replica committed, which give the balances after each.
+/// The opening balances, and what the batches that a replica committed changed, which give the balances after each.
 ///
-/// docs/MODEL.md, "Bank and replies after a committed batch".
+/// docs/MODEL.md, "Bank and replies after a committed batch". It takes eight bytes for each row and for each batch, and
+/// sixteen for each row that a batch changed. It borrows nothing.
 #[derive(Drop)]
-pub struct Settled<'a> {
+pub struct Settled {
     opening: Balances,
-    records: CommittedRecords<'a>,
-    // balances that were noted on the way, so that nobody has to go over all batches before a stretch
-    noted: Vec<BalancesAfter>,
+    numbered: Numbered,
 }
 
-impl<'a> Model for Settled<'a> {
+impl Model for Settled {
+    ghost use Rattle.std.specs.Prelude.{length};
+    ghost use Rattle.eve_chains.specs.Changes.{from_starts};
+    ghost use Rattle.eve_chains.specs.Numbered.{IsInOrder};
     ghost use Rattle.eve_chains.specs.Settling.{Settling};
-    ghost use Rattle.eve_chains.specs.NotedBalances.{IsWellNoted};
 
     ghost Value = { Settling };
 
-    ghost view = { λ s. record { opening = s.opening; batches = s.records } };
+    ghost view = { λ s. record {
+      opening = s.opening;
+      numbers = from_starts s.numbered.count s.numbered.starts.items s.numbered.changes.items;
+    } };
 
-    ghost invariant = { λ s. IsWellNoted (record { opening = s.opening; batches = s.records }) s.noted.items };
+    ghost invariant = { λ s. IsInOrder (length s.opening) s.numbered };
 }
 
-impl<'a> Settled<'a> {
-    /// What a replica committed, of its history in the trace.
-    ///
-    /// It takes eight bytes for each row. The records are those that the history keeps, four bytes each, which it owns
-    /// together with it.
+impl Settled {
+    /// What a replica committed, of its history in the trace, whatever its entries see.
     pub fn of(
         alloc: Global,
-        history: &History<'a>,
-        trace: &Trace<'a>,
-    ) -> Result<Settled<'a>, AllocError>
+        history: &History<'_>,
+        trace: &Trace<'_>,
+    ) -> Result<Settled, AllocError>
         requires history { history.now ≡ section_history trace.now history.now.replica }
         ensures { IfOk result (λ settled. settled ≡ settling trace.now history.now.replica) }
     {
         let opening = opening_balances(alloc, trace)?;
-        Settled::with_noted(history, trace, opening, Vec::new(alloc))
+        let walked = walk_section(alloc, history, trace, &opening)?;
+        Settled::of_walked(alloc, history, trace, opening, &walked)
     }
 
-    /// The same, of its opening balances, with those that were noted on the way.
-    pub(crate) fn with_noted(
-        history: &History<'a>,
-        trace: &Trace<'a>,
+    /// The same, of its opening balances and of what the walks of all rows gave.
+    pub(crate) fn of_walked(
+        alloc: Global,
+        history: &History<'_>,
+        trace: &Trace<'_>,
         opening: Balances,
-        noted: Vec<BalancesAfter>,
-    ) -> Result<Settled<'a>, AllocError>
+        walked: &[Walked],
+    ) -> Result<Settled, AllocError>
         requires history { history.now ≡ section_history trace.now history.now.replica }
         requires opening { opening ≡ opening_rows trace.now.customers }
-        requires noted { All (AreBalancesAfter (settling trace.now history.now.replica)) noted.items }
+        requires walked { AreWalked trace.now history.now.replica (row_count (head_of trace.now)) walked.now }
         ensures { IfOk result (λ settled. settled ≡ settling trace.now history.now.replica) }
     {
         trace.recall_limits();
-        let records = CommittedRecords::of(history)?;
-        Ok(Settled {
-            opening,
-            records,
-            noted,
-        })
+        history.recall_right();
+        let changes = join_all(alloc, walked)?;
+        Settled::of_changes(alloc, opening, history.committed(), &changes)
+    }
+
+    /// Of opening balances, and of what each of the given number of batches changed: row after row, and of each row
+    /// batch after batch.
+    fn of_changes(
+        alloc: Global,
+        opening: Balances,
+        count: u32,
+        changes: &[Changed],
+    ) -> Result<Settled, AllocError>
+        requires numbers { All (HasNumber count) changes.now }
+        requires rows { All (IsRowBelow (length opening)) changes.now }
+        ensures { IfOk result (λ settled. settled
+            ≡ record { opening = opening; numbers = by_number count changes.entry.now }) }
+    {
+        let numbered = Numbered::of(alloc, opening.len(), count, changes)?;
+        Ok(Settled { opening, numbered })
     }
 
     /// How many batches the replica committed.
     pub fn committed(&self) -> u32
-        ensures { result ≡ length self.now.batches }
+        ensures { result ≡ length self.now.numbers }
     {
-        self.records.count()
+        self.numbered.count
+    }
+
+    /// What batch n changed, of the batches from 1 on, the rows rising.
+    fn changes_of(&self, n: u32) -> &[Changed]
+        requires one { 1 ≤ n }
+        requires there { n ≤ length self.now.numbers }
+        ensures says { slice_get self.now.numbers (n - 1) ≡ Some (map change_of result.now) }
+        ensures rows { All (IsRowBelow (length self.now.opening)) result.now }
+    {
+        let numbered = &self.numbered;
+        let from = numbered.starts[n as usize - 1];
+        let to = numbered.starts[n as usize];
+        prove!(from <= to);
+        prove!(to <= numbered.changes.len());
+        &numbered.changes[from..to]
     }
 
     /// The balances after the first n batches, in cents, which are the bank after batch n: the work is what those
-    /// batches wrote.
+    /// batches changed.
     ///
     /// docs/MODEL.md, "Bank and replies after a committed batch".
     pub fn balances_after(&self, alloc: Global, n: u32) -> Result<Balances, AllocError>
-        requires { n ≤ length self.now.batches }
+        requires { n ≤ length self.now.numbers }
         ensures rows { IfOk result (λ balances. length balances ≡ length self.now.opening) }
         ensures values { IfOk result (λ balances. balance_of_row balances ≡ values_in self.now n) }
         ensures bank { IfOk result (AreBankAfter self.now n) }
@@ -107,54 +141,38 @@ impl<'a> Settled<'a> {
         Ok(balances)
     }
 
-    /// Balances that are at hand without going over what was written: of place 0, 1 and so on how many batches stand
-    /// before them and the balances, in memory of their own; None past the last. How many there are no clause says:
-    /// where `check` had n jobs and enough batches, n - 1, each as many batches after the one before.
-    pub fn mark(&self, alloc: Global, place: usize) -> Result<Option<(u32, Balances)>, AllocError>
-        ensures there { IfOk result (λ mark. IfSome mark (λ m. m.0 ≤ length self.now.batches)) }
-        ensures rows { IfOk result (λ mark. IfSome mark (λ m. length m.1 ≡ length self.now.opening)) }
-        ensures values { IfOk result (λ mark. IfSome mark (λ m. balance_of_row m.1 ≡ values_in self.now m.0)) }
-    {
-        if place >= self.noted.len() {
-            return Ok(None);
-        }
-        let noted = &self.noted[place];
-        let balances = noted.balances.copy(alloc)?;
-        Ok(Some((noted.after, balances)))
-    }
-
     /// Goes from the balances after the batch before to those after batch n, of the batches from 1 on, which are the
     /// bank after it.
     ///
     /// docs/MODEL.md, "Bank and replies after a committed batch".
     pub fn advance(&self, n: u32, balances: &mut Balances)
         requires one { 1 ≤ n }
-        requires there { n ≤ length self.now.batches }
+        requires there { n ≤ length self.now.numbers }
         requires rows { length balances.old ≡ length self.now.opening }
         requires before { balance_of_row balances.old ≡ values_in self.now (n - 1) }
         ensures rows { length balances.new ≡ length balances.old }
         ensures values { balance_of_row balances.new ≡ values_in self.now n }
         ensures bank { AreBankAfter self.now n balances.new }
     {
-        write_batch(balances, &self.records, n);
+        set_all(balances, self.changes_of(n));
     }
 
-    /// Whether the balances after batch n, of the batches from 1 on, are those that another replica has after it. It is
-    /// told whether those after the batch before are known to be the same: then it looks only at the rows that batch n
-    /// wrote in the one or in the other, unless these are so many that all balances are compared sooner.
+    /// Whether the balances after batch n, of the batches from 1 on, are those that another replica has after it.
+    /// `before` says that those after the batch before are known to be the same: then only the rows are compared that
+    /// batch n changed in the one or in the other, unless comparing all balances is quicker.
     ///
     /// docs/MODEL.md, "Bank and replies after a committed batch".
     pub fn are_same_after(
         &self,
         n: u32,
         balances: &Balances,
-        other: &Settled<'_>,
+        other: &Settled,
         others: &Balances,
         before: bool,
     ) -> bool
         requires one { 1 ≤ n }
-        requires there { n ≤ length self.now.batches }
-        requires its { n ≤ length other.now.batches }
+        requires there { n ≤ length self.now.numbers }
+        requires its { n ≤ length other.now.numbers }
         requires rows { length balances.now ≡ length self.now.opening }
         requires its_rows { length others.now ≡ length other.now.opening }
         requires values { balance_of_row balances.now ≡ values_in self.now n }
@@ -162,24 +180,24 @@ impl<'a> Settled<'a> {
         requires before { IsTrue before → HaveSameBalances self.now other.now (n - 1) }
         ensures { IsTrue result ↔ (balances.now ≡ others.now) }
     {
-        if before && self.records.len_of(n) <= balances.len() / ROWS_A_RECORD {
+        if before && self.changes_of(n).len() <= balances.len() / ROWS_A_CHANGE {
             return self.are_same_again(n, balances, other, others);
         }
         are_same(balances, others)
     }
 
-    /// The same, where the balances after the batch before are the same: it looks only at the rows that batch n wrote
-    /// in the one or in the other.
+    /// The same, where the balances after the batch before are the same: compares only the rows that batch n changed in
+    /// the one or in the other.
     fn are_same_again(
         &self,
         n: u32,
         balances: &Balances,
-        other: &Settled<'_>,
+        other: &Settled,
         others: &Balances,
     ) -> bool
         requires one { 1 ≤ n }
-        requires there { n ≤ length self.now.batches }
-        requires its { n ≤ length other.now.batches }
+        requires there { n ≤ length self.now.numbers }
+        requires its { n ≤ length other.now.numbers }
         requires rows { length balances.now ≡ length self.now.opening }
         requires its_rows { length others.now ≡ length other.now.opening }
         requires values { balance_of_row balances.now ≡ values_in self.now n }
@@ -187,41 +205,42 @@ impl<'a> Settled<'a> {
         requires before { HaveSameBalances self.now other.now (n - 1) }
         ensures { IsTrue result ↔ (balances.now ≡ others.now) }
     {
-        let own = are_same_in_batch(&self.records, n, balances, others);
-        own && are_same_in_batch(&other.records, n, balances, others)
+        let own = are_same_where_changed(self.changes_of(n), balances, others);
+        own && are_same_where_changed(other.changes_of(n), balances, others)
     }
 }
 
-/// Changes the balances of the rows that batch n's records write.
-fn write_batch(balances: &mut Balances, records: &CommittedRecords<'_>, n: u32)
-    requires one { 1 ≤ n }
-    requires there { n ≤ length records.now }
-    requires within { AllByRecursion (AreWithin (length balances.old)) records.now }
+/// The changes of all ranges of rows, range after range.
+fn join_all(alloc: Global, walked: &[Walked]) -> Result<Vec<Changed>, AllocError>
+    ensures { IfOk result (λ changes. changes.items ≡ flat_map (λ w. w.changes.items) walked.entry.now) }
+{
+    let mut all = Vec::new(alloc);
+    for one in walked {
+        all.extend_from_slice(&one.changes)?;
+    }
+    Ok(all)
+}
+
+/// Gives each changed row its value.
+fn set_all(balances: &mut Balances, changes: &[Changed])
+    requires rows { All (IsRowBelow (length balances.old)) changes.now }
     ensures as_many { length balances.new ≡ length balances.old }
-    ensures values { (xs : List (ℕ × Access)) → slice_get records.now (n - 1) ≡ Some xs
-        → balance_of_row balances.new ≡ values_after (balance_of_row balances.old) (entries_along xs) }
+    ensures values { balance_of_row balances.new
+        ≡ values_changed (balance_of_row balances.old) (map change_of changes.now) }
 {
-    for place in 0..records.len_of(n) {
-        write_values(balances, records.record(n, place).entries());
+    for change in changes {
+        balances.set(change.row, change.value);
     }
 }
 
-/// Whether both have the same balance in each row that batch n's records write.
-fn are_same_in_batch(
-    records: &CommittedRecords<'_>,
-    n: u32,
-    balances: &Balances,
-    others: &Balances,
-) -> bool
-    requires one { 1 ≤ n }
-    requires there { n ≤ length records.now }
-    requires within { AllByRecursion (AreWithin (length balances.now)) records.now }
+/// Whether both have the same balance in each changed row.
+fn are_same_where_changed(changes: &[Changed], balances: &Balances, others: &Balances) -> bool
+    requires rows { All (IsRowBelow (length balances.now)) changes.now }
     requires as_many { length others.now ≡ length balances.now }
-    ensures { (xs : List (ℕ × Access)) → slice_get records.now (n - 1) ≡ Some xs
-        → result ≡ list_all (is_same_if_written balances.now others.now) (entries_along xs) }
+    ensures { result ≡ list_all (is_same_where_changed balances.now others.now) (map change_of changes.now) }
 {
-    for place in 0..records.len_of(n) {
-        if !are_same_where_written(balances, others, records.record(n, place).entries()) {
+    for change in changes {
+        if balances.get(change.row) != others.get(change.row) {
             return false;
         }
     }

@@ -8,7 +8,6 @@ use Rattle.std.proofs.lemmas.List.{append-nil, drop_at, get_or_past}
 use Rattle.std.proofs.lemmas.Option.{same_Some}
 use Rattle.std.proofs.lemmas.List.Folds.{flat_map-map}
 use Rattle.eve_grammar.specs.Trace.{Access, Attempt, Rollback, Step, Attempts, Commits, RollsBack, Vote, Trace}
-use Rattle.eve_grammar.specs.Trace.{head_of}
 use Rattle.eve_grammar.specs.Frames.{Frame, OfAttempt, OfAccess, OfRollback, OfVerifier, OfVote, without_accesses}
 use Rattle.eve_grammar.specs.Frames.{frames_of}
 use Rattle.eve_grammar.specs.Spelling.{frame_text, frames_text, head_text, length_of, spelling, located, step_text}
@@ -22,13 +21,7 @@ use Rattle.eve_views.proofs.CutLaws.{verifier_cut}
 use Rattle.eve_views.proofs.Lists.{cut_at}
 use Rattle.eve_views.proofs.Locating.{verifier_begins}
 use Rattle.eve_history.specs.SectionHistory.{ExecutedAttempt, SectionHistory, executed_attempt, section_history}
-use Rattle.eve_history.specs.SectionHistory.{attempts_among, rollbacks_among, access_with, ordered, placed_at, history}
-use Rattle.eve_history.specs.SectionHistory.{picked, is_committed}
-use Rattle.eve_history.specs.declared.fate.Fate.{Fate}
-use Rattle.eve_history.specs.Section.{Placed}
-use Rattle.eve_history.specs.Fates.{fates_from}
-use Rattle.eve_history.proofs.FateLaws.{committed_are_picked}
-use Rattle.eve_history.proofs.Finding.{get_mapped}
+use Rattle.eve_history.specs.SectionHistory.{attempts_among, rollbacks_among, access_with, ordered}
 use Rattle.eve_history.proofs.Standing.{StandsIn, stands_inside, located_stands, part_stands}
 use Rattle.eve_history.proofs.Standing.{step_stands, first_stands, access_stands}
 
@@ -224,37 +217,3 @@ lent_ordered t e i place offset h r bytes is got says later text =
     (ap (λ (v : SectionHistory). slice_get v.attempts i) (sym is) ∙ got) in
     lent_record t e place offset a.0 bytes (attempt_among (steps_at t e) i a.0 a.1)
     (ap (λ (q : ExecutedAttempt). slice_get q.ordered place) a.2 ∙ says) later text
-
--- an attempt that was picked is one of all
-picked_among : (test : Fate → Bool) (xs : List (ℕ × Attempt)) (fates : List Fate) (i : ℕ) (x : ℕ × Attempt)
-    → slice_get (picked test xs fates) i ≡ Some x → (k : ℕ) × (slice_get xs k ≡ Some x)
-picked_among test [] fates i x got = absurd (cc)
-picked_among test (y ∷ ys) [] i x got = absurd (cc)
-picked_among test (y ∷ ys) (fate ∷ fates) i x got =
-    by (test fate) (picked test ys fates) i got (λ j found. picked_among test ys fates j x found)
-  where
-    by : (b : Bool) (zs : List (ℕ × Attempt)) (j : ℕ) → slice_get (cond b (y ∷ zs) zs) j ≡ Some x
-        → ((m : ℕ) → slice_get zs m ≡ Some x → (k : ℕ) × (slice_get ys k ≡ Some x))
-        → (k : ℕ) × (slice_get (y ∷ ys) k ≡ Some x)
-    by true zs zero got rest = (0, got)
-    by true zs (suc j) got rest = let own = rest j got in (suc own.0, own.1)
-    by false zs j got rest = let own = rest j got in (suc own.0, own.1)
-
--- and of an attempt that is told to be committed
-pub lent_committed : (t : Trace) (e i place offset : ℕ) (v : List (List (ℕ × Access))) (xs : List (ℕ × Access))
-    (bytes : List ℕ) → v ≡ map (λ r. r.ordered) (section_history t e).commits → slice_get v i ≡ Some xs
-    → slice_get xs place ≡ Some (offset, access_in bytes) → 0 < offset
-    → bytes ≡ frame_text (OfAccess (access_in bytes)) → HasBytesAt t offset bytes
-unfolding section_history history
-lent_committed t e i place offset v xs bytes is got says later text =
-    let steps = steps_at t e in
-    let committed = (history t e).committed in
-    let r = unmapped (λ (r : ExecutedAttempt). r.ordered) (section_history t e).commits i xs
-    (ap (λ (yss : List (List (ℕ × Access))). slice_get yss i) (sym is) ∙ got) in
-    let p = unmapped (λ (p : Placed). executed_attempt (placed_at p)) committed i r.0 r.1 in
-    let own = picked_among is_committed (attempts_among steps) (fates_from 0 steps) i (placed_at p.0)
-    (ap (λ (ys : List (ℕ × Attempt)). slice_get ys i) (sym (committed_are_picked t e))
-    ∙ get_mapped placed_at committed i p.0 p.1) in
-    lent_record t e place offset (placed_at p.0) bytes (attempt_among steps own.0 (placed_at p.0) own.1)
-    (ap (λ (q : ExecutedAttempt). slice_get q.ordered place) p.2
-    ∙ ap (λ (ys : List (ℕ × Access)). slice_get ys place) r.2 ∙ says) later text

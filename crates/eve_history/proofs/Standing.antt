@@ -21,7 +21,7 @@ use Rattle.eve_views.proofs.FrameLaws.{length-frame_text}
 use Rattle.eve_views.proofs.CutLaws.{IsPart, section_cut}
 use Rattle.eve_views.proofs.Lists.{cut_at}
 use Rattle.eve_views.proofs.Locating.{located_get, section_begins, frames_text-flat_map}
-use Rattle.eve_grammar.proofs.FrameLaws.{small_head}
+use Rattle.eve_grammar.proofs.HeadLimits.{few_customers}
 use Rattle.eve_grammar.specs.declared.limits.TheConstants.{MOST_ROWS}
 use Rattle.eve_frames.specs.Views.{has_attempt_body, attempt_in, has_access_body, access_in}
 use Rattle.eve_frames.specs.Views.{has_rollback_body, rollback_in}
@@ -237,7 +237,7 @@ next_stands bytes t e rest k at step spelled come =
 
 few_rows : (bytes : List ℕ) (t : Trace) → Spells bytes t → row_count (head_of t) ≤ MOST_ROWS
 few_rows bytes t spelled =
-    let small = (small_head (head_of t) (limits_of_spelled bytes t spelled).head).customers in
+    let small = few_customers (head_of t) (limits_of_spelled bytes t spelled).head in
     omega (arith, small)
 
 -- an attempt is found again by the byte at which its frame begins

@@ -1,12 +1,11 @@
 -- The faults of orders and of structure, and where they stand. docs/MODEL.md, "Faults".
-use Rattle.std.specs.Prelude.{◌≡◌, ℕ, IsTrue, IsFalse, List, [], ◌++◌, map, Contains, Some, None}
+use Rattle.std.specs.Prelude.{◌≡◌, ℕ, IsTrue, IsFalse, List, [], ◌++◌, map, Contains}
 use Rattle.std.specs.List.{flat_map}
 use Rattle.eve_grammar.specs.Trace.{Customer, RequestId, request_id, Batch, Access, Attempt, Commit, Rollback, Step}
 use Rattle.eve_grammar.specs.Trace.{Attempts, Commits, RollsBack, Trace}
 use Rattle.eve_grammar.specs.Spelling.{customers_at, batches_at, steps_at, accesses_at}
 use Rattle.eve_views.specs.declared.fault.Code.{Code}
 use Rattle.eve_views.specs.declared.fault.Code.TheVariants as code
-use Rattle.eve_views.specs.declared.fault.Fault.{Fault}
 use Rattle.eve_views.specs.Form.{SomePlace}
 use Rattle.eve_grammar.specs.Accesses.{is_right_place}
 use Rattle.eve_history.specs.Section.{SectionState, start, state_after, is_right_attempt, is_right_certificate}

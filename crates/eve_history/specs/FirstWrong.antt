@@ -20,7 +20,7 @@ abbrev pub first_wrong_of : Option Wrong → Option Wrong → Option Wrong
 first_wrong_of (Some w) later = Some w
 first_wrong_of None later = later
 
--- what is wrong with an access record after those before it, of so many workers and indexes
+-- what is wrong with an access record after those before it, with these numbers of workers and indexes
 abbrev pub wrong_access : ℕ → ℕ → List Access → Access → Option Code
 wrong_access workers count before x =
     if is_new_access workers count before x then (if is_right_place before x then None else Some code.WorkerOrder) else

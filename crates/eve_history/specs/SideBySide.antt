@@ -35,7 +35,7 @@ pub record IsMet (t : Trace) (m : MetAttempt) : Type 0 where
   pub said : attempt_said m.attempt ≡ without_accesses (attempt_met m)
   pub accesses : m.accesses ≡ accesses_at m.attempt.offset (attempt_met m)
 
--- so many steps of replica e's section have come, and these are the attempts among them
+-- all steps of replica e's section but the rest have come, and these are the attempts among them
 pub record HaveBeenMet (t : Trace) (e : ℕ) (rest : List (ℕ × Step)) (ms : List MetAttempt) : Type 0 where
   pub spelled : Spells (spelling t) t
   pub front : List (ℕ × Step)
@@ -57,7 +57,7 @@ pub record AreOrdered (t : Trace) (xs : List (ℕ × Attempt)) (records : List �
   pub kept : map (seen (spelling t)) records ≡ flat_map (λ x. ordered x.0 x.1) xs
   pub framed : AllByRecursion (IsAccessAt (spelling t)) records
 
--- these are the records of the i-th part of so many attempts, where the memory was there and nothing is wrong
+-- these are the records of the i-th part of `size` attempts, where the memory was there and nothing is wrong
 abbrev pub IsPart : {A E : Type 0} → Trace → ℕ → ℕ → ℕ → Result (Option (Vec ℕ A)) E → Type 0
 IsPart t e size i found = IfOk found (λ o. IfSome o (λ records.
     AreOrdered t (take size (drop (i * size) (attempts_among (steps_at t e)))) records.items))

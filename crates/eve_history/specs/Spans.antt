@@ -32,7 +32,7 @@ pub record HaveSpans (bs : List (ℕ × (ℕ × Batch))) (span : ℕ → Option 
   pub apart : ¬ SomePlace bs IsAskedAgain
   pub within : AreInSpans span (flat_map request_ids_at bs)
 
--- these are the spans of the i-th stretch of so many batches, where the memory was there and all numbers rise
+-- these are the spans of the i-th stretch of `size` batches, where the memory was there and all numbers rise
 abbrev pub IsStretch : {A E : Type 0} → Trace → ℕ → ℕ → Result (Option (Vec (Option Span) A)) E → Type 0
 IsStretch t size i found = IfOk found (λ o. IfSome o (λ spans.
     HaveSpans (take size (drop (i * size) (batches_at t))) (span_of spans.items)))

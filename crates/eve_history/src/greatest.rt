@@ -8,7 +8,7 @@ use indexmap::IndexMap;
 use std::alloc::{AllocError, AllocFailed, Global};
 use std::hash::RandomState;
 
-/// The clients below this number have a place in the table, and the map is for at most so many others.
+/// The clients below this number have a place in the table, and the map is for at most as many others.
 pub const MOST_CLIENTS: usize = 4096;
 
 /// The greatest number of each client so far.

@@ -24,7 +24,6 @@ use eve_frames::{AccessView, AttemptView, RollbackView};
 use eve_views::{CheckFault, Step, Trace};
 use std::alloc::{AllocError, Global};
 use std::marker::Model;
-use std::sync::Arc;
 use std::thread::Threads;
 
 /// What a replica did, as its section tells it: its attempts, what became of each and in which order each ran, and its
@@ -34,8 +33,8 @@ use std::thread::Threads;
 #[derive(Drop)]
 pub struct History<'a> {
     replica: u8,
-    // what is kept of its section, which its committed records own as well
-    notes: Arc<Notes<'a>>,
+    // what is kept of its section
+    notes: Notes<'a>,
 }
 
 impl<'a> Model for History<'a> {
@@ -43,12 +42,11 @@ impl<'a> Model for History<'a> {
 
     ghost Value = { SectionHistory };
 
-    ghost use Rattle.std.specs.Arc.{arc_value};
     ghost use Rattle.eve_history.specs.Coming.{kept_section, section_history_of, IsWholeSection};
 
-    ghost view = { λ h. section_history_of h.replica (kept_section (arc_value h.notes)) };
+    ghost view = { λ h. section_history_of h.replica (kept_section h.notes) };
 
-    ghost invariant = { λ h. IsWholeSection (arc_value h.notes) };
+    ghost invariant = { λ h. IsWholeSection h.notes };
 }
 
 /// Says of the histories of all replicas that each step of each section is right. It does nothing else.
@@ -129,12 +127,11 @@ fn take_ahead<'a>(
 
 impl<'a> History<'a> {
     /// What the notes of a replica's whole section tell.
-    fn of_notes(alloc: Global, replica: u8, notes: Notes<'a>) -> Result<History<'a>, AllocError>
+    fn of_notes(replica: u8, notes: Notes<'a>) -> History<'a>
         requires { IsWholeSection notes }
-        ensures { IfOk result (λ history. history ≡ section_history_of replica (kept_section notes.entry)) }
+        ensures { result ≡ section_history_of replica (kept_section notes.entry) }
     {
-        let notes = Arc::new(alloc, notes)?;
-        Ok(History { replica, notes })
+        History { replica, notes }
     }
 
     /// What a replica did, whose attempts' certificates and access records are right, and whose access records these
@@ -163,10 +160,10 @@ impl<'a> History<'a> {
                 None => return Ok(None),
             }
         }
-        Ok(Some(History::of_notes(alloc, e, notes)?))
+        Ok(Some(History::of_notes(e, notes)))
     }
 
-    /// What a replica did, as `of` says it, with up to so many jobs.
+    /// What a replica did, as `of` says it, with up to `jobs` jobs.
     ///
     /// docs/MODEL.md, "Section state, fate" and "Faults". Of two jobs or more the certificates and access records of
     /// its attempts are judged side by side, whatever came before each, and then one pass goes over the section's steps
@@ -216,7 +213,7 @@ impl<'a> History<'a> {
         while let Some(step) = steps.next() {
             take(&mut notes, trace, e, step)?;
         }
-        Ok(History::of_notes(alloc, e, notes)?)
+        Ok(History::of_notes(e, notes))
     }
 
     /// Says that each step of the replica's section is right: there is no history of any other. It does nothing else.
@@ -227,17 +224,6 @@ impl<'a> History<'a> {
         ensures section { (t : TraceValue) (e : ℕ) → self.now ≡ section_history t e → IsRightSection t e }
     {
         let _replica = self.replica;
-    }
-
-    /// One more owner of the same notes.
-    pub(crate) fn share(&self) -> Result<History<'a>, AllocError>
-        ensures { IfOk result (λ history. history ≡ self.now) }
-    {
-        let notes = Arc::try_clone(&self.notes)?;
-        Ok(History {
-            replica: self.replica,
-            notes,
-        })
     }
 
     /// What is kept of the section's steps.

@@ -5,7 +5,6 @@
 mod access_marks;
 mod arrivals;
 mod certificate;
-mod committed;
 mod fate;
 mod frame;
 mod greatest;
@@ -19,6 +18,5 @@ mod stretches;
 mod wrong;
 
 pub use arrivals::{orders, orders_side_by_side};
-pub use committed::CommittedRecords;
 pub use fate::Fate;
 pub use history::{History, recall_all_right};

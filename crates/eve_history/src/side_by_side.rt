@@ -34,7 +34,7 @@ pub struct MetAttempt<'t, 'a> {
 /// one is wrong.
 type Ordered = Result<Option<Vec<u32>>, AllocError>;
 
-/// One more than so many; nothing past the largest number.
+/// One more than a number; nothing past the largest.
 fn one_more(count: usize) -> Option<usize>
     ensures { IfSome result (λ n. n ≡ count + 1) }
 {
@@ -184,7 +184,7 @@ fn order_part(
     order_stretch(alloc, trace, &mets[start..start + most])
 }
 
-/// The access records of so many parts of the attempts of a replica's section, each part's in a thread of its own.
+/// The access records of `parts` parts of the attempts of a replica's section, each part's in a thread of its own.
 fn order_parts<R: Threads + Sync>(
     rt: &R,
     alloc: Global,
@@ -227,7 +227,7 @@ fn put_behind(records: &mut Vec<u32>, part: &Ordered) -> Result<bool, AllocError
     }
 }
 
-/// The records of all parts, one behind the other, in a list with room for so many.
+/// The records of all parts, one after another, in a list with room for all of them.
 fn joined(
     alloc: Global,
     trace: &Trace<'_>,
@@ -254,7 +254,7 @@ fn joined(
 /// The fewest attempts for each thread: one has up to 256 access records.
 const LEAST_ATTEMPTS: usize = 32;
 
-/// Of how many each of so many parts is, so that all are in one.
+/// The size of each of `parts` parts, so that every element lies in one.
 pub fn part_size(count: usize, parts: usize) -> Option<usize>
     requires { 1 ≤ parts }
     ensures { IfSome result (λ size. count ≤ parts * size) }

@@ -73,7 +73,7 @@ fn are_next(spans: &mut [Option<Span>], batch: &BatchView<'_>) -> bool
     true
 }
 
-/// The spans of the clients in so many batches after others.
+/// The spans of the clients in `many` batches after the first `from`.
 fn spans_in(alloc: Global, trace: &Trace<'_>, from: u32, many: u32) -> Spans
     requires { from + many ≤ length trace.now.batches }
     ensures { IfOk result (λ found. IfSome found (λ spans.
@@ -90,7 +90,7 @@ fn spans_in(alloc: Global, trace: &Trace<'_>, from: u32, many: u32) -> Spans
     Ok(Some(spans))
 }
 
-/// The spans of the clients in the i-th stretch of the batches, where each stretch has so many.
+/// The spans of the clients in the i-th stretch of the batches, where each stretch has `size`.
 fn stretch_spans(alloc: Global, trace: &Trace<'_>, size: usize, i: usize) -> Spans
     ensures { IsStretch trace.now size i result }
 {
@@ -103,7 +103,7 @@ fn stretch_spans(alloc: Global, trace: &Trace<'_>, size: usize, i: usize) -> Spa
     spans_in(alloc, trace, start as u32, many as u32)
 }
 
-/// The spans of the clients in so many stretches of the batches, each found in a thread of its own.
+/// The spans of the clients in the stretches of the batches, each found in a thread of its own.
 fn spans_side_by_side<R: Threads + Sync>(
     rt: &R,
     alloc: Global,

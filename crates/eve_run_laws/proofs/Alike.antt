@@ -15,7 +15,7 @@ use Rattle.eve_replica.specs.Sections.{RunPlan}
 pub record IsPlanOf (p : RunPlan) (t : Trace) : Type 0 where
   pub names : p.names ≡ names_of t
   pub batches : p.batches ≡ t.batches
-  pub first : p.first ≡ opening (opening_rows t.customers) t.head.workers t.head.window
+  pub first : p.first ≡ opening 1 (opening_rows t.customers) t.head.workers t.head.window
 
 -- what an attempt of the trace wrote, in its certificate's order
 abbrev pub written_by : Trace → Attempt → List Entry
@@ -26,8 +26,9 @@ abbrev pub opened_of : Trace → Attempt → Opened
 opened_of t a = record { view = a.view; token = a.token; written = written_by t a }
 
 -- The section has come to where the account has: the same view, last committed number and duty, the same attempts
--- open, and the rows have what the attempts say that they left.
+-- open, and the rows have what the attempts say that they left. The account is of version 1.
 pub record AreAlike (t : Trace) (s : SectionState) (l : Ledger) : Type 0 where
+  pub version : l.version ≡ 1
   pub view : s.view ≡ l.view
   pub last : s.last ≡ l.committed
   pub serial : s.rolled_back ≡ l.is_next_serial

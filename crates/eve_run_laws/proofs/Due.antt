@@ -7,7 +7,7 @@ use Rattle.eve_smallbank.specs.Access.{balance_of_row}
 use Rattle.eve_smallbank.specs.Chain.{Table, values_of}
 use Rattle.eve_grammar.specs.Trace.{Attempt, Step, Attempts, Commits, RollsBack, Trace}
 use Rattle.eve_grammar.proofs.Lists.{all-append}
-use Rattle.eve_token.specs.Token.{flat_token}
+use Rattle.eve_token.specs.Token.{flat_token, token_of}
 use Rattle.eve_attempts.specs.Ledgers.{Ledger, ledger_rows, table_now}
 use Rattle.eve_replica.specs.Sections.{RunPlan, MakesOf}
 use Rattle.eve_history.specs.Section.{Placed, SectionState, start, path_of, committing, next}
@@ -69,6 +69,7 @@ module _ (p : RunPlan) (t : Trace) where
         pending = all-append (IsDueAlong t) s.pending (q ∷ []) due.pending (
           record {
             token = makes.closed.attempt.token
+                ∙ ap (λ (version : ℕ). token_of version a.seq new.rows.balances a.replies) before.version
                 ∙ first_version a.seq new.rows.balances a.replies
                 ∙ ap (λ (balances : List ℤ). flat_token a.seq balances a.replies) left;
           },

@@ -72,8 +72,9 @@ opening_now : (t : Trace) → table_of_rows (rows_at_first (opening_rows t.custo
 opening_now t = fun_ext (λ row. ap (λ (n : ℕ). record { version = n; value = opening_of t row })
     (version_first (length (opening_rows t.customers)) row))
 
-alike_opening : (t : Trace) → AreAlike t start (opening (opening_rows t.customers) t.head.workers t.head.window)
+alike_opening : (t : Trace) → AreAlike t start (opening 1 (opening_rows t.customers) t.head.workers t.head.window)
 alike_opening t = record {
+  version = refl;
   view = refl;
   last = refl;
   serial = refl;
@@ -150,6 +151,7 @@ module _ (t : Trace) (s : SectionState) (old : Ledger) (alike : AreAlike t s old
       let now : table_now new ≡ rows_after t (attempts_of s.committed) = made.rows ∙ alike.committed in
       let due = alike.due in
       record {
+        version = ap (λ (l : Ledger). l.version) made.changed ∙ alike.version;
         view = made.view ∙ sym (ap (λ (l : Ledger). l.view) made.changed);
         last = alike.last ∙ sym (ap (λ (l : Ledger). l.committed) made.changed);
         serial = sym (ap (λ (l : Ledger). l.is_next_serial) made.changed);
@@ -175,6 +177,7 @@ module _ (t : Trace) (s : SectionState) (old : Ledger) (alike : AreAlike t s old
       let many : length s.pending ≡ suc (length ps) = ap length open_is in
       let due = alike.due in
       record {
+        version = ap (λ (l : Ledger). l.version) made.changed ∙ alike.version;
         view = alike.view ∙ sym (ap (λ (l : Ledger). l.view) made.changed);
         last = ap (λ (n : ℕ). n + 1) alike.last ∙ sym (ap (λ (l : Ledger). l.committed) made.changed);
         serial = alike.serial ∙ sym (ap (λ (l : Ledger). l.is_next_serial) made.changed);
@@ -257,6 +260,7 @@ module _ (t : Trace) (s : SectionState) (old : Ledger) (alike : AreAlike t s old
         let last = alike.last in
         let within = is_within in
         record {
+          version = ap (λ (l : Ledger). l.version) opens.changed ∙ alike.version;
           view = alike.view ∙ sym (ap (λ (l : Ledger). l.view) opens.changed);
           last = alike.last ∙ sym (ap (λ (l : Ledger). l.committed) opens.changed);
           serial = sym (ap (λ (l : Ledger). l.is_next_serial) opens.changed);

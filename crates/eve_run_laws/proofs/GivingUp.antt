@@ -47,20 +47,20 @@ module _ (p : RunPlan) (number : ℕ) (rest : List ℕ) where
   -- after a rollback the batch that is due next, which is attempted in serial mode
   serial_given_up : (view : ℕ) (steps : List Step) (old last : Ledger) → GoesThrough p steps old last
       → view ≡ old.view + 1 → number ≡ old.committed → rolled_back_to steps ≡ number ∷ rest
-      → old.is_next_serial ≡ true → ◌≡◌ {A = List Opened} old.opened []
+      → old.is_next_serial ≡ true → ◌≡◌ {A = List Opened} old.opened [] → old.version ≡ 1
       → token_given_up view [] steps ≡ Some (serial_token p number old.rows.balances)
-  serial_given_up view [] old last way at here back serial none = absurd (no_item [] number rest back)
-  serial_given_up view (Attempts a ∷ steps) old last way at here back serial none =
+  serial_given_up view [] old last way at here back serial none version = absurd (no_item [] number rest back)
+  serial_given_up view (Attempts a ∷ steps) old last way at here back serial none version =
       let changed = way.1.closed.opens.changed in
       first_stays view a.token [] steps way.0 last way.2
       (at ∙ ap (λ (l : Ledger). l.view + 1) (sym changed)) (here ∙ ap (λ (l : Ledger). l.committed) (sym changed))
       back
       ∙ ap (λ (token : List ℕ). Some token)
-      (token_serial p old way.0 a way.1 serial none
+      (token_serial p old way.0 a way.1 serial none version
       ∙ ap (λ (n : ℕ). serial_token p n old.rows.balances) (sym here))
-  serial_given_up view (Commits c ∷ steps) old last way at here back serial none =
+  serial_given_up view (Commits c ∷ steps) old last way at here back serial none version =
       absurd (no_item [] way.1.first way.1.others (sym none ∙ way.1.opened))
-  serial_given_up view (RollsBack r ∷ steps) old last way at here back serial none =
+  serial_given_up view (RollsBack r ∷ steps) old last way at here back serial none version =
       let many : length old.opened ≡ 0 = ap length none in
       absurd (omega (arith, many, way.1.0))
 
@@ -122,6 +122,7 @@ module _ (p : RunPlan) (t : Trace) (plan : IsPlanOf p t) (number : ℕ) (rest : 
       balances_now t old (attempts_of (s.committed ++ s.pending)) alike.rows alike.now in
       record {
         token = serial_given_up p number rest view (map (λ x. x.1) steps) old last way at here back serial none
+            alike.version
             ∙ ap (λ (balances : List ℤ). Some (serial_token p number balances))
             (path
             ∙ ap (λ (ps : List Placed). balances_along t (attempts_of ps))

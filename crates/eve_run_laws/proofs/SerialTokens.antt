@@ -156,7 +156,7 @@ serial_token p committed balances =
     (replies_along p.names (balance_of_row balances) requests)
 
 module _ (p : RunPlan) (old new : Ledger) (a : Attempt) (made : AttemptsNext p old new a)
-    (serial : old.is_next_serial ≡ true) (none : ◌≡◌ {A = List Opened} old.opened []) where
+    (serial : old.is_next_serial ≡ true) (none : ◌≡◌ {A = List Opened} old.opened []) (version : old.version ≡ 1) where
   abbrev b : Batch
   b = made.batch
 
@@ -229,7 +229,7 @@ module _ (p : RunPlan) (old new : Ledger) (a : Attempt) (made : AttemptsNext p o
   pub token_serial : a.token ≡ serial_token p old.committed old.rows.balances
   token_serial =
       made.closed.attempt.token
-      ∙ (λ i. token_of 1 (number i) (balances_left i) (replies_left i))
+      ∙ (λ i. token_of (version i) (number i) (balances_left i) (replies_left i))
       ∙ ap (λ (batch : Batch). token_of 1 (old.committed + 1)
       (first_rows (length old.rows.balances)
       (values_along p.names (balance_of_row old.rows.balances) (listed batch)))

@@ -4,7 +4,7 @@ use Rattle.eve_agree.proofs.agreement.advance.Goals as goal
 
 pub returns-else-n-committed : goal.returns-else-n-committed
 returns-else-n-committed c =
-    let past : length c.args.settled.now.batches < c.args.n = omega arith in
+    let past : length c.args.settled.now.numbers < c.args.n = omega arith in
     record {
       rows = c.requires.before.rows;
       values = c.requires.before.values

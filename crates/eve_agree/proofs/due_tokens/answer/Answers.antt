@@ -10,7 +10,7 @@ pub returns-in-Some-clause-least : goal.returns-in-Some-clause-least
 returns-in-Some-clause-least c =
     let t = c.args.trace.now in
     let e = c.args.history.now.replica in
-    let last = length c.args.settled.now.batches in
+    let last = length c.args.settled.now.numbers in
     rw c.replica.ensures (first_is_least t e last c.in-Some.offset
     (subst (IsFirstWrong t e 0 last) c.in-Some.is c.requires.wrong))
 
@@ -18,9 +18,9 @@ pub returns-in-None-clause-due : goal.returns-in-None-clause-due
 returns-in-None-clause-due c =
     let t = c.args.trace.now in
     let e = c.args.history.now.replica in
-    let last = length c.args.settled.now.batches in
+    let last = length c.args.settled.now.numbers in
     let past = batches_counted t e in
-    let many = ap (λ (s : Settling). length s.batches) c.requires.section.settled in
+    let many = ap (λ (s : Settling). length s.numbers) c.requires.section.settled in
     all_due t e last (omega arith) (subst (IsFirstWrong t e 0 last) c.in-None.is c.requires.wrong)
 
 pub returns-in-None-clause-none : goal.returns-in-None-clause-none

@@ -2,9 +2,9 @@ use Rattle.std.proofs.Common.{◌≡◌, length}
 use Rattle.eve_agree.specs.Stretches.{IsReadyStretch, AreReadyStretches}
 use Rattle.eve_agree.proofs.due_tokens.cut.Given as goal
 
-abbrev pub invariant-loop-place : goal.invariant-loop-place
-invariant-loop-place l = record {
-  last : l.rest.last ≡ length l.settled.batches;
+abbrev pub invariant-loop : goal.invariant-loop
+invariant-loop l = record {
+  last : l.rest.last ≡ length l.settled.numbers;
   rest : IsReadyStretch l.settled l.rest;
   ready : AreReadyStretches l.settled l.rest.before l.stretches.items;
 }

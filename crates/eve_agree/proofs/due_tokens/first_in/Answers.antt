@@ -11,15 +11,15 @@ use Rattle.eve_agree.proofs.due_tokens.first_in.Goals as goal
 
 -- what was found in all of them
 found_is : (t : Trace) (e : ℕ) (s : Settling) (xs ys old : List Stretch) (o : Option ℕ)
-    → AreReadyStretches s (length s.batches) xs → length ys ≡ length old → old ≡ xs
+    → AreReadyStretches s (length s.numbers) xs → length ys ≡ length old → old ≡ xs
     → ((i : ℕ) (d : Stretch) → i < length old → IsJudgedStretch t e (get_or old i d) (get_or ys i d))
     → o ≡ first_found ys →
-    IsFirstWrong t e 0 (length s.batches) o
+    IsFirstWrong t e 0 (length s.numbers) o
 found_is t e s xs ys old o cut same value judged is =
     let mine : (i : ℕ) (d : Stretch) → i < length xs → IsJudgedStretch t e (get_or xs i d) (get_or ys i d) =
     subst (λ (zs : List Stretch). (i : ℕ) (d : Stretch) → i < length zs →
     IsJudgedStretch t e (get_or zs i d) (get_or ys i d)) value judged in
-    subst (IsFirstWrong t e 0 (length s.batches)) (sym is) (all_judged t e s 0 xs ys (same ∙
+    subst (IsFirstWrong t e 0 (length s.numbers)) (sym is) (all_judged t e s 0 xs ys (same ∙
     ap (λ (zs : List Stretch). length zs) value) cut.reaches cut.ready mine).1
 
 pub returns : goal.returns

@@ -2,7 +2,7 @@ use Rattle.std.proofs.Common.{◌≡◌, ◌+◌, ◌*◌, length, set, ap, ◌�
 use Rattle.std.proofs.lemmas.List.{length-set}
 use Rattle.eve_frames.specs.Views.{customer_in}
 use Rattle.eve_grammar.specs.Trace.{Customer}
-use Rattle.eve_chains.proofs.TableLaws.{customer_there}
+use Rattle.eve_chains.proofs.Openings.{customer_there}
 use Rattle.eve_grammar.proofs.OpeningRows.{opening_more}
 use Rattle.eve_chains.proofs.opening.opening_balances.Goals as goal
 

@@ -9,7 +9,7 @@ use Rattle.eve_views.specs.declared.fault.CheckFault.TheVariants.{Found}
 use Rattle.eve_views.specs.Form.{IfFound, IsLeast, IsFaultOutside}
 use Rattle.eve_history.specs.Faults.{request_ids_at, StandsInOrders}
 use Rattle.eve_history.specs.Repeats.{IsFirstRepeat}
-use Rattle.eve_grammar.proofs.FrameLaws.{small_head}
+use Rattle.eve_grammar.proofs.HeadLimits.{head_has_limits}
 use Rattle.eve_history.proofs.OrderLaws.{asked_again, fault}
 use Rattle.eve_history.proofs.arrivals.requests_apart.Goals as goal
 
@@ -21,7 +21,7 @@ overflow_cast-n c =
     let t = c.args.trace.now in
     let repeat : IsFirstRepeat t c.in-Some.n = subst (λ (o : Option ℕ). IfSome o (IsFirstRepeat t)) c.in-Some.is
     c.in_ok-first_repeat.ensures.first in
-    let few = (small_head (head_of t) c.recall_limits.ensures.head).batches in
+    let few = (head_has_limits (head_of t) c.recall_limits.ensures.head).few_batches in
     let there = repeat.there in
     record { fits = omega (arith, few, there) }
 

@@ -1,5 +1,6 @@
-use Rattle.std.proofs.Common.{◌≡◌, ℕ, ◌+◌, List, Option, take, drop, sym, subst, arith}
+use Rattle.std.proofs.Common.{◌≡◌, ℕ, ◌+◌, List, Option, take, drop, sym, ap, subst, arith}
 use Rattle.std.proofs.lemmas.List.{with_items_is}
+use Rattle.eve_grammar.specs.declared.head.Head.{Head}
 use Rattle.eve_grammar.specs.Trace.{Batch}
 use Rattle.eve_grammar.specs.Spelling.{batches_at}
 use Rattle.eve_frames.specs.Views.{batch_in}
@@ -7,6 +8,12 @@ use Rattle.eve_history.specs.declared.span.Span.{Span}
 use Rattle.eve_history.specs.Spans.{span_of, HaveSpans}
 use Rattle.eve_history.proofs.Spans.{spans_none, spans_more, one_more_after}
 use Rattle.eve_history.proofs.stretches.spans_in.Goals as goal
+
+pub overflow_add-from : goal.overflow_add-from
+overflow_add-from c = omega (arith, ap (λ (h : Head). h.batches) c.head-count.ensures)
+
+pub overflow_add-from-in-loop-n : goal.overflow_add-from-in-loop-n
+overflow_add-from-in-loop-n c = omega (arith, ap (λ (h : Head). h.batches) c.head-count.ensures)
 
 pub loop-n-init : goal.loop-n-init
 loop-n-init c = spans_none (span_of c.in_ok-spans.spans.items)

@@ -1,10 +1,10 @@
 use Rattle.std.proofs.Common.{◌≤◌, length}
-use Rattle.eve_chains.specs.Stretches.{AreStretches}
+use Rattle.eve_chains.specs.Stretches.{AreBetween}
 use Rattle.eve_chains.proofs.stretch.Stretch.cut.Given as goal
 
 abbrev pub invariant-loop-place : goal.invariant-loop-place
 invariant-loop-place l = record {
-  there : l.from ≤ l.attempts;
+  there : l.from ≤ l.to;
   few : length l.stretches.items ≤ l.place;
-  stretches : AreStretches l.from l.stretches.items;
+  stretches : AreBetween l.start l.from l.stretches.items;
 }

@@ -63,7 +63,7 @@ pub returns-clause-section_history : goal.returns-clause-section_history
 returns-clause-section_history c =
     let t = c.args.trace.now in
     let k = kept_section c.loop-step.notes in
-    c.in_ok-of_notes.ensures
+    c.of_notes.ensures
     ∙ come_told t c.args.e k (come_ended t c.args.e k c.loop-step.steps (search rules) c.loop-step.invariant.0)
 
 pub returns-clause-none : goal.returns-clause-none

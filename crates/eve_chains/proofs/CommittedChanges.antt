@@ -1,0 +1,283 @@
+-- What the walks of all rows give, put together by number, is what a replica's committed batches change.
+use Rattle.std.proofs.Common.{◌≡◌, ℕ, ℤ, zero, suc, ◌+◌, ◌-◌, ◌*◌, ◌≤◌, ◌==◌, Bool, true, false, cond, ◌&&◌, List}
+use Rattle.std.proofs.Common.{[], ◌∷◌, ◌++◌, map, length, filter, append_assoc, append-nil, refl, sym, subst, ap}
+use Rattle.std.proofs.Common.{◌∙◌, arith, All, inl, inr, length-append, Option, Some, None}
+use Rattle.std.specs.List.{AllByRecursion, AllZip, flat_map}
+use Rattle.std.proofs.lemmas.List.{take_all, length-map}
+use Rattle.std.proofs.lemmas.List.Elements.{filter-append, All-from_recursion, All-head, All-tail}
+use Rattle.std.proofs.lemmas.List.Sums.{fold-append}
+use Rattle.eve_smallbank.specs.declared.entry.Entry.{Entry}
+use Rattle.eve_smallbank.specs.Access.{is_write}
+use Rattle.eve_grammar.specs.Trace.{Access, Attempt, Trace, head_of}
+use Rattle.eve_grammar.specs.Limits.{row_count}
+use Rattle.eve_history.specs.declared.fate.Fate.{Fate}
+use Rattle.eve_history.specs.declared.fate.Fate.TheVariants.{Committed, Discarded, Open}
+use Rattle.eve_history.specs.Section.{Placed}
+use Rattle.eve_history.specs.SectionHistory.{SectionHistory, section_history, ordered, history, IsRightSection}
+use Rattle.eve_chains.specs.Along.{entries_along}
+use Rattle.eve_chains.specs.Rows.{Fated, Noted, told_of, noted_by, all_noted, of_row}
+use Rattle.eve_chains.specs.Stretches.{IsWithin, Reaches}
+use Rattle.eve_chains.specs.declared.changed.Changed.{Changed}
+use Rattle.eve_chains.specs.declared.stretch.Stretch.{Stretch}
+use Rattle.eve_chains.specs.declared.walked.Walked.{Walked}
+use Rattle.eve_chains.specs.Changes.{last_written, changes_below, with_change, change_by, changes_along, changes_of_rows}
+use Rattle.eve_chains.specs.Changes.{by_number}
+use Rattle.eve_chains.specs.Numbered.{HasNumber, IsRowBelow}
+use Rattle.eve_chains.specs.Settling.{settling}
+use Rattle.eve_chains.specs.Walked.{IsWalked, AreWalked}
+use Rattle.eve_chains.proofs.Linked.{AreLinked, linked_history}
+use Rattle.eve_chains.proofs.Paths.{all_placed, will_commit, committed_told}
+use Rattle.eve_chains.proofs.ChangedRows.{IsEarlier, change_in, row_changes, rows_changes, rows_more, rows_earlier}
+use Rattle.eve_chains.proofs.ChangedRows.{along_batch, numbers_are, IsOneOf, ones_of_rows}
+
+-- ---- what is not committed changes nothing
+
+committed_only : (cs : List Changed) (ns : List Noted) → changes_along cs ns
+    ≡ changes_along cs (filter (λ n. n.commits) ns)
+committed_only cs [] = refl
+committed_only cs (n ∷ ns) = by n.commits refl (λ (ds : List Changed). committed_only ds ns)
+  where
+    kept : List Noted
+    kept = filter (λ n. n.commits) ns
+
+    with_own : List Changed
+    with_own = with_change cs (record { number = n.number; row = n.entry.row; value = n.entry.after })
+
+    by : (b : Bool) → n.commits ≡ b
+        → ((ds : List Changed) → changes_along ds ns ≡ changes_along ds kept)
+        → changes_along (cond (b && is_write n.entry.kind) with_own cs) ns
+        ≡ changes_along cs (cond b (n ∷ kept) kept)
+    by true is next = next (cond (is_write n.entry.kind) with_own cs)
+        ∙ ap (λ (b : Bool). changes_along (cond (b && is_write n.entry.kind) with_own cs) kept) (sym is)
+    by false is next = next cs
+
+module _ (row : ℕ) where
+  -- what is noted of the row in a committed attempt
+  abbrev chunk : Placed → List Noted
+  chunk p = of_row row (flat_map (noted_by p.attempt.view p.attempt.seq true) (ordered p.offset p.attempt))
+
+  kept_of : (offset view number : ℕ) (b : Bool) (es : List Entry)
+      → filter (λ (n : Noted). n.commits) (of_row row
+      (map (λ e. record { offset = offset; view = view; number = number; commits = b; entry = e }) es))
+      ≡ cond b (of_row row
+      (map (λ e. record { offset = offset; view = view; number = number; commits = b; entry = e }) es)) []
+  kept_of offset view number true [] = refl
+  kept_of offset view number false [] = refl
+  kept_of offset view number true (e ∷ es) = by (e.row == row) (kept_of offset view number true es)
+    where
+      here : Noted
+      here = record { offset = offset; view = view; number = number; commits = true; entry = e }
+
+      rest : List Noted
+      rest = of_row row (map (λ e. record { offset = offset; view = view; number = number; commits = true; entry = e }) es)
+
+      by : (b : Bool) → filter (λ (n : Noted). n.commits) rest ≡ rest
+          → filter (λ (n : Noted). n.commits) (cond b (here ∷ rest) rest) ≡ cond b (here ∷ rest) rest
+      by true next = ap (λ (ns : List Noted). here ∷ ns) next
+      by false next = next
+  kept_of offset view number false (e ∷ es) = by (e.row == row) (kept_of offset view number false es)
+    where
+      here : Noted
+      here = record { offset = offset; view = view; number = number; commits = false; entry = e }
+
+      rest : List Noted
+      rest = of_row row
+          (map (λ e. record { offset = offset; view = view; number = number; commits = false; entry = e }) es)
+
+      by : (b : Bool) → filter (λ (n : Noted). n.commits) rest ≡ []
+          → filter (λ (n : Noted). n.commits) (cond b (here ∷ rest) rest) ≡ []
+      by true next = next
+      by false next = next
+
+  rows_apart : (xs ys : List Noted) → filter (λ (n : Noted). n.commits) (of_row row (xs ++ ys))
+      ≡ filter (λ (n : Noted). n.commits) (of_row row xs) ++ filter (λ (n : Noted). n.commits) (of_row row ys)
+  rows_apart xs ys = ap (filter (λ (n : Noted). n.commits)) (filter-append (λ (n : Noted). n.entry.row == row) xs ys)
+      ∙ filter-append (λ (n : Noted). n.commits) (of_row row xs) (of_row row ys)
+
+  kept_all : (view number : ℕ) (xs : List (ℕ × Access))
+      → filter (λ (n : Noted). n.commits) (of_row row (flat_map (noted_by view number true) xs))
+      ≡ of_row row (flat_map (noted_by view number true) xs)
+  kept_all view number [] = refl
+  kept_all view number (x ∷ xs) =
+      rows_apart (noted_by view number true x) (flat_map (noted_by view number true) xs)
+      ∙ (λ i. kept_of x.0 view number true x.1.entries i ++ kept_all view number xs i)
+      ∙ sym (filter-append (λ (n : Noted). n.entry.row == row) (noted_by view number true x)
+      (flat_map (noted_by view number true) xs))
+
+  kept_none : (view number : ℕ) (xs : List (ℕ × Access))
+      → filter (λ (n : Noted). n.commits) (of_row row (flat_map (noted_by view number false) xs)) ≡ []
+  kept_none view number [] = refl
+  kept_none view number (x ∷ xs) =
+      rows_apart (noted_by view number false x) (flat_map (noted_by view number false) xs)
+      ∙ (λ i. kept_of x.0 view number false x.1.entries i ++ kept_none view number xs i)
+
+  committed_notes : (ys : List Fated) → filter (λ (n : Noted). n.commits) (of_row row (all_noted ys))
+      ≡ flat_map chunk (all_placed (filter will_commit ys))
+  committed_notes [] = refl
+  committed_notes (y ∷ ys) = by y.placed y.fate (committed_notes ys)
+    where
+      by : (p : Placed) (fate : Fate)
+          → filter (λ (n : Noted). n.commits) (of_row row (all_noted ys))
+          ≡ flat_map chunk (all_placed (filter will_commit ys))
+          → filter (λ (n : Noted). n.commits) (of_row row (all_noted (record { placed = p; fate = fate } ∷ ys)))
+          ≡ flat_map chunk (all_placed (filter will_commit (record { placed = p; fate = fate } ∷ ys)))
+      by p Committed next =
+          rows_apart (flat_map (noted_by p.attempt.view p.attempt.seq true) (ordered p.offset p.attempt)) (all_noted ys)
+          ∙ (λ i. kept_all p.attempt.view p.attempt.seq (ordered p.offset p.attempt) i ++ next i)
+      by p Discarded next =
+          rows_apart (flat_map (noted_by p.attempt.view p.attempt.seq false) (ordered p.offset p.attempt))
+          (all_noted ys)
+          ∙ (λ i. kept_none p.attempt.view p.attempt.seq (ordered p.offset p.attempt) i ++ next i)
+      by p Open next = next
+
+-- ---- a row, batch after batch
+
+-- the entries of attempts, of each in its certificate's order
+abbrev pub entries_of_all : List Placed → List (List Entry)
+entries_of_all ps = map (λ p. entries_along (ordered p.offset p.attempt)) ps
+
+later : (m row : ℕ) (cs : List Changed) → AllByRecursion (IsEarlier m row) cs → AllByRecursion (IsEarlier (suc m) row) cs
+later m row [] all = tt
+later m row (c ∷ cs) all =
+    (elim all.0 [ inl less ↦ inl less | inr less ↦ inr (omega arith) ], later m row cs all.1)
+
+later_in : (m row : ℕ) (o : Option ℤ) → AllByRecursion (IsEarlier (suc m) row) (change_in m row o)
+later_in m row None = tt
+later_in m row (Some z) = (inr (omega arith), tt)
+
+all_append : {A : Type 0} (P : A → Type 0) (xs ys : List A) → AllByRecursion P xs → AllByRecursion P ys
+    → AllByRecursion P (xs ++ ys)
+all_append P [] ys xs-all ys-all = ys-all
+all_append P (x ∷ xs) ys xs-all ys-all = (xs-all.0, all_append P xs ys xs-all.1 ys-all)
+
+along_batches : (t : Trace) (row m : ℕ) (before : List Attempt) (ps : List Placed) (cs : List Changed)
+    → AreLinked t before ps → length before ≡ m → AllByRecursion (IsEarlier (suc m) row) cs
+    → changes_along cs (flat_map (chunk row) ps) ≡ cs ++ row_changes row (suc m) (entries_of_all ps)
+along_batches t row m before [] cs linked many all = sym (append-nil cs)
+along_batches t row m before (p ∷ ps) cs linked many all =
+    let number : p.attempt.seq ≡ suc m = linked.0.number ∙ ap suc many in
+    let own = change_in (suc m) row (last_written row (entries_along (ordered p.offset p.attempt))) in
+    fold-append change_by cs (chunk row p) (flat_map (chunk row) ps)
+    ∙ ap (λ (ds : List Changed). changes_along ds (flat_map (chunk row) ps))
+    (ap (λ (k : ℕ). changes_along cs
+    (of_row row (flat_map (noted_by p.attempt.view k true) (ordered p.offset p.attempt)))) number
+    ∙ along_batch (suc m) row cs all p.attempt.view (ordered p.offset p.attempt))
+    ∙ along_batches t row (suc m) (before ++ p.attempt ∷ []) ps (cs ++ own) linked.1
+    (length-append before (p.attempt ∷ []) ∙ omega (arith, many))
+    (all_append (IsEarlier (suc (suc m)) row) cs own (later (suc m) row cs all)
+    (later_in (suc m) row (last_written row (entries_along (ordered p.offset p.attempt)))))
+    ∙ append_assoc cs own (row_changes row (suc (suc m)) (entries_of_all ps))
+
+-- ---- all rows
+
+module _ (t : Trace) (e : ℕ) (right : IsRightSection t e) where
+  -- the entries of each committed batch
+  abbrev pub batch_entries : List (List Entry)
+  batch_entries = entries_of_all (history t e).committed
+
+  along_row : (from count : ℕ)
+      → changes_along (rows_changes from count batch_entries) (of_row (from + count) (all_noted (told_of t e)))
+      ≡ rows_changes from (suc count) batch_entries
+  along_row from count =
+      let row = from + count in
+      let cs = rows_changes from count batch_entries in
+      committed_only cs (of_row row (all_noted (told_of t e)))
+      ∙ ap (changes_along cs) (committed_notes row (told_of t e)
+      ∙ ap (flat_map (chunk row)) (committed_told t e right))
+      ∙ along_batches t row 0 [] (history t e).committed cs (linked_history t e right) refl
+      (rows_earlier 1 from count batch_entries)
+
+  pub along_rows : (from count : ℕ)
+      → changes_of_rows (all_noted (told_of t e)) from count [] ≡ rows_changes from count batch_entries
+  along_rows from zero = refl
+  along_rows from (suc count) =
+      ap (λ (cs : List Changed). changes_along cs (of_row (from + count) (all_noted (told_of t e))))
+      (along_rows from count) ∙ along_row from count
+
+  -- ---- range after range
+
+  reach_le : (rows from to : ℕ) (xs : List Stretch) → Reaches from to xs → All (IsWithin rows) xs → from ≤ to
+  reach_le rows from to [] reaches within = omega (arith, reaches)
+  reach_le rows from to (x ∷ xs) reaches within =
+      omega (
+        arith,
+        reaches.0,
+        (All-head (IsWithin rows) x xs within).rising,
+        reach_le rows x.to to xs reaches.1 (All-tail (IsWithin rows) x xs within),
+      )
+
+  along_ranges : (rows from to : ℕ) (xs : List Stretch) (ws : List Walked) → Reaches from to xs
+      → All (IsWithin rows) xs → AllZip (IsWalked t e) xs ws
+      → flat_map (λ w. w.changes.items) ws ≡ rows_changes from (to - from) batch_entries
+  along_ranges rows from to [] [] reaches within walked =
+      let none : 0 ≡ to - from = omega (arith, reaches) in
+      ap (λ (n : ℕ). rows_changes from n batch_entries) none
+  along_ranges rows from to [] (w ∷ ws) reaches within walked = absurd walked
+  along_ranges rows from to (x ∷ xs) [] reaches within walked = absurd walked
+  along_ranges rows from to (x ∷ xs) (w ∷ ws) reaches within walked =
+      let rest = All-tail (IsWithin rows) x xs within in
+      let rising : x.from ≤ x.to = (All-head (IsWithin rows) x xs within).rising in
+      let on : x.to ≤ to = reach_le rows x.to to xs reaches.1 rest in
+      let own : w.changes.items ≡ rows_changes x.from (x.to - x.from) batch_entries =
+      walked.0.changes ∙ along_rows x.from (x.to - x.from) in
+      let end : x.to ≡ x.from + (x.to - x.from) = omega (arith, rising) in
+      let all : x.to - x.from + (to - x.to) ≡ to - from = omega (arith, rising, on, reaches.0) in
+      (λ i. own i ++ along_ranges rows x.to to xs ws reaches.1 rest walked.1 i)
+      ∙ ap (λ (r : ℕ). rows_changes x.from (x.to - x.from) batch_entries ++ rows_changes r (to - x.to) batch_entries)
+      end
+      ∙ sym (rows_more x.from (x.to - x.from) (to - x.to) batch_entries)
+      ∙ (λ i. rows_changes (reaches.0 i) (all i) batch_entries)
+
+  module _ (ws : List Walked) (walked : AreWalked t e (row_count (head_of t)) ws) where
+    abbrev pub joined : List Changed
+    joined = flat_map (λ w. w.changes.items) ws
+
+    joined_are : joined ≡ rows_changes 0 (2 * length t.customers) batch_entries
+    joined_are =
+        let all : 2 * length t.customers - 0 ≡ 2 * length t.customers = omega arith in
+        along_ranges (2 * length t.customers) 0 (2 * length t.customers) walked.ranges ws walked.cut.reaches
+        walked.cut.within walked.each ∙ ap (λ (n : ℕ). rows_changes 0 n batch_entries) all
+
+    counted : length batch_entries ≡ length (history t e).committed
+    counted = length-map (history t e).committed _
+
+    ones : AllByRecursion (IsOneOf (2 * length t.customers) (length (history t e).committed)) joined
+    ones = subst (AllByRecursion (IsOneOf (2 * length t.customers) (length (history t e).committed))) (sym joined_are)
+        (subst (λ (n : ℕ). AllByRecursion (IsOneOf (2 * length t.customers) n)
+        (rows_changes 0 (2 * length t.customers) batch_entries)) counted
+        (ones_of_rows (2 * length t.customers) batch_entries (2 * length t.customers) (omega arith)))
+
+    weaker : {A : Type 0} (P Q : A → Type 0) → ((x : A) → P x → Q x) → (xs : List A) → AllByRecursion P xs
+        → AllByRecursion Q xs
+    weaker P Q step [] all = tt
+    weaker P Q step (x ∷ xs) all = (step x all.0, weaker P Q step xs all.1)
+
+    pub joined_numbers : All (HasNumber (length (history t e).committed)) joined
+    joined_numbers = All-from_recursion (HasNumber (length (history t e).committed)) joined
+        (weaker (IsOneOf (2 * length t.customers) (length (history t e).committed))
+        (HasNumber (length (history t e).committed)) (λ x is. record { one = is.one; there = is.there }) joined ones)
+
+    pub joined_below : All (IsRowBelow (2 * length t.customers)) joined
+    joined_below = All-from_recursion (IsRowBelow (2 * length t.customers)) joined
+        (weaker (IsOneOf (2 * length t.customers) (length (history t e).committed)) (IsRowBelow (2 * length t.customers))
+        (λ x is. is.row) joined ones)
+
+    map_map : {A B C : Type 0} (f : A → B) (g : B → C) (xs : List A) → map g (map f xs) ≡ map (λ x. g (f x)) xs
+    map_map f g [] = refl
+    map_map f g (x ∷ xs) = ap (λ zs. g (f x) ∷ zs) (map_map f g xs)
+
+    pub joined_by_number : by_number (length (history t e).committed) joined ≡ (settling t e).numbers
+    unfolding settling
+    joined_by_number =
+        (λ i. by_number (sym counted i) (joined_are i))
+        ∙ numbers_are (2 * length t.customers) batch_entries (length batch_entries) (omega arith)
+        ∙ ap (map (changes_below (2 * length t.customers)))
+        (take_all (length batch_entries) batch_entries (omega arith))
+        ∙ map_map (λ p. entries_along (ordered p.offset p.attempt)) (changes_below (2 * length t.customers))
+        (history t e).committed
+
+-- as many attempts as the history tells to be committed
+pub commits_counted : (t : Trace) (e : ℕ) (h : SectionHistory) → h ≡ section_history t e
+    → length h.commits ≡ length (history t e).committed
+unfolding section_history history
+commits_counted t e h is = ap (λ (v : SectionHistory). length v.commits) is ∙ length-map (history t e).committed _

@@ -1,0 +1,522 @@
+-- The first fault of rows that are walked, each by itself.
+use Rattle.std.proofs.Common.{◌≡◌, ℕ, zero, suc, ◌+◌, ◌<◌, ◌≤◌, Bool, true, false, cond, List, [], ◌∷◌, ◌++◌, map}
+use Rattle.std.proofs.Common.{length, fold, Option, Some, None, refl, sym, subst, ap, ◌∙◌, inl, inr, ◌⊎◌, append_assoc}
+use Rattle.std.proofs.Common.{append-nil, arith}
+use Rattle.std.specs.Prelude.{All}
+use Rattle.std.specs.List.{AllZip}
+use Rattle.eve_smallbank.specs.declared.entry.Entry.{Entry}
+use Rattle.eve_smallbank.specs.declared.versioned.Versioned.{Versioned}
+use Rattle.eve_views.specs.Code.{code_number, phase_of}
+use Rattle.eve_views.specs.First.{is_before, first_of}
+use Rattle.eve_views.specs.Form.{IsLeast}
+use Rattle.eve_views.specs.declared.fault.Code.{Code}
+use Rattle.eve_views.specs.declared.fault.Code.TheVariants as code
+use Rattle.eve_views.specs.declared.fault.Fault.{Fault}
+use Rattle.std.proofs.lemmas.Bool.{cases_lt}
+use Rattle.eve_views.proofs.Firsts.{up_to-trans}
+use Rattle.eve_grammar.specs.Trace.{Trace}
+use Rattle.eve_chains.specs.Visible.{opening_of, opening_table}
+use Rattle.eve_chains.specs.Along.{SeesAnother, fault_if}
+use Rattle.eve_chains.specs.Rows.{Noted, of_row, met_by, next_pair, pair_after, at_first, IsWrongOnRow, EachSees}
+use Rattle.std.proofs.lemmas.Grind.{flat_map-append}
+use Rattle.std.proofs.Common.{set}
+use Rattle.std.proofs.lemmas.Bool.{cases_eq}
+use Rattle.std.proofs.lemmas.Grind.{get_or-set_at}
+use Rattle.std.proofs.lemmas.List.{take_more, get_or-map, get_or-set_other, length-map, length-set}
+use Rattle.std.proofs.Common.{Vec, Global, get_or, take}
+use Rattle.std.specs.List.{AllByRecursion}
+use Rattle.std.proofs.Common.{◌==◌, ◌&&◌}
+use Rattle.std.proofs.lemmas.Bool.{eqb-true, ne_eqb}
+use Rattle.eve_smallbank.specs.Access.{is_write}
+use Rattle.eve_grammar.proofs.Lists.{all-weaker}
+use Rattle.eve_history.specs.SectionHistory.{SectionHistory}
+use Rattle.eve_chains.specs.Changes.{with_change, change_by, changes_along, changes_of_rows}
+use Rattle.eve_chains.specs.Notes.{noted_at}
+use Rattle.eve_chains.specs.Looked.{lists_of, row_notes}
+use Rattle.eve_chains.specs.declared.looked.Looked.{Looked}
+use Rattle.eve_chains.specs.declared.note.Note.{Note}
+use Rattle.eve_chains.specs.declared.changed.Changed.{Changed}
+use Rattle.eve_chains.specs.Stretches.{IsWithin, Reaches, AreStretches}
+use Rattle.eve_chains.specs.Walked.{IsFirstOrNone, IsMismatch, IsFirstOnRow, IsWrongOnSome, IsFirstOnRows}
+use Rattle.std.proofs.lemmas.List.Elements.{All-nil, All-cons}
+use Rattle.eve_chains.specs.Walked.{IsWalked, AreWalked, notes_on, IsRangeWalked, HasBegun, HasGoneOn, HasMet, HasWalked}
+use Rattle.eve_chains.specs.declared.walked_row.WalkedRow.{WalkedRow}
+use Rattle.std.proofs.Common.{ℤ}
+use Rattle.eve_chains.specs.declared.walked.RangeWalk.{RangeWalk}
+use Rattle.eve_chains.specs.declared.stretch.Stretch.{Stretch}
+use Rattle.eve_chains.specs.declared.walked.Walked.{Walked}
+use Rattle.eve_chains.proofs.AlongLaws.{before_up, not_before_up, split_last}
+use Rattle.eve_chains.proofs.RowWalks.{fold_more}
+
+-- ---- the first of two
+
+-- Where all is well of both, all is well; and the faults are those of the one and those of the other, all of chains.
+record AreBoth (Well One Other : Type 0) (S P Q : Fault → Type 0) : Type 0 where
+  well : One → Other → Well
+  one : (f : Fault) → P f → S f
+  other : (f : Fault) → Q f → S f
+  which : (f : Fault) → S f → P f ⊎ Q f
+  phase : (f : Fault) → S f → phase_of f.code ≡ 5
+
+module _ {Well One Other : Type 0} {S P Q : Fault → Type 0} (both : AreBoth Well One Other S P Q) where
+  choose : (f g : Fault) → IsLeast P f → IsLeast Q g → (b : Bool) → is_before g f ≡ b
+      → IsFirstOrNone Well S (cond b (Some g) (Some f))
+  choose f g first found true before = record {
+    is = both.other g found.is;
+    least = λ k s. elim (both.which k s) [
+      | inl p ↦ up_to-trans g f k (before_up g f (both.phase g (both.other g found.is))
+          (both.phase f (both.one f first.is)) before) (first.least k p)
+      | inr q ↦ found.least k q
+    ];
+  }
+  choose f g first found false behind = record {
+    is = both.one f first.is;
+    least = λ k s. elim (both.which k s) [
+      | inl p ↦ first.least k p
+      | inr q ↦ up_to-trans f g k (not_before_up g f (both.phase g (both.other g found.is))
+          (both.phase f (both.one f first.is)) behind) (found.least k q)
+    ];
+  }
+
+  first_of_both : (a b : Option Fault) → IsFirstOrNone One P a → IsFirstOrNone Other Q b
+      → IsFirstOrNone Well S (first_of a b)
+  first_of_both None None first found = (
+    both.well first.0 found.0,
+    λ f s. elim (both.which f s) [ inl p ↦ first.1 f p | inr q ↦ found.1 f q ],
+  )
+  first_of_both None (Some g) first found = record {
+    is = both.other g found.is;
+    least = λ k s. elim (both.which k s) [ inl p ↦ absurd (first.1 k p) | inr q ↦ found.least k q ];
+  }
+  first_of_both (Some f) None first found = record {
+    is = both.one f first.is;
+    least = λ k s. elim (both.which k s) [ inl p ↦ first.least k p | inr q ↦ absurd (found.1 k q) ];
+  }
+  first_of_both (Some f) (Some g) first found = choose f g first found (is_before g f) refl
+
+-- ---- one entry of a row
+
+chain_phase : (c : Code) (v : Versioned) (e : Entry) → SeesAnother c v e → phase_of c ≡ 5
+chain_phase code.Version v e other = refl
+chain_phase code.Value v e other = refl
+chain_phase _ v e other = absurd other
+
+-- a fault at this one entry, where its row has this
+record IsWrongHere (e : ℕ) (v : Versioned) (n : Noted) (f : Fault) : Type 0 where
+  at : n.offset ≡ f.offset
+  other : SeesAnother f.code v n.entry
+  inside : f.replica ≡ Some e
+
+abbrev SeesHere : Versioned → Noted → Type 0
+SeesHere v n = (n.entry.version ≡ v.version) × (n.entry.seen ≡ v.value)
+
+none_wrong : (e : ℕ) (v : Versioned) (n : Noted) (c : Code) → SeesHere v n → SeesAnother c v n.entry → ⊥
+none_wrong e v n code.Version sees other = other sees.0
+none_wrong e v n code.Value sees other = other sees.1
+none_wrong e v n _ sees other = absurd other
+
+wrong_here : (c : Code) (v : Versioned) (e : Entry) → IsMismatch v e (Some c) → SeesAnother c v e
+wrong_here code.Version v e wrong = wrong
+wrong_here code.Value v e wrong = wrong.1
+wrong_here _ v e wrong = absurd wrong
+
+least_here : (c d : Code) (v : Versioned) (e : Entry) → IsMismatch v e (Some c) → SeesAnother d v e
+    → code_number c ≤ code_number d
+least_here code.Version code.Version v e wrong other = omega arith
+least_here code.Version code.Value v e wrong other = omega arith
+least_here code.Value code.Version v e wrong other = absurd (other wrong.0)
+least_here code.Value code.Value v e wrong other = omega arith
+least_here code.Version _ v e wrong other = absurd other
+least_here code.Value _ v e wrong other = absurd other
+least_here _ d v e wrong other = absurd wrong
+
+first_here : (e : ℕ) (v : Versioned) (n : Noted) (wrong : Option Code) → IsMismatch v n.entry wrong
+    → IsFirstOrNone (SeesHere v n) (IsWrongHere e v n) (fault_if e n.offset wrong)
+first_here e v n None is = (is, λ f w. none_wrong e v n f.code is w.other)
+first_here e v n (Some c) is = record {
+  is = record { at = refl; other = wrong_here c v n.entry is; inside = refl };
+  least = λ g w. inr (w.at, least_here c g.code v n.entry is w.other);
+}
+
+-- ---- one entry more
+
+module _ (e : ℕ) (v : Versioned) (ns : List Noted) (n : Noted) where
+  abbrev met : Versioned
+  met = met_by (pair_after v ns) n
+
+  sees_more : EachSees v ns → SeesHere met n → EachSees v (ns ++ n ∷ [])
+  sees_more each here before m rest is =
+      elim (split_last ns n before m rest is) [
+        | inl last ↦ subst (λ (bs : List Noted). SeesHere (met_by (pair_after v bs) m) m) (sym last.0)
+            (subst (λ (k : Noted). SeesHere (met_by (pair_after v ns) k) k) (sym last.1) here)
+        | inr front ↦ each before m front.0 front.1
+      ]
+
+  front_wrong : (f : Fault) → IsWrongOnRow e v ns f → IsWrongOnRow e v (ns ++ n ∷ []) f
+  front_wrong f wrong = record {
+    stands = record {
+      before = wrong.stands.before;
+      item = wrong.stands.item;
+      rest = wrong.stands.rest ++ n ∷ [];
+      is = ap (λ (ms : List Noted). ms ++ n ∷ []) wrong.stands.is
+          ∙ append_assoc wrong.stands.before (wrong.stands.item ∷ wrong.stands.rest) (n ∷ []);
+      holds = wrong.stands.holds;
+    };
+    inside = wrong.inside;
+  }
+
+  last_wrong : (f : Fault) → IsWrongHere e met n f → IsWrongOnRow e v (ns ++ n ∷ []) f
+  last_wrong f wrong = record {
+    stands = record { before = ns; item = n; rest = []; is = refl; holds = (wrong.at, wrong.other) };
+    inside = wrong.inside;
+  }
+
+  which_wrong : (f : Fault) → IsWrongOnRow e v (ns ++ n ∷ []) f → IsWrongOnRow e v ns f ⊎ IsWrongHere e met n f
+  which_wrong f wrong =
+      let place = wrong.stands in
+      elim (split_last ns n place.before place.item place.rest place.is) [
+        | inl last ↦ inr (record {
+          at = ap (λ (k : Noted). k.offset) (sym last.1) ∙ place.holds.0;
+          other = subst (λ (k : Noted). SeesAnother f.code (met_by (pair_after v ns) k) k.entry) last.1
+              (subst (λ (bs : List Noted). SeesAnother f.code (met_by (pair_after v bs) place.item) place.item.entry)
+              last.0 place.holds.1);
+          inside = wrong.inside;
+        })
+        | inr front ↦ inl (record {
+          stands = record {
+            before = place.before;
+            item = place.item;
+            rest = front.0;
+            is = front.1;
+            holds = place.holds;
+          };
+          inside = wrong.inside;
+        })
+      ]
+
+  pub first_noted : (first : Option Fault) (wrong : Option Code) → IsFirstOnRow e v ns first
+      → IsMismatch met n.entry wrong → IsFirstOnRow e v (ns ++ n ∷ []) (first_of first (fault_if e n.offset wrong))
+  first_noted first wrong known is =
+      first_of_both {S = IsWrongOnRow e v (ns ++ n ∷ [])} (record {
+        well = sees_more;
+        one = front_wrong;
+        other = last_wrong;
+        which = which_wrong;
+        phase = λ f w. chain_phase f.code _ _ w.stands.holds.1;
+      }) first (fault_if e n.offset wrong) known (first_here e met n wrong is)
+
+pub pair_more : (v : Versioned) (ns : List Noted) (n : Noted) → pair_after v (ns ++ n ∷ [])
+    ≡ next_pair (pair_after v ns) n
+pair_more v ns n = fold_more next_pair (at_first v) ns n
+
+pub none_on_row : (e : ℕ) (v : Versioned) → IsFirstOnRow e v [] None
+none_on_row e v = (
+  λ before n rest is. absurd (nothing before n rest is),
+  λ f wrong.
+      nothing wrong.stands.before wrong.stands.item wrong.stands.rest wrong.stands.is,
+)
+  where
+    nothing : (before : List Noted) (n : Noted) (rest : List Noted) → [] ≡ before ++ n ∷ rest → ⊥
+    nothing [] n rest is = let none : 0 ≡ suc (length rest) = ap length is in omega arith
+    nothing (m ∷ before) n rest is =
+        let none : 0 ≡ suc (length (before ++ n ∷ rest)) = ap length is in omega arith
+
+-- ---- rows from one up to another
+
+module _ (t : Trace) (e : ℕ) where
+  pub none_on_rows : (i : ℕ) → IsFirstOnRows t e i i None
+  none_on_rows i = (λ row low high. absurd (apart row low high), λ f wrong. apart wrong.row wrong.above wrong.below)
+    where
+      apart : (row : ℕ) → i ≤ row → row < i → ⊥
+      apart row low high = omega arith
+
+  pub one_on_rows : (row : ℕ) (first : Option Fault) → IsFirstOnRow e (opening_table t row) (notes_on t e row) first
+      → IsFirstOnRows t e row (row + 1) first
+  one_on_rows row None first = (
+    λ r low high. subst (λ (k : ℕ). EachSees (opening_table t k) (notes_on t e k)) (same r low high) first.0,
+    λ f wrong. first.1 f
+        (subst (λ (k : ℕ). IsWrongOnRow e (opening_table t k) (notes_on t e k) f)
+        (sym (same wrong.row wrong.above wrong.below)) wrong.wrong),
+  )
+    where
+      same : (r : ℕ) → row ≤ r → r < row + 1 → row ≡ r
+      same r low high = omega arith
+  one_on_rows row (Some f) first = record {
+    is = record { row = row; above = omega arith; below = omega arith; wrong = first.is };
+    least = λ g wrong. first.least g
+        (subst (λ (k : ℕ). IsWrongOnRow e (opening_table t k) (notes_on t e k) g)
+        (sym (same wrong.row wrong.above wrong.below)) wrong.wrong);
+  }
+    where
+      same : (r : ℕ) → row ≤ r → r < row + 1 → row ≡ r
+      same r low high = omega arith
+
+  pub first_on_rows : (from mid to : ℕ) (a b : Option Fault) → from ≤ mid → mid ≤ to → IsFirstOnRows t e from mid a
+      → IsFirstOnRows t e mid to b → IsFirstOnRows t e from to (first_of a b)
+  first_on_rows from mid to a b low high first found =
+      first_of_both {S = IsWrongOnSome t e from to} (record {
+        well = λ one other row above below. elim (lt_or row) [
+          | inl less ↦ one row above less
+          | inr more ↦ other row more below
+        ];
+        one = λ f w. record { row = w.row; above = w.above; below = omega (arith, w.below, high); wrong = w.wrong };
+        other = λ f w. record { row = w.row; above = omega (arith, w.above, low); below = w.below; wrong = w.wrong };
+        which = λ f w. elim (lt_or w.row) [
+          | inl less ↦ inl (record { row = w.row; above = w.above; below = less; wrong = w.wrong })
+          | inr more ↦ inr (record { row = w.row; above = more; below = w.below; wrong = w.wrong })
+        ];
+        phase = λ f w. chain_phase f.code _ _ w.wrong.stands.holds.1;
+      }) a b first found
+    where
+      lt_or : (row : ℕ) → (row < mid) ⊎ (mid ≤ row)
+      lt_or row = cases_lt row mid
+
+  -- of ranges that follow one another
+  first_along : (from last : ℕ) (xs : List Stretch) (ws : List Walked) (first : Option Fault)
+      → AllZip (IsWalked t e) xs ws → Reaches from last xs → All (IsWithin last) xs → IsFirstOnRows t e 0 from first
+      → IsFirstOnRows t e 0 last (fold (λ now w. first_of now w.first) first ws)
+  first_along from last [] [] first each reaches within is =
+      subst (λ (n : ℕ). IsFirstOnRows t e 0 n first) reaches is
+  first_along from last [] (w ∷ ws) first each reaches within is = absurd each
+  first_along from last (x ∷ xs) [] first each reaches within is = absurd each
+  first_along from last (x ∷ xs) (w ∷ ws) first each reaches within is =
+      first_along x.to last xs ws (first_of first w.first) each.1 reaches.1
+      (λ i d less. within (suc i) d (omega arith))
+      (first_on_rows 0 x.from x.to first w.first (omega arith) (within 0 x (omega arith)).rising
+      (subst (λ (n : ℕ). IsFirstOnRows t e 0 n first) (sym reaches.0) is) each.0.first)
+
+  pub first_of_ranges : (rows : ℕ) (xs : List Stretch) (ws : List Walked) → AllZip (IsWalked t e) xs ws
+      → AreStretches rows xs → IsFirstOnRows t e 0 rows (fold (λ now w. first_of now w.first) None ws)
+  first_of_ranges rows xs ws each cut = first_along 0 rows xs ws None each cut.reaches cut.within (none_on_rows 0)
+
+-- ---- changes
+
+-- along more entries
+pub changes_more : (before : List Changed) (ns ms : List Noted) (now : List Changed) → now ≡ changes_along before ns
+    → changes_along now ms ≡ changes_along before (ns ++ ms)
+changes_more before [] ms now is = ap (λ (cs : List Changed). changes_along cs ms) is
+changes_more before (n ∷ ns) ms now is = changes_more (change_by before n) ns ms now is
+
+-- ---- what is noted of a row, stretch after stretch
+
+pub row_more : (number : ℕ) (ls : List Looked) (k : ℕ) (l : Looked) → k < length ls → l ≡ get_or ls k l
+    → row_notes number (take k ls) ++ map (noted_at number) (get_or (lists_of l) number [])
+    ≡ row_notes number (take (k + 1) ls)
+row_more number ls k l within is =
+    ap (λ (ms : List Noted). row_notes number (take k ls) ++ ms) (sym (append-nil (own l)))
+    ∙ sym (ap (row_notes number) (take_more ls k l within ∙ ap (λ (m : Looked). take k ls ++ m ∷ []) (sym is))
+    ∙ flat_map-append own (take k ls) (l ∷ []))
+  where
+    own : Looked → List Noted
+    own m = map (noted_at number) (get_or (lists_of m) number [])
+
+-- a row's list, as it is read
+pub row_read : (row number : ℕ) (items : List (Vec Note Global)) (v : Vec Note Global) (notes : List Note) → row ≡ number
+    → number < length (map (λ (w : Vec Note Global). w.items) items) → notes ≡ v.items → v ≡ get_or items number v
+    → map (noted_at row) notes
+    ≡ map (noted_at number) (get_or (map (λ (w : Vec Note Global). w.items) items) number [])
+row_read row number items v notes is within same read =
+    (λ i. map (noted_at (is i)) (same i))
+    ∙ ap (map (noted_at number)) (ap (λ (w : Vec Note Global). w.items) read
+    ∙ sym (get_or-map f items number v none (subst (λ (m : ℕ). number < m) (length-map items f) within)))
+  where
+    f : Vec Note Global → List Note
+    f w = w.items
+
+    none : List Note
+    none = []
+
+-- ---- what rows change
+
+-- a change of a later row goes behind those of earlier ones
+behind_rows : (row : ℕ) (cs ds : List Changed) (c : Changed) → AllByRecursion (λ x. x.row < row) cs → c.row ≡ row
+    → with_change (cs ++ ds) c ≡ cs ++ with_change ds c
+behind_rows row [] ds c below at = refl
+behind_rows row (x ∷ []) [] c below at =
+    ap (λ (b : Bool). cond ((x.number == c.number) && b) (c ∷ []) (x ∷ c ∷ [])) (ne_eqb x.row c.row other)
+    ∙ none (x.number == c.number)
+  where
+    other : x.row ≡ c.row → ⊥
+    other same = omega (arith, below.0)
+
+    none : (b : Bool) → cond (b && false) (c ∷ []) (x ∷ c ∷ []) ≡ x ∷ c ∷ []
+    none true = refl
+    none false = refl
+behind_rows row (x ∷ []) (d ∷ ds) c below at = refl
+behind_rows row (x ∷ y ∷ cs) ds c below at =
+    ap (λ (zs : List Changed). x ∷ zs) (behind_rows row (y ∷ cs) ds c below.1 at)
+
+along_behind : (row : ℕ) (cs ds : List Changed) (ns : List Noted) → AllByRecursion (λ x. x.row < row) cs
+    → AllByRecursion (λ n. n.entry.row ≡ row) ns → changes_along (cs ++ ds) ns ≡ cs ++ changes_along ds ns
+along_behind row cs ds [] below own = refl
+along_behind row cs ds (n ∷ ns) below own =
+    ap (λ (xs : List Changed). changes_along xs ns) (by (n.commits && is_write n.entry.kind))
+    ∙ along_behind row cs (change_by ds n) ns below own.1
+  where
+    c : Changed
+    c = record { number = n.number; row = n.entry.row; value = n.entry.after }
+
+    by : (b : Bool) → cond b (with_change (cs ++ ds) c) (cs ++ ds) ≡ cs ++ cond b (with_change ds c) ds
+    by true = behind_rows row cs ds c below own.0
+    by false = refl
+
+-- what a row's entries change is of the row
+changed_below : (row : ℕ) (cs : List Changed) (c : Changed) → AllByRecursion (λ x. x.row < row) cs → c.row < row
+    → AllByRecursion (λ x. x.row < row) (with_change cs c)
+changed_below row [] c below less = (less, tt)
+changed_below row (x ∷ []) c below less = by ((x.number == c.number) && (x.row == c.row))
+  where
+    by : (b : Bool) → AllByRecursion (λ y. y.row < row) (cond b (c ∷ []) (x ∷ c ∷ []))
+    by true = (less, tt)
+    by false = (below.0, (less, tt))
+changed_below row (x ∷ y ∷ cs) c below less = (below.0, changed_below row (y ∷ cs) c below.1 less)
+
+along_below : (row : ℕ) (cs : List Changed) (ns : List Noted) → AllByRecursion (λ x. x.row < row) cs
+    → AllByRecursion (λ n. n.entry.row < row) ns → AllByRecursion (λ x. x.row < row) (changes_along cs ns)
+along_below row cs [] below own = below
+along_below row cs (n ∷ ns) below own =
+    along_below row (change_by cs n) ns (by (n.commits && is_write n.entry.kind)) own.1
+  where
+    c : Changed
+    c = record { number = n.number; row = n.entry.row; value = n.entry.after }
+
+    by : (b : Bool) → AllByRecursion (λ x. x.row < row) (cond b (with_change cs c) cs)
+    by true = changed_below row cs c below own.0
+    by false = below
+
+own_rows : (row : ℕ) (ns : List Noted) → AllByRecursion (λ n. n.entry.row ≡ row) (of_row row ns)
+own_rows row [] = tt
+own_rows row (n ∷ ns) = by (n.entry.row == row) refl (own_rows row ns)
+  where
+    by : (b : Bool) → (n.entry.row == row) ≡ b → AllByRecursion (λ m. m.entry.row ≡ row) (of_row row ns)
+        → AllByRecursion (λ m. m.entry.row ≡ row) (cond b (n ∷ of_row row ns) (of_row row ns))
+    by true is rest = (eqb-true n.entry.row row is, rest)
+    by false is rest = rest
+
+rows_below : (ns : List Noted) (from count : ℕ)
+    → AllByRecursion (λ x. x.row < from + count) (changes_of_rows ns from count [])
+rows_below ns from zero = tt
+rows_below ns from (suc count) =
+    along_below (from + suc count) (changes_of_rows ns from count []) (of_row (from + count) ns)
+    (all-weaker (λ x. x.row < from + count) (λ x. x.row < from + suc count) (changes_of_rows ns from count [])
+    (λ x less. up x.row less) (rows_below ns from count))
+    (all-weaker (λ n. n.entry.row ≡ from + count) (λ n. n.entry.row < from + suc count) (of_row (from + count) ns)
+    (λ n is. at n.entry.row is) (own_rows (from + count) ns))
+  where
+    up : (k : ℕ) → k < from + count → k < from + suc count
+    up k less = omega arith
+
+    at : (k : ℕ) → k ≡ from + count → k < from + suc count
+    at k is = omega arith
+
+-- one more row behind them
+pub rows_behind : (ns ms : List Noted) (from count : ℕ) (now own : List Changed) → ms ≡ ns
+    → now ≡ changes_of_rows ns from count [] → own ≡ changes_along [] (of_row (from + count) ms)
+    → now ++ own ≡ changes_of_rows ns from (count + 1) []
+rows_behind ns ms from count now own same is its =
+    (λ i. is i ++ its i)
+    ∙ ap (λ (ks : List Noted). changes_of_rows ns from count [] ++ changes_along [] (of_row (from + count) ks)) same
+    ∙ sym (along_behind (from + count) (changes_of_rows ns from count []) [] (of_row (from + count) ns)
+    (rows_below ns from count) (own_rows (from + count) ns))
+    ∙ ap (λ (cs : List Changed). changes_along cs (of_row (from + count) ns))
+    (append-nil (changes_of_rows ns from count []))
+    ∙ ap (λ (n : ℕ). changes_of_rows ns from n []) one
+  where
+    one : suc count ≡ count + 1
+    one = omega arith
+
+-- ---- ranges that are walked
+
+-- what holds at each place of a list holds with one item more
+pub each_more : {A : Type 0} (P : ℕ → A → Type 0) (xs : List A) (x : A)
+    → ((i : ℕ) (d : A) → i < length xs → P i (get_or xs i d)) → P (length xs) x
+    → (i : ℕ) (d : A) → i < length (xs ++ x ∷ []) → P i (get_or (xs ++ x ∷ []) i d)
+each_more P [] x each last zero d less = last
+each_more P [] x each last (suc i) d less = absurd (omega (arith, less))
+each_more P (y ∷ xs) x each last zero d less = each zero d (omega arith)
+each_more P (y ∷ xs) x each last (suc i) d less =
+    each_more (λ k. P (suc k)) xs x (λ k e lt. each (suc k) e (omega (arith, lt))) last i d (omega (arith, less))
+
+pub row_begun : (t : Trace) (row place : ℕ) (value : ℤ) (w : WalkedRow)
+    → ((e : ℕ) → HasMet e (record { version = 0; value = value }) [] w.walk) → w.changes.items ≡ []
+    → value ≡ opening_of t row → row ≡ place → (e : ℕ) → HasWalked e (opening_table t place) [] w
+row_begun t row place value w met none is same e = record {
+  met = subst (λ (k : ℕ). HasMet e (opening_table t k) [] w.walk) same
+      (subst (λ (z : ℤ). HasMet e (record { version = 0; value = z }) [] w.walk) is (met e));
+  changes = none;
+}
+
+pub begun_all : (t : Trace) (h : SectionHistory) (xs : List Stretch) (ws : List RangeWalk) → AllZip (HasBegun t) xs ws
+    → All (IsRangeWalked t h 0) ws
+begun_all t h [] [] each = All-nil (IsRangeWalked t h 0)
+begun_all t h [] (w ∷ ws) each = absurd each
+begun_all t h (x ∷ xs) [] each = absurd each
+begun_all t h (x ∷ xs) (w ∷ ws) each =
+    All-cons (IsRangeWalked t h 0) w ws (each.0.1 h) (begun_all t h xs ws each.1)
+
+pub begun_ranges : (t : Trace) (xs : List Stretch) (ws : List RangeWalk) → AllZip (HasBegun t) xs ws
+    → map (λ w. w.range) ws ≡ xs
+begun_ranges t [] [] each = refl
+begun_ranges t [] (w ∷ ws) each = absurd each
+begun_ranges t (x ∷ xs) [] each = absurd each
+begun_ranges t (x ∷ xs) (w ∷ ws) each = (λ i. each.0.0 i ∷ begun_ranges t xs ws each.1 i)
+
+pub gone_all : (t : Trace) (h : SectionHistory) (to : ℕ) (ws next : List RangeWalk) → AllZip (HasGoneOn t h to) ws next
+    → All (IsRangeWalked t h to) next
+gone_all t h to [] [] each = All-nil (IsRangeWalked t h to)
+gone_all t h to [] (n ∷ next) each = absurd each
+gone_all t h to (w ∷ ws) [] each = absurd each
+gone_all t h to (w ∷ ws) (n ∷ next) each =
+    All-cons (IsRangeWalked t h to) n next each.0.1 (gone_all t h to ws next each.1)
+
+pub gone_ranges : (t : Trace) (h : SectionHistory) (to : ℕ) (ws next : List RangeWalk)
+    → AllZip (HasGoneOn t h to) ws next → map (λ w. w.range) next ≡ map (λ w. w.range) ws
+gone_ranges t h to [] [] each = refl
+gone_ranges t h to [] (n ∷ next) each = absurd each
+gone_ranges t h to (w ∷ ws) [] each = absurd each
+gone_ranges t h to (w ∷ ws) (n ∷ next) each = (λ i. each.0.0 i ∷ gone_ranges t h to ws next each.1 i)
+
+pub walked_ranges : (t : Trace) (e : ℕ) (ws : List RangeWalk) (ds : List Walked)
+    → AllZip (λ w d. IsWalked t e w.range d) ws ds → AllZip (IsWalked t e) (map (λ w. w.range) ws) ds
+walked_ranges t e [] [] each = tt
+walked_ranges t e [] (d ∷ ds) each = absurd each
+walked_ranges t e (w ∷ ws) [] each = absurd each
+walked_ranges t e (w ∷ ws) (d ∷ ds) each = (each.0, walked_ranges t e ws ds each.1)
+
+-- ---- one range of all rows
+
+pub walked_alone : (t : Trace) (e rows : ℕ) (w : Walked) → IsWalked t e (record { from = 0; to = rows }) w
+    → AreWalked t e rows (w ∷ [])
+walked_alone t e rows w is = record {
+  ranges = record { from = 0; to = rows } ∷ [];
+  cut = record {
+    reaches = (refl, refl);
+    within = All-cons (IsWithin rows) (record { from = 0; to = rows }) []
+        (record { rising = omega arith; there = omega arith }) (All-nil (IsWithin rows));
+  };
+  each = (is, tt);
+}
+
+-- ---- one item of a list set
+
+pub set_done : {A : Type 0} (P : ℕ → A → Type 0) (xs : List A) (k : ℕ) (x : A) → k < length xs
+    → ((i : ℕ) (d : A) → i < k → P i (get_or xs i d)) → P k x
+    → (i : ℕ) (d : A) → i < k + 1 → P i (get_or (set xs k x) i d)
+set_done {A} P xs k x there done own i d less =
+    elim (cases_eq i k) [
+      | inl same ↦ subst (P i) (sym (get_or-set_at xs k i x d same there)) (subst (λ (n : ℕ). P n x) (sym same) own)
+      | inr other ↦ subst (P i) (sym (get_or-set_other xs k i x d other)) (done i d (before other))
+    ]
+  where
+    before : (i ≡ k → ⊥) → i < k
+    before other = elim (cases_lt i k) [ inl lt ↦ lt | inr ge ↦ absurd (other (omega (arith, less, ge))) ]
+
+pub set_rest : {A : Type 0} (P : ℕ → A → Type 0) (xs : List A) (k : ℕ) (x : A)
+    → ((i : ℕ) (d : A) → k ≤ i → i < length xs → P i (get_or xs i d))
+    → (i : ℕ) (d : A) → k + 1 ≤ i → i < length (set xs k x) → P i (get_or (set xs k x) i d)
+set_rest P xs k x rest i d low less =
+    subst (P i) (sym (get_or-set_other xs k i x d other))
+    (rest i d (omega (arith, low)) (subst (λ (n : ℕ). i < n) (length-set xs k x) less))
+  where
+    other : i ≡ k → ⊥
+    other same = omega (arith, low, same)

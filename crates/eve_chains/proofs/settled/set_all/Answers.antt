@@ -1,0 +1,19 @@
+use Rattle.std.proofs.Common.{length, ap, subst, sym, ◌∙◌, arith}
+use Rattle.std.proofs.lemmas.List.{length-set}
+use Rattle.eve_smallbank.specs.Access.{balance_of_row}
+use Rattle.eve_chains.specs.Numbered.{IsRowBelow}
+use Rattle.eve_chains.proofs.SettingRows.{set_more}
+use Rattle.eve_chains.proofs.settled.set_all.Goals as goal
+
+pub loop-change-preserved : goal.loop-change-preserved
+loop-change-preserved c =
+    let change = c.change-item.result in
+    let below = subst (IsRowBelow (length c.args.balances.now)) (sym c.change-item.is)
+    (c.requires.rows c.loop-change.change-index change c.loop-change-test.true) in
+    record {
+      as_many = ap length c.set.ensures ∙ length-set c.loop-change.balances change.row change.value
+          ∙ c.loop-change.invariant.as_many;
+      values = set_more c.args.changes.now c.loop-change.change-index change c.loop-change-test.true c.change-item.is
+          (balance_of_row c.args.balances.now) c.loop-change.balances c.set.new.self c.loop-change.invariant.values
+          (omega (arith, below, c.loop-change.invariant.as_many)) c.set.ensures;
+    }

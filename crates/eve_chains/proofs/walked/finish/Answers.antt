@@ -1,0 +1,77 @@
+use Rattle.std.proofs.Common.{◌≡◌, ◌+◌, ◌-◌, ◌<◌, ◌≤◌, ℕ, [], None, List, length, get_or, sym, subst, ap, ◌∙◌, arith}
+use Rattle.eve_chains.specs.Visible.{opening_table}
+use Rattle.eve_chains.specs.Rows.{Noted, told_of, all_noted, of_row}
+use Rattle.eve_chains.specs.Notes.{notes_between}
+use Rattle.eve_chains.specs.Changes.{changes_of_rows}
+use Rattle.eve_chains.specs.Walked.{HasWalked, IsFirstOnRow, IsFirstOnRows, notes_on}
+use Rattle.eve_chains.specs.declared.walked_row.WalkedRow.{WalkedRow}
+use Rattle.eve_chains.proofs.Told.{all_told}
+use Rattle.eve_chains.proofs.WalkedRows.{first_on_rows, one_on_rows, none_on_rows, rows_behind}
+use Rattle.eve_chains.proofs.walked.finish.Goals as goal
+
+pub loop-row-init : goal.loop-row-init
+loop-row-init c =
+    let t = c.args.trace.now in
+    let e = c.args.history.now.replica in
+    let from = c.args.walk.now.range.from in
+    let start : from ≡ from + 0 = omega arith in
+    record {
+      first = subst (λ (n : ℕ). IsFirstOnRows t e from n None) start (none_on_rows t e from);
+      changes = c.new-changes.ensures.items;
+    }
+
+pub loop-row-preserved : goal.loop-row-preserved
+loop-row-preserved c =
+    let t = c.args.trace.now in
+    let h = c.args.history.now in
+    let e = h.replica in
+    let from = c.args.walk.now.range.from in
+    let k = c.loop-row.row-index in
+    let row = from + k in
+    let ns = all_noted (told_of t e) in
+    let ms = notes_between h 0 (length h.attempts) in
+    let told : ms ≡ ns = all_told t h c.requires.history in
+    let item : WalkedRow = c.row-item.result in
+    let lent : c.deref-row-items.result.now ≡ c.args.walk.now.rows.items = c.deref-row-items.ensures.value in
+    let is : item ≡ get_or c.args.walk.now.rows.items k item =
+    c.row-item.is ∙ ap (λ (ws : List WalkedRow). get_or ws k item) lent in
+    let there : k < length c.args.walk.now.rows.items =
+    subst (λ (ws : List WalkedRow). k < length ws) lent c.loop-row-test.true in
+    let walked : HasWalked e (opening_table t row) (of_row row ms) item =
+    subst (HasWalked e (opening_table t row) (of_row row ms)) (sym is) (c.requires.walked.each k item there) in
+    let here : IsFirstOnRow e (opening_table t row) (notes_on t e row) item.walk.first =
+    subst (λ (ks : List Noted). IsFirstOnRow e (opening_table t row) (of_row row ks) item.walk.first) told
+    walked.met.first in
+    let next : row + 1 ≡ from + (k + 1) = omega arith in
+    let low : from ≤ row = omega arith in
+    let high : row ≤ row + 1 = omega arith in
+    record {
+      first = subst (λ (n : ℕ). IsFirstOnRows t e from n c.first_of-first.result) next
+          (subst (IsFirstOnRows t e from (row + 1)) (sym c.first_of-first.ensures)
+          (first_on_rows t e from row (row + 1) c.loop-row.first item.walk.first low high
+          c.loop-row.invariant.first (one_on_rows t e row item.walk.first here)));
+      changes = c.in_ok-extend_from_slice.ensures.items
+          ∙ rows_behind ns ms from k c.loop-row.changes.items c.deref.result.now told c.loop-row.invariant.changes
+          (c.deref.ensures.value ∙ walked.changes);
+    }
+
+pub returns : goal.returns
+returns c =
+    let t = c.args.trace.now in
+    let e = c.args.history.now.replica in
+    let x = c.args.walk.now.range in
+    let lent : c.deref-row-items.result.now ≡ c.args.walk.now.rows.items = c.deref-row-items.ensures.value in
+    let many : length c.deref-row-items.result.now ≡ x.to - x.from =
+    ap (λ (ws : List WalkedRow). length ws) lent ∙ c.requires.walked.as_many in
+    let count : c.loop-row.row-index ≡ x.to - x.from = omega (
+      arith,
+      c.loop-row-test.false,
+      c.loop-row.auto.row-index-end,
+      many,
+    ) in
+    let last : x.from + c.loop-row.row-index ≡ x.to = omega (arith, count, c.requires.walked.within.rising) in
+    record {
+      first = subst (λ (n : ℕ). IsFirstOnRows t e x.from n c.loop-row.first) last c.loop-row.invariant.first;
+      changes = c.loop-row.invariant.changes
+          ∙ ap (λ (n : ℕ). changes_of_rows (all_noted (told_of t e)) x.from n []) count;
+    }

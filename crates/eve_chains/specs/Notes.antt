@@ -1,0 +1,36 @@
+-- What the records of attempts note of each row, gathered row by row. docs/MODEL.md, "What an entry must see".
+use Rattle.std.specs.Prelude.{◌≡◌, ℕ, ◌<◌, if◌then◌else◌, List, [], map, length, slice_index_or}
+use Rattle.std.specs.List.{flat_map}
+use Rattle.eve_history.specs.declared.fate.Fate.{Fate}
+use Rattle.eve_history.specs.SectionHistory.{ExecutedAttempt, SectionHistory, is_committed}
+use Rattle.eve_chains.specs.Unfit.{is_settled, by_fates_between}
+use Rattle.eve_chains.specs.Rows.{Noted, noted_by, of_row}
+use Rattle.eve_chains.specs.declared.note.Note.{Note}
+
+-- a note of this row, as the row's walk meets it
+abbrev pub noted_at : ℕ → Note → Noted
+noted_at row n = record {
+  offset = n.at;
+  view = n.view;
+  number = n.number;
+  commits = n.commits;
+  entry = record { version = n.version; seen = n.seen; after = n.after; row = row; kind = n.kind };
+}
+
+-- these lists, one for each row, hold what is noted of the row, in the same order
+abbrev pub AreByRow : List Noted → List (List Note) → Type 0
+AreByRow ns lists = (row : ℕ) → row < length lists → map (noted_at row) (slice_index_or lists row []) ≡ of_row row ns
+
+-- ---- of attempts, by what becomes of them
+
+-- of records of an attempt with this view, number and fate
+abbrev pub noted_along : ExecutedAttempt → Fate → List Noted
+noted_along r fate = flat_map (noted_by r.attempt.view r.attempt.seq (is_committed fate)) r.ordered
+
+-- of an attempt that is settled
+abbrev pub noted_if_settled : ExecutedAttempt → Fate → List Noted
+noted_if_settled r fate = if is_settled fate then noted_along r fate else []
+
+-- of the settled ones among attempts from one place up to another
+abbrev pub notes_between : SectionHistory → ℕ → ℕ → List Noted
+notes_between h from to = by_fates_between noted_if_settled h from to

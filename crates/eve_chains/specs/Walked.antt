@@ -1,0 +1,104 @@
+-- Rows walked, each by itself: the first fault, and what the batches change. docs/MODEL.md, "What an entry must see".
+use Rattle.std.specs.Prelude.{◌≡◌, ◌≢◌, ℕ, ◌+◌, ◌-◌, ◌<◌, ◌≤◌, List, [], Option, Some, None, length, slice_index_or}
+use Rattle.std.specs.List.{AllZip}
+use Rattle.eve_smallbank.specs.declared.entry.Entry.{Entry}
+use Rattle.eve_smallbank.specs.declared.versioned.Versioned.{Versioned}
+use Rattle.eve_grammar.specs.Trace.{Trace, head_of}
+use Rattle.eve_grammar.specs.Limits.{row_count}
+use Rattle.eve_history.specs.SectionHistory.{SectionHistory}
+use Rattle.eve_views.specs.declared.fault.Code.{Code}
+use Rattle.eve_views.specs.declared.fault.Code.TheVariants as code
+use Rattle.eve_views.specs.declared.fault.Fault.{Fault}
+use Rattle.eve_views.specs.Form.{IsLeast, HasNone}
+use Rattle.eve_chains.specs.Visible.{opening_table}
+use Rattle.eve_chains.specs.Rows.{Noted, Pair, told_of, all_noted, of_row, pair_after, IsWrongOnRow, EachSees}
+use Rattle.eve_chains.specs.Notes.{notes_between}
+use Rattle.eve_chains.specs.Changes.{changes_along, changes_of_rows}
+use Rattle.eve_chains.specs.Stretches.{IsWithin, AreStretches}
+use Rattle.eve_chains.specs.declared.stretch.Stretch.{Stretch}
+use Rattle.eve_chains.specs.declared.row_walk.RowWalk.{RowWalk}
+use Rattle.eve_chains.specs.declared.walked_row.WalkedRow.{WalkedRow}
+use Rattle.eve_chains.specs.declared.walked.RangeWalk.{RangeWalk}
+use Rattle.eve_chains.specs.declared.walked.Walked.{Walked}
+
+-- all is well and none of these faults stands, or this is the first of them, by offset and then by number
+abbrev pub IsFirstOrNone : Type 0 → (Fault → Type 0) → Option Fault → Type 0
+IsFirstOrNone AllIsWell S None = AllIsWell × HasNone S
+IsFirstOrNone AllIsWell S (Some f) = IsLeast S f
+
+-- ---- one row
+
+-- The first thing that is wrong with what an entry sees, where its row has this: some other version, or no other
+-- version but some other value.
+abbrev pub IsMismatch : Versioned → Entry → Option Code → Type 0
+IsMismatch v e None = (e.version ≡ v.version) × (e.seen ≡ v.value)
+IsMismatch v e (Some code.Version) = e.version ≢ v.version
+IsMismatch v e (Some code.Value) = (e.version ≡ v.version) × (e.seen ≢ v.value)
+IsMismatch v e (Some _) = ⊥
+
+abbrev pub pair_of : RowWalk → Pair
+pair_of w = record { view = w.view; committed = w.committed; working = w.working }
+
+-- the first fault of replica e among these entries of a row, which had this at first
+abbrev pub IsFirstOnRow : ℕ → Versioned → List Noted → Option Fault → Type 0
+IsFirstOnRow e v ns first = IsFirstOrNone (EachSees v ns) (IsWrongOnRow e v ns) first
+
+-- a row, which had this at first, is walked along these entries of it
+pub record HasMet (e : ℕ) (v : Versioned) (ns : List Noted) (w : RowWalk) : Type 0 where
+  pub pair : pair_of w ≡ pair_after v ns
+  pub first : IsFirstOnRow e v ns w.first
+
+-- and what the batches changed of it is noted
+pub record HasWalked (e : ℕ) (v : Versioned) (ns : List Noted) (w : WalkedRow) : Type 0 where
+  pub met : HasMet e v ns w.walk
+  pub changes : w.changes.items ≡ changes_along [] ns
+
+-- ---- a range of rows
+
+-- each row of the range is walked along what the attempts up to this place note of it
+pub record IsRangeWalked (t : Trace) (h : SectionHistory) (to : ℕ) (w : RangeWalk) : Type 0 where
+  pub within : IsWithin (row_count (head_of t)) w.range
+  pub as_many : length w.rows.items ≡ w.range.to - w.range.from
+  pub each : (place : ℕ) (d : WalkedRow) → place < length w.rows.items
+      → HasWalked h.replica (opening_table t (w.range.from + place))
+      (of_row (w.range.from + place) (notes_between h 0 to)) (slice_index_or w.rows.items place d)
+
+-- the range has its opening balances
+abbrev pub HasBegun : Trace → Stretch → RangeWalk → Type 0
+HasBegun t x w = (w.range ≡ x) × ((h : SectionHistory) → IsRangeWalked t h 0 w)
+
+-- the range is walked up to this place
+abbrev pub HasGoneOn : Trace → SectionHistory → ℕ → RangeWalk → RangeWalk → Type 0
+HasGoneOn t h to w next = (next.range ≡ w.range) × IsRangeWalked t h to next
+
+-- ---- rows from one up to another
+
+-- what is noted of a row along replica e's section
+abbrev pub notes_on : Trace → ℕ → ℕ → List Noted
+notes_on t e row = of_row row (all_noted (told_of t e))
+
+-- each entry of them sees what its row's walk meets
+abbrev pub RowsSee : Trace → ℕ → ℕ → ℕ → Type 0
+RowsSee t e from to = (row : ℕ) → from ≤ row → row < to → EachSees (opening_table t row) (notes_on t e row)
+
+-- a fault on one of them
+pub record IsWrongOnSome (t : Trace) (e from to : ℕ) (f : Fault) : Type 0 where
+  pub row : ℕ
+  pub above : from ≤ row
+  pub below : row < to
+  pub wrong : IsWrongOnRow e (opening_table t row) (notes_on t e row) f
+
+-- the first fault on them
+abbrev pub IsFirstOnRows : Trace → ℕ → ℕ → ℕ → Option Fault → Type 0
+IsFirstOnRows t e from to first = IsFirstOrNone (RowsSee t e from to) (IsWrongOnSome t e from to) first
+
+-- these rows are walked
+pub record IsWalked (t : Trace) (e : ℕ) (x : Stretch) (w : Walked) : Type 0 where
+  pub first : IsFirstOnRows t e x.from x.to w.first
+  pub changes : w.changes.items ≡ changes_of_rows (all_noted (told_of t e)) x.from (x.to - x.from) []
+
+-- all rows are walked, range after range
+pub record AreWalked (t : Trace) (e rows : ℕ) (ws : List Walked) : Type 0 where
+  pub ranges : List Stretch
+  pub cut : AreStretches rows ranges
+  pub each : AllZip (IsWalked t e) ranges ws
