@@ -7,7 +7,7 @@ use std::alloc::{AllocError, Global};
 use std::process::ExitCode;
 use std::{env, io};
 
-// Arguments that are no call.
+/// Arguments that are no call.
 fn no_call(alloc: Global) -> Result<Vec<String>, AllocError> {
     let mut arguments = Vec::with_capacity(alloc, 2)?;
     arguments.push_reserved("eve".to_string(alloc)?);
@@ -19,7 +19,7 @@ fn given_arguments(rt: &HostRuntime) -> io::Result<Vec<String>> {
     Ok(env::args(rt)?.collect(rt.alloc())?)
 }
 
-// The arguments. Those that aren't text are no call.
+/// The arguments. Those that aren't text are no call.
 fn arguments_of(rt: &HostRuntime) -> io::Result<Vec<String>> {
     match given_arguments(rt) {
         Err(e) if e.kind() != io::ErrorKind::OutOfMemory => Ok(no_call(rt.alloc())?),
@@ -27,7 +27,7 @@ fn arguments_of(rt: &HostRuntime) -> io::Result<Vec<String>> {
     }
 }
 
-// Sends on what was said and is still held, where the call came to its end.
+/// Sends on what was said and is still held, where the call came to its end.
 fn finish<O: Sink + Drop, E: Sink>(status: u8, out: &mut Buffered<O>, err: &mut E) -> u8 {
     if status < 2 && out.flush().is_err() {
         return stop(ToolFault::Write, err);

@@ -58,7 +58,7 @@ pub left_of_all : {O : Type 0} (limit : ℕ) (written : O → Option (List ℕ))
     → Leaves limit written failures (Run mixer) known failed old new why
 left_of_all limit written failures mixer known failed bytes old new fault.Read all left = absurd left.0
 left_of_all limit written failures mixer known failed bytes old new (fault.Line number) all left =
-    (of_all all (λ b. (length b ≤ limit) × IsBadLine b number) left.0, left.1)
+    (of_all all (λ b. (length b ≤ limit) × IsBadLine 1 b number) left.0, left.1)
 left_of_all limit written failures mixer known failed bytes old new fault.TooLong all left =
     (of_all all (IsTooLong limit mixer) left.0, left.1)
 left_of_all limit written failures mixer known failed bytes old new fault.Broken all left =

@@ -1,4 +1,4 @@
--- What `audit` says of bytes. docs/ARCHITECTURE.md, "The program"; docs/MODEL.md, "Verdict".
+-- What `audit` says of bytes. docs/USING.md, "Lines and statuses"; docs/MODEL.md, "Verdict".
 use Rattle.std.specs.Prelude.{◌≡◌, ℕ, List}
 use Rattle.eve_audit.specs.Verdict.{IsVerdict, SpellsAudited}
 use Rattle.eve_audit.specs.declared.verdict.Verdict.{Verdict}

@@ -1,5 +1,5 @@
 -- What each call says of bytes, and what it leaves where it ends without an answer.
--- docs/ARCHITECTURE.md, "The program".
+-- docs/USING.md, "Lines and statuses".
 use Rattle.std.specs.Prelude.{◌≡◌, ◌≢◌, ℕ, ◌+◌, ◌≤◌, ◌⊎◌, List, length, drop, Option, Some, IfSome, ⊤}
 use Rattle.eve_streams.specs.Failures.{after_failure}
 use Rattle.eve_streams.specs.Front.{AppendsFront}
@@ -19,7 +19,7 @@ use Rattle.eve_tool.specs.Writes.{WritesFrontOf}
 abbrev pub Calls : Subcommand → List (List ℕ) → Type 0
 Calls call arguments = call_of arguments ≡ Some call
 
--- The text is what the call says of the bytes, and the number is the exit status. A run is of so many bytes at most.
+-- The text is what the call says of the bytes, and the number is the exit status. A run has at most `limit` bytes.
 abbrev pub CallSays : ℕ → Subcommand → List ℕ → List ℕ → ℕ → Type 0
 CallSays limit Audit = Audits
 CallSays limit (Run mixer) = Runs limit mixer
@@ -27,7 +27,7 @@ CallSays limit Show = Shows
 
 -- the number is that of a bad line of the bytes, which `run` alone reads by lines, and only where they are not too long
 abbrev pub HasBadLine : ℕ → Subcommand → Option (List ℕ) → ℕ → Type 0
-HasBadLine limit (Run mixer) known number = IfSome known (λ bytes. (length bytes ≤ limit) × IsBadLine bytes number)
+HasBadLine limit (Run mixer) known number = IfSome known (λ bytes. (length bytes ≤ limit) × IsBadLine 1 bytes number)
 HasBadLine limit _ known number = ⊥
 
 -- the bytes are too long for `run`, or the trace of them is
@@ -52,8 +52,8 @@ SendsInParts Show = ⊤
 SendsInParts _ = ⊥
 
 -- What a call left that ended by a fault: what stands of the bytes that were in the input, where they are `known`, and
--- of out, `old` before the call and `new` after it. `failed` says that the input failed. A run is of so many bytes at
--- most.
+-- of out, `old` before the call and `new` after it. `failed` says that the input failed. A run has at most `limit`
+-- bytes.
 abbrev pub Leaves : ℕ → {O : Type 0} → (O → Option (List ℕ)) → (O → ℕ) → Subcommand → Option (List ℕ) → Type 0 → O → O
     → ToolFault → Type 0
 Leaves limit written failures call known failed old new fault.Read = failed × (new ≡ old)
@@ -92,7 +92,7 @@ abbrev pub Tells : {E : Type 0} → (E → Option (List ℕ)) → (E → ℕ) �
 Tells written failures old new why =
     Wrote written failures old new (error_line why) ⊎ Stopped written failures old new (error_line why)
 
--- A call ended by a fault, of which the status is that and the line was told. `failed` says that the input failed,
+-- A call ended by a fault with this status, whose line was sent. `failed` says that the input failed,
 -- `fine` that it did not, which is so at each fault but Read, and `consumed` that it was read, which is so at each but
 -- Read and Memory. At each but Write the output did not fail.
 pub record Stops {E O : Type 0} (told : E → Option (List ℕ)) (untold : E → ℕ) (written : O → Option (List ℕ))
@@ -113,7 +113,7 @@ LeavesHelp failures old new fault.Memory = new ≡ old
 LeavesHelp failures old new fault.Write = failures new ≡ after_failure (failures old)
 LeavesHelp failures old new _ = ⊥
 
--- help could not be given, by a fault of which the status is that and the line was told
+-- help could not be given, by a fault with this status, whose line was sent
 pub record StopsHelp {E O : Type 0} (told : E → Option (List ℕ)) (untold : E → ℕ) (failures : O → ℕ)
     (err_old err_new : E) (old new : O) (status : ℕ) : Type 0 where
   pub why : ToolFault

@@ -1,4 +1,4 @@
--- The exit statuses of faults, and where faults come from. docs/ARCHITECTURE.md, "The program".
+-- The exit statuses of faults, and where faults come from. docs/USING.md, "Lines and statuses".
 use Rattle.std.specs.Prelude.{ℕ, List, ◌++◌, codes, decimal}
 use Rattle.eve_streams.specs.declared.reading.ReadFault.{ReadFault}
 use Rattle.eve_streams.specs.declared.reading.ReadFault.TheVariants as why

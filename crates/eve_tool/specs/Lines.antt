@@ -1,4 +1,4 @@
--- The lines that the program prints. docs/ARCHITECTURE.md, "The program".
+-- The lines that the program prints. docs/USING.md, "Lines and statuses".
 use Rattle.std.specs.Prelude.{ℕ, List, [], ◌∷◌, ◌++◌, Option, Some, None, codes, decimal}
 use Rattle.eve_audit.specs.declared.verdict.Summary.{Summary}
 use Rattle.eve_audit.specs.declared.verdict.Verdict.{Verdict}

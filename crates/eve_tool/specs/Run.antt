@@ -1,4 +1,4 @@
--- What `run` says of bytes. docs/ARCHITECTURE.md, "The program"; docs/MODEL.md, "A run".
+-- What `run` says of bytes. docs/USING.md, "Lines and statuses"; docs/MODEL.md, "A run".
 use Rattle.std.specs.Prelude.{◌≡◌, ℕ, ◌<◌, ◌≤◌, List, length, ◌⊎◌, ⊤}
 use Rattle.eve_grammar.specs.Trace.{Trace}
 use Rattle.eve_grammar.specs.Spelling.{length_of}
@@ -13,10 +13,11 @@ use Rattle.eve_replica.specs.Run.{IsRunOf, IsTraceOf}
 use Rattle.eve_tool.specs.declared.fault.ToolFault.{ToolFault}
 use Rattle.eve_tool.specs.declared.fault.ToolFault.TheVariants as fault
 
--- the bytes are the text of this workload
+-- the bytes are the text of this workload, which is of format 1
 pub record IsText (bytes : List ℕ) (workload : Workload) : Type 0 where
   pub text : bytes ≡ workload_text workload
   pub right : IsWorkload workload
+  pub format : workload.format ≡ 1
 
 -- the bytes are the text of a workload
 abbrev pub IsRunnable : List ℕ → Type 0
@@ -55,7 +56,7 @@ IsTooLong limit mixer bytes = (limit < length bytes) ⊎ RunsTooLong limit mixer
 
 -- why the bytes are not run, before anything is sent
 abbrev pub StopsRun : List ℕ → ToolFault → Type 0
-StopsRun bytes (fault.Line number) = IsBadLine bytes number
+StopsRun bytes (fault.Line number) = IsBadLine 1 bytes number
 StopsRun bytes fault.Random = IsRunnable bytes
 StopsRun bytes fault.Broken = IsRunnable bytes
 StopsRun bytes fault.Memory = ⊤

@@ -1,4 +1,4 @@
--- What `show` says of bytes. docs/ARCHITECTURE.md, "The program".
+-- What `show` says of bytes. docs/USING.md, "Lines and statuses".
 use Rattle.std.specs.Prelude.{◌≡◌, ℕ, List, ◌++◌, length, codes, ◌⊎◌}
 use Rattle.std.specs.List.{flat_map}
 use Rattle.eve_frames.specs.Kinds.{kind_name}

@@ -24,7 +24,7 @@ use std::random::RandomSource;
 use std::sync::Wait;
 use std::thread::Threads;
 
-// Sends the line that says yes.
+/// Sends the line that says yes.
 fn send_yes<O: Sink>(alloc: Global, summary: &Summary, out: &mut O) -> Result<(), ToolFault>
     ensures sent { OnOk result (Appends (O.written out.old) (O.written out.new)
         (yes_line summary.now)) }
@@ -37,7 +37,7 @@ fn send_yes<O: Sink>(alloc: Global, summary: &Summary, out: &mut O) -> Result<()
     send_text(&mut text, out)
 }
 
-// Sends the line of a verdict, and answers the exit status.
+/// Sends the line of a verdict, and returns the exit status.
 fn send_verdict<O: Sink>(alloc: Global, verdict: &Verdict, out: &mut O) -> Result<u8, ToolFault>
     ensures sent { OnOk result (Appends (O.written out.old) (O.written out.new)
         (verdict_line verdict.now)) }
@@ -58,7 +58,7 @@ fn send_verdict<O: Sink>(alloc: Global, verdict: &Verdict, out: &mut O) -> Resul
     }
 }
 
-// Sends the verdict on the bytes, and answers the exit status.
+/// Sends the verdict on the bytes, and returns the exit status.
 fn audit_bytes<R: Threads + Wait + Sync, O: Sink>(
     rt: &R,
     alloc: Global,
@@ -77,9 +77,9 @@ fn audit_bytes<R: Threads + Wait + Sync, O: Sink>(
     send_verdict(alloc, &verdict, out)
 }
 
-/// Reads a trace, asks for random words, and sends the line of the verdict, which so many workers
-/// find: with the answer 0 where it is yes, and 1 where it is the first fault. It reads at most one
-/// byte more than a trace may have, which is the fault then.
+/// Reads a trace, asks for random words, and sends the line of the verdict, which `workers` workers find. Returns 0
+/// where it is yes, and 1 where it is the first fault. It reads at most one byte more than a trace may have: that byte
+/// is the fault then.
 pub(crate) fn audit<R: AllocGlobal + RandomSource + Threads + Wait + Sync, I: Source, O: Sink>(
     rt: &R,
     workers: WorkerCount,

@@ -11,27 +11,50 @@ use eve_replica::eve_workload::WorkloadFault;
 use eve_streams::{ReadFault, SendFault};
 use itoa::Buffer;
 use std::alloc::AllocError;
+use thiserror::Error;
+
+/// What the program says of each fault.
+const CANNOT_READ: &str = "cannot read input";
+
+const WORKLOAD_LINE: &str = "workload line ";
+
+const TOO_LONG: &str = "too long";
+
+const RUN_BROKEN: &str = "run broken";
+
+const CANNOT_WRITE: &str = "cannot write output";
+
+const NO_RANDOM_SOURCE: &str = "no random source";
+
+const OUT_OF_MEMORY: &str = "out of memory";
 
 /// Why the program ends without an answer.
-#[derive(Clone, Copy, Debug)]
+#[derive(Clone, Copy, Debug, Error)]
 pub enum ToolFault {
     /// The input can't be read, or it was read 2^31 times without an end.
+    #[error("{text}", text = CANNOT_READ)]
     Read,
     /// This line of the workload, counted from 1, is the first that isn't right.
+    #[error("{text}{0}", text = WORKLOAD_LINE)]
     Line(u32),
     /// The workload has more than 2^30 bytes (of `run_within`, than its limit), or the trace would have.
+    #[error("{text}", text = TOO_LONG)]
     TooLong,
     /// The run is broken: a replica failed, or a batch was not committed.
+    #[error("{text}", text = RUN_BROKEN)]
     Broken,
     /// The output can't be written.
+    #[error("{text}", text = CANNOT_WRITE)]
     Write,
     /// The system gave no random words.
+    #[error("{text}", text = NO_RANDOM_SOURCE)]
     Random,
     /// Memory ran out.
+    #[error("{text}", text = OUT_OF_MEMORY)]
     Memory,
 }
 
-// How many bytes the line of a fault has at most.
+/// How many bytes the line of a fault has at most.
 const LONGEST_FAULT: usize = 64;
 
 impl ToolFault {
@@ -45,25 +68,26 @@ impl ToolFault {
         }
     }
 
-    /// What the program says on the error stream: a line, with its line feed. It takes no memory, of which there may
-    /// be none left.
+    /// What the program says on the error stream: a line, with its line feed, that names the program before the text of
+    /// `Display`. It takes no memory, of which there may be none left.
     pub fn line(self) -> ArrayString<LONGEST_FAULT>
         ensures { result.bytes ≡ error_line self }
     {
         let mut line = ArrayString::new();
+        line.push_str("eve: ");
         match self {
-            ToolFault::Read => line.push_str("eve: cannot read input\n"),
+            ToolFault::Read => line.push_str(CANNOT_READ),
             ToolFault::Line(number) => {
-                line.push_str("eve: workload line ");
+                line.push_str(WORKLOAD_LINE);
                 line.push_str(Buffer::new().format(number));
-                line.push_str("\n");
             }
-            ToolFault::TooLong => line.push_str("eve: too long\n"),
-            ToolFault::Broken => line.push_str("eve: run broken\n"),
-            ToolFault::Write => line.push_str("eve: cannot write output\n"),
-            ToolFault::Random => line.push_str("eve: no random source\n"),
-            ToolFault::Memory => line.push_str("eve: out of memory\n"),
+            ToolFault::TooLong => line.push_str(TOO_LONG),
+            ToolFault::Broken => line.push_str(RUN_BROKEN),
+            ToolFault::Write => line.push_str(CANNOT_WRITE),
+            ToolFault::Random => line.push_str(NO_RANDOM_SOURCE),
+            ToolFault::Memory => line.push_str(OUT_OF_MEMORY),
         }
+        line.push_str("\n");
         line
     }
 }

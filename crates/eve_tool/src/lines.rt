@@ -8,8 +8,8 @@ use eve_audit::Summary;
 use eve_views::Fault;
 use std::alloc::AllocError;
 
-// Appends the line of a frame: the byte at which it begins, its kind's name, and how many bytes
-// its body has.
+/// Appends the line of a frame: the byte at which it begins, its kind's name, and how many bytes
+/// its body has.
 #[tactic(auto, unfolding(crate::specs::Lines::frame_line))]
 pub(crate) fn push_frame_line(
     text: &mut String,
@@ -23,8 +23,8 @@ pub(crate) fn push_frame_line(
     writeln!(text, "{offset} {name} {body_len}")
 }
 
-// Appends the line that says yes: how many replicas and batches there are, and the least last
-// committed number over the replicas.
+/// Appends the line that says yes: how many replicas and batches there are, and the least last
+/// committed number over the replicas.
 #[tactic(auto, unfolding(crate::specs::Lines::yes_line))]
 pub(crate) fn push_yes_line(text: &mut String, summary: &Summary) -> Result<(), AllocError>
     ensures { OnOk result (string_bytes text.new ≡ string_bytes text.old ++ yes_line summary.now) }
@@ -38,8 +38,8 @@ pub(crate) fn push_yes_line(text: &mut String, summary: &Summary) -> Result<(), 
     )
 }
 
-// Appends the line that says no: the fault's code, the byte at which it stands, and the replica in
-// whose section that is, if any.
+/// Appends the line that says no: the fault's code, the byte at which it stands, and the replica in
+/// whose section that is, if any.
 #[tactic(auto, unfolding(crate::specs::Lines::fault_line))]
 pub(crate) fn push_fault_line(text: &mut String, fault: &Fault) -> Result<(), AllocError>
     ensures { OnOk result (string_bytes text.new ≡ string_bytes text.old ++ fault_line fault.now) }

@@ -24,8 +24,7 @@ use std::random::RandomSource;
 use std::sync::Wait;
 use std::thread::Threads;
 
-/// Says on `err` why the program ends without an answer, and answers the exit status. What can't be
-/// said is lost.
+/// Says on `err` why the program ends without an answer, and returns the exit status. What can't be said is lost.
 pub fn stop<E: Sink>(fault: ToolFault, err: &mut E) -> u8
     ensures status { result ≡ status_of fault }
     ensures told { Tells E.written E.failures err.old err.new fault }
@@ -35,7 +34,7 @@ pub fn stop<E: Sink>(fault: ToolFault, err: &mut E) -> u8
     fault.status()
 }
 
-// Does what the call asks for, and answers the exit status.
+/// Does what the call asks for, and returns the exit status.
 fn answer_call<R: AllocGlobal + RandomSource + Threads + Wait + Sync, I: Source, O: Sink>(
     rt: &R,
     call: Call,
@@ -62,7 +61,7 @@ fn answer_call<R: AllocGlobal + RandomSource + Threads + Wait + Sync, I: Source,
     }
 }
 
-// Does what the arguments ask for, and answers the exit status.
+/// Does what the arguments ask for, and returns the exit status.
 fn answer<
     R: AllocGlobal + RandomSource + Threads + Wait + Sync,
     S: AsStr,
@@ -113,11 +112,12 @@ fn answer<
     }
 }
 
-/// Runs the program: does what the arguments of the command line ask for, the first of which is the
-/// program's name, and answers the exit status. Memory, the random words and the threads of `audit` and
-/// `run` come from `rt`; random words are asked for once the input is read. How many workers audit changes
-/// nothing of what is said. It returns where the threads that it started do. docs/ARCHITECTURE.md, "The program", has
-/// each line and status.
+/// Runs the program: does what the arguments of the command line ask for, the first of which is the program's name, and
+/// returns the exit status. Memory, the random words and the threads of `audit` and `run` come from `rt`; random words
+/// are asked for once the input is read. The number of workers changes nothing of what is said. It returns where the
+/// threads that it started do.
+///
+/// docs/USING.md, "Lines and statuses", has each line and status.
 pub fn serve<
     R: AllocGlobal + RandomSource + Threads + Wait + Sync,
     S: AsStr,

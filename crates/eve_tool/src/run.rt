@@ -25,7 +25,7 @@ use std::random::RandomSource;
 use std::sync::Wait;
 use std::thread::Threads;
 
-// Sends the trace of the parts, if it has at most so many bytes.
+/// Sends the trace of the parts, if it has at most `limit` bytes.
 fn send_trace<O: Sink>(parts: &Parts, limit: u32, out: &mut O) -> Result<(), ToolFault>
     requires spelled { HasSpelling parts.now }
     requires limit { limit ≤ MOST_BYTES }
@@ -45,7 +45,7 @@ fn send_trace<O: Sink>(parts: &Parts, limit: u32, out: &mut O) -> Result<(), Too
     }
 }
 
-// Runs the workload of these bytes, which go once it is read, and answers the parts of its trace.
+/// Runs the workload of these bytes, which go once it is read, and returns the parts of its trace.
 fn parts_of<R: RandomSource + Threads + Wait + Sync>(
     rt: &R,
     alloc: Global,
@@ -55,13 +55,13 @@ fn parts_of<R: RandomSource + Threads + Wait + Sync>(
     ensures run { IfOk result (IsRunOfText mixer bytes.items) }
     ensures stopped { IfErr result (StopsRun bytes.items) }
 {
-    let workload = Workload::read(alloc, bytes.as_slice())?;
+    let workload = Workload::read(alloc, bytes.as_slice(), 1)?;
     drop(bytes);
     let random = random_words(rt)?;
     Ok(run_consuming(rt, alloc, workload, mixer, random, &OpenGate)?)
 }
 
-// Runs the workload of these bytes and sends the trace, of at most so many bytes, and answers the exit status.
+/// Runs the workload of these bytes, sends the trace, of at most `limit` bytes, and returns the exit status.
 fn run_bytes<R: RandomSource + Threads + Wait + Sync, O: Sink>(
     rt: &R,
     alloc: Global,

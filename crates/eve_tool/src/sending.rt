@@ -14,7 +14,7 @@ use eve_streams::{Sink, send_all};
 use eve_views::Fault;
 use std::alloc::Global;
 
-// Sends the text, and empties it.
+/// Sends the text, and empties it.
 pub(crate) fn send_text<O: Sink>(text: &mut String, out: &mut O) -> Result<(), ToolFault>
     ensures sent { OnOk result (Appends (O.written out.old) (O.written out.new)
         (string_bytes text.old)) }
@@ -30,7 +30,7 @@ pub(crate) fn send_text<O: Sink>(text: &mut String, out: &mut O) -> Result<(), T
     Ok(())
 }
 
-// Sends the line of a fault.
+/// Sends the line of a fault.
 pub(crate) fn send_fault<O: Sink>(
     alloc: Global,
     fault: &Fault,

@@ -20,12 +20,12 @@ use eve_streams::{Sink, Source, read_all};
 use eve_views::{CheckFault, Trace};
 use std::alloc::{AllocError, Global};
 
-// How many bytes of lines are sent together, about, and how many a line has at most.
+/// How many bytes of lines are sent together, about, and how many a line has at most.
 const ROOM: usize = 64 * 1024;
 
 const LONGEST_LINE: usize = 64;
 
-// Appends the line of frame number i.
+/// Appends the line of frame number i.
 fn push_frame(text: &mut String, trace: &Trace<'_>, i: usize) -> Result<(), AllocError>
     requires { i < length (frames_of trace.now) }
     ensures { (p : ℕ × Frame) → slice_get (located frame_text 32 (frames_of trace.now)) i ≡ Some p
@@ -35,7 +35,7 @@ fn push_frame(text: &mut String, trace: &Trace<'_>, i: usize) -> Result<(), Allo
     push_frame_line(text, frame.offset(), frame.kind_name(), frame.body_len())
 }
 
-// Sends the lines of the header and of all frames, many at a time.
+/// Sends the lines of the header and of all frames, many at a time.
 fn send_frames<O: Sink>(alloc: Global, trace: &Trace<'_>, out: &mut O) -> Result<(), ToolFault>
     ensures sent { OnOk result (Appends (O.written out.old) (O.written out.new)
         (trace_lines (frames_of trace.now))) }
@@ -54,7 +54,7 @@ fn send_frames<O: Sink>(alloc: Global, trace: &Trace<'_>, out: &mut O) -> Result
     send_text(&mut text, out)
 }
 
-// Sends what there is to say of the bytes, and answers the exit status.
+/// Sends what there is to say of the bytes, and returns the exit status.
 fn show_bytes<O: Sink>(alloc: Global, bytes: &[u8], out: &mut O) -> Result<u8, ToolFault>
     ensures all { IfOk result (WritesAll Shows bytes.now (O.written out.old) (O.written out.new)) }
     ensures fine { OnOk result (O.failures out.new ≡ O.failures out.old) }
@@ -74,8 +74,8 @@ fn show_bytes<O: Sink>(alloc: Global, bytes: &[u8], out: &mut O) -> Result<u8, T
     }
 }
 
-/// Reads a trace and sends its lines, and answers 0; or sends the line of its first fault of form,
-/// and answers 1. It reads at most one byte more than a trace may have, which is the fault then.
+/// Reads a trace, sends its lines and returns 0; or sends the line of its first fault of form and returns 1. It reads
+/// at most one byte more than a trace may have: that byte is the fault then.
 pub(crate) fn show<I: Source, O: Sink>(
     alloc: Global,
     input: &mut I,

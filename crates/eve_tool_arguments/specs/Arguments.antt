@@ -1,4 +1,4 @@
--- What the arguments of a command line ask for. docs/ARCHITECTURE.md, "The program".
+-- What the arguments of a command line ask for. docs/USING.md, "Lines and statuses".
 use Rattle.std.specs.Prelude.{◌≡◌, ◌≢◌, ◌⊎◌, ⊤, ℕ, pos, max, min, true, if◌then◌else◌, List, [], ◌∷◌, Option, Some}
 use Rattle.std.specs.Prelude.{None, codes, find, slice_get, option_and_then, option_map}
 use Rattle.std.specs.Str.{bytes_eq}
@@ -105,7 +105,7 @@ workers_behind found = option_map (λ f. workers_in f.1) found
 unfoldable pub workers_of : List Text → Option ℕ
 workers_of arguments = workers_behind (subcommand_of eve arguments)
 
--- the call has so many workers, if it is one that has any
+-- the call has this number of workers, if it is one that has any
 abbrev pub HasWorkers : Option ℕ → Call → Type 0
 HasWorkers asked_for (call.Audit found) = asked_for ≡ Some found
 HasWorkers _ _ = ⊤
@@ -136,7 +136,7 @@ AsksForHelp arguments = IsAmong kind.DisplayHelp (faults_of arguments)
 abbrev pub GetsHelp : List Text → Type 0
 GetsHelp arguments = CallsNothing arguments × AsksForHelp arguments
 
--- the arguments are the call `audit`, by so many workers
+-- the arguments are the call `audit`, by `n` workers
 abbrev pub AuditsBy : ℕ → List Text → Type 0
 AuditsBy n arguments = CallsAudit arguments × (workers_of arguments ≡ Some n)
 
@@ -156,8 +156,8 @@ pub record NamesNoMixer (arguments : List Text) : Type 0 where
 abbrev pub IsRefused : List Text → Type 0
 IsRefused arguments = IsWrong arguments ⊎ NamesNoMixer arguments
 
--- the answer is the call that the arguments are, by as many workers as they ask for, help where they ask for it, or a
--- refusal where they are wrong
+-- the answer is the call that the arguments are, with the number of workers that they ask for, help where they ask for
+-- it, or a refusal where they are wrong
 abbrev pub Answers : List Text → Asked → Type 0
 Answers arguments (asked.Call call) =
     (call_of arguments ≡ Some (subcommand_of_call call)) × HasWorkers (workers_of arguments) call

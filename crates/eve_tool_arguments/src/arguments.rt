@@ -37,7 +37,7 @@ pub enum Asked {
     Refused(String),
 }
 
-// What is said where another mixer is named.
+/// What is said where another mixer is named.
 const NO_MIXER: &str =
     "error: invalid value for '--mixer <MIXER>': it has to be 'first' or 'whole'\n\n\
     For more information, try '--help'.\n";
@@ -48,14 +48,14 @@ const EXAMPLES: &str = "Examples:\n\
     \x20 eve audit --workers 2 < examples/two-orders-agree.trace\n\
     \x20 eve show < examples/empty-run.trace";
 
-// The numbers of workers that may be named.
+/// The numbers of workers that may be named.
 fn worker_counts<'a>() -> ValueParser<'a>
     ensures { result ≡ ValueParser.Signed (pos 1) (pos MOST_AUDIT_WORKERS) }
 {
     value_parser!(u8).range(1..=MOST_AUDIT_WORKERS as i64)
 }
 
-// How many workers audit.
+/// How many workers audit.
 fn workers_argument<'a>(alloc: Global) -> Arg<'a>
     ensures rule { rule_of result ≡ workers }
     ensures local { result.global ≡ false }
@@ -73,7 +73,7 @@ fn workers_argument<'a>(alloc: Global) -> Arg<'a>
 const RUN_EXAMPLE: &str =
     "Example:\n  eve run --mixer whole < examples/two-deposits.workload > two-deposits.trace";
 
-// Which mixer cuts the batches of a workload.
+/// Which mixer cuts the batches of a workload.
 fn mixer_argument<'a>(alloc: Global) -> Arg<'a>
     ensures rule { rule_of result ≡ mixer }
     ensures local { result.global ≡ false }
@@ -87,7 +87,7 @@ fn mixer_argument<'a>(alloc: Global) -> Arg<'a>
         .default_value("first")
 }
 
-// The subcommand that audits.
+/// The subcommand that audits.
 fn audit_command<'a>(alloc: Global) -> Result<Command<'a>, AllocError>
     ensures { IfOk result (λ c. shape_of c ≡ audit) }
 {
@@ -96,7 +96,7 @@ fn audit_command<'a>(alloc: Global) -> Result<Command<'a>, AllocError>
         .arg(workers_argument(alloc))
 }
 
-// The subcommand that runs a workload.
+/// The subcommand that runs a workload.
 fn run_command<'a>(alloc: Global) -> Result<Command<'a>, AllocError>
     ensures { IfOk result (λ c. shape_of c ≡ run_shape) }
 {
@@ -106,7 +106,7 @@ fn run_command<'a>(alloc: Global) -> Result<Command<'a>, AllocError>
         .arg(mixer_argument(alloc))
 }
 
-// The subcommand that prints the frames of a trace.
+/// The subcommand that prints the frames of a trace.
 fn show_command<'a>(alloc: Global) -> Command<'a>
     ensures { shape_of result ≡ show }
 {
@@ -115,7 +115,7 @@ fn show_command<'a>(alloc: Global) -> Command<'a>
     )
 }
 
-// The program, which wants a subcommand, and has none yet.
+/// The program, which wants a subcommand, and has none yet.
 fn program<'a>(alloc: Global) -> Command<'a>
     ensures { app_of result ≡ program }
 {
@@ -126,7 +126,7 @@ fn program<'a>(alloc: Global) -> Command<'a>
         .subcommand_required(true)
 }
 
-// The command line of the program.
+/// The command line of the program.
 fn command<'a>(alloc: Global) -> Result<Command<'a>, AllocError>
     ensures { IfOk result (λ c. app_of c ≡ eve) }
 {
@@ -145,7 +145,7 @@ fn command<'a>(alloc: Global) -> Result<Command<'a>, AllocError>
     runs.subcommand(show_command(alloc))
 }
 
-// How many workers were named.
+/// How many workers were named.
 fn workers_of(found: &ArgMatches<'_>) -> WorkerCount
     ensures { result ≡ workers_in (rows_of (found_of found.now)) }
 {
@@ -156,7 +156,7 @@ fn workers_of(found: &ArgMatches<'_>) -> WorkerCount
     WorkerCount::nearest(named)
 }
 
-// The mixer that was named.
+/// The mixer that was named.
 fn mixer_of(found: &ArgMatches<'_>) -> Option<Mixer>
     ensures { result ≡ mixer_in (rows_of (found_of found.now)) }
 {
@@ -166,7 +166,7 @@ fn mixer_of(found: &ArgMatches<'_>) -> Option<Mixer>
     }
 }
 
-// The call of the subcommand that was met.
+/// The call of the subcommand that was met.
 fn call_in(matches: &ArgMatches<'_>) -> Option<Call>
     ensures call { option_map subcommand_of_call result
         ≡ option_and_then subcommand_named (subcommand_rows_of matches.now) }
@@ -178,7 +178,7 @@ fn call_in(matches: &ArgMatches<'_>) -> Option<Call>
     }
 }
 
-// The call of this name, where this was found behind it.
+/// The call of this name, where this was found behind it.
 fn call_named(name: &str, found: &ArgMatches<'_>) -> Option<Call>
     ensures call { option_map subcommand_of_call result ≡ subcommand_named (name.now, rows_of (found_of found.now)) }
     ensures workers { IfSome result (HasWorkers (Some (workers_in (rows_of (found_of found.now))))) }
@@ -191,7 +191,7 @@ fn call_named(name: &str, found: &ArgMatches<'_>) -> Option<Call>
     }
 }
 
-// What clap answers where it gives no matches.
+/// What clap returns where there are no matches.
 fn answer_of(alloc: Global, error: &Error) -> Result<Asked, AllocError>
     ensures { IfOk result (SaysOf (kind_of error.now)) }
 {
@@ -202,7 +202,7 @@ fn answer_of(alloc: Global, error: &Error) -> Result<Asked, AllocError>
     }
 }
 
-/// Reads the arguments of a command line, of which the first is the program's name.
+/// Reads the arguments of a command line. The first is the program's name.
 pub fn read_arguments<S: AsStr>(alloc: Global, arguments: &[S]) -> Result<Asked, AllocError>
     ensures { IfOk result (Answers (map S.text arguments.now)) }
 {

@@ -2,5 +2,5 @@
 use Rattle.std.proofs.Common.{rules}
 use Rattle.eve_tool.proofs.fault.ToolFault.line.Goals as goal
 
-pub returns-in-Line : goal.returns-in-Line
-returns-in-Line c = search rules
+pub returns : goal.returns
+returns c = search rules
