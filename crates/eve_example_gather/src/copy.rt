@@ -13,7 +13,7 @@ use eve_write::{
 };
 use std::alloc::{AllocError, Global};
 
-// A trace that was read has right names alone.
+/// A trace that was read has right names alone.
 fn name_of(bytes: &[u8]) -> Result<Name, AllocError> {
     Name::new(bytes).ok_or(AllocError)
 }
@@ -57,7 +57,7 @@ fn token_of(bytes: &[u8]) -> [u8; 32] {
     token
 }
 
-// The access's entries.
+/// The access's entries.
 fn entries_of(access: &AccessView<'_>) -> UpToThree<Entry> {
     match access.len() {
         0 => UpToThree::new(),
@@ -221,6 +221,7 @@ fn verifiers_of(alloc: Global, trace: &Trace<'_>) -> Result<Vec<Vec<VoteData>>, 
 pub(crate) fn parts_of(alloc: Global, trace: &Trace<'_>) -> Result<Parts, AllocError> {
     let head = trace.head();
     let mut parts = Parts {
+        version: head.version,
         quorum: head.quorum,
         window: head.window,
         workers: head.workers,

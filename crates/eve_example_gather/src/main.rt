@@ -1,12 +1,16 @@
 //! Reads worked traces, and writes them again from parts of their own. A line of the input names the file of a trace;
 //! it is printed again, with the number of bytes and what came of the copy: whether `gather` writes the same bytes,
-//! refuses a limit one byte lower and parts that have no spelling, and stops where the sink fails at each byte.
+//! refuses a limit one byte lower and parts that have no spelling, and stops where the sink fails: at each byte, and not
+//! at the call after the last. A name that ends in `.transfer` is that of a frame that is to be a Transfer of one
+//! customer: it is read row by row and written again. The last line is that of a Transfer of the most rows that there
+//! may be.
 #![tactic(auto)]
 
 mod copy;
+mod transfers;
 
 use copy::parts_of;
-use eve_grammar::MOST_BYTES;
+use eve_grammar::{MOST_BYTES, MOST_ROWS};
 use eve_streams::failing::FailsAt;
 use eve_streams::one_byte::OneByte;
 use eve_streams::{Buffered, SinkOf};
@@ -15,12 +19,13 @@ use eve_write::{ChoiceData, GatherFault, Parts, VoteData, gather};
 use std::alloc::{AllocError, Global};
 use std::io::{ErrorKind, Write};
 use std::{fs, io};
+use transfers::{came_of_largest, came_of_transfer};
 
-// How many bytes a trace has at most.
+/// How many bytes a trace has at most.
 const LONGEST: u64 = MOST_BYTES as u64;
 
-/// A sink in memory that has room for so many bytes: it fails for lack of memory here, and not where it is written to.
-fn memory(alloc: Global, room: usize) -> io::Result<SinkOf<Vec<u8>>> {
+/// A sink in memory with room for `room` bytes: it fails for lack of memory here, and not where it is written to.
+pub(crate) fn memory(alloc: Global, room: usize) -> io::Result<SinkOf<Vec<u8>>> {
     Ok(SinkOf::new(Vec::with_capacity(alloc, room)?))
 }
 
@@ -67,6 +72,16 @@ fn stops_at_each_byte(alloc: Global, parts: &Parts, bytes: &[u8]) -> io::Result<
     Ok(true)
 }
 
+/// Whether a sink that takes one byte a call and fails at the call after the last byte has all of them: no further call
+/// is made.
+fn ends_at_the_last_byte(alloc: Global, parts: &Parts, bytes: &[u8]) -> io::Result<bool> {
+    let sink = memory(alloc, bytes.len())?;
+    let behind = bytes.len() as u64 + 1;
+    let mut out = FailsAt::new(OneByte::new(sink), behind);
+    let written = gather(parts, LONGEST, &mut out);
+    Ok(written == Ok(bytes.len() as u64) && out.stream().stream().writer().as_slice() == bytes)
+}
+
 /// Whether the parts are refused, before a byte is written, once a vote for a rollback has a token.
 fn is_shaped(alloc: Global, mut parts: Parts) -> io::Result<bool> {
     let mut votes = Vec::new(alloc);
@@ -90,6 +105,8 @@ fn wrong_of(alloc: Global, parts: &Parts, bytes: &[u8]) -> io::Result<Option<&'s
         Ok(Some("another limit"))
     } else if !stops_at_each_byte(alloc, parts, bytes)? {
         Ok(Some("goes on where the sink failed"))
+    } else if !ends_at_the_last_byte(alloc, parts, bytes)? {
+        Ok(Some("calls the sink after the last byte"))
     } else {
         Ok(None)
     }
@@ -126,8 +143,15 @@ fn main(rt: HostRuntime) -> io::Result<()> {
     for line in rt.lines(rt.alloc()) {
         let line = line?;
         let bytes = fs::read(&rt, line.as_str())?;
-        let (len, came) = (bytes.len(), came_of(rt.alloc(), bytes.as_slice())?);
+        let came = if line.ends_with(".transfer") {
+            came_of_transfer(rt.alloc(), 2, bytes.as_slice())?
+        } else {
+            came_of(rt.alloc(), bytes.as_slice())?
+        };
+        let len = bytes.len();
         println!(rt; "{line}: {len} bytes, {came}")?;
     }
+    let (len, came) = came_of_largest(rt.alloc())?;
+    println!(rt; "{MOST_ROWS} rows: {len} bytes, {came}")?;
     Ok(())
 }

@@ -1,17 +1,17 @@
 //! Many small parts that are sent through a buffer.
 
 use crate::cases::{last_at, number_of};
-use crate::said::Said;
 use crate::streams::memory;
 use eve_streams::failing::FailsAt;
 use eve_streams::{Buffered, SendFault, SinkOf, send_all};
+use eve_testing::Text;
 use std::alloc::Global;
 
 /// A buffer before a sink in memory, of which one call fails.
 type Tried = Buffered<FailsAt<SinkOf<Vec<u8>>>>;
 
 /// Tells what comes of 100,000 numbers where a call fails; false where the line asks for something else.
-pub(crate) fn tell(alloc: Global, what: &str, words: &[&str], said: &mut Said) -> bool {
+pub(crate) fn tell(alloc: Global, what: &str, words: &[&str], said: &mut Text) -> bool {
     if what != "buffer" {
         return false;
     }
@@ -26,16 +26,16 @@ pub(crate) fn tell(alloc: Global, what: &str, words: &[&str], said: &mut Said) -
 }
 
 /// 100,000 numbers of four bytes.
-fn numbers(alloc: Global, said: &mut Said) -> Vec<u8> {
+fn numbers(alloc: Global, said: &mut Text) -> Vec<u8> {
     let mut bytes = Vec::new(alloc);
     for n in 0..100_000u32 {
-        said.kept(bytes.extend_from_slice(&n.to_be_bytes()));
+        said.stored(bytes.extend_from_slice(&n.to_be_bytes()));
     }
     bytes
 }
 
 /// Sends the bytes in parts, then what is left of them, and flushes twice.
-fn tell_sent(mut out: Tried, bytes: &[u8], said: &mut Said) {
+fn tell_sent(mut out: Tried, bytes: &[u8], said: &mut Text) {
     said.answer(" ", send_parts(&mut out, bytes));
     let rest = tell_state(&out, bytes, said);
     said.answer("; the rest ", send_all(&mut out, rest));
@@ -57,7 +57,7 @@ fn send_parts(out: &mut Tried, bytes: &[u8]) -> Result<(), SendFault> {
 
 /// Tells what was sent on and what is held, whether both are in order, and how often the sink failed. Gives the bytes
 /// that come after, if they are in order.
-fn tell_state<'b>(out: &Tried, bytes: &'b [u8], said: &mut Said) -> &'b [u8] {
+fn tell_state<'b>(out: &Tried, bytes: &'b [u8], said: &mut Text) -> &'b [u8] {
     let sent = out.sink().stream().writer().as_slice();
     let held = out.held();
     said.value(", ", sent.len());

@@ -3,9 +3,9 @@
 ghost use Rattle.std.specs.Prelude.{IfOk, ◌≤◌};
 
 use crate::cases::{bytes_at, last_at, number_at, number_of, word_at};
-use crate::said::Said;
 use crate::streams::read_of;
 use eve_streams::{SinkOf, Source, SourceOf, send_all};
+use eve_testing::Text;
 use std::alloc::Global;
 use std::io;
 use std::io::{Error, ErrorKind, Read, Write};
@@ -55,7 +55,7 @@ impl Read for Device<'_> {
 }
 
 /// Tells what a line about a device asks for; false where it asks for something else.
-pub(crate) fn tell(alloc: Global, what: &str, words: &[&str], said: &mut Said) -> bool {
+pub(crate) fn tell(alloc: Global, what: &str, words: &[&str], said: &mut Text) -> bool {
     match what {
         "write-to" => tell_write(alloc, words, said),
         "tries" => tell_tries(alloc, words, said),
@@ -67,14 +67,14 @@ pub(crate) fn tell(alloc: Global, what: &str, words: &[&str], said: &mut Said) -
 }
 
 /// Tells how often a stream failed, and how many bytes its device moved.
-fn tell_moved(failures: u64, moved: usize, said: &mut Said) {
+fn tell_moved(failures: u64, moved: usize, said: &mut Text) {
     said.value(", ", failures);
     said.value(" failed, ", moved);
     said.words(" moved");
 }
 
 /// Sends bytes to a device.
-fn tell_write(alloc: Global, words: &[&str], said: &mut Said) {
+fn tell_write(alloc: Global, words: &[&str], said: &mut Text) {
     let mut sink = SinkOf::new(Device {
         turns: word_at(words, 1, said),
         moved: 0,
@@ -84,8 +84,8 @@ fn tell_write(alloc: Global, words: &[&str], said: &mut Said) {
     tell_moved(sink.failures(), sink.writer().moved, said);
 }
 
-/// Sends bytes once to a device, which is called so often at most.
-fn tell_tries(alloc: Global, words: &[&str], said: &mut Said) {
+/// Sends bytes once to a device, which is called at most the given number of times.
+fn tell_tries(alloc: Global, words: &[&str], said: &mut Text) {
     let mut sink = SinkOf::new(Device {
         turns: word_at(words, 2, said),
         moved: 0,
@@ -97,7 +97,7 @@ fn tell_tries(alloc: Global, words: &[&str], said: &mut Said) {
 }
 
 /// Reads a device to its end, or to a limit.
-fn tell_read(alloc: Global, words: &[&str], said: &mut Said) {
+fn tell_read(alloc: Global, words: &[&str], said: &mut Text) {
     let source = SourceOf::new(Device {
         turns: word_at(words, 1, said),
         moved: 0,
@@ -106,8 +106,8 @@ fn tell_read(alloc: Global, words: &[&str], said: &mut Said) {
     tell_source(alloc, source, limit, said);
 }
 
-/// The same, calling it so often at most.
-fn tell_reads(alloc: Global, words: &[&str], said: &mut Said) {
+/// The same, calling it at most the given number of times.
+fn tell_reads(alloc: Global, words: &[&str], said: &mut Text) {
     let count = number_at(words, 1, said);
     let source = SourceOf::within(
         Device {
@@ -121,7 +121,7 @@ fn tell_reads(alloc: Global, words: &[&str], said: &mut Said) {
 }
 
 /// Reads a source, tells how many bytes that gave, and fetches once more.
-fn tell_source(alloc: Global, mut source: SourceOf<Device<'_>>, limit: u32, said: &mut Said) {
+fn tell_source(alloc: Global, mut source: SourceOf<Device<'_>>, limit: u32, said: &mut Text) {
     if let Some(bytes) = read_of(alloc, &mut source, limit, said) {
         said.value(" ", bytes.len());
         said.words(" bytes");

@@ -3,8 +3,8 @@
 ghost use Rattle.std.specs.Prelude.{◌≡◌, ◌<◌, length, slice_set, IfOk};
 
 use crate::cases::{Change, balances_of, row_in};
-use crate::said::Said;
 use eve_accounts::{Balances, Cents, Row, SetRow};
+use eve_testing::Text;
 use eve_token::RowTree;
 use std::alloc::{AllocError, Global};
 
@@ -20,7 +20,7 @@ fn tree_over(alloc: Global, balances: &Balances) -> Result<RowTree, AllocError>
 }
 
 /// The root that a new tree gives.
-pub(crate) fn new_root(alloc: Global, balances: &Balances, said: &mut Said) -> [u8; 32]
+pub(crate) fn new_root(alloc: Global, balances: &Balances, said: &mut Text) -> [u8; 32]
     requires some { 0 < length balances.now }
 {
     match tree_over(alloc, balances) {
@@ -51,7 +51,7 @@ pub(crate) struct Followed {
 
 impl Followed {
     /// A new tree over these balances, of which there must be some.
-    pub(crate) fn new(alloc: Global, words: &str, said: &mut Said) -> Option<Followed> {
+    pub(crate) fn new(alloc: Global, words: &str, said: &mut Text) -> Option<Followed> {
         let Some(balances) = balances_of(alloc, words, said) else {
             return None;
         };
@@ -72,7 +72,7 @@ impl Followed {
     }
 
     /// Changes the balance of a row, which must be there, in both.
-    pub(crate) fn set(&mut self, change: Change, said: &mut Said) {
+    pub(crate) fn set(&mut self, change: Change, said: &mut Text) {
         match row_in(&self.balances, change.row) {
             Some(row) => {
                 write(&mut self.balances, row, change.balance);
@@ -88,7 +88,7 @@ impl Followed {
     }
 
     /// Whether that is the root that a new tree gives.
-    pub(crate) fn is_as_new(&mut self, alloc: Global, said: &mut Said) -> bool {
+    pub(crate) fn is_as_new(&mut self, alloc: Global, said: &mut Text) -> bool {
         self.tree.root() == new_root(alloc, &self.balances, said)
     }
 }

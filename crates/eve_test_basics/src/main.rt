@@ -5,19 +5,19 @@
 //! - `names LIMIT NAME..`: each name is added, and what that answers, its number and how many there are is printed;
 //!   then the number of each name. Where memory is refused, nothing may have changed, and the name is added once more
 //! - `name BYTES`: whether these are a name, and the bytes of the one that is made of them
-//! - `cents NUMBER`, `amount NUMBER`: the money, if so much may be; `rows CUSTOMER`: the numbers of its two rows
-//! - `balances COUNT ROW=CENTS..`: so many balances, of which some are set, and a copy of them
+//! - `cents NUMBER`, `amount NUMBER`: the money, if it is in range; `rows CUSTOMER`: the numbers of its two rows
+//! - `balances COUNT ROW=CENTS..`: COUNT balances, some of which are set, and a copy of them
 //! - `send CALL PART..`: the parts are sent a byte a call, and one call fails, counted from 1
 //! - `fetch CALL LIMIT BYTES`: the bytes are read a byte a call, and one call fails; `read LIMIT BYTES`: none fails
 //! - `write-to TURNS BYTES`, `read-from TURNS LIMIT`: the same with a device that takes turns at each call: a number of
 //!   bytes that it moves, `again` for an interruption, or `fails`, as any other word does; after its last turn it moves
 //!   nothing
-//! - `reads COUNT TURNS LIMIT`, `tries COUNT TURNS BYTES`: the same where the device is called so often at most
+//! - `reads COUNT TURNS LIMIT`, `tries COUNT TURNS BYTES`: the same where the device is called COUNT times at most
 //! - `buffer CALL`: 100,000 numbers are sent in parts of ten through a buffer, behind which one call fails
 //! - `token NAME VERSION NUMBER BALANCES REPLIES`: the token; in version 2 also the root that a tree gives, with its
 //!   token
 //! - `writes NAME BALANCES ROW=CENTS..`: the root that a tree gives at first and after each write
-//! - `random NAME COUNT BALANCES`: after how many of so many random writes the root is that of a new tree
+//! - `random NAME COUNT BALANCES`: after how many of COUNT random writes the root is that of a new tree
 //!
 //! Where a word isn't as it must be, or memory is refused, nothing is printed of the line, and the program ends there.
 //! What must be printed is what table.py, beside the input, answers to the same lines.
@@ -30,15 +30,14 @@ mod followed;
 mod money;
 mod names;
 mod roots;
-mod said;
 mod streams;
 
 use crate::cases::word_at;
-use crate::said::Said;
+use eve_testing::Text;
 use std::io;
 
 /// Tells what came of a line with these words.
-fn tell(rt: &HostRuntime, line: &str, words: &[&str], said: &mut Said) {
+fn tell(rt: &HostRuntime, line: &str, words: &[&str], said: &mut Text) {
     let alloc = rt.alloc();
     let what = word_at(words, 0, said);
     if roots::tell(rt, what, words, said) {
@@ -58,15 +57,13 @@ fn tell(rt: &HostRuntime, line: &str, words: &[&str], said: &mut Said) {
 fn answer(rt: &HostRuntime, line: String) -> io::Result<()> {
     let alloc = rt.alloc();
     let line = line.as_str();
-    let mut said = Said::nothing(alloc);
+    let mut said = Text::new(alloc);
     match line.split(' ').collect::<Vec<&str>>(alloc) {
         Ok(words) => tell(rt, line, words.as_slice(), &mut said),
         Err(_) => said.refused(),
     }
-    match said.all() {
-        Ok(said) => rt.println(said),
-        Err(why) => Err(why),
-    }
+    said.words("\n");
+    said.print(rt)
 }
 
 fn main(rt: HostRuntime) -> io::Result<()> {

@@ -3,12 +3,12 @@
 use crate::cases::{
     change_of, last_at, number_at, number_of, row_in, set_row, whole_of, word_at, words_from,
 };
-use crate::said::Said;
 use eve_accounts::{Amount, Balances, Cents, MOST_NAMES, Row};
+use eve_testing::Text;
 use std::alloc::Global;
 
 /// Tells what a line about money asks for; false where it asks for something else.
-pub(crate) fn tell(alloc: Global, what: &str, words: &[&str], said: &mut Said) -> bool {
+pub(crate) fn tell(alloc: Global, what: &str, words: &[&str], said: &mut Text) -> bool {
     match what {
         "cents" => tell_money(false, last_at(words, 1, said), said),
         "amount" => tell_money(true, last_at(words, 1, said), said),
@@ -19,8 +19,8 @@ pub(crate) fn tell(alloc: Global, what: &str, words: &[&str], said: &mut Said) -
     true
 }
 
-/// Tells so many cents, if a balance may be so many, or an amount.
-fn tell_money(is_amount: bool, number: &str, said: &mut Said) {
+/// Tells a number of cents, if a balance or an amount may have it.
+fn tell_money(is_amount: bool, number: &str, said: &mut Text) {
     let number = whole_of(number, said);
     let cents = if is_amount {
         match Amount::new(number) {
@@ -43,7 +43,7 @@ fn tell_money(is_amount: bool, number: &str, said: &mut Said) {
 }
 
 /// Tells the numbers of a customer's rows.
-fn tell_rows(customer: &str, said: &mut Said) {
+fn tell_rows(customer: &str, said: &mut Text) {
     let customer = number_of(customer, said);
     if customer >= MOST_NAMES {
         return said.needs(false);
@@ -52,8 +52,8 @@ fn tell_rows(customer: &str, said: &mut Said) {
     said.value(", checking ", Row::checking(customer).number());
 }
 
-/// Tells of so many balances, of which some are set, and of a copy of them.
-fn tell_balances(alloc: Global, words: &[&str], said: &mut Said) {
+/// Tells of the given number of balances, some of which are set, and of a copy of them.
+fn tell_balances(alloc: Global, words: &[&str], said: &mut Text) {
     let count = number_at(words, 1, said);
     let Ok(mut balances) = Balances::new(alloc, count as usize) else {
         return said.refused();
@@ -70,7 +70,7 @@ fn tell_balances(alloc: Global, words: &[&str], said: &mut Said) {
 }
 
 /// Tells the balance of each row.
-fn tell_each(balances: &Balances, said: &mut Said) {
+fn tell_each(balances: &Balances, said: &mut Text) {
     for number in 0..u32::MAX {
         let Some(row) = row_in(balances, number) else {
             break;
@@ -80,7 +80,7 @@ fn tell_each(balances: &Balances, said: &mut Said) {
 }
 
 /// Tells each balance, by its row and in the slice of all.
-fn tell_all(balances: &Balances, said: &mut Said) {
+fn tell_all(balances: &Balances, said: &mut Text) {
     said.value(" ", balances.len());
     said.value(", empty ", balances.is_empty());
     tell_each(balances, said);

@@ -6,16 +6,16 @@ use crate::cases::{
     Change, balances_of, change_of, last_at, number_at, replies_of, word_at, words_from,
 };
 use crate::followed::{Followed, new_root};
-use crate::said::Said;
 use eve_accounts::{Balances, Cents};
 use eve_smallbank::Reply;
+use eve_testing::{Draws, Text};
 use eve_token::{token, token_of};
 use std::alloc::Global;
 use std::io::ErrorKind;
 use std::{fs, io};
 
 /// Tells what a line about tokens and roots asks for; false where it asks for something else.
-pub(crate) fn tell(rt: &HostRuntime, what: &str, words: &[&str], said: &mut Said) -> bool {
+pub(crate) fn tell(rt: &HostRuntime, what: &str, words: &[&str], said: &mut Text) -> bool {
     match what {
         "token" => tell_token(rt, words, said),
         "writes" => tell_writes(rt.alloc(), words, said),
@@ -26,7 +26,7 @@ pub(crate) fn tell(rt: &HostRuntime, what: &str, words: &[&str], said: &mut Said
 }
 
 /// Tells the token of a batch, and how often the trace of that name has it, if there is one; in version 2 the root too.
-fn tell_token(rt: &HostRuntime, words: &[&str], said: &mut Said) {
+fn tell_token(rt: &HostRuntime, words: &[&str], said: &mut Text) {
     let alloc = rt.alloc();
     let replies = replies_of(alloc, last_at(words, 5, said), said);
     if let Some(balances) = balances_of(alloc, word_at(words, 4, said), said) {
@@ -40,7 +40,7 @@ fn tell_batch(
     words: &[&str],
     balances: &Balances,
     replies: &[Reply],
-    said: &mut Said,
+    said: &mut Text,
 )
     requires some { 0 < length balances.now }
 {
@@ -51,23 +51,22 @@ fn tell_batch(
             tell_due(rt, name, &token(2, number, balances, replies), said);
             let root = new_root(rt.alloc(), balances, said);
             said.value("\n", name);
-            said.hash(": root ", &root);
-            said.hash(", whose token is ", &token_of(number, &root, replies));
+            said.hex(": root ", &root);
+            said.hex(", whose token is ", &token_of(number, &root, replies));
         }
         _ => said.needs(false),
     }
 }
 
 /// Tells this token, and how often the trace of that name has it, if there is one.
-fn tell_due(rt: &HostRuntime, name: &str, due: &[u8; 32], said: &mut Said) {
+fn tell_due(rt: &HostRuntime, name: &str, due: &[u8; 32], said: &mut Text) {
     said.words(name);
-    said.hash(": token ", due);
+    said.hex(": token ", due.as_slice());
     match trace_of(rt, name) {
         Ok(trace) => tell_times(trace.as_slice(), due.as_slice(), said),
         Err(fault) => {
-            let kind = fault.kind();
-            if kind != ErrorKind::NotFound {
-                said.fail(kind);
+            if fault.kind() != ErrorKind::NotFound {
+                said.fail(fault);
             }
         }
     }
@@ -82,7 +81,7 @@ fn trace_of(rt: &HostRuntime, name: &str) -> io::Result<Vec<u8>> {
 }
 
 /// Tells how often a trace has this token.
-fn tell_times(trace: &[u8], due: &[u8], said: &mut Said) {
+fn tell_times(trace: &[u8], due: &[u8], said: &mut Text) {
     let mut times = 0u64;
     for part in trace.windows(32) {
         if part == due {
@@ -94,33 +93,30 @@ fn tell_times(trace: &[u8], due: &[u8], said: &mut Said) {
 }
 
 /// Tells the root that a tree gives at first, and after each write.
-fn tell_writes(alloc: Global, words: &[&str], said: &mut Said) {
+fn tell_writes(alloc: Global, words: &[&str], said: &mut Text) {
     let name = word_at(words, 1, said);
     let Some(mut followed) = Followed::new(alloc, word_at(words, 2, said), said) else {
         return;
     };
     said.words(name);
-    said.hash(": ", &followed.root());
+    said.hex(": ", &followed.root());
     for word in words_from(words, 3) {
         followed.set(change_of(word, said), said);
         said.value("\n", name);
         said.value(": ", *word);
-        said.hash(" ", &followed.root());
+        said.hex(" ", &followed.root());
     }
 }
 
-/// Tells after how many of so many random writes the root is that of a new tree, and the last root.
-fn tell_random(alloc: Global, words: &[&str], said: &mut Said) {
+/// Tells after how many random writes of the given number the root is that of a new tree, and the last root.
+fn tell_random(alloc: Global, words: &[&str], said: &mut Text) {
     let count = number_at(words, 2, said);
     let Some(mut followed) = Followed::new(alloc, last_at(words, 3, said), said) else {
         return;
     };
-    let (mut drawn, mut same) = (1u64, 0u32);
+    let (mut draws, mut same) = (Draws::new(1), 0u32);
     for _ in 0..count {
-        drawn = drawn
-            .wrapping_mul(6_364_136_223_846_793_005)
-            .wrapping_add(1_442_695_040_888_963_407);
-        followed.set(change_drawn(drawn, followed.rows()), said);
+        followed.set(change_drawn(draws.bits(), followed.rows()), said);
         if followed.is_as_new(alloc, said) {
             same = same.wrapping_add(1);
         }
@@ -128,7 +124,7 @@ fn tell_random(alloc: Global, words: &[&str], said: &mut Said) {
     let name = word_at(words, 1, said);
     said.words(name);
     said.value(": ", same);
-    said.hash(
+    said.hex(
         " roots are those of new trees, the last is ",
         &followed.root(),
     );

@@ -5,7 +5,7 @@ ghost use Rattle.eve_floor.specs.Executing.{IsSeatedAt};
 
 use crate::crew::{Crew, crew_of};
 use crate::gates::{Held, PairGate};
-use crate::opening::{Ask, batch_of, floor_of};
+use crate::opening::{Ask, batch_of, floor_of, state_of};
 use crate::site::{Site, take_both_turns, take_turn};
 use crate::telling::Text;
 use eve_accounts::Names;
@@ -51,6 +51,8 @@ pub enum Act {
     Settle(u64),
     /// All stripes go back to what is committed.
     GoBack,
+    /// All stripes take over a state.
+    Install,
 }
 
 /// A case of which nothing is done yet: the requests of its batch, how much room the queue has, how many numbers there
@@ -80,7 +82,7 @@ pub fn case_of<'n>(
     }
 }
 
-// A case of the crew, on this floor, with this batch.
+/// A case of the crew, on this floor, with this batch.
 fn at_work<'n>(floor: Floor<'n>, batch: BatchData, crew: Crew, held: Held) -> Case<'n> {
     let Crew {
         recorder,
@@ -105,7 +107,13 @@ fn at_work<'n>(floor: Floor<'n>, batch: BatchData, crew: Crew, held: Held) -> Ca
 
 impl<'n> Case<'n> {
     /// Does these things, one after another, and tells what comes of them.
-    pub fn play<R: Threads + Wait + Sync>(&mut self, rt: &R, acts: &[Act], text: &mut Text) {
+    pub fn play<R: Threads + Wait + Sync>(
+        &mut self,
+        rt: &R,
+        alloc: Global,
+        acts: &[Act],
+        text: &mut Text,
+    ) {
         for act in acts {
             match *act {
                 Act::Run(index) => self.run(rt, index, text),
@@ -117,17 +125,26 @@ impl<'n> Case<'n> {
                 Act::TakeBoth => self.take_both(rt, text),
                 Act::Settle(tick) => self.site.floor.settle(tick),
                 Act::GoBack => self.site.floor.go_back(),
+                Act::Install => self.install(alloc, text),
             }
         }
     }
 
-    // The worker at hand executes a request, if it is there and the worker has a place for it.
+    /// All stripes take over a state, if there is memory for it.
+    fn install(&mut self, alloc: Global, text: &mut Text) {
+        match state_of(alloc) {
+            Ok(state) => self.site.floor.install(&state),
+            Err(AllocError) => text.lacks_memory(),
+        }
+    }
+
+    /// The worker at hand executes a request, if it is there and the worker has a place for it.
     fn run<R: Wait>(&mut self, rt: &R, index: u16, text: &mut Text) {
         let answer = take_turn(rt, &self.site, index, &mut self.hand);
         text.say_answer(answer);
     }
 
-    // Both workers at once: the one at hand executes request 0, the other request 1. Whether each did.
+    /// Both workers at once: the one at hand executes request 0, the other request 1. Whether each did.
     fn run_both<R: Threads + Wait + Sync>(&mut self, rt: &R, text: &mut Text) -> (bool, bool) {
         let (first, second) = take_both_turns(rt, &self.site, &mut self.hand, &mut self.other);
         (text.is_done(first), text.is_done(second))
@@ -141,7 +158,7 @@ impl<'n> Case<'n> {
         is_shown
     }
 
-    // Both at once, of which one has to wait: that worker comes to hand.
+    /// Both at once, of which one has to wait: that worker comes to hand.
     fn run_until_one_waits<R: Threads + Wait + Sync>(&mut self, rt: &R, text: &mut Text) {
         let (first, second) = self.run_both(rt, text);
         text.say_whether(first != second);
@@ -150,24 +167,24 @@ impl<'n> Case<'n> {
         }
     }
 
-    // The other worker comes to hand.
+    /// The other worker comes to hand.
     fn turn(&mut self) {
         mem::swap(&mut self.hand, &mut self.other);
     }
 
-    // What waits in the worker at hand is noted.
+    /// What waits in the worker at hand is noted.
     fn flush<R: Wait>(&mut self, rt: &R, text: &mut Text) {
         text.say(", flush");
         let answer = flush(rt, &self.site.recorder, &mut self.hand);
         text.say_answer(answer);
     }
 
-    // What was noted first, and not yet taken.
+    /// What was noted first, and not yet taken.
     fn take<R: Wait>(&mut self, rt: &R) -> Option<AccessRecord> {
         self.site.recorder.take(rt, &mut self.taker)
     }
 
-    // Tells whether both were there: what was noted, and what waited and is noted then.
+    /// Tells whether both were there: what was noted, and what waited and is noted then.
     fn take_both<R: Wait>(&mut self, rt: &R, text: &mut Text) {
         let first = self.take(rt).is_some();
         self.flush(rt, text);
@@ -175,7 +192,7 @@ impl<'n> Case<'n> {
         text.say_whether(first && second);
     }
 
-    // Tells the entries of what was noted first, and not yet taken.
+    /// Tells the entries of what was noted first, and not yet taken.
     fn take_entries<R: Wait>(&mut self, rt: &R, text: &mut Text) {
         if let Some(record) = self.take(rt) {
             text.say_entries(&record);

@@ -72,7 +72,7 @@ fn drawers_of(alloc: Global, limit: u64) -> Result<Drawers, AllocError>
     })
 }
 
-/// Workers 0 and 1, the first of them at hand: a queue with so much room, from 1 to `MOST_QUEUED`, and so many
+/// Workers 0 and 1, the first of them at hand: a queue with room for 1 to `MOST_QUEUED` records, and a limit of
 /// numbers for each, at most `MOST_DRAWN`.
 pub fn crew_of(alloc: Global, room: usize, limit: u64) -> Result<Crew, AllocError> {
     if room < 1 || MOST_QUEUED < room || MOST_DRAWN < limit {

@@ -96,7 +96,7 @@ impl Gate for PairGate {
     }
 }
 
-/// Whether the number rises above the limit within so many turns.
+/// Whether the number rises above the limit within `turns` turns.
 fn rises_above(number: &AtomicU64, limit: u64, turns: u32) -> bool {
     for _ in 0..turns {
         if number.load(Ordering::SeqCst) > limit {

@@ -24,7 +24,7 @@ use std::io;
 use std::sync::Wait;
 use std::thread::Threads;
 
-// Tells the case of a script.
+/// Tells the case of a script.
 fn tell_script<R: Threads + Wait + Sync>(
     rt: &R,
     alloc: Global,
@@ -34,15 +34,21 @@ fn tell_script<R: Threads + Wait + Sync>(
 ) {
     text.say(script.begin);
     match case_of(alloc, names, &script.plan, text) {
-        Ok(case) => play(rt, script, case, text),
+        Ok(case) => play(rt, alloc, script, case, text),
         Err(AllocError) => text.lacks_memory(),
     }
     text.say("\n");
 }
 
-// Does what the script says in its case.
-fn play<R: Threads + Wait + Sync>(rt: &R, script: &Script, mut case: Case, text: &mut Text) {
-    case.play(rt, script.acts, text);
+/// Does what the script says in its case.
+fn play<R: Threads + Wait + Sync>(
+    rt: &R,
+    alloc: Global,
+    script: &Script,
+    mut case: Case,
+    text: &mut Text,
+) {
+    case.play(rt, alloc, script.acts, text);
     if script.is_taken_apart {
         take_apart(case.into_hand(), text);
     } else {
@@ -50,7 +56,7 @@ fn play<R: Threads + Wait + Sync>(rt: &R, script: &Script, mut case: Case, text:
     }
 }
 
-// Tells whether the worker gives its seats, and what waits in it otherwise.
+/// Tells whether the worker gives its seats, and what waits in it otherwise.
 fn take_apart(worker: Worker, text: &mut Text) {
     match worker.into_seats().err() {
         None => text.say(", its seats"),
@@ -58,7 +64,7 @@ fn take_apart(worker: Worker, text: &mut Text) {
     }
 }
 
-// Tells what waits in the worker, and whether it gives its seats then.
+/// Tells what waits in the worker, and whether it gives its seats then.
 fn take_waiting(mut worker: Worker, text: &mut Text) {
     text.say_record(worker.take_waiting());
     let kept = worker.into_seats().err();
@@ -66,7 +72,7 @@ fn take_waiting(mut worker: Worker, text: &mut Text) {
     drop(kept);
 }
 
-// Tells all cases.
+/// Tells all cases.
 fn tell_all<R: Threads + Wait + Sync>(rt: &R, alloc: Global, names: &Names, text: &mut Text) {
     for script in &SCRIPTS {
         tell_script(rt, alloc, names, script, text);
@@ -79,7 +85,7 @@ fn main(rt: HostRuntime) -> io::Result<()> {
     print_all(&rt, rt.alloc(), random)
 }
 
-// Prints what is told of all cases, of customers with their names.
+/// Prints what is told of all cases, of customers with their names.
 fn print_all<R: Print + Threads + Wait + Sync>(
     rt: &R,
     alloc: Global,

@@ -1,8 +1,13 @@
 //! Customers, their rows, and batches.
 
+ghost use Rattle.std.specs.Prelude.{IfOk};
+ghost use Rattle.eve_stamps.specs.Stripes.{HaveRightVersions};
+
 use crate::telling::Text;
 use eve_accounts::{Amount, Balances, Cents, Name, Names, Row};
 use eve_floor::Floor;
+use eve_grammar::TransferData;
+use eve_smallbank::Versioned;
 use eve_write::{BatchData, RequestData, TransactionData};
 use std::alloc::{AllocError, Global};
 use std::hash::RandomState;
@@ -25,6 +30,21 @@ pub fn floor_of<'n>(alloc: Global, names: &'n Names<'n>) -> Result<Floor<'n>, Al
         balances.set(Row::saving(0), Cents::of(3));
     }
     Floor::new(alloc, names, &balances)
+}
+
+/// A state of seventeen customers in which each row was written three times and has 30 cents.
+pub fn state_of(alloc: Global) -> Result<TransferData, AllocError>
+    ensures { IfOk result (λ state. HaveRightVersions state.rows.items) }
+{
+    let row = Versioned {
+        version: 3,
+        value: Cents::of(30),
+    };
+    Ok(TransferData {
+        seq: 2,
+        view: 0,
+        rows: Vec::from_slice(alloc, &[row; 34])?,
+    })
 }
 
 /// What is asked for: 5 cents are deposited for a customer, or all that one has is moved to another.
@@ -55,7 +75,7 @@ pub fn batch_of(alloc: Global, asks: &[Ask], text: &mut Text) -> BatchData {
     }
 }
 
-// What is asked for, of customers whose names are names.
+/// What is asked for, of customers whose names are names.
 fn transaction_of(ask: Ask) -> Option<TransactionData> {
     match ask {
         Ask::Deposit(to) => {

@@ -41,7 +41,7 @@ pub fn tell_pairs<R: Threads + Wait + Sync>(rt: &R, alloc: Global, names: &Names
     text.say("\n");
 }
 
-// Tells whether request 1 is noted by another thread in time, while request 0 is held in its gate.
+/// Tells whether request 1 is noted by another thread in time, while request 0 is held in its gate.
 fn tell_held<R: Threads + Wait + Sync>(
     rt: &R,
     alloc: Global,
@@ -57,7 +57,7 @@ fn tell_held<R: Threads + Wait + Sync>(
     text.say_whether(is_held);
 }
 
-// Two requests in two threads, of which a gate holds so. Whether it shows what it looks for.
+/// Two requests in two threads, of which a gate holds so. Whether it shows what it looks for.
 fn is_shown<R: Threads + Wait + Sync>(
     rt: &R,
     alloc: Global,

@@ -15,7 +15,7 @@ pub struct Script {
 }
 
 /// The cases, in the order in which they are told.
-pub static SCRIPTS: [Script; 8] = [
+pub static SCRIPTS: [Script; 10] = [
     // Two deposits to one customer, the second by another worker.
     Script {
         begin: "replica-attempt-and-close:",
@@ -141,6 +141,31 @@ pub static SCRIPTS: [Script; 8] = [
         ],
         is_taken_apart: false,
     },
+    // A state is taken over after a deposit for each of two customers, whose rows lie in the first stripe and in the
+    // last: what comes next sees the state, and neither a settled tick nor going back brings a deposit in.
+    Script {
+        begin: "installed:",
+        plan: Plan {
+            asks: &[Ask::Deposit(b"a"), Ask::Deposit(b"p")],
+            room: 8,
+            limit: 8,
+            held: Held::Nothing,
+        },
+        acts: &[
+            Act::Run(0),
+            Act::Run(1),
+            Act::Install,
+            Act::Settle(1),
+            Act::GoBack,
+            Act::Run(0),
+            Act::Run(1),
+            Act::Take,
+            Act::Take,
+            Act::Take,
+            Act::Take,
+        ],
+        is_taken_apart: false,
+    },
     // A record waits in a worker: it keeps its seats, until the record is taken out.
     Script {
         begin: "waiting-worker:",
@@ -162,6 +187,24 @@ pub static SCRIPTS: [Script; 8] = [
             room: 1,
             limit: 8,
             held: Held::Nothing,
+        },
+        acts: &[
+            Act::RunBoth,
+            Act::Run(2),
+            Act::TakeBoth,
+            Act::Run(2),
+            Act::TakeEntries,
+        ],
+        is_taken_apart: false,
+    },
+    // The same with deposits to two customers, whose stripes differ: each is held in the gate until both are executing.
+    Script {
+        begin: "waiting-record-apart: one waits",
+        plan: Plan {
+            asks: &[Ask::Deposit(b"a"), Ask::Deposit(b"b"), Ask::Deposit(b"a")],
+            room: 1,
+            limit: 8,
+            held: Held::Each,
         },
         acts: &[
             Act::RunBoth,

@@ -85,7 +85,7 @@ impl Text {
         }
     }
 
-    // Tells who made it, at which place, index and tick, the kind of its reply, and its entries.
+    /// Tells who made it, at which place, index and tick, the kind of its reply, and its entries.
     fn say_noted(&mut self, record: &AccessRecord) {
         self.say_number("; worker ", i64::from(record.worker()));
         self.say_number(" place ", i64::from(record.place()));

@@ -1,10 +1,10 @@
 //! How the records of an attempt are changed, so that they are none.
 
 use crate::meeting::Meeting;
-use crate::said::Said;
 use eve_accounts::Cents;
 use eve_smallbank::UpToThree;
 use eve_stamps::HeldRow;
+use eve_testing::Text;
 
 /// A change of the records of an attempt.
 #[derive(Clone, Copy)]
@@ -45,6 +45,13 @@ pub const SERIAL: &str = "serial";
 
 /// The commits of the section are passed over.
 pub const UNCOMMITTED: &str = "uncommitted";
+
+/// The ledger is of version 2: its tokens are compared with those of a tree made from nothing, its root after each step
+/// with that of a new tree.
+pub const MERKLE: &str = "merkle";
+
+/// A second ledger takes over what the first one commits.
+pub const TAKEN_OVER: &str = "taken-over";
 
 /// A change, and the word that names it.
 struct Word {
@@ -126,8 +133,8 @@ impl Change {
         None
     }
 
-    /// What was met, with this change. There are so many workers.
-    pub fn apply(self, met: &mut Vec<Meeting>, workers: u8, said: &mut Said) {
+    /// What was met, with this change, of a replica with `workers` workers.
+    pub fn apply(self, met: &mut Vec<Meeting>, workers: u8, said: &mut Text) {
         let Some(last) = met.pop() else {
             return;
         };
@@ -135,10 +142,10 @@ impl Change {
         match self {
             Change::LeftOut => {}
             Change::OnceMore => {
-                said.needs(met.push(last).is_ok());
-                said.needs(met.push(last).is_ok());
+                said.stored(met.push(last));
+                said.stored(met.push(last));
             }
-            _ => said.needs(met.push(self.changed(&first, &last, workers)).is_ok()),
+            _ => said.stored(met.push(self.changed(&first, &last, workers))),
         }
         self.set_ticks(met.as_mut_slice());
     }
@@ -188,7 +195,7 @@ impl Change {
     }
 }
 
-/// The rows with so many versions and cents more at this place, if there is one.
+/// The rows, with these versions and cents added at this place, if there is one.
 fn with_more(
     seen: &UpToThree<HeldRow>,
     place: usize,

@@ -5,12 +5,12 @@ ghost use Rattle.eve_grammar.specs.Limits.{is_attempt, is_batch};
 ghost use Rattle.eve_write.specs.Data.{attempt as plain, batch as plain_batch};
 
 use crate::framed::Framed;
-use crate::said::Said;
 use eve_accounts::Balances;
 use eve_attempts::Ledger;
 use eve_frames::{AttemptView, BatchView};
 use eve_grammar::MOST_WINDOW;
 use eve_streams::SinkOf;
+use eve_testing::Text;
 use eve_write::{AttemptData, BatchData, write_accesses, write_attempt, write_batch};
 use std::alloc::{AllocError, Global};
 
@@ -20,22 +20,22 @@ pub fn is_batch_of(
     number: u32,
     batch: &BatchData,
     frame: &BatchView,
-    said: &mut Said,
+    said: &mut Text,
 ) -> bool
     requires { IsTrue (is_batch (plain_batch batch.now)) }
 {
     let mut out = SinkOf::new(Vec::new(alloc));
-    said.needs(write_batch(&mut out, number, batch).is_ok());
+    said.stored(write_batch(&mut out, number, batch));
     out.writer().as_slice() == frame.bytes()
 }
 
 /// Whether the attempt is the one of the frames.
-pub fn is_attempt_of(alloc: Global, attempt: &AttemptData, framed: Framed, said: &mut Said) -> bool
+pub fn is_attempt_of(alloc: Global, attempt: &AttemptData, framed: Framed, said: &mut Text) -> bool
     requires { IsTrue (is_attempt (plain attempt.now)) }
 {
     let mut out = SinkOf::new(Vec::new(alloc));
-    said.needs(write_attempt(&mut out, attempt).is_ok());
-    said.needs(write_accesses(&mut out, &attempt.accesses).is_ok());
+    said.stored(write_attempt(&mut out, attempt));
+    said.stored(write_accesses(&mut out, &attempt.accesses));
     are_frames(out.writer().as_slice(), framed)
 }
 
@@ -58,7 +58,7 @@ pub fn has_token_of(attempt: &AttemptData, frame: &AttemptView) -> bool {
     attempt.token.as_slice() == frame.token()
 }
 
-/// The tokens of as many open attempts as there may be, in their order, and zeros.
+/// The tokens of all open attempts in their order, and zeros up to the greatest window.
 type Tokens = [[u8; 32]; MOST_WINDOW as usize];
 
 /// All that a ledger shows.

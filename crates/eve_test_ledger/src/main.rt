@@ -6,6 +6,10 @@
 //! of the trace. With a change the records of a section's first attempt are handed in with that change; where they are
 //! refused, the ledger is compared with what it was, and then they are handed in as they are. After the steps the last
 //! batch is committed once more, and all is rolled back.
+//!
+//! With `merkle` the ledger is of version 2: the token of an attempt is compared with one made from nothing, and after
+//! each step the root with that of a new tree. With `taken-over` a second ledger goes along, which takes over what the
+//! first has committed where that commits.
 #![tactic(auto)]
 
 mod changing;
@@ -14,11 +18,11 @@ mod framed;
 mod meeting;
 mod opening;
 mod replaying;
-mod said;
+mod taking;
 
 use crate::opening::names_of;
 use crate::replaying::{Asked, Case, has_its_batches, replay};
-use crate::said::Said;
+use eve_testing::Text;
 use eve_views::{CheckFault, Trace};
 use eve_workload::{Mixer, Workload, WorkloadFault};
 use std::alloc::Global;
@@ -26,21 +30,21 @@ use std::hash::RandomState;
 use std::{fs, io};
 
 /// The bytes of the file with this name and this ending; none where it can't be read.
-fn file_of(rt: &HostRuntime, name: &str, ending: &str, said: &mut Said) -> Vec<u8> {
+fn file_of(rt: &HostRuntime, name: &str, ending: &str, said: &mut Text) -> Vec<u8> {
     let mut path = String::new(rt.alloc());
-    said.needs(path.push_str(name).is_ok());
-    said.needs(path.push_str(ending).is_ok());
+    said.stored(path.push_str(name));
+    said.stored(path.push_str(ending));
     match fs::read(rt, path.as_str()) {
         Ok(bytes) => bytes,
         Err(why) => {
-            said.fail(why.kind());
+            said.fail(why);
             Vec::new(rt.alloc())
         }
     }
 }
 
 /// Replays what a line names.
-fn replay_line(rt: &HostRuntime, keys: RandomState, line: &str, said: &mut Said) {
+fn replay_line(rt: &HostRuntime, keys: RandomState, line: &str, said: &mut Text) {
     let mut words = line.splitn(4, ' ');
     let trace = file_of(rt, words.next().unwrap_or(""), ".trace", said);
     let workload = file_of(rt, words.next().unwrap_or(""), ".in", said);
@@ -63,18 +67,18 @@ fn replay_line(rt: &HostRuntime, keys: RandomState, line: &str, said: &mut Said)
 }
 
 /// Replays the trace of these bytes, by the workload of this text.
-fn replay_files(alloc: Global, asked: Asked, trace: &[u8], workload: &[u8], said: &mut Said) {
+fn replay_files(alloc: Global, asked: Asked, trace: &[u8], workload: &[u8], said: &mut Text) {
     let trace = Trace::read(alloc, trace);
-    let workload = Workload::read(alloc, workload);
+    let workload = Workload::read(alloc, workload, 1);
     match (&trace, &workload) {
         (Ok(trace), Ok(workload)) => replay_all(alloc, asked, trace, workload, said),
-        (Err(CheckFault::Memory), _) | (_, Err(WorkloadFault::Memory)) => said.needs(false),
+        (Err(CheckFault::Memory), _) | (_, Err(WorkloadFault::Memory)) => said.refused(),
         _ => said.words(" no trace, or no workload"),
     }
 }
 
 /// Replays all sections of the trace.
-fn replay_all(alloc: Global, asked: Asked, trace: &Trace, workload: &Workload, said: &mut Said) {
+fn replay_all(alloc: Global, asked: Asked, trace: &Trace, workload: &Workload, said: &mut Text) {
     let names = names_of(alloc, workload.customers(), asked.keys, said);
     let case = Case {
         alloc,
@@ -95,7 +99,7 @@ fn replay_all(alloc: Global, asked: Asked, trace: &Trace, workload: &Workload, s
 /// Prints a line, and what came of it.
 fn tell(rt: &HostRuntime, line: &str) -> io::Result<()> {
     let keys = RandomState::new(rt)?;
-    let mut said = Said::nothing(rt.alloc());
+    let mut said = Text::new(rt.alloc());
     said.words(line);
     said.words(":");
     replay_line(rt, keys, line, &mut said);

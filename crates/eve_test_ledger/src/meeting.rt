@@ -3,17 +3,17 @@
 ghost use Rattle.std.specs.Prelude.{◌<◌};
 
 use crate::framed::Framed;
-use crate::said::Said;
 use eve_accounts::Names;
 use eve_frames::{AccessView, AttemptView};
 use eve_grammar::MOST_VERSIONS;
 use eve_smallbank::{Reply, Request, UpToThree, touched};
 use eve_stamps::{AccessRecord, HeldRow, Stamp, StampFault, Stripe, apply, untouched};
+use eve_testing::Text;
 use eve_write::BatchData;
 use std::alloc::Global;
 
-/// The request that a worker ran, and the worker, place, index and tick that were noted of it; what the request was
-/// told, and what it saw of the rows that it touches.
+/// The request that a worker ran, and the worker, place, index and tick that were noted of it; its reply, and what it
+/// saw of the rows that it touches.
 #[derive(Clone, Copy)]
 pub struct Meeting {
     pub asked: u16,
@@ -23,11 +23,11 @@ pub struct Meeting {
 }
 
 /// What the attempt's access frames say that workers met, at ticks in the certificate's order.
-pub fn meetings_of(alloc: Global, framed: Framed, said: &mut Said) -> Vec<Meeting> {
+pub fn meetings_of(alloc: Global, framed: Framed, said: &mut Text) -> Vec<Meeting> {
     let mut met = Vec::new(alloc);
     for place in 0..framed.accesses.len() {
         let meeting = meeting_of(framed.attempt, &framed.accesses.get(place));
-        said.needs(met.push(meeting).is_ok());
+        said.stored(met.push(meeting));
     }
     met
 }
@@ -86,7 +86,7 @@ pub fn record_of(
     met: &Meeting,
     batch: &BatchData,
     names: &Names,
-    said: &mut Said,
+    said: &mut Text,
 ) -> Option<AccessRecord> {
     if let Reply::Aborted(why) = met.reply {
         if met.seen.is_empty() {
@@ -105,20 +105,22 @@ fn record_on_rows(
     met: &Meeting,
     request: &Request,
     names: &Names,
-    said: &mut Said,
+    said: &mut Text,
 ) -> Option<AccessRecord> {
     let mut stripe = stripe_of(alloc, &met.seen, said)?;
     match apply(&mut stripe, request, &touched(request, names), met.stamp) {
         Ok(record) => Some(record),
         Err(why) => {
-            said.needs(why != StampFault::Memory);
+            if why == StampFault::Memory {
+                said.refused();
+            }
             None
         }
     }
 }
 
 /// The stripe of the rows as they were seen. Of three rows the first two are of one customer.
-fn stripe_of(alloc: Global, seen: &UpToThree<HeldRow>, said: &mut Said) -> Option<Stripe> {
+fn stripe_of(alloc: Global, seen: &UpToThree<HeldRow>, said: &mut Text) -> Option<Stripe> {
     match seen.len() {
         1 => of_one(alloc, seen.at(0), said),
         2 => of_two(alloc, seen.at(0), seen.at(1), said),
@@ -130,14 +132,14 @@ fn stripe_of(alloc: Global, seen: &UpToThree<HeldRow>, said: &mut Said) -> Optio
     }
 }
 
-fn of_one(alloc: Global, row: HeldRow, said: &mut Said) -> Option<Stripe> {
+fn of_one(alloc: Global, row: HeldRow, said: &mut Text) -> Option<Stripe> {
     if row.version > MOST_VERSIONS {
         return None;
     }
     said.made(Stripe::new(alloc, &[row]))
 }
 
-fn of_two(alloc: Global, a: HeldRow, b: HeldRow, said: &mut Said) -> Option<Stripe> {
+fn of_two(alloc: Global, a: HeldRow, b: HeldRow, said: &mut Text) -> Option<Stripe> {
     if a.version > MOST_VERSIONS || b.version > MOST_VERSIONS {
         return None;
     }
@@ -147,7 +149,7 @@ fn of_two(alloc: Global, a: HeldRow, b: HeldRow, said: &mut Said) -> Option<Stri
     said.made(Stripe::new(alloc, &[a, b]))
 }
 
-fn of_three(alloc: Global, a: HeldRow, b: HeldRow, c: HeldRow, said: &mut Said) -> Option<Stripe> {
+fn of_three(alloc: Global, a: HeldRow, b: HeldRow, c: HeldRow, said: &mut Text) -> Option<Stripe> {
     if a.version > MOST_VERSIONS || b.version > MOST_VERSIONS || c.version > MOST_VERSIONS {
         return None;
     }

@@ -4,9 +4,9 @@ ghost use Rattle.std.specs.Prelude.{◌*◌, ◌<◌, ◌≤◌, IsTrue, IfOk, l
 ghost use Rattle.eve_grammar.specs.Limits.{is_batch};
 ghost use Rattle.eve_write.specs.Data.{batch as plain};
 
-use crate::said::Said;
 use eve_accounts::{Balances, Names, Row};
 use eve_grammar::MOST_CUSTOMERS;
+use eve_testing::Text;
 use eve_workload::{Mixer, Workload, mix};
 use eve_write::{BatchData, CustomerData};
 use std::alloc::{AllocError, Global};
@@ -17,11 +17,11 @@ pub fn names_of<'w>(
     alloc: Global,
     customers: &'w [CustomerData],
     keys: RandomState,
-    said: &mut Said,
+    said: &mut Text,
 ) -> Names<'w> {
     let mut names = Names::new(alloc, keys, MOST_CUSTOMERS);
     for customer in customers {
-        said.needs(names.add(customer.name.as_slice()).is_ok());
+        said.stored(names.add(customer.name.as_slice()));
     }
     names
 }

@@ -4,18 +4,20 @@ ghost use Rattle.std.specs.Prelude.{◌+◌, ◌<◌, ◌≤◌, IsTrue, IfOk, l
 ghost use Rattle.eve_grammar.specs.Limits.{is_attempt, is_batch};
 ghost use Rattle.eve_write.specs.Data.{attempt as plain_attempt, batch as plain};
 
-use crate::changing::{Change, FEWER_ROWS, SERIAL, UNCOMMITTED};
+use crate::changing::{Change, FEWER_ROWS, MERKLE, SERIAL, TAKEN_OVER, UNCOMMITTED};
 use crate::comparing::{Shown, has_token_of, is_attempt_of, is_batch_of};
 use crate::framed::Framed;
 use crate::meeting::{Meeting, meetings_of, record_of};
 use crate::opening::{balances_of, batch_of};
-use crate::said::Said;
-use eve_accounts::{MOST_NAMED_ROWS, Names};
+use crate::taking::replay_beside;
+use eve_accounts::{Balances, MOST_NAMED_ROWS, Names};
 use eve_attempts::{AttemptFront, CloseFault, Ledger};
 use eve_frames::{CommitView, RollbackView};
 use eve_grammar::{MOST_BATCHES, Restore};
 use eve_stamps::AccessRecord;
 use eve_streams::SinkOf;
+use eve_testing::Text;
+use eve_token::{RowTree, token};
 use eve_views::{Step, Trace};
 use eve_workload::{Mixer, Workload, look_up};
 use eve_write::{AttemptData, BatchData, RollbackData, write_commit, write_rollback};
@@ -51,7 +53,7 @@ impl Case<'_, '_, '_> {
 }
 
 /// Whether the workload has the batches of the trace.
-pub fn has_its_batches(case: &Case, said: &mut Said) -> bool {
+pub fn has_its_batches(case: &Case, said: &mut Text) -> bool {
     if case.workload.batches() != case.trace.batch_count() {
         return false;
     }
@@ -64,13 +66,13 @@ pub fn has_its_batches(case: &Case, said: &mut Said) -> bool {
 }
 
 /// Whether the batch with this number is the one of the trace.
-fn has_its_batch(case: &Case, number: u32, said: &mut Said) -> bool
+fn has_its_batch(case: &Case, number: u32, said: &mut Text) -> bool
     requires from_one { 1 ≤ number }
     requires asked { number ≤ length case.now.workload.now.batches }
     requires there { number ≤ length case.now.trace.now.batches }
 {
     let Ok(batch) = batch_of(case.alloc, case.workload, number, case.names, case.mixer) else {
-        said.needs(false);
+        said.refused();
         return false;
     };
     is_batch_of(case.alloc, number, &batch, &case.trace.batch(number), said)
@@ -78,14 +80,17 @@ fn has_its_batch(case: &Case, number: u32, said: &mut Said) -> bool
 
 /// Replays a section on a new ledger, and tells what came of each step. At the end the last batch is committed once
 /// more, and all is rolled back.
-pub fn replay(case: &Case, section: u8, said: &mut Said)
+pub fn replay(case: &Case, section: u8, said: &mut Text)
     requires { section < length case.now.trace.now.sections }
 {
+    if case.has(TAKEN_OVER) {
+        return replay_beside(case, section, said);
+    }
     let Ok(mut ledger) = ledger_of(case) else {
-        return said.needs(false);
+        return said.refused();
     };
     if case.has(SERIAL) {
-        said.needs(roll_back(case.alloc, &mut ledger).is_ok());
+        said.stored(roll_back(case.alloc, &mut ledger));
     }
     let mut steps = case.trace.section(section);
     for _ in 0..case.trace.frame_count() {
@@ -97,7 +102,8 @@ pub fn replay(case: &Case, section: u8, said: &mut Said)
     end(case.alloc, &mut ledger, said);
 }
 
-fn replay_step(case: &Case, ledger: &mut Ledger, step: &Step, said: &mut Said) {
+/// Takes a step on the ledger, and tells what came of it; in version 2, what became of the root, too.
+pub fn replay_step(case: &Case, ledger: &mut Ledger, step: &Step, said: &mut Text) {
     match step {
         Step::Attempt(attempt, accesses) => {
             let framed = Framed { attempt, accesses };
@@ -113,9 +119,35 @@ fn replay_step(case: &Case, ledger: &mut Ledger, step: &Step, said: &mut Said) {
             tell_step(" rollback to ", frame.to(), told, said);
         }
     }
+    tell_root(case.alloc, ledger, said);
 }
 
-fn replay_attempt(case: &Case, ledger: &mut Ledger, framed: Framed, said: &mut Said) {
+/// Tells whether the root of a ledger of version 2 is that of a new tree over its balances.
+pub fn tell_root(alloc: Global, ledger: &mut Ledger, said: &mut Text) {
+    if ledger.version() != 2 {
+        return;
+    }
+    let root = ledger.root();
+    if Some(root) == said.made(new_root(alloc, ledger.balances())).flatten() {
+        said.words(" root as new,");
+    } else {
+        said.words(" another root,");
+    }
+}
+
+/// The root of a new tree over the balances, if there are some; where memory is refused once, once more.
+fn new_root(alloc: Global, balances: &Balances) -> Result<Option<[u8; 32]>, AllocError> {
+    if balances.is_empty() {
+        return Ok(None);
+    }
+    let mut tree = match RowTree::new(alloc, balances) {
+        Err(AllocError) => RowTree::new(alloc, balances)?,
+        Ok(tree) => tree,
+    };
+    Ok(Some(tree.root()))
+}
+
+fn replay_attempt(case: &Case, ledger: &mut Ledger, framed: Framed, said: &mut Text) {
     let is_first = ledger.committed() == 0 && ledger.opened() == 0;
     let changes = if is_first { case.changes } else { "" };
     let mut told = close(case, ledger, framed, changes, said);
@@ -127,8 +159,8 @@ fn replay_attempt(case: &Case, ledger: &mut Ledger, framed: Framed, said: &mut S
 }
 
 /// Tells what came of a step with this number.
-fn tell_step(step: &str, number: u32, told: &str, said: &mut Said) {
-    said.number(step, u64::from(number));
+fn tell_step(step: &str, number: u32, told: &str, said: &mut Text) {
+    said.value(step, number);
     said.words(" ");
     said.words(told);
     said.words(",");
@@ -140,31 +172,31 @@ const MISMATCH: &str = "mismatch";
 const NOTHING: &str = "";
 
 /// Commits the last batch once more, and rolls back.
-fn end(alloc: Global, ledger: &mut Ledger, said: &mut Said) {
+pub fn end(alloc: Global, ledger: &mut Ledger, said: &mut Text) {
     let last = ledger.committed();
     if ledger.commit(last).is_ok() {
-        said.number(" commit ", u64::from(last));
+        said.value(" commit ", last);
         said.words(" again,");
     }
     match roll_back(alloc, ledger) {
         Ok(rollback) => tell_restores(rollback.restores.as_slice(), said),
-        Err(_) => said.needs(false),
+        Err(_) => said.refused(),
     }
 }
 
-fn tell_restores(restores: &[Restore], said: &mut Said) {
-    said.number(" ", restores.len() as u64);
+fn tell_restores(restores: &[Restore], said: &mut Text) {
+    said.value(" ", restores.len());
     said.words(" restores");
     for row in restores {
-        said.number(", row ", u64::from(row.row.number()));
-        said.number(" version ", row.version);
-        said.cents(" value ", row.value.get());
+        said.value(", row ", row.row.number());
+        said.value(" version ", row.version);
+        said.value(" value ", row.value.get());
     }
     said.words(";");
 }
 
-/// A new ledger of the workload's customers.
-fn ledger_of(case: &Case) -> Result<Ledger, AllocError> {
+/// A new ledger of the workload's customers, of version 2 where that is asked for.
+pub fn ledger_of(case: &Case) -> Result<Ledger, AllocError> {
     let head = case.workload.head();
     let customers = case.workload.customers();
     let known = if case.has(FEWER_ROWS) {
@@ -173,7 +205,12 @@ fn ledger_of(case: &Case) -> Result<Ledger, AllocError> {
         customers
     };
     let balances = balances_of(case.alloc, known)?;
-    Ledger::new(case.alloc, &balances, head.workers, head.window)
+    let version = if case.has(MERKLE) && !balances.is_empty() {
+        2
+    } else {
+        1
+    };
+    Ledger::new(case.alloc, version, &balances, head.workers, head.window)
 }
 
 /// Closes the records that the access frames of an attempt tell, with these changes.
@@ -182,14 +219,14 @@ fn close(
     ledger: &mut Ledger,
     framed: Framed,
     changes: &str,
-    said: &mut Said,
+    said: &mut Text,
 ) -> &'static str {
     let number = ledger.next_number();
     if !ledger.has_room() || number > case.workload.batches() {
         return "without room";
     }
     let Ok(batch) = batch_of(case.alloc, case.workload, number, case.names, case.mixer) else {
-        said.needs(false);
+        said.refused();
         return NOTHING;
     };
     let mut records = Vec::new(case.alloc);
@@ -211,28 +248,29 @@ fn close_records(
     batch: &BatchData,
     records: &[AccessRecord],
     framed: Framed,
-    said: &mut Said,
+    said: &mut Text,
 ) -> &'static str
     requires last { ledger.old.committed + 1 + length ledger.old.opened ≤ MOST_BATCHES }
     requires room { length ledger.old.opened < ledger.old.window }
     requires batch { IsTrue (is_batch (plain batch.now)) }
 {
     let Ok(before) = Shown::of(alloc, ledger) else {
-        said.needs(false);
+        said.refused();
         return NOTHING;
     };
     match close_due(alloc, ledger, batch, names, records) {
+        Ok(attempt) if ledger.version() == 2 => told_by_tree(&attempt, ledger.balances()),
         Ok(attempt) => told_of(alloc, &attempt, framed, said),
         Err(why) => refused(why, before.is_of(ledger), said),
     }
 }
 
 /// What is told of records that were refused; the ledger has to be as it was.
-fn refused(why: CloseFault, is_as_before: bool, said: &mut Said) -> &'static str {
+fn refused(why: CloseFault, is_as_before: bool, said: &mut Text) -> &'static str {
     match why {
         _ if !is_as_before => "refused, and the ledger is another",
         CloseFault::Memory => {
-            said.needs(false);
+            said.refused();
             NOTHING
         }
         CloseFault::Mismatch => MISMATCH,
@@ -240,13 +278,25 @@ fn refused(why: CloseFault, is_as_before: bool, said: &mut Said) -> &'static str
 }
 
 /// What is told of an attempt, beside its frames.
-fn told_of(alloc: Global, attempt: &AttemptData, framed: Framed, said: &mut Said) -> &'static str
+fn told_of(alloc: Global, attempt: &AttemptData, framed: Framed, said: &mut Text) -> &'static str
     requires { IsTrue (is_attempt (plain_attempt attempt.now)) }
 {
     if is_attempt_of(alloc, attempt, framed, said) {
         "as written"
     } else if has_token_of(attempt, framed.attempt) {
         "with its token"
+    } else {
+        "otherwise"
+    }
+}
+
+/// What is told of an attempt of version 2, beside a token that is made from nothing.
+fn told_by_tree(attempt: &AttemptData, balances: &Balances) -> &'static str {
+    let replies = attempt.replies.as_slice();
+    if balances.is_empty() || replies.is_empty() {
+        "of nothing"
+    } else if attempt.token == token(2, attempt.seq, balances, replies) {
+        "by its tree"
     } else {
         "otherwise"
     }
@@ -287,7 +337,7 @@ fn take_records(
     framed: Framed,
     changes: &str,
     records: &mut Vec<AccessRecord>,
-    said: &mut Said,
+    said: &mut Text,
 ) -> bool {
     let mut met = meetings_of(case.alloc, framed, said);
     for word in changes.split(' ') {
@@ -304,13 +354,13 @@ fn take_met(
     met: &[Meeting],
     batch: &BatchData,
     records: &mut Vec<AccessRecord>,
-    said: &mut Said,
+    said: &mut Text,
 ) -> bool {
     for meeting in met {
         let Some(record) = record_of(case.alloc, meeting, batch, case.names, said) else {
             return false;
         };
-        said.needs(records.push(record).is_ok());
+        said.stored(records.push(record));
     }
     true
 }
@@ -321,12 +371,12 @@ fn told_as(is_same: bool) -> &'static str {
 }
 
 /// Commits what the frame says. What is told of it.
-fn commit(alloc: Global, ledger: &mut Ledger, frame: &CommitView, said: &mut Said) -> &'static str {
+fn commit(alloc: Global, ledger: &mut Ledger, frame: &CommitView, said: &mut Text) -> &'static str {
     let Ok(commit) = ledger.commit(frame.seq()) else {
         return "not open";
     };
     let mut out = SinkOf::new(Vec::new(alloc));
-    said.needs(write_commit(&mut out, &commit).is_ok());
+    said.stored(write_commit(&mut out, &commit));
     told_as(out.writer().as_slice() == frame.bytes())
 }
 
@@ -335,15 +385,15 @@ fn rollback(
     alloc: Global,
     ledger: &mut Ledger,
     frame: &RollbackView,
-    said: &mut Said,
+    said: &mut Text,
 ) -> &'static str {
     let Ok(rollback) = roll_back(alloc, ledger) else {
-        said.needs(false);
+        said.refused();
         return NOTHING;
     };
     let mut out = SinkOf::new(Vec::new(alloc));
     if rollback.restores.len() <= MOST_NAMED_ROWS as usize {
-        said.needs(write_rollback(&mut out, &rollback).is_ok());
+        said.stored(write_rollback(&mut out, &rollback));
     }
     told_as(out.writer().as_slice() == frame.bytes())
 }

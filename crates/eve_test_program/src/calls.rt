@@ -80,7 +80,7 @@ impl Terms {
     }
 }
 
-// Memory that takes one byte a call, and fails at this call.
+/// Memory that takes one byte a call, and fails at this call.
 type Memory = FailsAt<OneByte<SinkOf<Vec<u8>>>>;
 
 fn memory(alloc: Global, call: u64) -> Memory {
@@ -113,7 +113,7 @@ impl Answer {
     }
 }
 
-// How many bytes a workload and its trace may have at most, where there is a limit.
+/// How many bytes a workload and its trace may have at most, where there is a limit.
 const MOST_LIMIT: u32 = 10_000;
 
 /// The exit status of a call over these streams.

@@ -21,7 +21,7 @@ use crate::limits::changes::{
 use crate::limits::lies::sent_again;
 use crate::limits::places::Places;
 use crate::limits::rerun::{leave_out, rerun, trace_of};
-use crate::limits::sizes::{CLIENTS, FALLING, GREATEST, LONGEST, WIDEST, WINDOW};
+use crate::limits::sizes::{CLIENTS, FALLING, GREATEST, LONGEST, WIDEST, WINDOW, WINDOWS};
 use crate::limits::together::Matter;
 use crate::limits::verdicts::{Asked, NOWHERE, spot_at, tell, tell_call};
 use crate::limits::workload::{Size, workload};
@@ -140,6 +140,25 @@ fn tell_widest<R: AllocGlobal + RandomSource + Threads + Wait + Sync>(rt: &R, pa
     tell_sent_again(rt, page, &trace);
 }
 
+/// What is said of a run of many windows, and of its trace with all replies sent again, nine times over.
+fn tell_windows<R: AllocGlobal + RandomSource + Threads + Wait + Sync>(rt: &R, page: &mut Bytes) {
+    let mut trace = run_of(rt, page, &WINDOWS);
+    tell(rt, page, "many windows", &trace, NOWHERE);
+    let mut sent = WINDOWS.batches as usize;
+    for _ in 0..9 {
+        trace = sent_again(rt.alloc(), trace.written(), sent);
+        page.fail_as(&trace);
+        sent = sent.saturating_mul(2);
+    }
+    let size = if trace.written().len() > 16 << 20 {
+        "many replies: more than 16 MiB\n"
+    } else {
+        "many replies: no 16 MiB\n"
+    };
+    page.words(size);
+    tell(rt, page, "many replies", &trace, NOWHERE);
+}
+
 /// Tells what is said at the limits of this name.
 pub(crate) fn tell_limits<R: AllocGlobal + RandomSource + Threads + Wait + Sync>(
     rt: &R,
@@ -150,6 +169,7 @@ pub(crate) fn tell_limits<R: AllocGlobal + RandomSource + Threads + Wait + Sync>
         "greatest" => tell_run(rt, page, name, &GREATEST),
         "longest" => tell_run(rt, page, name, &LONGEST),
         "falling" => tell_run(rt, page, name, &FALLING),
+        "many-windows" => tell_windows(rt, page),
         // The request of client 773 gets the client of batch 518: both have the number 0, and lie in the parts of two
         // of the threads that judge the orders.
         "longest-asked-again" => {

@@ -54,7 +54,7 @@ pub(crate) struct Trial<'a> {
     pub(crate) arguments: Vec<&'a str>,
 }
 
-// How many failures a trial tries at most.
+/// How many failures a trial tries at most.
 const MOST: u32 = 10_000;
 
 /// What a call meets where number `at` fails, counted from 1.

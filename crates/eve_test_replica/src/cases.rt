@@ -1,14 +1,15 @@
 //! The cases that aren't the run of the workload with their name alone.
 
-use crate::gates::Turn;
-use crate::replicas::{Attempted, Closed, Deed, Due, Seen, Want};
-use eve_replica::{CloseFault, CommitFault};
+use crate::gates::{Held, Turn};
+use crate::replicas::{Attempted, Closed, Deed, Due, OPENING, Seen, Setting, Want};
+use eve_replica::eve_workload::Mixer;
+use eve_replica::{CloseFault, CommitFault, TransferFault};
 
 /// What is done in a case.
 #[derive(Clone, Copy)]
 pub enum Doing {
-    /// Calls of replicas: each list with a new one.
-    Calls(&'static [&'static [Want]]),
+    /// Calls of replicas in this setting, each list with a new one.
+    Calls(Setting, &'static [&'static [Want]]),
     /// A run, whose attempts are held so.
     Run([Turn; 7]),
 }
@@ -21,6 +22,33 @@ pub struct Case {
     pub doing: Doing,
 }
 
+/// Batches of one parallelBatch, replicas of version 1.
+const WHOLE: Setting = Setting {
+    mixer: Mixer::Whole,
+    version: 1,
+};
+
+/// Batches cut by first fit.
+const FIRST_FIT: Setting = Setting {
+    mixer: Mixer::First,
+    version: 1,
+};
+
+/// Replicas of version 2.
+const OF_VERSION_2: Setting = Setting {
+    mixer: Mixer::Whole,
+    version: 2,
+};
+
+/// As her deposit of 500 leaves it.
+const DEPOSITED: Seen = Seen(1, 500);
+
+/// As one of 100 does.
+const HUNDRED: Seen = Seen(1, 100);
+
+/// As it is in a state that is taken over.
+const TAKEN_OVER: Seen = Seen(3, 30);
+
 /// The first attempt is parallel, and sees the opening rows.
 const FIRST: Want = Want {
     deed: Deed::Attempt(
@@ -29,7 +57,7 @@ const FIRST: Want = Want {
             seq: 1,
             view: 0,
             serial: false,
-            seen: Seen::Opening,
+            seen: OPENING,
         }),
     ),
     what: "the first attempt is parallel and sees version 0",
@@ -38,7 +66,7 @@ const FIRST: Want = Want {
 /// Ann's deposit is attempted and committed, and gives the trace that is wanted.
 const ATTEMPTED: &[Want] = &[
     Want {
-        deed: Deed::Commit(Some(CommitFault::NotOpen)),
+        deed: Deed::Commit(1, Some(CommitFault::NotOpen)),
         what: "nothing is open at first",
     },
     Want {
@@ -46,7 +74,7 @@ const ATTEMPTED: &[Want] = &[
         what: "the trace of the attempt",
     },
     Want {
-        deed: Deed::Commit(Some(CommitFault::NotOpen)),
+        deed: Deed::Commit(1, Some(CommitFault::NotOpen)),
         what: "what is committed isn't open",
     },
     Want {
@@ -72,17 +100,46 @@ const CLOSED: &[Want] = &[
     },
 ];
 
-/// Two deposits in one parallelBatch, by two workers, each held until the other has entered.
+/// Two deposits in one parallelBatch, by two workers: the first is held until the other has entered.
 const GATES_HELD: &[Want] = &[Want {
-    deed: Deed::Meet,
+    deed: Deed::Hold(Held {
+        request: 0,
+        other: 1,
+        comes: true,
+    }),
     what: "an attempt with both inside at one moment",
+}];
+
+/// A batch of 64 requests by two workers, and then one of 256: the first request is held until the last one has
+/// entered, so that the other worker notes all between them, for which a recorder of the first batch has no room.
+const LARGER_LATER: &[Want] = &[
+    FIRST,
+    Want {
+        deed: Deed::Hold(Held {
+            request: 0,
+            other: 255,
+            comes: true,
+        }),
+        what: "one worker notes 255 requests while the other is held",
+    },
+];
+
+/// Three parallelBatches of 2, 2 and 1 requests by two workers: a request of the second is held, and the third doesn't
+/// begin meanwhile.
+const IN_TURN: &[Want] = &[Want {
+    deed: Deed::Hold(Held {
+        request: 2,
+        other: 4,
+        comes: false,
+    }),
+    what: "the third parallelBatch begins after the second",
 }];
 
 /// A rollback puts the stripes back, so that the serial attempt sees version 0 again.
 const ROLLED_BACK: &[Want] = &[
     FIRST,
     Want {
-        deed: Deed::GoBack(0, Some(Seen::Opening)),
+        deed: Deed::GoBack(0, Some(OPENING)),
         what: "her row is restored",
     },
     Want {
@@ -92,7 +149,7 @@ const ROLLED_BACK: &[Want] = &[
                 seq: 1,
                 view: 1,
                 serial: true,
-                seen: Seen::Opening,
+                seen: OPENING,
             }),
         ),
         what: "a serial attempt in view 1 that sees version 0 again",
@@ -110,17 +167,17 @@ const ONE_COMMITTED: &[Want] = &[
                 seq: 2,
                 view: 0,
                 serial: false,
-                seen: Seen::Deposited,
+                seen: DEPOSITED,
             }),
         ),
         what: "the second batch sees version 1",
     },
     Want {
-        deed: Deed::Commit(None),
+        deed: Deed::Commit(1, None),
         what: "the first is committed",
     },
     Want {
-        deed: Deed::GoBack(1, Some(Seen::Deposited)),
+        deed: Deed::GoBack(1, Some(DEPOSITED)),
         what: "her row is restored, and what is committed stays",
     },
     Want {
@@ -130,7 +187,60 @@ const ONE_COMMITTED: &[Want] = &[
                 seq: 2,
                 view: 1,
                 serial: true,
-                seen: Seen::Deposited,
+                seen: DEPOSITED,
+            }),
+        ),
+        what: "the second batch sees version 1 again",
+    },
+];
+
+/// A batch of 256 requests is attempted and rolled back four times, which takes more than a thousand ticks; then it is
+/// committed, by one worker of two, and a rollback behind it leaves its rows settled.
+const MANY_TICKS: &[Want] = &[
+    Want {
+        deed: Deed::Discard(4),
+        what: "four attempts, each rolled back",
+    },
+    Want {
+        deed: Deed::Attempt(
+            1,
+            Attempted::Met(Due {
+                seq: 1,
+                view: 4,
+                serial: true,
+                seen: OPENING,
+            }),
+        ),
+        what: "a serial attempt in view 4 that sees version 0 again",
+    },
+    Want {
+        deed: Deed::Attempt(
+            2,
+            Attempted::Met(Due {
+                seq: 2,
+                view: 4,
+                serial: false,
+                seen: DEPOSITED,
+            }),
+        ),
+        what: "the second batch sees version 1",
+    },
+    Want {
+        deed: Deed::Commit(1, None),
+        what: "the first is committed",
+    },
+    Want {
+        deed: Deed::GoBack(1, Some(DEPOSITED)),
+        what: "her row is restored, and what is committed stays",
+    },
+    Want {
+        deed: Deed::Attempt(
+            2,
+            Attempted::Met(Due {
+                seq: 2,
+                view: 5,
+                serial: true,
+                seen: DEPOSITED,
             }),
         ),
         what: "the second batch sees version 1 again",
@@ -154,7 +264,7 @@ const BROKEN: &[Want] = &[
         what: "a broken replica",
     },
     Want {
-        deed: Deed::Commit(Some(CommitFault::Broken)),
+        deed: Deed::Commit(1, Some(CommitFault::Broken)),
         what: "no commit while broken",
     },
     Want {
@@ -166,7 +276,7 @@ const BROKEN: &[Want] = &[
         what: "no attempt while broken",
     },
     Want {
-        deed: Deed::GoBackAtLast(Seen::Opening),
+        deed: Deed::GoBackAtLast(OPENING),
         what: "her row is restored, the replica broken where a rollback was refused",
     },
     Want {
@@ -180,10 +290,254 @@ const BROKEN: &[Want] = &[
                 seq: 1,
                 view: 1,
                 serial: true,
-                seen: Seen::Opening,
+                seen: OPENING,
             }),
         ),
         what: "a serial attempt in view 1 that sees version 0 again",
+    },
+];
+
+/// A deposit of 100 is committed, one of 5 is open, and a state is taken over in its place: a deposit of 5 sees that
+/// state then, and no earlier one is taken over.
+const TAKES_OVER: &[Want] = &[
+    FIRST,
+    Want {
+        deed: Deed::Commit(1, None),
+        what: "the first is committed",
+    },
+    Want {
+        deed: Deed::Attempt(
+            2,
+            Attempted::Met(Due {
+                seq: 2,
+                view: 0,
+                serial: false,
+                seen: HUNDRED,
+            }),
+        ),
+        what: "the second sees the hundred",
+    },
+    Want {
+        deed: Deed::HaveState(HUNDRED),
+        what: "the state is without what is open",
+    },
+    Want {
+        deed: Deed::HaveCents(105),
+        what: "the balances are with it",
+    },
+    Want {
+        deed: Deed::TakeOver(1, 0, TAKEN_OVER, Some(TransferFault::NotDue)),
+        what: "its number is committed",
+    },
+    Want {
+        deed: Deed::HaveState(HUNDRED),
+        what: "nothing is taken over",
+    },
+    Want {
+        deed: Deed::HaveCents(105),
+        what: "nothing is discarded",
+    },
+    Want {
+        deed: Deed::TakeOver(2, 0, TAKEN_OVER, None),
+        what: "the state is taken over",
+    },
+    Want {
+        deed: Deed::HaveState(TAKEN_OVER),
+        what: "the state is that one",
+    },
+    Want {
+        deed: Deed::HaveCents(30),
+        what: "nothing is open on it",
+    },
+    Want {
+        deed: Deed::TakeOver(2, 0, HUNDRED, Some(TransferFault::NotDue)),
+        what: "it isn't taken over again",
+    },
+    Want {
+        deed: Deed::Commit(2, Some(CommitFault::NotOpen)),
+        what: "what was open is discarded",
+    },
+    Want {
+        deed: Deed::Attempt(
+            2,
+            Attempted::Met(Due {
+                seq: 3,
+                view: 0,
+                serial: false,
+                seen: TAKEN_OVER,
+            }),
+        ),
+        what: "the next deposit sees the state",
+    },
+    Want {
+        deed: Deed::HaveCents(35),
+        what: "the deposit leaves 35",
+    },
+    Want {
+        deed: Deed::Commit(3, None),
+        what: "the deposit is committed",
+    },
+    Want {
+        deed: Deed::HaveState(Seen(4, 35)),
+        what: "the state has the deposit",
+    },
+    Want {
+        deed: Deed::GoBack(3, None),
+        what: "nothing to restore",
+    },
+    Want {
+        deed: Deed::TakeOver(4, 0, TAKEN_OVER, Some(TransferFault::NotDue)),
+        what: "its view is an earlier one",
+    },
+    Want {
+        deed: Deed::HaveState(Seen(4, 35)),
+        what: "nothing is taken over in an earlier view",
+    },
+    Want {
+        deed: Deed::TakeOver(9, 4, TAKEN_OVER, None),
+        what: "numbers and views are skipped",
+    },
+    Want {
+        deed: Deed::Attempt(
+            2,
+            Attempted::Met(Due {
+                seq: 10,
+                view: 4,
+                serial: false,
+                seen: TAKEN_OVER,
+            }),
+        ),
+        what: "the next attempt is parallel, in that view",
+    },
+];
+
+/// Ann's deposit is closed of a record that was taken by hand, so that another attempt fails. The broken replica has its
+/// state and its balances, and takes no other over, be it due or not.
+const TAKES_NOTHING_OVER: &[Want] = &[
+    Want {
+        deed: Deed::Close(0, Closed::Made),
+        what: "her deposit is closed",
+    },
+    Want {
+        deed: Deed::Attempt(1, Attempted::Failed),
+        what: "an attempt over her row fails",
+    },
+    Want {
+        deed: Deed::HaveState(OPENING),
+        what: "the state of a broken replica",
+    },
+    Want {
+        deed: Deed::HaveCents(500),
+        what: "the balances of a broken replica",
+    },
+    Want {
+        deed: Deed::TakeOver(1, 0, TAKEN_OVER, Some(TransferFault::Broken)),
+        what: "it is due to no broken replica",
+    },
+    Want {
+        deed: Deed::TakeOver(0, 0, TAKEN_OVER, Some(TransferFault::Broken)),
+        what: "broken comes before what isn't due",
+    },
+    Want {
+        deed: Deed::HaveState(OPENING),
+        what: "nothing is taken over",
+    },
+    Want {
+        deed: Deed::GoBackAtLast(OPENING),
+        what: "her row is restored",
+    },
+    Want {
+        deed: Deed::TakeOver(1, 0, TAKEN_OVER, Some(TransferFault::NotDue)),
+        what: "its view is an earlier one",
+    },
+    Want {
+        deed: Deed::TakeOver(1, 1, TAKEN_OVER, None),
+        what: "the state is taken over",
+    },
+    Want {
+        deed: Deed::HaveState(TAKEN_OVER),
+        what: "the state is that one",
+    },
+    Want {
+        deed: Deed::Attempt(
+            1,
+            Attempted::Met(Due {
+                seq: 2,
+                view: 1,
+                serial: false,
+                seen: TAKEN_OVER,
+            }),
+        ),
+        what: "the next attempt sees the state",
+    },
+];
+
+/// What happens to a replica happens to its tree.
+const KEEPS_ITS_TREE: &[Want] = &[
+    Want {
+        deed: Deed::HaveRoot,
+        what: "the root is that of a new tree, at first",
+    },
+    FIRST,
+    Want {
+        deed: Deed::HaveRoot,
+        what: "the root is that of a new tree, after an attempt",
+    },
+    Want {
+        deed: Deed::GoBack(0, Some(OPENING)),
+        what: "her row is restored",
+    },
+    Want {
+        deed: Deed::HaveRoot,
+        what: "the root is that of a new tree, after a rollback",
+    },
+    Want {
+        deed: Deed::Attempt(
+            1,
+            Attempted::Met(Due {
+                seq: 1,
+                view: 1,
+                serial: true,
+                seen: OPENING,
+            }),
+        ),
+        what: "a serial attempt in view 1 that sees version 0",
+    },
+    Want {
+        deed: Deed::HaveRoot,
+        what: "the root is that of a new tree, after a serial attempt",
+    },
+    Want {
+        deed: Deed::Commit(1, None),
+        what: "the first is committed",
+    },
+    Want {
+        deed: Deed::HaveRoot,
+        what: "the root is that of a new tree, after a commit",
+    },
+    Want {
+        deed: Deed::TakeOver(2, 1, TAKEN_OVER, None),
+        what: "the state is taken over",
+    },
+    Want {
+        deed: Deed::HaveRoot,
+        what: "the root is that of a new tree, after a state is taken over",
+    },
+    Want {
+        deed: Deed::Attempt(
+            2,
+            Attempted::Met(Due {
+                seq: 3,
+                view: 1,
+                serial: false,
+                seen: TAKEN_OVER,
+            }),
+        ),
+        what: "a deposit sees the state",
+    },
+    Want {
+        deed: Deed::HaveRoot,
+        what: "the root is that of a new tree, after one more attempt",
     },
 ];
 
@@ -196,31 +550,61 @@ const FREE: Turn = Turn::Free;
 /// A run in which nothing is held.
 pub static FREE_RUN: [Turn; 7] = [FREE; 7];
 
-static CASES: [Case; 10] = [
+static CASES: [Case; 16] = [
     Case {
         name: "replica-attempt-and-close",
         file: "one-deposit",
-        doing: Doing::Calls(&[ATTEMPTED, CLOSED]),
+        doing: Doing::Calls(WHOLE, &[ATTEMPTED, CLOSED]),
     },
     Case {
         name: "gates-held",
         file: "three-deposits",
-        doing: Doing::Calls(&[GATES_HELD]),
+        doing: Doing::Calls(WHOLE, &[GATES_HELD]),
+    },
+    Case {
+        name: "larger-later",
+        file: "64-requests-and-256",
+        doing: Doing::Calls(WHOLE, &[LARGER_LATER]),
+    },
+    Case {
+        name: "parallel-batches-in-turn",
+        file: "three-parallel-batches",
+        doing: Doing::Calls(FIRST_FIT, &[IN_TURN]),
     },
     Case {
         name: "rollback",
         file: "three-deposits",
-        doing: Doing::Calls(&[ROLLED_BACK]),
+        doing: Doing::Calls(WHOLE, &[ROLLED_BACK]),
     },
     Case {
         name: "commit-and-rollback",
         file: "three-deposits",
-        doing: Doing::Calls(&[ONE_COMMITTED]),
+        doing: Doing::Calls(WHOLE, &[ONE_COMMITTED]),
+    },
+    Case {
+        name: "settled-past-a-thousand-ticks",
+        file: "256-requests-and-a-deposit",
+        doing: Doing::Calls(WHOLE, &[MANY_TICKS]),
     },
     Case {
         name: "broken-until-rollback",
         file: "three-deposits",
-        doing: Doing::Calls(&[BROKEN]),
+        doing: Doing::Calls(WHOLE, &[BROKEN]),
+    },
+    Case {
+        name: "replica-transfer",
+        file: "deposits-of-100-and-5",
+        doing: Doing::Calls(OF_VERSION_2, &[TAKES_OVER]),
+    },
+    Case {
+        name: "transfer-while-broken",
+        file: "one-deposit",
+        doing: Doing::Calls(OF_VERSION_2, &[TAKES_NOTHING_OVER]),
+    },
+    Case {
+        name: "tree-follows-replica",
+        file: "deposits-of-100-and-5",
+        doing: Doing::Calls(OF_VERSION_2, &[KEEPS_ITS_TREE]),
     },
     Case {
         name: "run-of-one-deposit",

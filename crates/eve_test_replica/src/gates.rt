@@ -7,12 +7,15 @@ use std::sync::Wait;
 use std::sync::atomic::{AtomicU64, Ordering};
 use std::thread::yield_now;
 
-/// How often a request that is held lets another thread run before it goes on all the same.
+/// How often a request that is held for another lets another thread run before it goes on all the same.
 const TURNS: u32 = 10_000_000;
 
-// Whether the number rises above this one within the limit of turns.
-fn rises_above(number: &AtomicU64, least: u64) -> bool {
-    for _ in 0..TURNS {
+/// The same of a request that is held for one that must not come.
+const FEW_TURNS: u32 = 2_000;
+
+/// Whether the number rises above this one within the given number of turns.
+fn rises_above(number: &AtomicU64, least: u64, turns: u32) -> bool {
+    for _ in 0..turns {
         if number.load(Ordering::SeqCst) > least {
             return true;
         }
@@ -21,32 +24,45 @@ fn rises_above(number: &AtomicU64, least: u64) -> bool {
     false
 }
 
-/// Holds each of two requests until the other has entered.
-#[derive(Drop)]
-pub struct MeetingGate {
-    entered: AtomicU64,
-    missed: AtomicU64,
+/// Which request of a batch is held, for which other, and whether that one has to enter meanwhile.
+#[derive(Clone, Copy)]
+pub struct Held {
+    pub request: u32,
+    pub other: u32,
+    pub comes: bool,
 }
 
-impl MeetingGate {
-    pub fn new() -> MeetingGate {
-        MeetingGate {
+/// Holds one request of a batch, with its stripes locked, until another has entered.
+#[derive(Drop)]
+pub struct HoldingGate {
+    held: Held,
+    entered: AtomicU64,
+    met: AtomicU64,
+}
+
+impl HoldingGate {
+    pub fn new(held: Held) -> HoldingGate {
+        HoldingGate {
+            held,
             entered: AtomicU64::new(0),
-            missed: AtomicU64::new(0),
+            met: AtomicU64::new(0),
         }
     }
 
-    /// Whether both were inside at one moment.
-    pub fn have_met(&self) -> bool {
-        self.entered.load(Ordering::SeqCst) == 2 && self.missed.load(Ordering::SeqCst) == 0
+    /// Whether the other one entered while the request was held exactly where it has to.
+    pub fn is_kept(&self) -> bool {
+        (self.met.load(Ordering::SeqCst) == 1) == self.held.comes
     }
 }
 
-impl Gate for MeetingGate {
-    fn enter<R: Wait>(&self, _rt: &R, _piece: u32) {
-        self.entered.fetch_add(1, Ordering::SeqCst);
-        if !rises_above(&self.entered, 1) {
-            self.missed.store(1, Ordering::SeqCst);
+impl Gate for HoldingGate {
+    fn enter<R: Wait>(&self, _rt: &R, piece: u32) {
+        if piece == self.held.other {
+            self.entered.store(1, Ordering::SeqCst);
+        }
+        let turns = if self.held.comes { TURNS } else { FEW_TURNS };
+        if piece == self.held.request && rises_above(&self.entered, 0, turns) {
+            self.met.store(1, Ordering::SeqCst);
         }
     }
 }
@@ -107,7 +123,7 @@ impl KnotGate {
         self.missed.load(Ordering::SeqCst) == 0
     }
 
-    // The request that has to enter before this one goes on.
+    /// The request that has to enter before this one goes on.
     fn awaited(&self, attempt: u64, piece: u32) -> Option<usize>
         ensures { IfSome result (λ other. other < 5) }
     {
@@ -130,7 +146,7 @@ impl Gate for KnotGate {
             self.entered[piece as usize].fetch_add(1, Ordering::SeqCst);
         }
         if let Some(other) = self.awaited(attempt, piece) {
-            if !rises_above(&self.entered[other], attempt) {
+            if !rises_above(&self.entered[other], attempt, TURNS) {
                 self.missed.store(1, Ordering::SeqCst);
             }
         }

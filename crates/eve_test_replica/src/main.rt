@@ -3,22 +3,24 @@
 //! or the verdict alone where what they did hangs on the schedule. What is printed hangs on no schedule.
 #![tactic(auto)]
 
+ghost use Rattle.std.specs.Prelude.{◌≡◌, IfOk};
+
 mod cases;
 mod gates;
-mod line;
 mod misses;
 mod replicas;
 mod runs;
+mod states;
 mod world;
 
 use crate::cases::{Case, Doing, FREE_RUN, case_of};
 use crate::gates::Turn;
-use crate::line::Line;
-use crate::replicas::{Want, first_miss};
+use crate::replicas::{Setting, Want, first_miss};
 use crate::runs::{run_held, tell_sections, verdict_on};
 use crate::world::workload_of;
 use eve_audit::Verdict;
 use eve_replica::eve_workload::Workload;
+use eve_testing::Text;
 use eve_write::Parts;
 use std::alloc::Global;
 use std::fs::Files;
@@ -27,94 +29,101 @@ use std::sync::Wait;
 use std::thread::Threads;
 use std::{fs, io};
 
-// The workload of the file with this name.
-fn workload_in<R: AllocGlobal + Files>(rt: &R, file: &str) -> io::Result<Workload> {
+/// The workload of the file with this name.
+fn workload_in<R: AllocGlobal + Files>(rt: &R, file: &str) -> io::Result<Workload>
+    ensures { IfOk result (λ w. w.format ≡ 1) }
+{
     let path = format!(in rt.alloc(); "{file}.in")?;
     let text = fs::read(rt, path.as_str());
     drop(path);
     workload_of(rt.alloc(), text?)
 }
 
-// Tells what of the calls of replicas isn't as it is due.
+/// Tells what of the calls of replicas isn't as it is due.
 fn tell_calls<R: AllocGlobal + Files + RandomSource + Threads + Wait + Sync>(
     rt: &R,
+    setting: Setting,
     lists: &[&[Want]],
     workload: &Workload,
-    line: &mut Line,
+    line: &mut Text,
 ) {
     match fs::read(rt, "deposit-committed.trace") {
         Ok(trace) => {
-            let miss = first_miss(rt, rt.alloc(), workload, trace.as_slice(), lists);
+            let miss = first_miss(rt, rt.alloc(), workload, setting, trace.as_slice(), lists);
             drop(trace);
             tell_miss(miss, line);
         }
-        Err(why) => line.stop(why),
+        Err(why) => line.fail(why),
     }
 }
 
-fn tell_miss(miss: io::Result<Option<&'static str>>, line: &mut Line) {
+fn tell_miss(miss: io::Result<Option<&'static str>>, line: &mut Text) {
     match miss {
         Ok(None) => line.words("as it is due"),
         Ok(Some(what)) => {
             line.words("wanted: ");
             line.words(what);
         }
-        Err(why) => line.stop(why),
+        Err(why) => line.fail(why),
     }
 }
 
-// Tells what a run came to: what each replica did, too, where that hangs on no schedule or the verdict isn't yes.
+/// Tells what a run came to: what each replica did, too, where that hangs on no schedule or the verdict isn't yes.
 fn tell_run<R: RandomSource + Threads + Wait + Sync>(
     rt: &R,
     alloc: Global,
     turns: [Turn; 7],
     has_sections: bool,
     workload: &Workload,
-    line: &mut Line,
-) {
+    line: &mut Text,
+)
+    requires { workload.now.format ≡ 1 }
+{
     match run_held(rt, alloc, workload, turns) {
         Ok(parts) => {
             match verdict_on(rt, alloc, &parts) {
                 Ok(verdict) => tell_verdict(&parts, verdict, has_sections, line),
-                Err(why) => line.stop(why),
+                Err(why) => line.fail(why),
             }
             drop(parts);
         }
-        Err(why) => line.stop(why),
+        Err(why) => line.fail(why),
     }
 }
 
-fn tell_verdict(parts: &Parts, verdict: Verdict, has_sections: bool, line: &mut Line) {
+fn tell_verdict(parts: &Parts, verdict: Verdict, has_sections: bool, line: &mut Text) {
     match verdict {
         Verdict::Yes(_) if !has_sections => line.words("accepted"),
         _ => {
             tell_sections(parts, line);
-            line.verdict(verdict);
+            line.answer("", verdict);
         }
     }
 }
 
-// Tells the case with this workload; a run of the workload where it is none that is listed.
+/// Tells the case with this workload; a run of the workload where it is none that is listed.
 fn tell_case<R: AllocGlobal + Files + RandomSource + Threads + Wait + Sync>(
     rt: &R,
     case: Option<&'static Case>,
     workload: &Workload,
-    line: &mut Line,
-) {
+    line: &mut Text,
+)
+    requires { workload.now.format ≡ 1 }
+{
     match case {
         None => tell_run(rt, rt.alloc(), FREE_RUN, false, workload, line),
         Some(case) => match case.doing {
-            Doing::Calls(lists) => tell_calls(rt, lists, workload, line),
+            Doing::Calls(setting, lists) => tell_calls(rt, setting, lists, workload, line),
             Doing::Run(turns) => tell_run(rt, rt.alloc(), turns, true, workload, line),
         },
     }
 }
 
-// Tells the line of the case with this name.
+/// Tells the line of the case with this name.
 fn tell<R: AllocGlobal + Files + RandomSource + Threads + Wait + Sync>(
     rt: &R,
     name: &str,
-    line: &mut Line,
+    line: &mut Text,
 ) {
     let case = case_of(name);
     let file = match case {
@@ -126,19 +135,21 @@ fn tell<R: AllocGlobal + Files + RandomSource + Threads + Wait + Sync>(
             tell_case(rt, case, &workload, line);
             drop(workload);
         }
-        Err(why) => line.stop(why),
+        Err(why) => line.fail(why),
     }
 }
 
-// Prints the line of the case with this name.
+/// Prints the line of the case with this name.
 fn print_case<R: AllocGlobal + Files + Print + RandomSource + Threads + Wait + Sync>(
     rt: &R,
     name: io::Result<String>,
 ) -> io::Result<()> {
     let name = name?;
-    let mut line = Line::new(rt.alloc(), name.as_str());
+    let mut line = Text::new(rt.alloc());
+    line.words(name.as_str());
     line.words(": ");
     tell(rt, name.as_str(), &mut line);
+    line.words("\n");
     drop(name);
     let printed = line.print(rt);
     drop(line);

@@ -1,16 +1,17 @@
 //! What a replica does, call by call.
 
-use crate::gates::MeetingGate;
+use crate::gates::{Held, HoldingGate};
 use crate::misses::Misses;
+use crate::states::{cents, has_cents, has_root, has_state, take_over};
 use crate::world::{
     Fit, attempt, batch_of, close, closed, names_of, ran, record_at, replica_of, roll_back,
     stopped, trace_of,
 };
-use eve_accounts::{Cents, Names, Row};
+use eve_accounts::{Names, Row};
 use eve_grammar::Restore;
 use eve_recorder::OpenGate;
-use eve_replica::eve_workload::Workload;
-use eve_replica::{AttemptFault, CloseFault, CommitFault, Replica};
+use eve_replica::eve_workload::{Mixer, Workload};
+use eve_replica::{AttemptFault, CloseFault, CommitFault, Replica, TransferFault};
 use eve_write::{AttemptData, CommitData, RollbackData};
 use std::alloc::{AllocError, Global};
 use std::hash::RandomState;
@@ -19,29 +20,23 @@ use std::random::RandomSource;
 use std::sync::Wait;
 use std::thread::Threads;
 
-/// How ann's checking row is seen.
+/// How ann's checking row is seen: its version, and the cents in it.
 #[derive(Clone, Copy)]
-pub enum Seen {
-    /// As it is at first.
-    Opening,
-    /// As her deposit leaves it.
-    Deposited,
-}
+pub struct Seen(pub u64, pub i64);
 
 impl Seen {
-    // Her row so.
+    /// Her row so.
     fn row(self) -> Restore {
-        let (version, value) = match self {
-            Seen::Opening => (0, Cents::ZERO),
-            Seen::Deposited => (1, Cents::of(500)),
-        };
         Restore {
             row: Row::checking(0),
-            version,
-            value,
+            version: self.0,
+            value: cents(self.1),
         }
     }
 }
+
+/// Ann's checking row as it is at first.
+pub const OPENING: Seen = Seen(0, 0);
 
 /// How an attempt is due: its number, its view, its mode, and how each of its entries sees its row.
 #[derive(Clone, Copy)]
@@ -53,7 +48,7 @@ pub struct Due {
 }
 
 impl Due {
-    // Whether the attempt is as it is due.
+    /// Whether the attempt is as it is due.
     fn is_met(&self, made: io::Result<AttemptData>) -> io::Result<bool> {
         let made = made?;
         let is_met = self.is_placed(&made) && self.is_seen(&made);
@@ -108,16 +103,33 @@ pub enum Deed {
     CloseNone(u32, Closed),
     /// Ann's deposit is closed as the first batch, of a record that was taken by hand and saw this version.
     Close(u64, Closed),
-    /// The first batch is committed, or that is refused so.
-    Commit(Option<CommitFault>),
+    /// The batch with this number is committed, or that is refused so.
+    Commit(u32, Option<CommitFault>),
     /// A rollback goes back to this number, and restores ann's row so, or none.
     GoBack(u32, Option<Seen>),
     /// One to 0 restores ann's row. Where it is refused memory the replica stays broken, and a second one is asked for.
     GoBackAtLast(Seen),
-    /// Two deposits are attempted, each held until the other has entered.
-    Meet,
+    /// The first batch is attempted the given number of times, each time rolled back.
+    Discard(u32),
+    /// The last batch is attempted, and a request of it is held.
+    Hold(Held),
+    /// A state of ann alone is taken over, of this number and view and with her row so, or that is refused so.
+    TakeOver(u32, u32, Seen, Option<TransferFault>),
+    /// The replica's state is of ann alone, with her row so.
+    HaveState(Seen),
+    /// After the open attempts there are this many cents in ann's row.
+    HaveCents(i64),
+    /// The root is that of a new tree over the balances.
+    HaveRoot,
     /// The replica is broken, or isn't.
     BeBroken(bool),
+}
+
+/// How batches are cut, and of which version replicas are.
+#[derive(Clone, Copy)]
+pub struct Setting {
+    pub mixer: Mixer,
+    pub version: u16,
 }
 
 /// What is done, and what isn't as it is due where something else comes of it.
@@ -127,24 +139,26 @@ pub struct Want {
     pub what: &'static str,
 }
 
-/// What of these lists isn't as it is due, each done with a new replica of the workload: the first such thing, if there
-/// is one. The trace is wanted of ann's deposit.
+/// What of these lists isn't as it is due, each done with a new replica of the workload in this setting: the first such
+/// thing, if there is one. The trace is wanted of ann's deposit.
 pub fn first_miss<R: RandomSource + Threads + Wait + Sync>(
     rt: &R,
     alloc: Global,
     workload: &Workload,
+    setting: Setting,
     wanted: &[u8],
     lists: &[&[Want]],
 ) -> io::Result<Option<&'static str>> {
     let random = RandomState::new(rt)?;
     let mut misses = Misses::none();
     let names = names_of(alloc, workload, random, &mut misses);
-    match batch_of(alloc, workload, 1, &names) {
+    match batch_of(alloc, workload, 1, &names, setting.mixer) {
         Ok(first) => try_first(
             rt,
             alloc,
             workload,
             &names,
+            setting,
             wanted,
             first,
             lists,
@@ -155,18 +169,19 @@ pub fn first_miss<R: RandomSource + Threads + Wait + Sync>(
     misses.first()
 }
 
-// The same, where these are the names of its customers, and this is its first batch.
+/// The same, where these are the names of its customers, and this is its first batch.
 fn try_first<R: Threads + Wait + Sync>(
     rt: &R,
     alloc: Global,
     workload: &Workload,
     names: &Names,
+    setting: Setting,
     wanted: &[u8],
     first: Fit,
     lists: &[&[Want]],
     misses: &mut Misses,
 ) {
-    match batch_of(alloc, workload, workload.batches(), names) {
+    match batch_of(alloc, workload, workload.batches(), names, setting.mixer) {
         Ok(last) => {
             let bench = Bench {
                 rt,
@@ -177,7 +192,7 @@ fn try_first<R: Threads + Wait + Sync>(
                 first,
                 last,
             };
-            bench.try_lists(lists, misses);
+            bench.try_lists(setting.version, lists, misses);
             drop(bench);
         }
         Err(why) => {
@@ -201,16 +216,16 @@ struct Bench<'c, R> {
 }
 
 impl<R: Threads + Wait + Sync> Bench<'_, R> {
-    fn try_lists(&self, lists: &[&[Want]], misses: &mut Misses) {
+    fn try_lists(&self, version: u16, lists: &[&[Want]], misses: &mut Misses) {
         for list in lists {
-            match replica_of(self.alloc, self.names) {
+            match replica_of(self.alloc, version, self.names) {
                 Ok(replica) => self.try_list(list, replica, misses),
-                Err(why) => misses.stop(why.into()),
+                Err(why) => misses.stop(why),
             }
         }
     }
 
-    // What is done with a replica of which nothing was asked yet.
+    /// What is done with a replica of which nothing was asked yet.
     fn try_list(&self, list: &[Want], mut replica: Replica, misses: &mut Misses) {
         for row in list {
             misses.want_answer(self.is_due(row.deed, &mut replica), row.what);
@@ -218,21 +233,29 @@ impl<R: Threads + Wait + Sync> Bench<'_, R> {
         drop(replica);
     }
 
-    // Whether that comes of it which has to.
+    /// Whether that comes of it which has to.
     fn is_due(&self, deed: Deed, replica: &mut Replica) -> io::Result<bool> {
         match deed {
             Deed::Attempt(batch, ends) => self.attempt(batch, ends, replica),
             Deed::CloseNone(batch, ends) => self.close_none(batch, ends, replica),
             Deed::Close(version, ends) => self.close_one(version, ends, replica),
-            Deed::Commit(fault) => Ok(commit_first(replica).err() == fault),
+            Deed::Commit(seq, fault) => Ok(replica.commit(seq).err() == fault),
             Deed::GoBack(to, seen) => goes_back(self.alloc, replica, to, seen),
             Deed::GoBackAtLast(seen) => goes_back_at_last(self.alloc, replica, seen),
-            Deed::Meet => Ok(self.meets(replica)),
+            Deed::Discard(times) => self.discards(times, replica),
+            Deed::Hold(held) => Ok(self.holds(held, replica)),
+            Deed::TakeOver(seq, view, seen, fault) => {
+                let taken = take_over(self.alloc, replica, seq, view, seen.row())?;
+                Ok(taken.err() == fault)
+            }
+            Deed::HaveState(seen) => has_state(self.alloc, replica, seen.row()),
+            Deed::HaveCents(value) => Ok(has_cents(replica, value)),
+            Deed::HaveRoot => has_root(self.alloc, replica),
             Deed::BeBroken(is_broken) => Ok(replica.is_broken() == is_broken),
         }
     }
 
-    // The batch with this number, of two.
+    /// The batch with this number, of two.
     fn fit(&self, number: u32) -> &Fit {
         if number == 1 { &self.first } else { &self.last }
     }
@@ -273,14 +296,27 @@ impl<R: Threads + Wait + Sync> Bench<'_, R> {
         }
     }
 
-    // The last batch is attempted, and both requests were inside at one moment.
-    fn meets(&self, replica: &mut Replica) -> bool {
-        let gate = MeetingGate::new();
-        let fault = attempt(self.rt, self.alloc, replica, &self.last, &gate).err();
-        fault.is_none() && gate.have_met()
+    /// Whether the first batch is attempted and rolled back this often, each time with ann's row restored.
+    fn discards(&self, times: u32, replica: &mut Replica) -> io::Result<bool> {
+        for _ in 0..times {
+            let made = attempt(self.rt, self.alloc, replica, &self.first, &OpenGate);
+            let is_made = is_first(ran(made))?;
+            let is_back = goes_back(self.alloc, replica, 0, Some(OPENING))?;
+            if !is_made || !is_back {
+                return Ok(false);
+            }
+        }
+        Ok(true)
     }
 
-    // Whether the deployment whose replica made this attempt, and commits it, has the trace that is wanted.
+    /// Whether the last batch is attempted, and the request that is held meets the other one as it has to.
+    fn holds(&self, held: Held, replica: &mut Replica) -> bool {
+        let gate = HoldingGate::new(held);
+        let fault = attempt(self.rt, self.alloc, replica, &self.last, &gate).err();
+        fault.is_none() && gate.is_kept()
+    }
+
+    /// Whether the deployment whose replica made this attempt, and commits it, has the trace that is wanted.
     fn gives(&self, made: io::Result<AttemptData>, replica: &mut Replica) -> io::Result<bool> {
         let made = made?;
         match commit_first(replica) {
@@ -300,12 +336,12 @@ impl<R: Threads + Wait + Sync> Bench<'_, R> {
     }
 }
 
-// A commit of the first batch.
+/// A commit of the first batch.
 fn commit_first(replica: &mut Replica) -> Result<CommitData, CommitFault> {
     replica.commit(1)
 }
 
-// Whether the attempt is one of the first batch.
+/// Whether the attempt is one of the first batch.
 fn is_first(made: io::Result<AttemptData>) -> io::Result<bool> {
     let made = made?;
     let seq = made.seq;
@@ -313,7 +349,7 @@ fn is_first(made: io::Result<AttemptData>) -> io::Result<bool> {
     Ok(seq == 1)
 }
 
-// Whether records were refused so, and not for lack of memory.
+/// Whether records were refused so, and not for lack of memory.
 fn is_refused(why: Option<CloseFault>, due: CloseFault) -> io::Result<bool> {
     if why == Some(CloseFault::Memory) {
         return Err(AllocError.into());
@@ -321,7 +357,7 @@ fn is_refused(why: Option<CloseFault>, due: CloseFault) -> io::Result<bool> {
     Ok(why == Some(due))
 }
 
-// Whether an attempt failed as it has to where the stripes are others, or for lack of memory.
+/// Whether an attempt failed as it has to where the stripes are others, or for lack of memory.
 fn is_failed(why: Option<AttemptFault>) -> bool {
     why == Some(AttemptFault::Mismatch) || why == Some(AttemptFault::Memory)
 }
@@ -338,7 +374,7 @@ fn goes_back(
     Ok(is_back)
 }
 
-// Whether it restores ann's row alone, so, or nothing.
+/// Whether it restores ann's row alone, so, or nothing.
 fn restores(rollback: &RollbackData, seen: Option<Seen>) -> bool {
     match seen {
         Some(seen) => rollback.restores.as_slice() == [seen.row()].as_slice(),

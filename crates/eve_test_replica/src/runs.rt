@@ -1,11 +1,13 @@
 //! Whole runs, and what their auditor says.
 
+ghost use Rattle.std.specs.Prelude.{◌≡◌};
+
 use crate::gates::{KnotGate, Turn};
-use crate::line::Line;
 use crate::world::{bytes_of, stopped};
 use eve_audit::{Verdict, audit_one};
 use eve_replica::eve_workload::{Mixer, Workload};
 use eve_replica::{RunFault, run};
+use eve_testing::Text;
 use eve_write::{Parts, Step};
 use std::alloc::{AllocError, Global};
 use std::hash::RandomState;
@@ -21,7 +23,9 @@ pub fn run_held<R: RandomSource + Threads + Wait + Sync>(
     alloc: Global,
     workload: &Workload,
     turns: [Turn; 7],
-) -> io::Result<Parts> {
+) -> io::Result<Parts>
+    requires { workload.now.format ≡ 1 }
+{
     let gate = KnotGate::new(turns);
     let random = RandomState::new(rt)?;
     match run(rt, alloc, workload, Mixer::Whole, random, &gate) {
@@ -31,7 +35,7 @@ pub fn run_held<R: RandomSource + Threads + Wait + Sync>(
     }
 }
 
-// The parts of the run, where no request of it was held longer than the limit of turns.
+/// The parts of the run, where no request of it was held longer than the limit of turns.
 fn kept_by(gate: &KnotGate, parts: Parts) -> io::Result<Parts> {
     if gate.is_kept() {
         Ok(parts)
@@ -66,7 +70,7 @@ fn verdict_of<R: RandomSource + Threads + Wait + Sync>(
 }
 
 /// Tells what each replica did, one thing after another.
-pub fn tell_sections(parts: &Parts, line: &mut Line) {
+pub fn tell_sections(parts: &Parts, line: &mut Text) {
     for section in &parts.sections {
         for step in section {
             line.words(word_of(step));

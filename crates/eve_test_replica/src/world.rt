@@ -1,6 +1,6 @@
 //! Replicas and batches of a workload, and traces of what they did.
 
-ghost use Rattle.std.specs.Prelude.{◌≤◌, ◌*◌, IsTrue};
+ghost use Rattle.std.specs.Prelude.{◌≡◌, ◌≤◌, ◌*◌, IfOk, IsTrue};
 ghost use Rattle.eve_grammar.specs.Limits.{is_batch};
 ghost use Rattle.eve_write.specs.Data.{batch as plain};
 
@@ -27,9 +27,11 @@ pub fn stopped() -> io::Error {
     io::Error::other("the case can't go on")
 }
 
-/// The workload of a text.
-pub fn workload_of(alloc: Global, text: Vec<u8>) -> io::Result<Workload> {
-    let read = Workload::read(alloc, text.as_slice());
+/// The workload of a text, in format 1.
+pub fn workload_of(alloc: Global, text: Vec<u8>) -> io::Result<Workload>
+    ensures { IfOk result (λ w. w.format ≡ 1) }
+{
+    let read = Workload::read(alloc, text.as_slice(), 1);
     drop(text);
     match read {
         Ok(workload) => Ok(workload),
@@ -60,19 +62,32 @@ pub struct Fit {
     ghost fits: { IsTrue (is_batch (plain batch)) },
 }
 
-/// A batch of the workload, counted from 1, as one parallelBatch.
-pub fn batch_of(alloc: Global, workload: &Workload, number: u32, names: &Names) -> io::Result<Fit> {
+/// A batch of the workload, counted from 1, as this mixer cuts it.
+pub fn batch_of(
+    alloc: Global,
+    workload: &Workload,
+    number: u32,
+    names: &Names,
+    mixer: Mixer,
+) -> io::Result<Fit> {
     if number < 1 || workload.batches() < number {
         return Err(stopped());
     }
-    let batch = mix(alloc, workload.batch(number), names, Mixer::Whole)?;
+    let batch = mix(alloc, workload.batch(number), names, mixer)?;
     Ok(Fit { batch })
 }
 
-/// A replica whose customers have nothing, with two workers and at most two open attempts.
-pub fn replica_of<'n>(alloc: Global, names: &'n Names<'n>) -> Result<Replica<'n>, AllocError> {
+/// A replica of the version, 1 or 2, whose customers have nothing, with two workers and at most two open attempts.
+pub fn replica_of<'n>(
+    alloc: Global,
+    version: u16,
+    names: &'n Names<'n>,
+) -> io::Result<Replica<'n>> {
+    if version < 1 || 2 < version || names.is_empty() {
+        return Err(stopped());
+    }
     let balances = Balances::new(alloc, 2 * names.len())?;
-    Replica::new(alloc, names, &balances, 2, 2)
+    Ok(Replica::new(alloc, version, names, &balances, 2, 2)?)
 }
 
 /// An attempt of the batch, in the view and the mode that are due.
@@ -155,7 +170,7 @@ pub fn record_at(alloc: Global, names: &Names, version: u64) -> io::Result<Acces
     record_on(stripe, names)
 }
 
-// The same, where this is the stripe of both rows.
+/// The same, where this is the stripe of both rows.
 fn record_on(mut stripe: Stripe, names: &Names) -> io::Result<AccessRecord> {
     let deposit = Request::DepositChecking(b"ann", Amount::of(500));
     let reached = touched(&deposit, names);
@@ -184,6 +199,7 @@ pub fn trace_of(
 ) -> io::Result<Vec<u8>> {
     let steps = vec![in alloc; Step::Attempt(attempt), Step::Commit(commit)]?;
     let mut parts = Parts {
+        version: 1,
         quorum: 1,
         window: 1,
         workers: 1,
@@ -201,7 +217,7 @@ pub fn trace_of(
     trace
 }
 
-// Adds what the replica did, the vote for the commit, the customers and the batch.
+/// Adds what the replica did, the vote for the commit, the customers and the batch.
 fn fill(
     alloc: Global,
     workload: &Workload,
@@ -213,11 +229,11 @@ fn fill(
     parts.sections.push(steps)?;
     parts.verifiers.push(votes_for(alloc, commit)?)?;
     parts.customers.extend_from_slice(workload.customers())?;
-    let Fit { batch } = batch_of(alloc, workload, 1, names)?;
+    let Fit { batch } = batch_of(alloc, workload, 1, names, Mixer::Whole)?;
     Ok(parts.batches.push(batch)?)
 }
 
-// The vote for the commit, alone.
+/// The vote for the commit, alone.
 fn votes_for(alloc: Global, commit: CommitData) -> Result<Vec<VoteData>, AllocError> {
     let token = commit.token;
     let vote = VoteData {

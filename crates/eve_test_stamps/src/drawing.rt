@@ -133,7 +133,7 @@ impl Counter {
         }
     }
 
-    /// Whether so many numbers were drawn; false where a seat is missing.
+    /// Whether `due` numbers were drawn; false where a seat is missing.
     fn has_drawn(self, due: u64) -> bool {
         let Counter { tickets, seats } = self;
         seats.whole() && tickets.close(seats) == due

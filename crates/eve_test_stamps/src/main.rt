@@ -34,7 +34,7 @@ enum Case {
 /// A case, and the name that a line has for it.
 struct Named(&'static str, Case);
 
-static CASES: [Named; 17] = [
+static CASES: [Named; 18] = [
     Named(
         "stripe-deposit-and-undo",
         Case::Stripes(stripes::DEPOSIT_AND_UNDO),
@@ -47,6 +47,7 @@ static CASES: [Named; 17] = [
         "stripe-settled-and-went-back",
         Case::Stripes(stripes::SETTLED_AND_WENT_BACK),
     ),
+    Named("stripe-installed", Case::Stripes(stripes::INSTALLED)),
     Named(
         "stripe-worn-and-untouched",
         Case::Stripes(stripes::WORN_AND_UNTOUCHED),

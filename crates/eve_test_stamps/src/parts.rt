@@ -81,7 +81,7 @@ fn name(customer: u8) -> Name {
     }
 }
 
-/// The amount of so many cents; none where no amount is so great.
+/// The amount of `value` cents; none where no amount is so great.
 fn amount(value: i64) -> Amount {
     match Amount::new(value) {
         Some(amount) => amount,
@@ -89,7 +89,7 @@ fn amount(value: i64) -> Amount {
     }
 }
 
-/// What a schedule begins with: so many customers, the balances by row, the sizes of the parallelBatches, what is asked
+/// What a schedule begins with: the customers, the balances by row, the sizes of the parallelBatches, what is asked
 /// for, and how many workers there are.
 #[derive(Clone, Copy)]
 pub(crate) struct Given<'a> {
@@ -157,7 +157,7 @@ pub(crate) fn plan_of(
     Ok(plan)
 }
 
-/// The plan's batch, to be executed by so many workers. Where no memory was left, it is asked for once more.
+/// The plan's batch, to be executed by its workers. Where no memory was left, it is asked for once more.
 pub(crate) fn opened<'s>(
     alloc: Global,
     plan: &'s Plan,

@@ -125,7 +125,7 @@ impl<'a> Plain<'a> {
         self.given.sizes.len()
     }
 
-    /// What is done to a row that is read, or that gains so many cents.
+    /// What is done to a row that is read, or that gains `more` cents.
     fn entry(&self, row: u16, kind: Kind, more: i64) -> Entry {
         let held = match self.rows.get(row as usize) {
             Some(held) => *held,

@@ -223,7 +223,7 @@ fn is_drawn_and_done(alloc: Global, random: RandomState, seed: u64, seen: &mut S
     is_done(alloc, random, &mut rng, &given, seen)
 }
 
-/// Looks at so many lists of events. They come far enough: more than half of the schedules are carried out whole.
+/// Looks at `count` lists of events. They come far enough: more than half of the schedules are carried out whole.
 pub fn play(alloc: Global, random: RandomState, count: u32, seen: &mut Seen) {
     let mut done: u32 = 0;
     for seed in 0..u64::from(count) {

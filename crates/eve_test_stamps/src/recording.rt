@@ -18,7 +18,7 @@ struct Desk {
     ghost own: { seats.recorder ≡ recorder.recorder },
 }
 
-/// A recorder for so many workers, with so much room; where memory is refused, it is asked for once more. None where it
+/// A recorder for these workers, with this room; where memory is refused, it is asked for once more. None where it
 /// is refused twice.
 fn desk_of(alloc: Global, workers: u8, room: usize, seen: &mut Seen) -> Option<Desk>
     requires workers { (1 ≤ workers) × (workers ≤ MOST_SEATS) }

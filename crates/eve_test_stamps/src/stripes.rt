@@ -1,16 +1,19 @@
 //! Stripes: what is noted, settled, undone and gone back from, and what is refused. Where memory is refused, each call
 //! is made once more.
 
+ghost use Rattle.std.specs.Prelude.{◌≤◌, IfOk};
+ghost use Rattle.eve_stamps.specs.Stripes.{HaveRightVersions};
+
 use crate::parts::{cents, name_of, names, row_of};
 use crate::seen::Seen;
 use eve_accounts::{Amount, Names};
-use eve_grammar::MOST_VERSIONS;
-use eve_smallbank::{Abort, Entry, Kind, Reply, Request, UpToThree, touched};
+use eve_grammar::{MOST_VERSIONS, TransferData};
+use eve_smallbank::{Abort, Entry, Kind, Reply, Request, UpToThree, Versioned, touched};
 use eve_stamps::{AccessRecord, HeldRow, Stamp, StampFault, Stripe, apply, apply_two, untouched};
 use std::alloc::{AllocError, Global};
 use std::hash::RandomState;
 
-/// A row, its version, and so many cents in it.
+/// A row, its version, and the cents in it.
 struct Held(u16, u64, i64);
 
 /// A row that is written, the version and the cents that it had, and the cents that it has afterwards.
@@ -41,6 +44,8 @@ enum Step {
     Settle(u64),
     /// The first stripe goes back.
     GoBack,
+    /// The first stripe takes over a state in which the first customer's rows are so.
+    Install(Opening),
     /// Undoes the first stripe; whether there is room for what is told.
     Undo(bool, &'static str),
     /// Looks whether that is so.
@@ -97,7 +102,7 @@ const OTHER: Opening = Opening {
     checking: Held(OTHERS, 0, 0),
 };
 
-/// The first customer with so many cents in the checking row.
+/// The first customer with seven cents in the checking row.
 const SEVEN: Opening = Opening {
     saving: Held(SAVING, 0, 0),
     checking: Held(CHECKING, 0, 7),
@@ -203,6 +208,40 @@ pub const SETTLED_AND_WENT_BACK: Case = Case {
     ],
 };
 
+/// A state that is taken over stands as committed, with its versions, and what was noted before is gone.
+pub const INSTALLED: Case = Case {
+    first: SEVEN,
+    second: OTHER,
+    room: 0,
+    steps: &[
+        Step::Deposit(Lent::First, 5),
+        Step::Want(
+            Due::Made(5, &[Written(CHECKING, 0, 7, 507)]),
+            "the first is noted",
+        ),
+        Step::Install(Opening {
+            saving: Held(SAVING, 4, 2),
+            checking: Held(CHECKING, 3, 30),
+        }),
+        Step::Want(Due::First(Held(CHECKING, 3, 30)), "the row is the state's"),
+        Step::Settle(5),
+        Step::Want(
+            Due::First(Held(CHECKING, 3, 30)),
+            "the first was noted in vain",
+        ),
+        Step::Deposit(Lent::First, 5),
+        Step::Want(Due::Refused(StampFault::TickOrder), "the tick stays"),
+        Step::Deposit(Lent::First, 6),
+        Step::Want(
+            Due::Made(6, &[Written(CHECKING, 3, 30, 530)]),
+            "the second sees the state",
+        ),
+        Step::GoBack,
+        Step::Want(Due::First(Held(CHECKING, 3, 30)), "the state is committed"),
+        Step::Want(Due::First(Held(SAVING, 4, 2)), "in both rows"),
+    ],
+};
+
 /// A row at the greatest version isn't written, and a request that touches no row is noted as it is told.
 pub const WORN_AND_UNTOUCHED: Case = Case {
     first: WORN,
@@ -302,6 +341,27 @@ fn held_row(held: &Held) -> HeldRow {
     }
 }
 
+fn versioned(held: &Held) -> Versioned
+    ensures { result.version ≤ MOST_VERSIONS }
+{
+    Versioned {
+        version: held.1.min(MOST_VERSIONS),
+        value: cents(held.2),
+    }
+}
+
+/// A state with both rows of the first customer.
+fn state_of(alloc: Global, opening: &Opening) -> Result<TransferData, AllocError>
+    ensures { IfOk result (λ state. HaveRightVersions state.rows.items) }
+{
+    let rows = [versioned(&opening.saving), versioned(&opening.checking)];
+    Ok(TransferData {
+        seq: 2,
+        view: 0,
+        rows: Vec::from_slice(alloc, &rows)?,
+    })
+}
+
 /// A stripe with both rows of a customer; none where memory is refused twice.
 fn stripe_of(alloc: Global, opening: &Opening, seen: &mut Seen) -> Option<Stripe> {
     let rows = [held_row(&opening.saving), held_row(&opening.checking)];
@@ -394,8 +454,20 @@ impl Stripes {
         };
     }
 
+    /// The first stripe takes over a state; where no memory was left for it, it is made once more.
+    fn install(&mut self, alloc: Global, opening: &Opening, seen: &mut Seen) {
+        let state = match state_of(alloc, opening) {
+            Err(AllocError) => state_of(alloc, opening),
+            state => state,
+        };
+        seen.needs(state.is_ok());
+        if let Ok(state) = state {
+            self.first.install(&state);
+        }
+    }
+
     /// Does what the step says, or looks.
-    fn take(&mut self, names: &Names, step: &Step, seen: &mut Seen) {
+    fn take(&mut self, alloc: Global, names: &Names, step: &Step, seen: &mut Seen) {
         match step {
             Step::Deposit(lent, tick) => {
                 let deposit = Request::DepositChecking(name_of(0), Amount::of(500));
@@ -410,6 +482,7 @@ impl Stripes {
             }
             Step::Settle(tick) => self.first.settle(*tick),
             Step::GoBack => self.first.go_back(),
+            Step::Install(opening) => self.install(alloc, opening, seen),
             Step::Undo(has_room, what) => {
                 let is_undone = self.first.undo(&mut self.restores).is_ok();
                 seen.want(is_undone == *has_room, what);
@@ -458,7 +531,7 @@ fn play_with(alloc: Global, names: &Names, case: &Case, seen: &mut Seen) {
     };
     seen.needs(stripes.restores.reserve_exact(case.room).is_ok());
     for step in case.steps {
-        stripes.take(names, step, seen);
+        stripes.take(alloc, names, step, seen);
     }
 }
 

@@ -18,9 +18,9 @@ enum Due {
     IsDone(bool),
     /// That is the order of what is applied.
     HasOrder(&'static [u16]),
-    /// The first worker's last record has this reply, and so many entries.
+    /// The first worker's last record has this reply, and this number of entries.
     Noted(Reply, usize),
-    /// There are so many workers.
+    /// There are this many workers.
     Workers(usize),
 }
 
@@ -214,7 +214,7 @@ fn carried(schedule: &mut Schedule, steps: &[Step], seen: &mut Seen) -> bool {
     true
 }
 
-/// Whether the first worker's last record has this reply, and so many entries.
+/// Whether the first worker's last record has this reply, and this number of entries.
 fn has_noted(schedule: &Schedule, reply: Reply, entries: usize) -> bool {
     if schedule.workers() == 0 {
         return false;

@@ -1,9 +1,10 @@
 //! What `eve` says of a trace, and to which verdict its audit comes.
 
-use crate::texts::{Missing, Text};
+use crate::texts::Missing;
 use eve_audit::{Verdict, audit, audit_one};
 use eve_recorder::Gate;
 use eve_streams::{SinkOf, SourceOf};
+use eve_testing::Text;
 use eve_tool::serve;
 use std::hash::RandomState;
 use std::random::RandomSource;
@@ -48,7 +49,7 @@ fn push_said<R: AllocGlobal + RandomSource + Threads + Wait + Sync>(
     bytes: &[u8],
 ) {
     let served = asked(rt, arguments, bytes);
-    text.number("", u64::from(served.status));
+    text.value("", u64::from(served.status));
     text.words(" ");
     push_line(text, &served.out);
     push_line(text, &served.err);
@@ -63,7 +64,7 @@ pub fn push_by_one<R: AllocGlobal + RandomSource + Threads + Wait + Sync>(
     push_said(text, rt, &["eve", "audit"], bytes);
 }
 
-/// What it says by so many workers.
+/// What it says by this number of workers.
 fn by_workers<R: AllocGlobal + RandomSource + Threads + Wait + Sync>(
     rt: &R,
     bytes: &[u8],
@@ -79,16 +80,16 @@ fn by_workers<R: AllocGlobal + RandomSource + Threads + Wait + Sync>(
                 bytes,
             );
         }
-        Err(_) => text.miss(Missing::Memory),
+        Err(_) => text.refused(),
     }
     text
 }
 
-/// That it says something else by so many workers, where it does.
+/// That it says something else by this number of workers, where it does.
 fn push_unlike(text: &mut Text, one: &str, workers: u8, more: &Text) {
-    text.miss_as(more);
+    text.fail_as(more);
     if more.as_str() != one {
-        text.number(", but by ", u64::from(workers));
+        text.value(", but by ", u64::from(workers));
         text.words(" workers ");
         text.words(more.as_str());
     }
@@ -102,7 +103,7 @@ pub fn push_by_all<R: AllocGlobal + RandomSource + Threads + Wait + Sync>(
 ) {
     let mut one = Text::new(rt.alloc());
     push_by_one(&mut one, rt, bytes);
-    text.miss_as(&one);
+    text.fail_as(&one);
     text.words(one.as_str());
     for workers in 1..17 {
         push_unlike(text, one.as_str(), workers, &by_workers(rt, bytes, workers));
@@ -114,7 +115,7 @@ pub fn keys<R: RandomSource>(text: &mut Text, rt: &R) -> Option<RandomState> {
     match RandomState::new(rt) {
         Ok(keys) => Some(keys),
         Err(_) => {
-            text.miss(Missing::Keys);
+            text.fail(Missing::Keys.error());
             None
         }
     }
@@ -130,7 +131,7 @@ pub fn by_one_thread<R: AllocGlobal + RandomSource + Threads + Sync>(
     match audit_one(rt, rt.alloc(), bytes, random) {
         Ok(verdict) => Some(verdict),
         Err(_) => {
-            text.miss(Missing::Memory);
+            text.refused();
             None
         }
     }
@@ -147,7 +148,7 @@ pub fn by_two<R: AllocGlobal + RandomSource + Threads + Wait + Sync, G: Gate>(
     match audit(rt, rt.alloc(), bytes, 2, random, gate) {
         Ok(verdict) => Some(verdict),
         Err(_) => {
-            text.miss(Missing::Memory);
+            text.refused();
             None
         }
     }

@@ -4,7 +4,7 @@ use crate::audits::keys;
 use crate::histories::{agreement, push_findings};
 use crate::one_thread::push_served_all;
 use crate::parts::{push_frames, push_parts};
-use crate::texts::{Missing, Text};
+use eve_testing::Text;
 use eve_views::{CheckFault, Fault, Trace};
 use std::alloc::Global;
 use std::hash::RandomState;
@@ -27,16 +27,16 @@ fn push_all(
 fn push_fault(text: &mut Text, fault: Fault) {
     text.words("\n ");
     text.words(fault.code.name());
-    text.number(" of phase ", u64::from(fault.code.phase()));
-    text.number(" at ", fault.offset);
+    text.value(" of phase ", u64::from(fault.code.phase()));
+    text.value(" at ", fault.offset);
 }
 
 /// The fault that was found, if any.
-fn push_found(text: &mut Text, found: Result<(), CheckFault>) {
+pub fn push_found(text: &mut Text, found: Result<(), CheckFault>) {
     match found {
         Ok(()) => {}
         Err(CheckFault::Found(fault)) => push_fault(text, fault),
-        Err(CheckFault::Memory) => text.miss(Missing::Memory),
+        Err(CheckFault::Memory) => text.refused(),
     }
 }
 

@@ -3,13 +3,13 @@
 ghost use Rattle.std.specs.Prelude.{◌≡◌, ◌<◌, ◌≤◌, length};
 ghost use Rattle.eve_history.specs.SectionHistory.{section_history};
 
-use crate::texts::{Missing, Text};
 use eve_accounts::Balances;
 use eve_agree::equal_balances;
 use eve_chains::Settled;
 use eve_frames::VoteView;
 use eve_grammar::Choice;
 use eve_history::History;
+use eve_testing::Text;
 use eve_views::{CheckFault, Trace};
 use eve_votes::Tally;
 use std::alloc::Global;
@@ -18,9 +18,9 @@ use std::alloc::Global;
 fn push_attempts(text: &mut Text, history: &History) {
     for i in 0..history.attempts() {
         let offset = history.attempt(i).offset();
-        text.number("\n  attempt ", i as u64);
-        text.number(" at ", offset);
-        text.fate(": ", history.fate(i));
+        text.value("\n  attempt ", i as u64);
+        text.value(" at ", offset);
+        text.answer(": ", history.fate(i));
     }
 }
 
@@ -28,23 +28,23 @@ fn push_attempts(text: &mut Text, history: &History) {
 fn push_commits(text: &mut Text, history: &History) {
     for n in 0..history.committed() {
         let attempt = history.committed_attempt(n + 1);
-        text.number("\n  batch ", u64::from(n + 1));
-        text.number(" by attempt ", attempt as u64);
+        text.value("\n  batch ", u64::from(n + 1));
+        text.value(" by attempt ", attempt as u64);
     }
 }
 
 fn push_rollbacks(text: &mut Text, history: &History) {
     for i in 0..history.rollbacks() {
         let offset = history.rollback(i).offset();
-        text.number("\n  rollback ", i as u64);
-        text.number(" at ", offset);
+        text.value("\n  rollback ", i as u64);
+        text.value(" at ", offset);
     }
 }
 
 /// A replica's attempts with their fates, its committed batches, and its rollbacks.
 fn push_history(text: &mut Text, history: &History) {
-    text.number("\n replica ", u64::from(history.replica()));
-    text.number(" committed ", u64::from(history.committed()));
+    text.value("\n replica ", u64::from(history.replica()));
+    text.value(" committed ", u64::from(history.committed()));
     push_attempts(text, history);
     push_commits(text, history);
     push_rollbacks(text, history);
@@ -54,31 +54,31 @@ fn push_history(text: &mut Text, history: &History) {
 pub fn push_balances(text: &mut Text, words: &str, balances: &Balances) {
     text.words(words);
     for cents in balances.as_slice() {
-        text.cents(" ", cents.get());
+        text.value(" ", cents.get());
     }
 }
 
-/// The balances after so many batches, at once.
+/// The balances after the first `n` batches, at once.
 fn push_at_once(text: &mut Text, words: &str, alloc: Global, settled: &Settled, n: u32)
-    requires { n ≤ length settled.now.batches }
+    requires { n ≤ length settled.now.numbers }
 {
     match settled.balances_after(alloc, n) {
         Ok(balances) => push_balances(text, words, &balances),
-        Err(_) => text.miss(Missing::Memory),
+        Err(_) => text.refused(),
     }
 }
 
 /// The balances after a batch, by one batch from those after the batch before.
 fn push_advanced(text: &mut Text, alloc: Global, settled: &Settled, n: u32)
     requires one { 1 ≤ n }
-    requires there { n ≤ length settled.now.batches }
+    requires there { n ≤ length settled.now.numbers }
 {
     match settled.balances_after(alloc, n - 1) {
         Ok(mut balances) => {
             settled.advance(n, &mut balances);
             push_balances(text, ":", &balances);
         }
-        Err(_) => text.miss(Missing::Memory),
+        Err(_) => text.refused(),
     }
 }
 
@@ -86,7 +86,7 @@ fn push_advanced(text: &mut Text, alloc: Global, settled: &Settled, n: u32)
 fn push_settled(text: &mut Text, alloc: Global, settled: &Settled) {
     push_at_once(text, "\n  after 0:", alloc, settled, 0);
     for n in 0..settled.committed() {
-        text.number("\n  after ", u64::from(n + 1));
+        text.value("\n  after ", u64::from(n + 1));
         push_advanced(text, alloc, settled, n + 1);
         push_at_once(text, ", at once", alloc, settled, n + 1);
     }
@@ -98,7 +98,7 @@ fn push_settled_of<'a>(text: &mut Text, alloc: Global, trace: &Trace<'a>, histor
 {
     match Settled::of(alloc, history, trace) {
         Ok(settled) => push_settled(text, alloc, &settled),
-        Err(_) => text.miss(Missing::Memory),
+        Err(_) => text.refused(),
     }
 }
 
@@ -120,10 +120,10 @@ fn push_backers(text: &mut Text, tally: &Tally, n: u32, view: u32, token: &[u8; 
     let next_view = tally.votes_for(n, view.saturating_add(1), token);
     let next_batch = tally.votes_for(n.saturating_add(1), view, token);
     let none = tally.votes_for(n, view, &[0; 32]);
-    text.number("", u64::from(its));
-    text.number(" ", u64::from(next_view));
-    text.number(" ", u64::from(next_batch));
-    text.number(" ", u64::from(none));
+    text.value("", u64::from(its));
+    text.value(" ", u64::from(next_view));
+    text.value(" ", u64::from(next_batch));
+    text.value(" ", u64::from(none));
     text.words(" ");
 }
 
@@ -131,8 +131,8 @@ fn push_backers(text: &mut Text, tally: &Tally, n: u32, view: u32, token: &[u8; 
 /// whether the view of its batch is rolled back.
 fn push_vote(text: &mut Text, tally: &Tally, view: VoteView) {
     let (n, at) = (view.seq(), view.view());
-    text.number("\n  batch ", u64::from(n));
-    text.number(" in view ", u64::from(at));
+    text.value("\n  batch ", u64::from(n));
+    text.value(" in view ", u64::from(at));
     text.words(": ");
     if let Choice::ForCommit(token) = view.choice() {
         if let Some(token) = token.first_chunk() {
@@ -141,16 +141,16 @@ fn push_vote(text: &mut Text, tally: &Tally, view: VoteView) {
         text.hex("", token);
         text.words(", ");
     }
-    text.holds("rolled back ", tally.rolled_back(n, at));
+    text.value("rolled back ", tally.rolled_back(n, at));
 }
 
 /// What is decided of a batch.
 fn push_decision(text: &mut Text, tally: &Tally, n: u32) {
-    text.number("\n batch ", u64::from(n));
+    text.value("\n batch ", u64::from(n));
     match tally.decided(n) {
         Some(decision) => {
             let token = decision.1;
-            text.number(" decided in view ", u64::from(decision.0));
+            text.value(" decided in view ", u64::from(decision.0));
             text.hex(": ", &token);
         }
         None => text.words(" not decided"),

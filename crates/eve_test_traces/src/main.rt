@@ -10,7 +10,11 @@
 //! - `each-one-higher FILE`: the verdict with each byte one higher, modulo 256, if two workers come to the same.
 //! - `one FILE`: whether `audit_one` accepts it.
 //! - `meet FILE`: the audit by two workers, each held at its replica until the other has come to its own.
+//! - `walk FILE`: how many sections have no fault of records or chains, how many have one, and of how many `check` and
+//!   `Settled` say something else than a walk along the section over a table of all rows.
+//! - `draw FILE COUNT`: the same of COUNT traces with other values in entries at random places.
 //! - `agree FILE`: what is found of two replicas together, whatever was voted.
+//! - `alone FILE CHANGE..`: what its replicas' rollbacks and tokens come to, each phase by itself.
 //! - `tell FILE CHANGE..`: its frames, the parts that are lent, what is found of its replicas and votes, and what
 //!   SmallBank on one thread makes of its batches.
 //!
@@ -19,22 +23,26 @@
 
 mod audits;
 mod change;
+mod draws;
 mod findings;
 mod histories;
 mod meeting;
 mod one_thread;
 mod parts;
+mod phases;
 mod ranges;
 mod sweeps;
 mod texts;
+mod walk;
+mod walks;
 
-use anyhow::Result;
-use std::fs;
+use crate::texts::Missing;
+use eve_testing::Text;
 use std::fs::Files;
 use std::random::RandomSource;
 use std::sync::Wait;
 use std::thread::Threads;
-use texts::{Missing, Text};
+use std::{fs, io};
 
 /// The bytes of a trace of `data`.
 fn bytes_of<R: AllocGlobal + Files>(text: &mut Text, rt: &R, file: &str) -> Option<Vec<u8>> {
@@ -44,7 +52,7 @@ fn bytes_of<R: AllocGlobal + Files>(text: &mut Text, rt: &R, file: &str) -> Opti
     match fs::read(rt, path.as_str()) {
         Ok(bytes) => Some(bytes),
         Err(_) => {
-            text.miss(Missing::Trace);
+            text.fail(Missing::Trace.error());
             None
         }
     }
@@ -59,13 +67,14 @@ fn push_changed_answer<R: AllocGlobal + RandomSource + Threads + Wait + Sync>(
     changes: Option<&str>,
 ) {
     let Some(bytes) = change::changed(rt.alloc(), bytes, changes) else {
-        text.miss(Missing::Changes);
+        text.fail(Missing::Changes.error());
         return;
     };
     match call {
         "audit" => audits::push_by_all(text, rt, bytes.as_slice()),
         "tell" => findings::push_told(text, rt, bytes.as_slice()),
-        _ => text.miss(Missing::Call),
+        "alone" => phases::push_alone(text, rt, bytes.as_slice()),
+        _ => text.fail(Missing::Call.error()),
     }
 }
 
@@ -84,6 +93,8 @@ fn push_answer<R: AllocGlobal + RandomSource + Threads + Wait + Sync>(
         "one" => sweeps::push_one(text, rt, bytes),
         "agree" => findings::push_agreed(text, rt.alloc(), bytes),
         "meet" => meeting::push_meeting(text, rt, bytes),
+        "walk" => walks::push_walked(text, rt, bytes),
+        "draw" => walks::push_drawn(text, rt, bytes, more),
         _ => push_changed_answer(text, rt, call, bytes, more),
     }
 }
@@ -96,11 +107,11 @@ fn parted(words: &str) -> (&str, Option<&str>) {
     }
 }
 
-/// A line, and the answer to it.
-fn answered<R: AllocGlobal + Files + RandomSource + Threads + Wait + Sync>(
+/// Prints a line, and the answer to it.
+fn answer<R: AllocGlobal + Files + Print + RandomSource + Threads + Wait + Sync>(
     rt: &R,
     line: &str,
-) -> Result<String> {
+) -> io::Result<()> {
     let (call, rest) = parted(line);
     let (file, more) = parted(rest.unwrap_or(""));
     let mut text = Text::new(rt.alloc());
@@ -109,15 +120,14 @@ fn answered<R: AllocGlobal + Files + RandomSource + Threads + Wait + Sync>(
     if let Some(bytes) = bytes_of(&mut text, rt, file) {
         push_answer(&mut text, rt, call, bytes.as_slice(), more);
     }
-    text.all()
+    text.words("\n");
+    text.print(rt)
 }
 
-fn main(rt: HostRuntime) -> Result<()> {
+fn main(rt: HostRuntime) -> io::Result<()> {
     for line in rt.lines(rt.alloc()) {
         let line = line?;
-        let answered = answered(&rt, line.as_str())?;
-        drop(line);
-        println!(rt; "{answered}")?;
+        answer(&rt, line.as_str())?;
     }
     Ok(())
 }

@@ -1,9 +1,9 @@
 //! Two workers that are at their replicas at the same time.
 
 use crate::audits::by_two;
-use crate::texts::Text;
 use eve_audit::Verdict;
 use eve_recorder::Gate;
+use eve_testing::Text;
 use std::random::RandomSource;
 use std::sync::Wait;
 use std::sync::atomic::{AtomicU64, Ordering};
@@ -13,7 +13,7 @@ use std::thread::Threads;
 /// How often a piece looks whether the others have come, at most.
 const TURNS: u32 = 10_000_000;
 
-/// Holds each piece until as many have entered as are wanted, or its turns are over.
+/// Holds each piece until the wanted number has entered, or its turns are over.
 #[derive(Drop)]
 struct Meeting {
     wanted: u64,
@@ -46,7 +46,7 @@ pub fn push_meeting<R: AllocGlobal + RandomSource + Threads + Wait + Sync>(
         met: AtomicU64::new(0),
     };
     let verdict = by_two(text, rt, bytes, &gate);
-    text.number("", gate.entered.load(Ordering::SeqCst));
-    text.number(" entered, ", gate.met.load(Ordering::SeqCst));
-    text.holds(" met, yes ", matches!(verdict, Some(Verdict::Yes(_))));
+    text.value("", gate.entered.load(Ordering::SeqCst));
+    text.value(" entered, ", gate.met.load(Ordering::SeqCst));
+    text.value(" met, yes ", matches!(verdict, Some(Verdict::Yes(_))));
 }

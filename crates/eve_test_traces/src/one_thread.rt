@@ -1,10 +1,11 @@
 //! What SmallBank on one thread makes of a trace's batches, request after request.
 
 use crate::histories::push_balances;
-use crate::texts::{Missing, Text, push_change, push_done, push_reply, push_request};
+use crate::texts::{push_change, push_done, push_reply, push_request};
 use eve_accounts::{Balances, Cents, MOST_NAMES, Names, Row};
 use eve_history::orders;
 use eve_smallbank::{Effect, Kind, Request, Touched, UpToThree, apply, decide, touched};
+use eve_testing::Text;
 use eve_views::{CheckFault, Trace};
 use std::alloc::{AllocError, Global};
 use std::hash::RandomState;
@@ -96,7 +97,7 @@ fn push_run(text: &mut Text, alloc: Global, trace: &Trace, names: &Names) {
             push_batches(text, trace, names, &mut balances);
             push_balances(text, "\n balances", &balances);
         }
-        Err(_) => text.miss(Missing::Memory),
+        Err(_) => text.refused(),
     }
 }
 

@@ -1,11 +1,12 @@
 //! The parts of a trace as they are lent, frame by frame.
 
-use crate::texts::{Text, push_entry, push_reply, push_request};
+use crate::texts::{push_entry, push_reply, push_request};
 use eve_frames::{
     AccessView, AttemptView, BatchView, CommitView, CustomerView, FrameView, RollbackView,
     SentView, VoteView,
 };
 use eve_grammar::{Choice, Restore};
+use eve_testing::Text;
 use eve_views::{Accesses, Step, Trace};
 
 /// That what an iterator gives isn't what is lent by place.
@@ -15,16 +16,16 @@ fn push_unlike(text: &mut Text, is_unlike: bool) {
 
 /// A customer: its name, saving and checking.
 fn push_customer(text: &mut Text, view: CustomerView) {
-    text.number("\n  ", view.offset());
-    text.name(" customer ", view.name());
-    text.cents(" saves ", view.saving().get());
-    text.cents(" checks ", view.checking().get());
+    text.value("\n  ", view.offset());
+    text.bytes(" customer ", view.name());
+    text.value(" saves ", view.saving().get());
+    text.value(" checks ", view.checking().get());
 }
 
 /// Who asks.
 fn push_client(text: &mut Text, client: u32, number: u64) {
-    text.number("; ", u64::from(client));
-    text.number("/", number);
+    text.value("; ", u64::from(client));
+    text.value("/", number);
     text.words(" ");
 }
 
@@ -41,20 +42,20 @@ fn push_requests(text: &mut Text, view: BatchView) {
 
 /// A batch: its number, the sizes of its parallelBatches, and its requests.
 fn push_batch(text: &mut Text, view: BatchView) {
-    text.number("\n  ", view.offset());
-    text.number(" batch ", u64::from(view.seq()));
+    text.value("\n  ", view.offset());
+    text.value(" batch ", u64::from(view.seq()));
     text.words(", of");
     for group in 0..view.groups() {
-        text.number(" ", u64::from(view.group(group)));
+        text.value(" ", u64::from(view.group(group)));
     }
     push_requests(text, view);
 }
 
 /// Where the frame of a batch is, its kind, the batch and the view.
 fn push_place(text: &mut Text, offset: u64, kind: &str, n: u32, view: u32) {
-    text.number("\n  ", offset);
-    text.number(kind, u64::from(n));
-    text.number(" in view ", u64::from(view));
+    text.value("\n  ", offset);
+    text.value(kind, u64::from(n));
+    text.value(" in view ", u64::from(view));
 }
 
 /// An attempt's certificate.
@@ -62,7 +63,7 @@ fn push_certificate(text: &mut Text, view: AttemptView) {
     let mut all = view.certificate();
     for place in 0..view.len() {
         let index = view.index_at(place);
-        text.number(" ", u64::from(index));
+        text.value(" ", u64::from(index));
         push_unlike(text, all.next() != Some(index));
     }
 }
@@ -103,10 +104,10 @@ fn push_entries(text: &mut Text, view: AccessView) {
 
 /// An access record: its worker, the worker's place, its request's index, and its entries.
 fn push_access(text: &mut Text, view: AccessView) {
-    text.number("\n  ", view.offset());
-    text.number(" access by worker ", u64::from(view.worker()));
-    text.number(" at ", u64::from(view.place()));
-    text.number(" of request ", u64::from(view.index()));
+    text.value("\n  ", view.offset());
+    text.value(" access by worker ", u64::from(view.worker()));
+    text.value(" at ", u64::from(view.place()));
+    text.value(" of request ", u64::from(view.index()));
     push_entries(text, view);
 }
 
@@ -122,9 +123,9 @@ fn push_commit(text: &mut Text, view: CommitView) {
 }
 
 fn push_restore(text: &mut Text, restore: Restore) {
-    text.number(", row ", u64::from(restore.row.number()));
-    text.number(" version ", restore.version);
-    text.cents(" value ", restore.value.get());
+    text.value(", row ", u64::from(restore.row.number()));
+    text.value(" version ", restore.version);
+    text.value(" value ", restore.value.get());
 }
 
 /// What a rollback restores.
@@ -139,9 +140,9 @@ fn push_restores(text: &mut Text, view: RollbackView) {
 
 /// A rollback: to which batch, into which view, and what it restores.
 fn push_rollback(text: &mut Text, view: RollbackView) {
-    text.number("\n  ", view.offset());
-    text.number(" rollback to ", u64::from(view.to()));
-    text.number(" into view ", u64::from(view.view()));
+    text.value("\n  ", view.offset());
+    text.value(" rollback to ", u64::from(view.to()));
+    text.value(" into view ", u64::from(view.view()));
     push_restores(text, view);
 }
 
@@ -154,11 +155,11 @@ fn push_vote(text: &mut Text, view: VoteView) {
 }
 
 fn push_sent(text: &mut Text, view: SentView) {
-    text.number("\n  ", view.offset());
-    text.number(" sent to ", u64::from(view.client()));
-    text.number("/", view.number());
-    text.number(" by replica ", u64::from(view.replica()));
-    text.number(" of batch ", u64::from(view.seq()));
+    text.value("\n  ", view.offset());
+    text.value(" sent to ", u64::from(view.client()));
+    text.value("/", view.number());
+    text.value(" by replica ", u64::from(view.replica()));
+    text.value(" of batch ", u64::from(view.seq()));
     text.words(": ");
     push_reply(text, view.reply());
 }
@@ -179,7 +180,7 @@ fn push_section(text: &mut Text, trace: &Trace, replica: u8) {
     if replica >= trace.section_count() {
         return;
     }
-    text.number("\n replica ", u64::from(replica));
+    text.value("\n replica ", u64::from(replica));
     let mut steps = trace.section(replica);
     for _ in 0..trace.frame_count() {
         let Some(step) = steps.next() else {
@@ -193,7 +194,7 @@ fn push_votes(text: &mut Text, trace: &Trace, verifier: u8) {
     if verifier >= trace.verifier_count() {
         return;
     }
-    text.number("\n verifier ", u64::from(verifier));
+    text.value("\n verifier ", u64::from(verifier));
     let votes = trace.votes(verifier);
     for i in 0..votes.len() {
         push_vote(text, votes.get(i));
@@ -203,13 +204,13 @@ fn push_votes(text: &mut Text, trace: &Trace, verifier: u8) {
 /// The header's numbers.
 fn push_head(text: &mut Text, trace: &Trace) {
     let head = trace.head();
-    text.number("\n ", u64::from(head.replicas));
-    text.number(" replicas, ", u64::from(head.verifiers));
-    text.number(" verifiers, quorum ", u64::from(head.quorum));
-    text.number(", window ", u64::from(head.window));
-    text.number(", workers ", u64::from(head.workers));
-    text.number(", ", u64::from(head.customers));
-    text.number(" customers, ", u64::from(head.batches));
+    text.value("\n ", u64::from(head.replicas));
+    text.value(" replicas, ", u64::from(head.verifiers));
+    text.value(" verifiers, quorum ", u64::from(head.quorum));
+    text.value(", window ", u64::from(head.window));
+    text.value(", workers ", u64::from(head.workers));
+    text.value(", ", u64::from(head.customers));
+    text.value(" customers, ", u64::from(head.batches));
     text.words(" batches");
 }
 
@@ -257,7 +258,7 @@ pub fn push_parts(text: &mut Text, trace: &Trace) {
 /// The replica in whose section a byte lies.
 fn push_section_of(text: &mut Text, trace: &Trace, offset: u64) {
     match trace.section_of(offset) {
-        Some(replica) => text.number(" of ", u64::from(replica)),
+        Some(replica) => text.value(" of ", u64::from(replica)),
         None => {}
     }
 }
@@ -267,10 +268,10 @@ fn push_section_of(text: &mut Text, trace: &Trace, offset: u64) {
 fn push_frame(text: &mut Text, trace: &Trace, frame: FrameView) {
     let offset = frame.offset();
     let length = frame.body_len() as u64;
-    text.number("\n  ", offset);
+    text.value("\n  ", offset);
     text.words(" ");
     text.words(frame.kind_name());
-    text.number(" ", length);
+    text.value(" ", length);
     push_section_of(text, trace, offset);
     push_section_of(text, trace, offset.saturating_add(length + 4));
     text.hex(": ", frame.bytes());

@@ -1,6 +1,7 @@
 //! What is said of many numbers, in few lines.
 
-use crate::texts::{Missing, Text};
+use crate::texts::Missing;
+use eve_testing::Text;
 use std::alloc::Global;
 
 /// A text with a line for each range of numbers, which rise, of which the same is said.
@@ -32,12 +33,12 @@ impl Ranges {
 
     /// Keeps why something can't be said.
     pub fn miss(&mut self, why: Missing) {
-        self.text.miss(why);
+        self.text.fail(why.error());
     }
 
     /// Says something of the next number.
     pub fn say(&mut self, number: usize, line: &Text) {
-        self.text.miss_as(line);
+        self.text.fail_as(line);
         if self.line.as_str() != line.as_str() {
             self.end();
             self.from = number;
@@ -52,8 +53,8 @@ impl Ranges {
             return;
         }
         let (from, to) = (self.from as u64, self.to as u64);
-        self.text.number("\n  ", from);
-        self.text.number(" to ", to);
+        self.text.value("\n  ", from);
+        self.text.value(" to ", to);
         self.text.words(": ");
         self.text.words(self.line.as_str());
     }
@@ -61,8 +62,8 @@ impl Ranges {
     /// Adds all of it to a text.
     pub fn push_all(&mut self, text: &mut Text) {
         self.end();
-        text.miss_as(&self.line);
-        text.miss_as(&self.text);
+        text.fail_as(&self.line);
+        text.fail_as(&self.text);
         text.words(self.text.as_str());
     }
 }

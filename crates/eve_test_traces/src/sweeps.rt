@@ -3,10 +3,11 @@
 use crate::audits::{by_one_thread, by_two, push_by_one};
 use crate::change::set_total;
 use crate::ranges::Ranges;
-use crate::texts::{Missing, Text};
+use crate::texts::Missing;
 use eve_audit::Verdict;
 use eve_grammar::u32_at;
 use eve_recorder::OpenGate;
+use eve_testing::Text;
 use std::alloc::{AllocError, Global};
 use std::random::RandomSource;
 use std::sync::Wait;
@@ -21,7 +22,7 @@ fn is_accepted<R: AllocGlobal + RandomSource + Threads + Sync>(
     match by_one_thread(text, rt, bytes) {
         Some(Verdict::Yes(_)) => true,
         Some(Verdict::No(fault)) if fault.offset > bytes.len() as u64 => {
-            text.miss(Missing::Verdict);
+            text.fail(Missing::Verdict.error());
             false
         }
         _ => false,
@@ -77,7 +78,7 @@ fn accepted_values<R: AllocGlobal + RandomSource + Threads + Sync>(
     for value in 0..=255u8 {
         match copy.get_mut(place) {
             Some(byte) => *byte = value,
-            None => text.miss(Missing::Place),
+            None => text.fail(Missing::Place.error()),
         }
         if is_accepted(text, rt, copy) {
             right = right.and(value);
@@ -91,9 +92,9 @@ fn push_values(text: &mut Text, values: Values) {
     if values.count < 2 {
         text.words("yes with its own value alone");
     } else {
-        text.number("yes with ", u64::from(values.count));
-        text.number(" values from ", u64::from(values.least));
-        text.number(" to ", u64::from(values.greatest));
+        text.value("yes with ", u64::from(values.count));
+        text.value(" values from ", u64::from(values.least));
+        text.value(" to ", u64::from(values.greatest));
     }
 }
 
@@ -115,11 +116,11 @@ fn push_by_one_and_two<R: AllocGlobal + RandomSource + Threads + Wait + Sync>(
 /// How a trace is changed, by a number.
 #[derive(Clone, Copy)]
 enum Way {
-    /// Only so many of its first bytes are left.
+    /// Only the given number of its first bytes is left.
     Front,
     /// The same, with its own total.
     FrontWithTotal,
-    /// The frame at this place claims so many bytes for its body.
+    /// The frame at this place claims the given number of bytes for its body.
     Length(usize),
     /// The byte at this place has every value.
     Values,
@@ -190,7 +191,7 @@ fn said_of<R: AllocGlobal + RandomSource + Threads + Wait + Sync>(
     let mut text = Text::new(rt.alloc());
     match varied(rt.alloc(), bytes, way, number) {
         Ok(mut copy) => push_varied(&mut text, rt, copy.as_mut_slice(), way, number),
-        Err(_) => text.miss(Missing::Memory),
+        Err(_) => text.refused(),
     }
     text
 }

@@ -1,10 +1,10 @@
 //! Batches that are drawn, cut and compared with the definition.
 
 use crate::model::{Drawn, Member};
-use crate::said::Said;
 use crate::texts::names_of;
 use eve_accounts::{Amount, Cents, Name, Names};
-use eve_workload::{Mixer, mix};
+use eve_testing::{Draws, Text};
+use eve_workload::{Mixer, MixingTable};
 use eve_write::{BatchData, CustomerData, RequestData, TransactionData};
 use std::alloc::Global;
 use std::hash::RandomState;
@@ -29,50 +29,33 @@ fn listed() -> Option<Listed> {
     Some(listed)
 }
 
-/// Numbers that are drawn one after another, always the same.
-#[derive(Drop)]
-struct Draws {
-    state: u64,
+/// A request of one of the first customers, seldom of none.
+fn request(draws: &mut Draws, listed: &Listed, customers: u32) -> Drawn {
+    let kind = draws.below(5);
+    let own = customer(draws, customers);
+    let other = customer(draws, customers);
+    let amount = Amount::new(i64::from(draws.below(20)) - 2).unwrap_or(Amount::of(0));
+    let name = name_of(listed, own);
+    let transaction = match kind {
+        0 => TransactionData::Balance(name),
+        1 => TransactionData::DepositChecking(name, amount),
+        2 => TransactionData::TransactSaving(name, amount),
+        3 => TransactionData::Amalgamate(name, name_of(listed, other)),
+        _ => TransactionData::WriteCheck(name, amount),
+    };
+    Drawn {
+        transaction,
+        customer: own,
+        other,
+    }
 }
 
-impl Draws {
-    /// A number below `limit`, which isn't 0.
-    fn below(&mut self, limit: u32) -> u32 {
-        self.state = self
-            .state
-            .wrapping_mul(6_364_136_223_846_793_005)
-            .wrapping_add(1_442_695_040_888_963_407);
-        let high = (self.state >> 32) as u32;
-        if limit == 0 { 0 } else { high % limit }
-    }
-
-    // A request of one of so many customers, seldom of none.
-    fn request(&mut self, listed: &Listed, customers: u32) -> Drawn {
-        let kind = self.below(5);
-        let customer = self.customer(customers);
-        let other = self.customer(customers);
-        let amount = Amount::new(i64::from(self.below(20)) - 2).unwrap_or(Amount::of(0));
-        let name = name_of(listed, customer);
-        let transaction = match kind {
-            0 => TransactionData::Balance(name),
-            1 => TransactionData::DepositChecking(name, amount),
-            2 => TransactionData::TransactSaving(name, amount),
-            3 => TransactionData::Amalgamate(name, name_of(listed, other)),
-            _ => TransactionData::WriteCheck(name, amount),
-        };
-        Drawn {
-            transaction,
-            customer,
-            other,
-        }
-    }
-
-    fn customer(&mut self, customers: u32) -> u32 {
-        if self.below(16) == 0 {
-            customers
-        } else {
-            self.below(customers)
-        }
+/// One of the first customers, seldom the place past them.
+fn customer(draws: &mut Draws, customers: u32) -> u32 {
+    if draws.below(16) == 0 {
+        customers
+    } else {
+        draws.below(customers)
     }
 }
 
@@ -80,73 +63,83 @@ fn name_of(listed: &Listed, customer: u32) -> Name {
     listed[(customer as usize).min(64)].name
 }
 
-/// Cuts so many batches, and says how many aren't cut as the definition says.
-pub fn drawn(rt: &HostRuntime, count: &str, said: &mut Said) -> io::Result<()> {
+/// Cuts `count` batches, and says how many aren't cut as the definition says.
+pub fn drawn(rt: &HostRuntime, count: &str, said: &mut Text) -> io::Result<()> {
     let count = count.parse::<u32>().unwrap_or(0);
     let Some(listed) = listed() else {
         return Err(ErrorKind::InvalidData.into());
     };
-    let mut draws = Draws { state: 1 };
+    let mut draws = Draws::new(1);
+    let mut table = MixingTable::new(rt.alloc());
     let mut wrong = 0u32;
     for _ in 0..count {
         let keys = RandomState::new(rt)?;
-        if !is_as_defined(rt.alloc(), keys, &mut draws, &listed, said) {
+        if !is_as_defined(rt.alloc(), keys, &mut table, &mut draws, &listed, said) {
             wrong = wrong.saturating_add(1);
         }
     }
-    said.number("", u64::from(count));
-    said.number(" batches drawn: ", u64::from(wrong));
+    said.value("", count);
+    said.value(" batches drawn: ", wrong);
     said.words(" cut otherwise\n");
     Ok(())
 }
 
-// Draws a batch, and says whether it is cut as the definition says.
+/// Draws a batch, and says whether it is cut as the definition says.
 fn is_as_defined(
     alloc: Global,
     keys: RandomState,
+    table: &mut MixingTable,
     draws: &mut Draws,
     listed: &Listed,
-    said: &mut Said,
+    said: &mut Text,
 ) -> bool {
     let customers = draws.below(64).saturating_add(1);
     let names = names_of(alloc, keys, &listed[..(customers as usize).min(64)], said);
     let mut requests = Vec::new(alloc);
     let mut members = Vec::new(alloc);
     for number in 0..draws.below(256).saturating_add(1) {
-        let drawn = draws.request(listed, customers);
+        let drawn = request(draws, listed, customers);
         let request = RequestData {
             client: 7,
             number: u64::from(number),
             transaction: drawn.transaction,
         };
-        said.needs(requests.push(request).is_ok());
+        said.stored(requests.push(request));
         let member = Member::behind(members.as_slice(), &drawn, customers);
-        said.needs(members.push(member).is_ok());
+        said.stored(members.push(member));
     }
-    is_cut_as_defined(alloc, requests.as_slice(), &names, members.as_slice(), said)
+    is_cut_as_defined(
+        alloc,
+        table,
+        requests.as_slice(),
+        &names,
+        members.as_slice(),
+        said,
+    )
 }
 
-// Whether the first mixer cuts these requests into the groups of these members.
+/// Whether the first mixer cuts these requests into the groups of these members.
 fn is_cut_as_defined(
     alloc: Global,
+    table: &mut MixingTable,
     requests: &[RequestData],
     names: &Names,
     members: &[Member],
-    said: &mut Said,
+    said: &mut Text,
 ) -> bool {
     if requests.is_empty() || requests.len() > 256 {
         return false;
     }
-    match mix(alloc, requests, names, Mixer::First) {
-        Ok(batch) => has_groups(&batch, members),
+    match table.mix_touched(alloc, requests, names, Mixer::First) {
+        Ok(mixed) => has_groups(&mixed.batch, members),
         Err(_) => {
-            said.needs(false);
+            said.refused();
             false
         }
     }
 }
 
-// Whether the batch lists the requests of one group after another; a request's number is its place among the members.
+/// Whether the batch lists the requests of one group after another; a request's number is its place among the members.
 fn has_groups(batch: &BatchData, members: &[Member]) -> bool {
     let mut requests = batch.requests.iter();
     for group in 0..batch.sizes.len() {
@@ -157,7 +150,7 @@ fn has_groups(batch: &BatchData, members: &[Member]) -> bool {
     requests.next().is_none() && batch.requests.len() == members.len()
 }
 
-// Whether the next requests, so many and not none, are those of this group.
+/// Whether the next `size` requests, at least one, are those of this group.
 fn come_next(
     requests: &mut Iter<RequestData>,
     size: u16,

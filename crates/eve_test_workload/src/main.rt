@@ -2,25 +2,24 @@
 //!
 //! - `read NAME TEXT` reads the text, `cut NAME TEXT` each front of it, and `mix NAME TEXT` cuts its batches by both
 //!   mixers, and lists the numbers of their requests; in a text `/` stands for a line feed and `{7f}` for that byte;
-//! - `greatest` makes texts with as many customers, requests and batches as there may be, and more;
-//! - `drawn COUNT` cuts so many batches, which are drawn, and compares them with the definition of a cut.
+//! - `greatest` makes texts with the greatest numbers of customers, requests and batches, and more;
+//! - `drawn COUNT` draws COUNT batches, cuts them, and compares them with the definition of a cut.
 #![tactic(auto)]
 
 mod drawn;
 mod greatest;
 mod model;
-mod said;
 mod texts;
 
 use crate::drawn::drawn;
 use crate::greatest::greatest;
-use crate::said::Said;
 use crate::texts::{bytes_of, cut, mixed, read};
+use eve_testing::Text;
 use std::hash::RandomState;
 use std::io;
 
 /// Does what a line asks for.
-fn act(rt: &HostRuntime, line: &str, said: &mut Said) -> io::Result<()> {
+fn act(rt: &HostRuntime, line: &str, said: &mut Text) -> io::Result<()> {
     let mut words = line.splitn(3, ' ');
     let what = words.next().unwrap_or("");
     let name = words.next().unwrap_or("");
@@ -34,12 +33,12 @@ fn act_on(
     what: &str,
     name: &str,
     text: &[u8],
-    said: &mut Said,
+    said: &mut Text,
 ) -> io::Result<()> {
     let alloc = rt.alloc();
     let keys = RandomState::new(rt)?;
     match what {
-        "read" => read(alloc, name, text, said),
+        "read" => read(alloc, name, text, 1, said),
         "cut" => cut(alloc, name, text, said),
         "mix" => mixed(alloc, keys, name, text, said),
         "greatest" => greatest(alloc, keys, said),
@@ -51,7 +50,7 @@ fn act_on(
 
 /// Prints what came of a line.
 fn print(rt: &HostRuntime, line: &str) -> io::Result<()> {
-    let mut said = Said::nothing(rt.alloc());
+    let mut said = Text::new(rt.alloc());
     act(rt, line, &mut said)?;
     said.print(rt)
 }

@@ -25,7 +25,7 @@ fn checking(customer: u32) -> u128 {
     saving(customer).wrapping_shl(1)
 }
 
-// What the request touches, where there are so many customers: nothing, if it is refused whatever the balances are.
+/// What the request touches, of this number of customers: nothing, if it is refused at all balances.
 fn touched_by(request: &Drawn, customers: u32) -> Touched {
     let own = request.customer;
     let (read, written) = match &request.transaction {
@@ -42,7 +42,7 @@ fn touched_by(request: &Drawn, customers: u32) -> Touched {
     Touched { read, written }
 }
 
-// Whether they touch one row that at least one of them writes.
+/// Whether they touch one row that at least one of them writes.
 fn are_in_conflict(a: Touched, b: Touched) -> bool {
     a.written & (b.read | b.written) != 0 || a.read & b.written != 0
 }
@@ -66,7 +66,7 @@ impl Member {
     }
 }
 
-// The first group that holds no request in conflict with what is touched; past the last if there is none.
+/// The first group that holds no request in conflict with what is touched; past the last if there is none.
 fn first_without_conflict(members: &[Member], touched: Touched) -> usize {
     for group in 0..members.len() {
         if !holds_conflict(members, group, touched) {

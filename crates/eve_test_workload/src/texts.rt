@@ -2,15 +2,15 @@
 
 ghost use Rattle.std.specs.Prelude.{◌≤◌, length};
 
-use crate::said::Said;
 use eve_accounts::Names;
+use eve_testing::Text;
 use eve_workload::{Mixer, Workload, WorkloadFault, mix};
 use eve_write::{BatchData, CustomerData, RequestData};
 use std::alloc::Global;
 use std::hash::RandomState;
 
 /// The bytes of a text as it is written on a line: `/` stands for a line feed, and `{7f}` for that byte.
-pub fn bytes_of(alloc: Global, written: &str, said: &mut Said) -> Vec<u8> {
+pub fn bytes_of(alloc: Global, written: &str, said: &mut Text) -> Vec<u8> {
     let mut bytes = Vec::new(alloc);
     let mut is_inside = false;
     let mut value = 0u8;
@@ -26,13 +26,13 @@ pub fn bytes_of(alloc: Global, written: &str, said: &mut Said) -> Vec<u8> {
             other => value = other,
         }
         if !is_inside {
-            said.needs(bytes.push(value).is_ok());
+            said.stored(bytes.push(value));
         }
     }
     bytes
 }
 
-// What a hexadecimal digit stands for.
+/// What a hexadecimal digit stands for.
 fn digit_of(digit: u8) -> u8 {
     match digit {
         b'0'..=b'9' => digit - b'0',
@@ -41,43 +41,43 @@ fn digit_of(digit: u8) -> u8 {
     }
 }
 
-/// Says what the text comes to.
-pub fn read(alloc: Global, name: &str, text: &[u8], said: &mut Said) {
+/// Says what the text comes to in this format.
+pub fn read(alloc: Global, name: &str, text: &[u8], format: u16, said: &mut Text) {
     said.words(name);
     said.words(": ");
-    let wrong = wrong_line(alloc, text, said);
+    let wrong = wrong_line(alloc, text, format, said);
     tell_wrong(wrong, said);
 }
 
-// The line of the text that isn't right, if there is one.
-fn wrong_line(alloc: Global, text: &[u8], said: &mut Said) -> Option<u32> {
-    match Workload::read(alloc, text) {
+/// The line of the text that isn't right in this format, if there is one.
+fn wrong_line(alloc: Global, text: &[u8], format: u16, said: &mut Text) -> Option<u32> {
+    match Workload::read(alloc, text, format) {
         Ok(_) => None,
         Err(WorkloadFault::Line(number)) => Some(number),
         Err(WorkloadFault::Memory) => {
-            said.needs(false);
+            said.refused();
             None
         }
     }
 }
 
-// Says `right`, or the line that isn't.
-fn tell_wrong(wrong: Option<u32>, said: &mut Said) {
+/// Says `right`, or the line that isn't.
+fn tell_wrong(wrong: Option<u32>, said: &mut Text) {
     match wrong {
         None => said.words("right\n"),
         Some(number) => {
-            said.number("line ", u64::from(number));
+            said.value("line ", number);
             said.words("\n");
         }
     }
 }
 
 /// Says what each front of the text comes to; fronts of one answer that follow one another stand on one line.
-pub fn cut(alloc: Global, name: &str, text: &[u8], said: &mut Said) {
+pub fn cut(alloc: Global, name: &str, text: &[u8], said: &mut Text) {
     let mut from = 0;
-    let mut wrong = wrong_line(alloc, &text[..0], said);
+    let mut wrong = wrong_line(alloc, &text[..0], 1, said);
     for len in 0..text.len() {
-        let next = wrong_line(alloc, &text[..len + 1], said);
+        let next = wrong_line(alloc, &text[..len + 1], 1, said);
         if next != wrong {
             tell_fronts(name, from, len, said);
             tell_wrong(wrong, said);
@@ -89,11 +89,11 @@ pub fn cut(alloc: Global, name: &str, text: &[u8], said: &mut Said) {
     tell_wrong(wrong, said);
 }
 
-// Says of which fronts something is told.
-fn tell_fronts(name: &str, from: usize, to: usize, said: &mut Said) {
+/// Says of which fronts something is told.
+fn tell_fronts(name: &str, from: usize, to: usize, said: &mut Text) {
     said.words(name);
-    said.number(", ", from as u64);
-    said.number(" to ", to as u64);
+    said.value(", ", from);
+    said.value(" to ", to);
     said.words(" bytes: ");
 }
 
@@ -102,28 +102,28 @@ pub fn names_of<'a>(
     alloc: Global,
     keys: RandomState,
     customers: &'a [CustomerData],
-    said: &mut Said,
+    said: &mut Text,
 ) -> Names<'a> {
     let mut names = Names::new(alloc, keys, 4096);
     for customer in customers {
-        said.needs(names.add(customer.name.as_slice()).is_ok());
+        said.stored(names.add(customer.name.as_slice()));
     }
     names
 }
 
 /// Cuts each batch of the text by both mixers.
-pub fn mixed(alloc: Global, keys: RandomState, name: &str, text: &[u8], said: &mut Said) {
+pub fn mixed(alloc: Global, keys: RandomState, name: &str, text: &[u8], said: &mut Text) {
     said.words(name);
     said.words(":");
-    match Workload::read(alloc, text) {
+    match Workload::read(alloc, text, 1) {
         Ok(workload) => tell_batches(alloc, keys, &workload, said),
         Err(WorkloadFault::Line(_)) => said.words(" not right"),
-        Err(WorkloadFault::Memory) => said.needs(false),
+        Err(WorkloadFault::Memory) => said.refused(),
     }
     said.words("\n");
 }
 
-fn tell_batches(alloc: Global, keys: RandomState, workload: &Workload, said: &mut Said) {
+fn tell_batches(alloc: Global, keys: RandomState, workload: &Workload, said: &mut Text) {
     let names = names_of(alloc, keys, workload.customers(), said);
     for n in 0..workload.batches() {
         let requests = workload.batch(n + 1);
@@ -134,25 +134,25 @@ fn tell_batches(alloc: Global, keys: RandomState, workload: &Workload, said: &mu
     }
 }
 
-// Cuts these requests.
-fn tell_mixed(alloc: Global, requests: &[RequestData], names: &Names, mixer: Mixer, said: &mut Said)
+/// Cuts these requests.
+fn tell_mixed(alloc: Global, requests: &[RequestData], names: &Names, mixer: Mixer, said: &mut Text)
     requires some { 1 ≤ length requests.now }
     requires few { length requests.now ≤ 256 }
 {
     match mix(alloc, requests, names, mixer) {
         Ok(batch) => list(&batch, said),
-        Err(_) => said.needs(false),
+        Err(_) => said.refused(),
     }
 }
 
-// Lists the numbers of the requests of each parallelBatch.
-fn list(batch: &BatchData, said: &mut Said) {
+/// Lists the numbers of the requests of each parallelBatch.
+fn list(batch: &BatchData, said: &mut Text) {
     let mut requests = batch.requests.iter();
     for size in &batch.sizes {
         said.words(" [");
         for place in 0..*size {
             if let Some(request) = requests.next() {
-                said.number(if place > 0 { " " } else { "" }, request.number);
+                said.value(if place > 0 { " " } else { "" }, request.number);
             }
         }
         said.words("]");

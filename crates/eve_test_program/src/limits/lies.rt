@@ -18,7 +18,7 @@ fn part(bytes: &[u8], from: usize, to: usize) -> &[u8] {
     bytes.get(from..to).unwrap_or(&[])
 }
 
-/// The trace with its last replies sent once more: as many of them.
+/// The trace with its last `count` replies sent once more.
 pub(crate) fn sent_again(alloc: Global, trace: &[u8], count: usize) -> Bytes {
     let end = trace.len().saturating_sub(END);
     let from = end.saturating_sub(count.saturating_mul(SENT));

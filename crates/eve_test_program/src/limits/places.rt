@@ -38,14 +38,14 @@ impl Places {
         }
     }
 
-    // Finds the batch of this number.
+    /// Finds the batch of this number.
     fn find_batch(&mut self, trace: &Trace<'_>, n: u32) {
         if 1 <= n && n <= trace.batch_count() {
             self.batch = Some(trace.batch(n).offset());
         }
     }
 
-    // Finds what the last replica did.
+    /// Finds what the last replica did.
     fn find_steps(&mut self, trace: &Trace<'_>, index: u16) {
         trace.recall_limits();
         let Some(last) = trace.section_count().checked_sub(1) else {
@@ -63,7 +63,7 @@ impl Places {
         }
     }
 
-    // Finds the record of a request in an attempt.
+    /// Finds the record of a request in an attempt.
     fn find_access(&mut self, attempt: u64, accesses: &Accesses<'_, '_>, index: u16) {
         for place in 0..accesses.len() {
             let access = accesses.get(place);

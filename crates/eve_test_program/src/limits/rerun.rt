@@ -1,5 +1,7 @@
 //! A run whose first window is rolled back and then executed again, made of the parts of two runs of one workload.
 
+ghost use Rattle.std.specs.Prelude.{◌≡◌};
+
 use crate::bytes::Bytes;
 use crate::fault::Fault;
 use eve_grammar::{MOST_BYTES, Restore};
@@ -22,7 +24,9 @@ const LONGEST: u64 = MOST_BYTES as u64;
 fn parts_of<R: AllocGlobal + RandomSource + Threads + Wait + Sync>(
     rt: &R,
     workload: &Workload,
-) -> Result<Parts, Fault> {
+) -> Result<Parts, Fault>
+    requires { workload.now.format ≡ 1 }
+{
     let random = match RandomState::new(rt) {
         Ok(random) => random,
         Err(why) => return Err(Fault::from(why)),
@@ -129,7 +133,9 @@ fn rerun_of<R: AllocGlobal + RandomSource + Threads + Wait + Sync>(
     rt: &R,
     page: &mut Bytes,
     workload: &Workload,
-) -> Result<Parts, Fault> {
+) -> Result<Parts, Fault>
+    requires { workload.now.format ≡ 1 }
+{
     let mut first = parts_of(rt, workload)?;
     let mut parts = parts_of(rt, workload)?;
     discard_all(rt.alloc(), page, &mut first, &mut parts);
@@ -143,7 +149,7 @@ pub(crate) fn rerun<R: AllocGlobal + RandomSource + Threads + Wait + Sync>(
     page: &mut Bytes,
     workload: &[u8],
 ) -> Result<Parts, Fault> {
-    match Workload::read(rt.alloc(), workload) {
+    match Workload::read(rt.alloc(), workload, 1) {
         Ok(workload) => rerun_of(rt, page, &workload),
         Err(_) => Err(Fault::Run),
     }

@@ -28,6 +28,19 @@ pub(crate) static LONGEST: Size = Size {
     clients: Clients::EachBatch,
 };
 
+/// More than a thousand windows, each of one batch.
+pub(crate) static WINDOWS: Size = Size {
+    replicas: 1,
+    verifiers: 1,
+    quorum: 1,
+    window: 1,
+    workers: 1,
+    customers: 2,
+    batches: 1060,
+    requests: 1,
+    clients: Clients::EachBatch,
+};
+
 /// A hundred batches, in the last third of which the numbers of the one client begin at 0.
 pub(crate) static FALLING: Size = Size {
     replicas: 2,
@@ -67,7 +80,7 @@ pub(crate) static WIDEST: Size = Size {
     clients: Clients::EachBatch,
 };
 
-/// One window of 256 requests a batch, over as many rows as there may be.
+/// One window of 256 requests a batch, over all rows that there may be.
 pub(crate) static WINDOW: Size = Size {
     replicas: 8,
     verifiers: 16,

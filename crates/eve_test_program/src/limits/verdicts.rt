@@ -48,7 +48,7 @@ fn ending(alloc: Global, spot: Spot) -> Bytes {
 /// How many workers audit.
 static WORKERS: [&str; 3] = ["1", "3", "16"];
 
-/// Writes what an audit by so many workers says, with the word `there` where it names the spot that it has to.
+/// Writes what an audit by each number of workers says, with the word `there` where it names the spot that it has to.
 pub(crate) fn tell<R: AllocGlobal + RandomSource + Threads + Wait + Sync>(
     rt: &R,
     page: &mut Bytes,

@@ -39,7 +39,7 @@ pub(crate) enum Clients {
 }
 
 impl Size {
-    // The client of a request, and the client's number for it.
+    /// The client of a request, and the client's number for it.
     fn id_of(&self, batch: u32, request: u32) -> (u32, u32) {
         let count = self.batches.wrapping_mul(self.requests);
         let place = batch.wrapping_mul(self.requests).wrapping_add(request);
