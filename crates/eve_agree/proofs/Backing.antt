@@ -24,7 +24,7 @@ use Rattle.eve_views.specs.declared.fault.Code.TheVariants as code
 use Rattle.eve_views.specs.declared.fault.Fault.{Fault}
 use Rattle.eve_history.specs.Section.{SectionState, start, next, is_right, are_right}
 use Rattle.eve_history.specs.SectionHistory.{IsRightSection}
-use Rattle.eve_history.specs.Faults.{OfCommit, OfRollback}
+use Rattle.eve_history.specs.Structure.{OfCommit, OfRollback}
 use Rattle.eve_votes.specs.Votes.{IsDecided, IsRolledBack}
 use Rattle.eve_history.proofs.Places.{place_here, place_later, no_place, place_cases, located_rising, from_low}
 use Rattle.eve_agree.specs.Majority.{IsBacked, IsBackedSection, AllAreBacked, StandsInMajorities}

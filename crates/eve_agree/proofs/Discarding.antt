@@ -14,7 +14,7 @@ use Rattle.eve_grammar.specs.Limits.{HasLimits}
 use Rattle.eve_history.specs.Section.{Placed, SectionState, start, path_of, committing, next, state_after, settled}
 use Rattle.eve_history.specs.SectionHistory.{ExecutedAttempt, executed_attempt, ordered, access_with, history, names_of}
 use Rattle.eve_history.specs.SectionHistory.{placed_at, IsRightSection}
-use Rattle.eve_history.proofs.Structure.{state_after-append}
+use Rattle.eve_history.proofs.StructureLaws.{state_after-append}
 use Rattle.eve_chains.specs.Visible.{opening_table, execution, executions, executed_at, entries_before, rows_after}
 use Rattle.eve_chains.specs.Committed.{attempts_of}
 use Rattle.eve_chains.specs.Sound.{IsSoundAlong, SettledAreSound}

@@ -32,9 +32,9 @@ use Rattle.eve_history.specs.Section.{commits_first, is_right_commit, is_right, 
 use Rattle.eve_history.specs.SectionHistory.{ExecutedAttempt, SectionHistory, executed_attempt}
 use Rattle.eve_history.specs.SectionHistory.{attempts_among, rollbacks_among, section_history, placed_at}
 use Rattle.eve_history.specs.SectionHistory.{IsRightSection}
-use Rattle.eve_history.specs.Faults.{OfRollback}
+use Rattle.eve_history.specs.Structure.{OfRollback}
 use Rattle.eve_history.proofs.Coming.{come_start, attempts_among-append}
-use Rattle.eve_history.proofs.Structure.{state_after-append}
+use Rattle.eve_history.proofs.StructureLaws.{state_after-append}
 use Rattle.eve_history.proofs.Rights.{none_at}
 use Rattle.eve_history.proofs.Places.{place_cases, no_place, weaker_place, Rising, located_rising, At, first_place}
 use Rattle.eve_chains.specs.Along.{entries_along, AreWithin}

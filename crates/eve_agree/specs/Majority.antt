@@ -6,7 +6,7 @@ use Rattle.eve_grammar.specs.Spelling.{steps_at}
 use Rattle.eve_views.specs.declared.fault.Code.{Code}
 use Rattle.eve_views.specs.declared.fault.Code.TheVariants as code
 use Rattle.eve_views.specs.Form.{SomePlace}
-use Rattle.eve_history.specs.Faults.{OfCommit, OfRollback}
+use Rattle.eve_history.specs.Structure.{OfCommit, OfRollback}
 use Rattle.eve_votes.specs.Votes.{IsDecided, IsRolledBack}
 
 -- what a commit or a rollback does was voted for by a majority: the number, view and token of the commit, or that

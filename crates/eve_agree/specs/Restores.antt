@@ -6,7 +6,7 @@ use Rattle.eve_views.specs.declared.fault.Code.{Code}
 use Rattle.eve_views.specs.declared.fault.Code.TheVariants as code
 use Rattle.eve_views.specs.Form.{SomePlace}
 use Rattle.eve_history.specs.Section.{start, state_after}
-use Rattle.eve_history.specs.Faults.{OfRollback}
+use Rattle.eve_history.specs.Structure.{OfRollback}
 use Rattle.eve_agree.specs.Tables.{are_right_restores}
 
 -- a fault of restores stands at this offset in replica e's section

@@ -4,7 +4,7 @@ ghost use Rattle.std.specs.Prelude.{◌≡◌, ◌≤◌, ◌<◌, ◌↔◌, �
 ghost use Rattle.eve_grammar.specs.Limits.{is_batch};
 ghost use Rattle.eve_frames.specs.Said.{attempt_said, batch_said, sent_said};
 ghost use Rattle.eve_grammar.specs.Trace.{request_id};
-ghost use Rattle.eve_history.specs.Notes.{requests_said};
+ghost use Rattle.eve_history.specs.Order.{requests_said};
 ghost use Rattle.eve_agree.specs.Keeping.{kept_ids, AnswersAt, AreOf};
 
 use eve_frames::{AttemptView, BatchView, SentView};

@@ -4,7 +4,7 @@ use Rattle.std.specs.Prelude.{AllPairs, ◌≢◌}
 use Rattle.eve_grammar.specs.Trace.{Trace}
 use Rattle.eve_grammar.specs.Limits.{HasLimits}
 use Rattle.eve_views.specs.declared.fault.Code.TheVariants as code
-use Rattle.eve_history.specs.Faults.{StandsInOrders}
+use Rattle.eve_history.specs.Order.{StandsInOrders}
 use Rattle.eve_chains.specs.Committed.{batch_request_ids}
 use Rattle.eve_audit.specs.Accepted.{IsAccepted}
 use Rattle.eve_views.specs.Form.{HasNone, IsFaultOutside}

@@ -14,7 +14,7 @@ use Rattle.eve_history.specs.Section.{Placed, SectionState, start, state_after, 
 use Rattle.eve_history.specs.Section.{is_right_certificate, is_right_access, is_right_commit, is_right_rollback}
 use Rattle.eve_history.specs.Section.{are_right_accesses}
 use Rattle.eve_history.specs.SectionHistory.{history, names_of}
-use Rattle.eve_history.specs.Faults.{StandsInStructure, OfAttempt, OfCommit, OfRollback, accesses_of}
+use Rattle.eve_history.specs.Structure.{StandsInStructure, OfAttempt, OfCommit, OfRollback, accesses_of}
 use Rattle.eve_chains.specs.Visible.{executed_by, visible_to, rows_after}
 use Rattle.eve_chains.specs.Committed.{attempts_of, first_rows}
 use Rattle.eve_chains.specs.Faults.{StandsInRecords, StandsInChains}

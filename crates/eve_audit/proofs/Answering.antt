@@ -18,7 +18,7 @@ use Rattle.eve_audit.proofs.Verdicts.{faultless, found_in_form, trace_first}
 use Rattle.eve_audit.proofs.Within.{trace_fault_within, long_as}
 use Rattle.eve_audit.proofs.Naming.{named_in, named_in_none}
 use Rattle.eve_audit.specs.declared.verdict.Verdict.{Verdict}
-use Rattle.eve_history.specs.Faults.{StandsInOrders}
+use Rattle.eve_history.specs.Order.{StandsInOrders}
 
 module _ (bytes : List ℕ) (t : Trace) (read : IsRead bytes t) (once : (u : Trace) → Spells bytes u → u ≡ t) where
   pub no_for : ((f : Fault) → IsFaultOutside StandsInOrders t f → f.offset ≤ length_of t)

@@ -19,7 +19,7 @@ use Rattle.eve_audit.proofs.Sections.{FatesAreAsItEnds}
 use Rattle.eve_audit.proofs.Deciding.{Decided}
 use Rattle.eve_audit.proofs.Verdicts.{found_in_form, trace_first, faultless, some_replica}
 use Rattle.eve_audit.proofs.FirstOfAll.{first_in_trace}
-use Rattle.eve_history.specs.Faults.{StandsInOrders}
+use Rattle.eve_history.specs.Order.{StandsInOrders}
 
 -- ---- the summary
 

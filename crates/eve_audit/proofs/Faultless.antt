@@ -13,7 +13,7 @@ use Rattle.eve_grammar.specs.Following.{Spells}
 use Rattle.eve_grammar.proofs.Spelled.{limits_of_spelled}
 use Rattle.eve_views.specs.declared.fault.Code.TheVariants as code
 use Rattle.eve_history.specs.SectionHistory.{names_of, IsRightSection}
-use Rattle.eve_history.specs.Faults.{StandsInOrders}
+use Rattle.eve_history.specs.Order.{StandsInOrders}
 use Rattle.eve_chains.specs.Visible.{executed_by}
 use Rattle.eve_chains.specs.Committed.{batch_request_ids}
 use Rattle.eve_chains.specs.Sound.{OfSettledAccesses, RecordsFit, EntriesSee, SettledAreSound}

@@ -13,7 +13,8 @@ use Rattle.eve_views.specs.Code.{code_number, phase_of}
 use Rattle.eve_views.specs.declared.fault.Code.{Code}
 use Rattle.eve_views.specs.declared.fault.Code.TheVariants as code
 use Rattle.eve_views.specs.declared.fault.Fault.{Fault}
-use Rattle.eve_history.specs.Faults.{StandsInOrders, StandsInStructure}
+use Rattle.eve_history.specs.Order.{StandsInOrders}
+use Rattle.eve_history.specs.Structure.{StandsInStructure}
 use Rattle.eve_chains.specs.Faults.{StandsInRecords, StandsInChains}
 use Rattle.eve_agree.specs.Restores.{StandsInRestores}
 use Rattle.eve_agree.specs.DueTokens.{StandsInTokens}

@@ -16,7 +16,7 @@ use Rattle.eve_votes.specs.Faults.{StandsInVotes}
 use Rattle.eve_agree.specs.SentReplies.{StandsInReplies}
 use Rattle.eve_agree.specs.Agreement.{StandsInAgreement}
 use Rattle.eve_agree.specs.Majority.{StandsInMajorities}
-use Rattle.eve_history.specs.Faults.{StandsInOrders}
+use Rattle.eve_history.specs.Order.{StandsInOrders}
 
 -- a fact about what was found, from another about it
 pub found_weaker : (P Q : Fault → Type 0) (why : CheckFault) → ((f : Fault) → P f → Q f) → IfFound why P → IfFound why Q

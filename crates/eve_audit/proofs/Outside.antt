@@ -7,7 +7,7 @@ use Rattle.eve_grammar.specs.Spelling.{sections_start, section_start, verifiers_
 use Rattle.eve_grammar.specs.Spelling.{customers_at, batches_at, votes_of, votes_at, sent_at}
 use Rattle.eve_views.specs.declared.fault.Code.{Code}
 use Rattle.eve_views.specs.declared.fault.Code.TheVariants as code
-use Rattle.eve_history.specs.Faults.{StandsInOrders}
+use Rattle.eve_history.specs.Order.{StandsInOrders}
 use Rattle.eve_votes.specs.Faults.{StandsInVotes}
 use Rattle.eve_agree.specs.SentReplies.{StandsInReplies}
 use Rattle.eve_audit.proofs.Sections.{LiesIn}

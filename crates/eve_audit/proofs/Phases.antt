@@ -6,7 +6,8 @@ use Rattle.eve_views.specs.Form.{StandsInForm, IsFaultSomewhere, IsFaultOutside,
 use Rattle.eve_views.specs.declared.fault.Code.{Code}
 use Rattle.eve_views.specs.declared.fault.Code.TheVariants as code
 use Rattle.eve_views.specs.declared.fault.Fault.{Fault}
-use Rattle.eve_history.specs.Faults.{StandsInOrders, StandsInStructure}
+use Rattle.eve_history.specs.Order.{StandsInOrders}
+use Rattle.eve_history.specs.Structure.{StandsInStructure}
 use Rattle.eve_chains.specs.Faults.{StandsInRecords, StandsInChains}
 use Rattle.eve_agree.specs.Restores.{StandsInRestores}
 use Rattle.eve_agree.specs.DueTokens.{StandsInTokens}

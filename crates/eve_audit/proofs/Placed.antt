@@ -15,7 +15,8 @@ use Rattle.eve_history.specs.Section.{is_right_certificate, is_right_access, is_
 use Rattle.eve_history.specs.Section.{are_right_accesses}
 use Rattle.eve_history.specs.SectionHistory.{history, names_of}
 use Rattle.eve_views.specs.Form.{SomePlace}
-use Rattle.eve_history.specs.Faults.{accesses_of, OfAttempt, OfCommit, OfRollback, AtStep, AtAccess, StandsInStructure}
+use Rattle.eve_history.specs.Structure.{accesses_of, OfAttempt, OfCommit, OfRollback, AtStep, AtAccess}
+use Rattle.eve_history.specs.Structure.{StandsInStructure}
 use Rattle.eve_chains.specs.Visible.{executed_by, visible_to}
 use Rattle.eve_chains.specs.Faults.{AtSettledAccess, StandsInRecords, StandsInChains}
 use Rattle.eve_agree.specs.Restores.{StandsInRestores}

@@ -18,8 +18,8 @@ use Rattle.eve_history.specs.Section.{Placed, SectionState, start, state_after, 
 use Rattle.eve_history.specs.Section.{is_right_certificate, is_right_access, is_right_commit, is_right_rollback}
 use Rattle.eve_history.specs.Section.{are_right_accesses, are_right}
 use Rattle.eve_history.specs.SectionHistory.{history, names_of}
-use Rattle.eve_history.specs.Faults.{request_ids_at, accesses_of, OfAttempt, OfCommit, OfRollback, StandsInOrders}
-use Rattle.eve_history.specs.Faults.{StandsInStructure}
+use Rattle.eve_history.specs.Order.{request_ids_at, StandsInOrders}
+use Rattle.eve_history.specs.Structure.{accesses_of, OfAttempt, OfCommit, OfRollback, StandsInStructure}
 use Rattle.eve_history.proofs.Places.{place_here, place_later, place_cases, no_place}
 use Rattle.eve_chains.specs.Visible.{executed_by, visible_to}
 use Rattle.eve_chains.specs.Faults.{AtSettledAccess, StandsInRecords, StandsInChains}

@@ -12,8 +12,8 @@ use Rattle.eve_history.specs.declared.wrong.Wrong.{Wrong}
 use Rattle.eve_history.specs.FirstWrong.{first_wrong, fault_of}
 use Rattle.eve_history.specs.Section.{Placed, SectionState, start, next, state_after, settled}
 use Rattle.eve_history.specs.SectionHistory.{history, names_of, IsRightSection}
-use Rattle.eve_history.proofs.Structure.{state_after-append, right_steps, found_is_least}
-use Rattle.eve_history.specs.Faults.{StandsInStructure}
+use Rattle.eve_history.proofs.StructureLaws.{state_after-append, right_steps, found_is_least}
+use Rattle.eve_history.specs.Structure.{StandsInStructure}
 use Rattle.eve_chains.specs.Visible.{executed_by}
 use Rattle.eve_chains.specs.Sound.{OfSettledAccesses, RecordsFit}
 use Rattle.eve_agree.specs.Tables.{are_right_restores, all_restore_rightly, RestoresAreRight}

@@ -27,7 +27,7 @@ use Rattle.eve_audit.proofs.Sections.{LiesIn, FatesAreAsItEnds}
 use Rattle.eve_audit.proofs.Where.{located_within, front_more}
 use Rattle.eve_audit.proofs.Placed.{structure_lies, record_lies, chain_lies, restore_lies, token_lies, majority_lies}
 use Rattle.eve_audit.proofs.Placed.{outcome_lies}
-use Rattle.eve_history.specs.Faults.{StandsInOrders}
+use Rattle.eve_history.specs.Order.{StandsInOrders}
 
 -- the last reply sent ends within the trace
 sent_ends : (t : Trace) → sent_start t + length (flat_map (λ s. frame_text (OfSent s)) t.sent) ≤ length_of t

@@ -6,7 +6,8 @@ use Rattle.eve_views.specs.Code.{phase_of}
 use Rattle.eve_views.specs.Form.{Precedes, StandsInForm, IsFaultOutside, IsFaultIn}
 use Rattle.eve_views.specs.declared.fault.Fault.{Fault}
 use Rattle.eve_history.specs.SectionHistory.{history}
-use Rattle.eve_history.specs.Faults.{StandsInStructure, StandsInOrders}
+use Rattle.eve_history.specs.Order.{StandsInOrders}
+use Rattle.eve_history.specs.Structure.{StandsInStructure}
 use Rattle.eve_audit.specs.Audited.{IsAudited}
 use Rattle.eve_audit.specs.declared.verdict.Summary.{Summary}
 use Rattle.eve_audit.specs.declared.verdict.Verdict.{Verdict}

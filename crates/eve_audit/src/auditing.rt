@@ -3,7 +3,7 @@
 ghost use Rattle.std.specs.Prelude.{◌≡◌, ◌≤◌, ℕ, List, IfOk, IfErr, All, length};
 ghost use Rattle.eve_views.specs.Form.{IfFound, HasNone, IsFaultOutside};
 ghost use Rattle.eve_history.specs.SectionHistory.{names_of, section_histories};
-ghost use Rattle.eve_history.specs.Faults.{StandsInOrders};
+ghost use Rattle.eve_history.specs.Order.{StandsInOrders};
 ghost use Rattle.eve_chains.specs.Settling.{settlings};
 ghost use Rattle.eve_audit.specs.Accepted.{IsAccepted};
 ghost use Rattle.eve_audit.specs.Answer.{IsAnswer, IsRead};

@@ -3,7 +3,7 @@
 ghost use Rattle.std.specs.Prelude.{◌≡◌, ◌++◌, ◌∷◌, [], ℕ, IfOk, IfErr, IfSome, OnOk, ◌<◌, ◌≤◌, ◌^◌, length, min, All};
 ghost use Rattle.eve_views.specs.Form.{IfFound, HasNone, IsFaultIn};
 ghost use Rattle.eve_history.specs.SectionHistory.{names_of, section_history, section_histories};
-ghost use Rattle.eve_history.specs.Faults.{StandsInStructure};
+ghost use Rattle.eve_history.specs.Structure.{StandsInStructure};
 ghost use Rattle.eve_chains.specs.Settling.{settling, settlings};
 ghost use Rattle.eve_audit.specs.Findings.{AreTrue, IsAnswerOf};
 ghost use Rattle.eve_audit.specs.Peers.{IsSoundPeer};

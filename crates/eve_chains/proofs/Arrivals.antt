@@ -9,7 +9,7 @@ use Rattle.eve_grammar.specs.Frames.{batches_of}
 use Rattle.eve_grammar.specs.Spelling.{located, batch_text, batches_start, batches_at}
 use Rattle.eve_views.specs.declared.fault.Code.TheVariants as code
 use Rattle.eve_views.specs.Form.{SomePlace}
-use Rattle.eve_history.specs.Faults.{request_ids_at, StandsInOrders}
+use Rattle.eve_history.specs.Order.{request_ids_at, StandsInOrders}
 use Rattle.eve_grammar.specs.Trace.{RequestId, request_id}
 use Rattle.eve_smallbank.proofs.Members.{In, here, in_front, in_cons}
 use Rattle.eve_chains.specs.Committed.{batch_request_ids}

@@ -18,7 +18,7 @@ ghost use Rattle.eve_smallbank.specs.Conflict.{IsReordering};
 ghost use Rattle.eve_grammar.specs.Certificate.{is_permutation, keeps_groups};
 ghost use Rattle.eve_history.specs.Section.{Placed, batch_at, request_count};
 ghost use Rattle.eve_views.specs.declared.fault.Code.TheVariants as code;
-ghost use Rattle.eve_history.specs.Faults.{StandsInOrders};
+ghost use Rattle.eve_history.specs.Order.{StandsInOrders};
 ghost use Rattle.eve_chains.specs.Committed.{committed_to, values_to, opening_bank, bank_after, Leads, IsSerialBetween};
 ghost use Rattle.eve_chains.specs.Committed.{committed_request_ids, batch_request_ids};
 ghost use Rattle.eve_chains.specs.Along.{entries_along, IsWrongSomewhere, AllSettledSee};

@@ -15,7 +15,7 @@ use Rattle.eve_frames.specs.Views.{attempt_in}
 use Rattle.eve_frames.specs.declared.attempt.AttemptView.{AttemptView}
 use Rattle.eve_views.specs.StepKinds.{IsStep}
 use Rattle.eve_views.specs.declared.steps.Step.TheVariants as of
-use Rattle.eve_history.specs.declared.notes.Notes.{Notes}
+use Rattle.eve_history.specs.declared.structure.Notes.{Notes}
 use Rattle.eve_history.specs.Section.{start, state_after, is_due, is_right_attempt, is_right_certificate}
 use Rattle.eve_history.specs.Section.{are_right_accesses, request_count}
 use Rattle.eve_history.specs.SectionHistory.{access_with, ordered, executed_attempt, attempts_among}
@@ -24,7 +24,7 @@ use Rattle.eve_history.specs.Standing.{IsAttemptAt, IsAccessAt, IsRollbackAt}
 use Rattle.eve_history.specs.Coming.{KeptSection, kept_section, kept_at_first, kept_executed_attempt, seen, HasCome}
 use Rattle.eve_history.specs.Coming.{AreNotesOf}
 use Rattle.eve_history.specs.SideBySide.{IsRightAlone, AreOrdered, IsKeptAhead}
-use Rattle.eve_history.proofs.Structure.{nothing_wrong}
+use Rattle.eve_history.proofs.StructureLaws.{nothing_wrong}
 use Rattle.eve_history.proofs.Coming.{come_start_with, attempt_at, with_attempt_at, come_attempt_at}
 use Rattle.eve_history.proofs.Coming.{still_within, attempts_among-append}
 use Rattle.eve_history.proofs.SideBySide.{all_behind}

@@ -18,11 +18,10 @@ use Rattle.eve_grammar.specs.declared.limits.TheConstants.{MOST_REQUESTS}
 use Rattle.eve_grammar.specs.Spelling.{located, batch_text, batches_start, batches_at}
 use Rattle.eve_grammar.proofs.Grouping.{all_at}
 use Rattle.eve_views.specs.Form.{SomePlace}
-use Rattle.eve_history.specs.Faults.{request_ids_at, IsAskedAgain}
+use Rattle.eve_history.specs.Order.{request_ids_at, IsAskedAgain, IsRepeated, HasDistinctRequests}
 use Rattle.eve_grammar.specs.Trace.{RequestId, request_id}
 use Rattle.eve_grammar.proofs.Lists.{take_one_more}
 use Rattle.eve_grammar.proofs.Numbered.{numbered_get}
-use Rattle.eve_history.specs.Notes.{IsRepeated, HasDistinctRequests}
 use Rattle.eve_history.specs.Repeats.{arrival, arrivals_at, arrivals_of, is_by, OccursTwice, NoneOccursTwice}
 use Rattle.eve_history.specs.Repeats.{IsFirstTwice, IsFirstRepeat}
 use Rattle.eve_history.specs.declared.repeats.Arrival.{Arrival}

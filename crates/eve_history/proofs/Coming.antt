@@ -26,9 +26,9 @@ use Rattle.eve_history.specs.FirstWrong.{wrong_step, first_wrong, first_wrong_of
 use Rattle.eve_history.specs.Coming.{KeptAttempt, KeptSection, open_count, kept_executed_attempt, executed_attempts}
 use Rattle.eve_history.specs.Coming.{kept_at_first, executed_attempt_at, section_history_of, StandsAt}
 use Rattle.eve_history.specs.Coming.{AreSettled, open_fates, HasCome}
-use Rattle.eve_history.proofs.Structure.{state_after-append, are_right-push, right_step, steps_on, found_is_least}
-use Rattle.eve_history.proofs.Structure.{none_stands}
-use Rattle.eve_history.specs.Faults.{StandsInStructure}
+use Rattle.eve_history.proofs.StructureLaws.{state_after-append, are_right-push, right_step, steps_on, found_is_least}
+use Rattle.eve_history.proofs.StructureLaws.{none_stands}
+use Rattle.eve_history.specs.Structure.{StandsInStructure}
 
 -- ---- before the first step
 

@@ -1,9 +1,9 @@
 -- Public: other crates cite these lemmas. Batches and access records, where they are looked up.
-use Rattle.std.proofs.Common.{◌≡◌, ℕ, zero, suc, ◌+◌, ◌-◌, ◌<◌, ◌≤◌, ◌==◌, Bool, true, false, ◌&&◌, List, [], ◌∷◌, map}
-use Rattle.std.proofs.Common.{length, get_or, take, drop, slice_get, Some, None, refl, sym, ap, subst, ◌∙◌, inl, inr}
-use Rattle.std.proofs.Common.{IsTrue, is_some, cond, arith}
+use Rattle.std.proofs.Common.{◌≡◌, ℕ, zero, suc, ◌+◌, ◌-◌, ◌<◌, ◌≤◌, ◌==◌, Bool, true, ◌&&◌, List, [], ◌∷◌, map}
+use Rattle.std.proofs.Common.{length, get_or, take, drop, slice_get, Some, refl, sym, ap, subst, ◌∙◌, inl, inr}
+use Rattle.std.proofs.Common.{IsTrue, arith}
 use Rattle.std.specs.List.{AllByRecursion, list_any}
-use Rattle.std.proofs.lemmas.Bool.{cases_Bool, or_cases, eqb-true, eq-eqb, ne_eqb, cond-true, cond-false}
+use Rattle.std.proofs.lemmas.Bool.{cases_Bool, or_cases, eqb-true, cond-true, cond-false}
 use Rattle.std.proofs.lemmas.Bool.{false≢true}
 use Rattle.std.proofs.lemmas.List.{length-take-le, length-drop}
 use Rattle.std.proofs.lemmas.Option.{same_Some, get_or_from_slice_get}
@@ -12,14 +12,12 @@ use Rattle.eve_grammar.specs.Trace.{Access, Attempt, Batch, Commit, Trace}
 use Rattle.eve_grammar.specs.Frames.{batches_of, without_accesses}
 use Rattle.eve_grammar.specs.Spelling.{batch_text, batches_start, batches_at}
 use Rattle.eve_grammar.specs.Limits.{is_batch, HasLimits}
-use Rattle.eve_views.specs.declared.fault.Code.TheVariants as code
 use Rattle.eve_history.specs.declared.access_marks.AccessMarks.{AccessMarks}
 use Rattle.eve_grammar.specs.Certificate.{is_certificate}
-use Rattle.eve_history.specs.Section.{Placed, SectionState, no_batch, batch_at, is_due, commits_first}
+use Rattle.eve_history.specs.Section.{Placed, SectionState, no_batch, batch_at, commits_first}
 use Rattle.eve_history.specs.Section.{request_count, is_right_certificate, is_right_commit}
 use Rattle.eve_history.specs.SectionHistory.{access_with}
-use Rattle.eve_history.specs.Faults.{accesses_of}
-use Rattle.eve_history.specs.FirstWrong.{wrong_certificate, wrong_attempt}
+use Rattle.eve_history.specs.Structure.{accesses_of}
 use Rattle.eve_history.specs.Marking.{AreMarked}
 use Rattle.eve_history.specs.Coming.{KeptAttempt, KeptSection, StandsAt}
 use Rattle.eve_grammar.proofs.Grouping.{all_at}
@@ -50,34 +48,11 @@ batch_fits t n b limits e = all_at is_batch t.batches (n - 1) b.1.1 limits.batch
 -- ---- an attempt, where its batch is found
 
 module _ (t : Trace) (a : Attempt) (b : Batch) (batch : batch_at t a.seq ≡ b) where
-  pub wrong_count : (length a.certificate ≡ length b.requests → ⊥) → Some code.Attempt ≡ wrong_certificate t a
-  wrong_count other = rw (batch, ne_eqb (length a.certificate) (length b.requests) other) refl
+  pub named_count : (length a.certificate == length b.requests) ≡ (length a.certificate == request_count t a)
+  named_count = rw (batch) refl
 
-  pub wrong_order : length a.certificate ≡ length b.requests
-      → is_certificate b.sizes (length b.requests) a.serial a.certificate ≡ false → Some code.Certificate
-      ≡ wrong_certificate t a
-  wrong_order count wrong = rw (batch, eq-eqb (length a.certificate) (length b.requests) count, wrong) refl
-
-  pub right_order : length a.certificate ≡ length b.requests
-      → is_certificate b.sizes (length b.requests) a.serial a.certificate ≡ true → None ≡ wrong_certificate t a
-  right_order count right = rw (batch, eq-eqb (length a.certificate) (length b.requests) count, right) refl
-
--- of an attempt that is due nothing else is wrong
-pub wrong_if_due : (t : Trace) (s : SectionState) (a : Attempt) → is_due t s a ≡ true → wrong_certificate t a
-    ≡ wrong_attempt t s a
-wrong_if_due t s a due = rw due refl
-
--- where nothing is wrong with it, it is right
-pub certificate_right : (t : Trace) (a : Attempt) → is_some (wrong_certificate t a) ≡ false
-    → (length a.certificate ≡ request_count t a) × (is_right_certificate t a ≡ true)
-certificate_right t a none = by (length a.certificate == request_count t a) (is_right_certificate t a) refl refl none
-  where
-    by : (many right : Bool) → (length a.certificate == request_count t a) ≡ many → is_right_certificate t a ≡ right
-        → is_some (cond many (cond right None (Some code.Certificate)) (Some code.Attempt)) ≡ false
-        → (length a.certificate ≡ request_count t a) × (is_right_certificate t a ≡ true)
-    by true true e f g = (eqb-true _ _ e, f)
-    by true false e f g = absurd cc
-    by false right e f g = absurd cc
+  pub named_certificate : is_certificate b.sizes (length b.requests) a.serial a.certificate ≡ is_right_certificate t a
+  named_certificate = rw (batch) refl
 
 -- ---- the first open attempt
 

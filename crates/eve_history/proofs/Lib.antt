@@ -8,7 +8,7 @@ pub mod Records
 pub mod Taking
 pub mod FateLaws
 pub mod Positions
-pub mod Structure
+pub mod StructureLaws
 pub mod RequestIds
 pub mod Rising
 pub mod Counted

@@ -16,10 +16,10 @@ use Rattle.eve_views.specs.declared.fault.Code.TheVariants as code
 use Rattle.eve_history.specs.declared.access_marks.AccessMarks.{AccessMarks}
 use Rattle.eve_grammar.specs.Accesses.{is_new_access, is_right_place}
 use Rattle.eve_grammar.proofs.Lists.{drop_here, take_one_more}
-use Rattle.eve_history.specs.Faults.{accesses_of}
+use Rattle.eve_history.specs.Structure.{accesses_of}
 use Rattle.eve_history.specs.FirstWrong.{found_or, wrong_accesses}
 use Rattle.eve_history.specs.Marking.{AreMarked, IsMarkedIfRight, AreMarkedIfRight}
-use Rattle.eve_history.proofs.Structure.{accesses_of-append}
+use Rattle.eve_history.proofs.StructureLaws.{accesses_of-append}
 
 -- ---- lists
 

@@ -17,9 +17,9 @@ use Rattle.eve_views.specs.declared.fault.Fault.{Fault}
 use Rattle.eve_views.specs.Code.{code_number}
 use Rattle.eve_views.specs.Form.{IsUpTo, SomePlace, IsLeast, IsFaultOutside}
 use Rattle.eve_history.specs.SectionHistory.{names_of}
-use Rattle.eve_history.specs.Faults.{name_in, request_ids_at, IsAskedAgain, StandsInOrders}
+use Rattle.eve_history.specs.Order.{name_in, request_ids_at, IsAskedAgain, StandsInOrders}
 use Rattle.eve_grammar.specs.Trace.{RequestId}
-use Rattle.eve_history.specs.Notes.{IsRepeated, HasDistinctNames, HasDistinctRequests}
+use Rattle.eve_history.specs.Order.{IsRepeated, HasDistinctNames, HasDistinctRequests}
 use Rattle.eve_grammar.proofs.Grouping.{all_at}
 use Rattle.eve_grammar.proofs.Lists.{take_one_more}
 use Rattle.eve_views.proofs.Lists.{cut_at}

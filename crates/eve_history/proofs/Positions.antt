@@ -23,8 +23,9 @@ use Rattle.eve_history.specs.Section.{is_right_access, is_right_commit, is_right
 use Rattle.eve_history.specs.Section.{are_right}
 use Rattle.eve_views.specs.Form.{SomePlace, IsFaultOutside, IsFaultIn}
 use Rattle.eve_views.proofs.Locating.{section_is}
-use Rattle.eve_history.specs.Faults.{accesses_of, OfAttempt, OfCommit, OfRollback, AtStep, AtAccess, StandsInStructure}
-use Rattle.eve_history.specs.Faults.{IsAskedAgain, StandsInOrders}
+use Rattle.eve_history.specs.Structure.{accesses_of, OfAttempt, OfCommit, OfRollback, AtStep, AtAccess}
+use Rattle.eve_history.specs.Structure.{StandsInStructure}
+use Rattle.eve_history.specs.Order.{IsAskedAgain, StandsInOrders}
 use Rattle.eve_history.proofs.Places.{located_within, weaker_place}
 use Rattle.eve_history.proofs.OrderLaws.{customers_within}
 

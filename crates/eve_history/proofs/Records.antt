@@ -14,7 +14,7 @@ use Rattle.eve_history.specs.Section.{SectionState, batch_at, is_due, request_co
 use Rattle.eve_history.specs.Section.{is_right_certificate, are_right_accesses}
 use Rattle.eve_history.specs.FirstWrong.{wrong_step}
 use Rattle.eve_grammar.proofs.Counting.{occurrences-append, permutes, all_below_at}
-use Rattle.eve_history.proofs.Structure.{right_step}
+use Rattle.eve_history.proofs.StructureLaws.{right_step}
 
 abbrev index_of : Access → ℕ
 index_of x = x.index

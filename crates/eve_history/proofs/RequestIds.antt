@@ -3,7 +3,7 @@ use Rattle.std.proofs.Common.{◌≡◌, List, [], ◌∷◌, ◌++◌, Contains
 use Rattle.std.proofs.Common.{refl, sym, ap, subst, ◌∙◌, append_assoc, inl, inr}
 use Rattle.std.proofs.lemmas.List.{append-nil}
 use Rattle.eve_grammar.specs.Trace.{RequestId}
-use Rattle.eve_history.specs.Notes.{IsRepeated}
+use Rattle.eve_history.specs.Order.{IsRepeated}
 use Rattle.eve_history.proofs.Places.{no_place, place_push}
 
 -- none of a batch's own occurs earlier, among them or among what was noted, and they are noted after the others

@@ -6,9 +6,8 @@ use Rattle.std.proofs.lemmas.Bool.{cases_eq, cond-true, cond-false, eq-eqb, ne_e
 use Rattle.std.proofs.lemmas.List.Elements.{All-push, All-weaker, All-contains}
 use Rattle.eve_grammar.specs.Trace.{Trace, Batch}
 use Rattle.eve_grammar.specs.Spelling.{batches_at}
-use Rattle.eve_history.specs.Faults.{request_ids_at, IsAskedAgain}
+use Rattle.eve_history.specs.Order.{request_ids_at, IsAskedAgain, HasDistinctRequests}
 use Rattle.eve_grammar.specs.Trace.{RequestId}
-use Rattle.eve_history.specs.Notes.{HasDistinctRequests}
 use Rattle.eve_history.specs.Rising.{HasReached, AreReached, HaveRisen}
 use Rattle.eve_history.proofs.Places.{no_place}
 use Rattle.eve_history.proofs.RequestIds.{Noting, noting_start, noting_more, noting_end}

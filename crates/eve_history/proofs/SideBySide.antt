@@ -27,7 +27,7 @@ use Rattle.eve_history.specs.declared.access_marks.AccessMarks.{AccessMarks}
 use Rattle.eve_history.specs.declared.side_by_side.MetAttempt.{MetAttempt}
 use Rattle.eve_history.specs.Section.{request_count, worker_count, is_right_certificate}
 use Rattle.eve_history.specs.SectionHistory.{access_with, ordered, attempts_among}
-use Rattle.eve_history.specs.Faults.{accesses_of}
+use Rattle.eve_history.specs.Structure.{accesses_of}
 use Rattle.eve_history.specs.FirstWrong.{wrong_accesses}
 use Rattle.eve_history.specs.Marking.{AreMarked}
 use Rattle.eve_history.specs.Standing.{IsAccessAt}
@@ -35,7 +35,7 @@ use Rattle.eve_history.specs.Coming.{seen}
 use Rattle.eve_history.specs.SideBySide.{attempt_met, placed_met, IsMet, HaveBeenMet}
 use Rattle.eve_history.specs.SideBySide.{IsRightAlone, AreOrdered}
 use Rattle.eve_history.specs.SideBySide.{IsPart}
-use Rattle.eve_history.proofs.Structure.{accesses_of-at, right_records}
+use Rattle.eve_history.proofs.StructureLaws.{accesses_of-at, right_records}
 use Rattle.eve_history.proofs.Coming.{steps_fit, attempts_among-append}
 use Rattle.eve_history.proofs.Records.{attempt_fits, each_there}
 use Rattle.eve_history.proofs.Finding.{found_offsets}

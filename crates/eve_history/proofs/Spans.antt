@@ -15,8 +15,7 @@ use Rattle.eve_grammar.specs.Trace.{RequestId, Batch, Trace}
 use Rattle.eve_grammar.specs.Spelling.{batches_at}
 use Rattle.eve_views.specs.Form.{SomePlace}
 use Rattle.eve_history.specs.declared.span.Span.{Span}
-use Rattle.eve_history.specs.Faults.{request_ids_at, IsAskedAgain}
-use Rattle.eve_history.specs.Notes.{HasDistinctRequests}
+use Rattle.eve_history.specs.Order.{request_ids_at, IsAskedAgain, HasDistinctRequests}
 use Rattle.eve_history.specs.Rising.{HaveRisen}
 use Rattle.eve_history.specs.Spans.{span_of, IsInSpan, AreInSpans, IsBehind, HaveSpans}
 use Rattle.eve_grammar.proofs.Lists.{take_one_more}

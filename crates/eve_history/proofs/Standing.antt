@@ -28,7 +28,7 @@ use Rattle.eve_frames.specs.Views.{has_rollback_body, rollback_in}
 use Rattle.eve_frames.proofs.Rereading.{attempt_again, access_again, rollback_again}
 use Rattle.eve_history.specs.Standing.{frame_in, IsFramed, IsAttemptAt, IsAccessAt, IsRollbackAt}
 use Rattle.eve_history.specs.SectionHistory.{access_with}
-use Rattle.eve_history.specs.Faults.{accesses_of}
+use Rattle.eve_history.specs.Structure.{accesses_of}
 use Rattle.eve_history.specs.Coming.{KeptSection, HasCome, ComesNext, seen}
 use Rattle.eve_grammar.proofs.Grouping.{all_at}
 use Rattle.eve_grammar.proofs.Lists.{same_first, same_others, no_item}

@@ -25,10 +25,10 @@ use Rattle.eve_history.specs.declared.fate.Fate.{Fate}
 use Rattle.eve_history.specs.declared.fate.Fate.TheVariants.{Discarded}
 use Rattle.eve_history.specs.Section.{SectionState, start, state_after, is_right_commit, is_right_rollback}
 use Rattle.eve_history.specs.SectionHistory.{ordered, access_with}
-use Rattle.eve_history.specs.Faults.{accesses_of}
+use Rattle.eve_history.specs.Structure.{accesses_of}
 use Rattle.eve_history.specs.FirstWrong.{wrong_step}
 use Rattle.eve_history.specs.Coming.{KeptSection, HasCome, ComesNext}
-use Rattle.eve_history.proofs.Structure.{accesses_of-at}
+use Rattle.eve_history.proofs.StructureLaws.{accesses_of-at}
 use Rattle.eve_views.proofs.Locating.{length-located}
 use Rattle.eve_history.proofs.Records.{all_there, attempt_fits}
 

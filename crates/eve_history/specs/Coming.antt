@@ -10,8 +10,8 @@ use Rattle.eve_grammar.specs.Following.{Spells}
 use Rattle.eve_frames.specs.Views.{attempt_in, access_in, rollback_in}
 use Rattle.eve_history.specs.declared.fate.Fate.{Fate}
 use Rattle.eve_history.specs.declared.fate.Fate.TheVariants.{Open}
-use Rattle.eve_history.specs.declared.notes.Attempted.{Attempted}
-use Rattle.eve_history.specs.declared.notes.Notes.{Notes}
+use Rattle.eve_history.specs.declared.structure.Attempted.{Attempted}
+use Rattle.eve_history.specs.declared.structure.Notes.{Notes}
 use Rattle.eve_history.specs.Standing.{frame_in, IsAttemptAt, IsAccessAt, IsRollbackAt}
 use Rattle.eve_history.specs.Section.{SectionState, start, state_after, are_right}
 use Rattle.eve_history.specs.Fates.{fate_in, fates_from}

@@ -1,6 +1,6 @@
 -- The first wrong frame of a section, found step by step. A device: what a fault of structure is, and where it
 -- stands, is said without it.
-use Rattle.std.specs.Prelude.{ℕ, ◌==◌, if◌then◌else◌, List, [], ◌∷◌, ◌++◌, length, Option, Some, None}
+use Rattle.std.specs.Prelude.{ℕ, if◌then◌else◌, List, [], ◌∷◌, ◌++◌, Option, Some, None}
 use Rattle.eve_grammar.specs.Trace.{Access, Attempt, Commit, Rollback, Step, Attempts, Commits, RollsBack, Trace}
 use Rattle.eve_grammar.specs.Spelling.{accesses_at}
 use Rattle.eve_views.specs.declared.fault.Code.{Code}
@@ -33,13 +33,6 @@ wrong_accesses workers count before (x ∷ xs) = found_or x.0 (wrong_access work
 
 abbrev pub wrong_records : Trace → Attempt → List Access → List (ℕ × Access) → Option Wrong
 wrong_records t a = wrong_accesses (worker_count t a) (request_count t a)
-
--- what is wrong with an attempt's certificate
-abbrev pub wrong_certificate : Trace → Attempt → Option Code
-wrong_certificate t a =
-    if length a.certificate == request_count t a then
-    (if is_right_certificate t a then None else Some code.Certificate)
-    else Some code.Attempt
 
 -- what is wrong with an attempt but for its access records
 abbrev pub wrong_attempt : Trace → SectionState → Attempt → Option Code

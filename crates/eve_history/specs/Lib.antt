@@ -1,9 +1,9 @@
 pub mod Section
 pub mod Fates
 pub mod SectionHistory
-pub mod Faults
+pub mod Order
+pub mod Structure
 pub mod FirstWrong
-pub mod Notes
 pub mod Marking
 pub mod Standing
 pub mod Coming

@@ -7,7 +7,7 @@ use Rattle.eve_grammar.specs.Trace.{Access}
 use Rattle.eve_views.specs.declared.fault.Code.{Code}
 use Rattle.eve_history.specs.declared.wrong.Wrong.{Wrong}
 use Rattle.eve_history.specs.declared.access_marks.AccessMarks.{AccessMarks}
-use Rattle.eve_history.specs.Faults.{accesses_of}
+use Rattle.eve_history.specs.Structure.{accesses_of}
 use Rattle.eve_history.specs.FirstWrong.{wrong_access, wrong_accesses}
 
 -- the indexes and the workers of the records are marked, and each record's offset under its index

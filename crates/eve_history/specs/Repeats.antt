@@ -5,7 +5,7 @@ use Rattle.std.specs.List.{flat_map, count_by}
 use Rattle.eve_grammar.specs.Trace.{Asked, Batch, Trace}
 use Rattle.eve_grammar.specs.Spelling.{batches_at}
 use Rattle.eve_views.specs.Form.{SomePlace}
-use Rattle.eve_history.specs.Faults.{IsAskedAgain}
+use Rattle.eve_history.specs.Order.{IsAskedAgain}
 use Rattle.eve_grammar.specs.Trace.{RequestId}
 use Rattle.eve_history.specs.declared.repeats.Arrival.{Arrival}
 

@@ -2,7 +2,7 @@
 use Rattle.std.specs.Prelude.{ℕ, ◌≤◌, List, ◌++◌, All, Option, Some, None, nat_eq, slice_index_or}
 use Rattle.indexmap.specs.IndexMap.{get}
 use Rattle.eve_grammar.specs.Trace.{RequestId}
-use Rattle.eve_history.specs.Notes.{IsRepeated}
+use Rattle.eve_history.specs.Order.{IsRepeated}
 use Rattle.eve_history.specs.declared.greatest.Greatest.{Greatest}
 
 -- the greatest number of a client, where it came: the table has those of the first clients, the map the others'

@@ -7,11 +7,11 @@ use Rattle.eve_grammar.specs.Frames.{without_accesses}
 use Rattle.eve_grammar.specs.Spelling.{accesses_at, spelling, steps_at}
 use Rattle.eve_grammar.specs.Following.{Spells}
 use Rattle.eve_frames.specs.Said.{attempt_said}
-use Rattle.eve_history.specs.declared.notes.Notes.{Notes}
+use Rattle.eve_history.specs.declared.structure.Notes.{Notes}
 use Rattle.eve_history.specs.declared.side_by_side.MetAttempt.{MetAttempt}
 use Rattle.eve_history.specs.Section.{request_count, is_right_certificate, are_right_accesses}
 use Rattle.eve_history.specs.SectionHistory.{ordered, attempts_among}
-use Rattle.eve_history.specs.Faults.{accesses_of}
+use Rattle.eve_history.specs.Structure.{accesses_of}
 use Rattle.eve_history.specs.Standing.{IsAccessAt}
 use Rattle.eve_history.specs.Coming.{kept_section, seen, HasCome, AreNotesOf}
 

@@ -6,7 +6,7 @@ use Rattle.eve_grammar.specs.Trace.{RequestId, Batch, Trace}
 use Rattle.eve_grammar.specs.Spelling.{batches_at}
 use Rattle.eve_views.specs.Form.{SomePlace}
 use Rattle.eve_history.specs.declared.span.Span.{Span}
-use Rattle.eve_history.specs.Faults.{request_ids_at, IsAskedAgain}
+use Rattle.eve_history.specs.Order.{request_ids_at, IsAskedAgain}
 
 -- the span of a client, where it came
 abbrev pub span_of : List (Option Span) → ℕ → Option Span

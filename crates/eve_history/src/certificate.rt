@@ -1,14 +1,14 @@
 //! The certificate of an attempt against its batch.
 
-ghost use Rattle.std.specs.Prelude.{◌≡◌, ◌≤◌, ◌<◌, ℕ, IsTrue, length, take, slice_index};
+ghost use Rattle.std.specs.Prelude.{◌≡◌, ◌==◌, ◌≤◌, ◌<◌, ℕ, IsTrue, length, take, slice_index};
 ghost use Rattle.eve_grammar.specs.Limits.{is_batch};
 ghost use Rattle.eve_grammar.specs.Certificate.{group_of, is_certificate};
 ghost use Rattle.eve_frames.specs.Said.{attempt_said, batch_said};
-ghost use Rattle.eve_history.specs.FirstWrong.{wrong_certificate};
+ghost use Rattle.eve_history.specs.Section.{request_count, is_right_certificate};
 
 use eve_frames::{AttemptView, BatchView};
 use eve_grammar::MOST_REQUESTS;
-use eve_views::{Code, Trace};
+use eve_views::Trace;
 
 /// The indexes of a certificate, in its order.
 pub fn read_order(attempt: &AttemptView<'_>, order: &mut [u16; MOST_REQUESTS])
@@ -41,8 +41,6 @@ fn groups_of(batch: &BatchView<'_>) -> [u8; MOST_REQUESTS]
 }
 
 /// Whether a certificate keeps the groups of its batch, and in serial mode is the listed order.
-///
-/// docs/MODEL.md, "Certificate order, keeps the groups" and "Section state, fate".
 fn is_certificate(batch: &BatchView<'_>, serial: bool, order: &[u16]) -> bool
     requires whole { IsTrue (is_batch (batch_said batch.now).1) }
     requires count { length order.now ≡ length (batch_said batch.now).1.requests }
@@ -52,24 +50,29 @@ fn is_certificate(batch: &BatchView<'_>, serial: bool, order: &[u16]) -> bool
     eve_grammar::is_certificate(&groups_of(batch), serial, order)
 }
 
-/// What is wrong with the certificate of an attempt whose batch is there: the number of its indexes, or their order.
-pub fn wrong_certificate(
-    trace: &Trace<'_>,
-    attempt: &AttemptView<'_>,
-    order: &[u16],
-) -> Option<Code>
+/// Whether an attempt, whose batch is there, has as many indexes as the batch has requests.
+pub fn has_every_index(trace: &Trace<'_>, attempt: &AttemptView<'_>) -> bool
+    requires one { 1 ≤ (attempt_said attempt.now).seq }
+    requires there { (attempt_said attempt.now).seq ≤ length trace.now.batches }
+    ensures { result ≡ (length (attempt_said attempt.now).certificate
+        == request_count trace.now (attempt_said attempt.now)) }
+{
+    trace.recall_limits();
+    attempt.len() == trace.batch(attempt.seq()).len()
+}
+
+/// Whether the certificate of an attempt keeps the groups of its batch, and in serial mode is the listed order.
+///
+/// docs/MODEL.md, "Certificate order, keeps the groups" and "Section state, fate".
+pub fn is_right_certificate(trace: &Trace<'_>, attempt: &AttemptView<'_>, order: &[u16]) -> bool
     requires one { 1 ≤ (attempt_said attempt.now).seq }
     requires there { (attempt_said attempt.now).seq ≤ length trace.now.batches }
     requires order { order.now ≡ (attempt_said attempt.now).certificate }
-    ensures { result ≡ wrong_certificate trace.now (attempt_said attempt.now) }
+    requires count { length (attempt_said attempt.now).certificate
+        ≡ request_count trace.now (attempt_said attempt.now) }
+    ensures { result ≡ is_right_certificate trace.now (attempt_said attempt.now) }
 {
     trace.recall_limits();
     let batch = trace.batch(attempt.seq());
-    if order.len() != batch.len() {
-        return Some(Code::Attempt);
-    }
-    if !is_certificate(&batch, attempt.is_serial(), order) {
-        return Some(Code::Certificate);
-    }
-    None
+    is_certificate(&batch, attempt.is_serial(), order)
 }

@@ -1,27 +1,24 @@
 //! What a replica did.
 
-ghost use Rattle.std.specs.Prelude.{◌≡◌, ◌≤◌, ◌<◌, ◌-◌, ◌∷◌, ℕ, List, Some, IfOk, IfErr, OnOk, IsTrue, length};
-ghost use Rattle.std.specs.Prelude.{slice_get, IfSome, IsOk};
-ghost use Rattle.eve_grammar.specs.Trace.{Step as StepValue, Trace as TraceValue};
+ghost use Rattle.std.specs.Prelude.{◌≡◌, ◌≤◌, ◌<◌, ◌-◌, ℕ, Some, IfOk, IfErr, IsTrue, length, slice_get, IfSome};
+ghost use Rattle.eve_grammar.specs.Trace.{Trace as TraceValue};
 ghost use Rattle.eve_grammar.specs.Frames.{OfAttempt, OfAccess, OfRollback};
-ghost use Rattle.eve_grammar.specs.Spelling.{frame_text};
-ghost use Rattle.eve_grammar.specs.Spelling.{steps_at};
+ghost use Rattle.eve_grammar.specs.Spelling.{frame_text, steps_at};
 ghost use Rattle.eve_frames.specs.Said.{access_said, attempt_said, rollback_said};
 ghost use Rattle.eve_views.specs.Form.{IfFound, IsLeast, HasNone, IsFaultIn};
 ghost use Rattle.eve_views.specs.Lent.{HasBytesAt};
-ghost use Rattle.eve_views.specs.StepKinds.{IsStep};
 ghost use Rattle.eve_history.specs.SectionHistory.{ExecutedAttempt, section_history, section_histories, IsRightSection};
 ghost use Rattle.eve_history.specs.SectionHistory.{attempts_among};
-ghost use Rattle.eve_history.specs.Coming.{kept_section, section_history_of, HasCome, AreNotesOf, IsWholeSection};
-ghost use Rattle.eve_history.specs.SideBySide.{AreOrdered, IsKeptAhead};
-ghost use Rattle.eve_history.specs.Faults.{StandsInStructure};
+ghost use Rattle.eve_history.specs.Coming.{kept_section, section_history_of, IsWholeSection};
+ghost use Rattle.eve_history.specs.SideBySide.{AreOrdered};
+ghost use Rattle.eve_history.specs.Structure.{StandsInStructure};
 
 use crate::fate::Fate;
 use crate::frame::{access_at, attempt_at, rollback_at};
-use crate::notes::Notes;
 use crate::side_by_side::order_all;
+use crate::structure::{Notes, take, take_ahead};
 use eve_frames::{AccessView, AttemptView, RollbackView};
-use eve_views::{CheckFault, Step, Trace};
+use eve_views::{CheckFault, Trace};
 use std::alloc::{AllocError, Global};
 use std::marker::Model;
 use std::thread::Threads;
@@ -57,71 +54,6 @@ pub fn recall_all_right(histories: &[History<'_>])
 {
     for history in histories {
         history.recall_right();
-    }
-}
-
-/// Takes the next step of a replica's section, or says what is wrong with it.
-fn take<'a>(
-    notes: &mut Notes<'a>,
-    trace: &Trace<'a>,
-    e: u8,
-    step: Step<'_, 'a>,
-) -> Result<(), CheckFault>
-    requires noted { AreNotesOf trace.now notes.old }
-    requires comes { (rest : List (ℕ × StepValue)) × (next : ℕ × StepValue)
-        × HasCome trace.now e (next ∷ rest) (kept_section notes.old) × IsStep step next }
-    ensures taken { OnOk result ((rest : List (ℕ × StepValue)) (next : ℕ × StepValue)
-        → HasCome trace.now e (next ∷ rest) (kept_section notes.old) → IsStep step.entry next
-        → HasCome trace.now e rest (kept_section notes.new)) }
-    ensures noted { OnOk result (AreNotesOf trace.now notes.new) }
-    ensures wrong { IfErr result
-        (λ x. IfFound x (λ f. (rest : List (ℕ × StepValue)) (next : ℕ × StepValue)
-        → HasCome trace.now e (next ∷ rest) (kept_section notes.old) → IsStep step.entry next
-        → IsLeast (IsFaultIn StandsInStructure trace.now e) f)) }
-{
-    match step {
-        Step::Attempt(attempt, accesses) => notes.take_attempt(trace, e, &attempt, &accesses),
-        Step::Commit(commit) => notes.take_commit(e, &commit),
-        Step::Rollback(rollback) => notes.take_rollback(trace, e, &rollback),
-    }
-}
-
-/// Whether a step was taken, where it is right.
-fn is_taken(taken: Result<(), CheckFault>) -> Result<bool, AllocError>
-    ensures { IfOk result (λ right. IsTrue right → IsOk taken) }
-{
-    match taken {
-        Ok(()) => Ok(true),
-        Err(CheckFault::Found(_)) => Ok(false),
-        Err(CheckFault::Memory) => Err(AllocError),
-    }
-}
-
-/// Takes the next step of a replica's section, whose access records are kept already, those of the attempts that come
-/// from this place on; and gives the place of those behind it. Nothing where the step isn't right.
-fn take_ahead<'a>(
-    notes: &mut Notes<'a>,
-    trace: &Trace<'a>,
-    e: u8,
-    step: Step<'_, 'a>,
-    from: usize,
-) -> Result<Option<usize>, AllocError>
-    requires { (rest : List (ℕ × StepValue)) × (next : ℕ × StepValue)
-        × IsKeptAhead trace.now e (next ∷ rest) from notes.old × IsStep step next }
-    ensures { IfOk result (λ next. IfSome next (λ to. (rest : List (ℕ × StepValue)) (next : ℕ × StepValue)
-        → IsKeptAhead trace.now e (next ∷ rest) from notes.old → IsStep step.entry next
-        → IsKeptAhead trace.now e rest to notes.new)) }
-{
-    match step {
-        Step::Attempt(attempt, _) => notes.take_ordered(trace, &attempt, from),
-        Step::Commit(commit) => {
-            let right = is_taken(notes.take_commit(e, &commit))?;
-            Ok(if right { Some(from) } else { None })
-        }
-        Step::Rollback(rollback) => {
-            let right = is_taken(notes.take_rollback(trace, e, &rollback))?;
-            Ok(if right { Some(from) } else { None })
-        }
     }
 }
 

@@ -13,7 +13,8 @@ ghost use Rattle.eve_views.specs.declared.fault.Fault.{Fault};
 ghost use Rattle.eve_views.specs.Form.{IsFaultOutside, IsFaultIn};
 ghost use Rattle.eve_history.specs.Section.{Placed};
 ghost use Rattle.eve_history.specs.Fates.{fates_from};
-ghost use Rattle.eve_history.specs.Faults.{StandsInOrders, StandsInStructure};
+ghost use Rattle.eve_history.specs.Order.{StandsInOrders};
+ghost use Rattle.eve_history.specs.Structure.{StandsInStructure};
 
 /// The attempts that a section has committed in the end, and those that it has discarded, are the ones with that fate,
 /// in the order of their frames.

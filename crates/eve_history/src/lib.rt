@@ -3,20 +3,20 @@
 #![tactic(auto)]
 
 mod access_marks;
-mod arrivals;
 mod certificate;
 mod fate;
 mod frame;
 mod greatest;
 mod history;
 pub mod laws;
-mod notes;
+mod order;
 mod repeats;
 mod side_by_side;
 mod span;
 mod stretches;
+mod structure;
 mod wrong;
 
-pub use arrivals::{orders, orders_side_by_side};
 pub use fate::Fate;
 pub use history::{History, recall_all_right};
+pub use order::{orders, orders_side_by_side};

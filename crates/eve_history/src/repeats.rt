@@ -2,7 +2,7 @@
 
 ghost use Rattle.std.specs.Prelude.{◌≡◌, ◌++◌, length, IfOk, OnOk, IfSome, IfNone};
 ghost use Rattle.eve_frames.specs.Said.{batch_said};
-ghost use Rattle.eve_history.specs.Notes.{HasDistinctRequests};
+ghost use Rattle.eve_history.specs.Order.{HasDistinctRequests};
 ghost use Rattle.eve_views.specs.Order.{AreInOrder};
 ghost use Rattle.eve_history.specs.Repeats.{arrivals_at, arrivals_of, is_same};
 ghost use Rattle.eve_history.specs.Repeats.{IsNoLaterArrival, NoneOccursTwice, IsFirstTwice, IsFirstRepeat};

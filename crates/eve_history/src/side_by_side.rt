@@ -14,8 +14,8 @@ ghost use Rattle.eve_history.specs.SideBySide.{placed_met, IsMet, HaveBeenMet, I
 ghost use Rattle.eve_history.specs.SideBySide.{IsPart};
 
 use crate::access_marks::AccessMarks;
-use crate::certificate::{read_order, wrong_certificate};
-use crate::notes::{keep_records, workers_of};
+use crate::certificate::{has_every_index, is_right_certificate, read_order};
+use crate::structure::{keep_records, workers_of};
 use eve_frames::AttemptView;
 use eve_grammar::MOST_REQUESTS;
 use eve_views::{Accesses, Step, Trace};
@@ -87,7 +87,7 @@ fn has_right_certificate(trace: &Trace<'_>, attempt: &AttemptView<'_>, order: &[
     if seq == 0 || seq > trace.head().batches {
         return false;
     }
-    wrong_certificate(trace, attempt, order).is_none()
+    has_every_index(trace, attempt) && is_right_certificate(trace, attempt, order)
 }
 
 /// Whether an attempt's certificate and access records are right, whatever came before it. Where they are, the records

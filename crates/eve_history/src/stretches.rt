@@ -6,8 +6,7 @@ ghost use Rattle.std.specs.Prelude.{Some, length, map, take, drop, slice_index_o
 ghost use Rattle.eve_grammar.specs.Trace.{RequestId, request_id, Trace as TraceValue};
 ghost use Rattle.eve_grammar.specs.Spelling.{batches_at};
 ghost use Rattle.eve_views.specs.Form.{SomePlace};
-ghost use Rattle.eve_history.specs.Faults.{IsAskedAgain};
-ghost use Rattle.eve_history.specs.Notes.{requests_said, HasDistinctRequests};
+ghost use Rattle.eve_history.specs.Order.{IsAskedAgain, requests_said, HasDistinctRequests};
 ghost use Rattle.eve_history.specs.Rising.{HaveRisen};
 ghost use Rattle.eve_history.specs.Spans.{span_of, AreInSpans, IsBehind, HaveSpans, IsStretch};
 

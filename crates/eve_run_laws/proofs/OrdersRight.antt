@@ -14,9 +14,8 @@ use Rattle.eve_grammar.specs.Trace.{Customer, Asked, Batch, Trace}
 use Rattle.eve_grammar.specs.Spelling.{located, customer_text, batch_text, batches_start, customers_at, batches_at}
 use Rattle.eve_views.specs.declared.fault.Fault.{Fault}
 use Rattle.eve_views.specs.Form.{IsFaultOutside}
-use Rattle.eve_history.specs.Faults.{name_in, request_ids_at, StandsInOrders}
+use Rattle.eve_history.specs.Order.{name_in, request_ids_at, StandsInOrders, HasDistinctNames, HasDistinctRequests}
 use Rattle.eve_grammar.specs.Trace.{RequestId, request_id}
-use Rattle.eve_history.specs.Notes.{HasDistinctNames, HasDistinctRequests}
 use Rattle.eve_history.proofs.OrderLaws.{none_twice}
 use Rattle.eve_workload.specs.declared.mixer.Mixer.{Mixer}
 use Rattle.eve_workload.specs.Mixing.{cut, batch_with}

@@ -18,9 +18,9 @@ use Rattle.eve_votes.specs.Faults.{StandsInVotes, AreVotesSound, IsFurther}
 use Rattle.eve_votes.proofs.Places.{located_values}
 use Rattle.eve_history.specs.Section.{start}
 use Rattle.eve_history.specs.SectionHistory.{IsRightSection}
-use Rattle.eve_history.specs.Faults.{OfCommit, OfRollback, StandsInStructure}
+use Rattle.eve_history.specs.Structure.{OfCommit, OfRollback, StandsInStructure}
 use Rattle.eve_history.specs.FirstWrong.{first_wrong}
-use Rattle.eve_history.proofs.Structure.{steps_on, none_stands}
+use Rattle.eve_history.proofs.StructureLaws.{steps_on, none_stands}
 use Rattle.eve_agree.specs.Majority.{IsBacked, AllAreBacked, StandsInMajorities}
 use Rattle.eve_agree.proofs.TokensInOrder.{none_fails}
 

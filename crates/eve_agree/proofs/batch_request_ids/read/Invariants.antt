@@ -1,4 +1,4 @@
-use Rattle.eve_history.specs.Notes.{requests_said}
+use Rattle.eve_history.specs.Order.{requests_said}
 use Rattle.eve_agree.proofs.Reading.{IsReading}
 use Rattle.eve_agree.proofs.batch_request_ids.read.Given as goal
 

@@ -3,7 +3,7 @@ use Rattle.eve_audit.specs.declared.verdict.Verdict.TheVariants.{No}
 use Rattle.eve_audit.specs.Answer.{IsAnswer}
 use Rattle.eve_audit.proofs.Answering.{form_for, no_for}
 use Rattle.eve_audit.proofs.Firsts.{found_weaker, order_first}
-use Rattle.eve_history.specs.Faults.{StandsInOrders}
+use Rattle.eve_history.specs.Order.{StandsInOrders}
 use Rattle.eve_audit.proofs.auditing.open.Goals as goal
 
 pub returns-clause-fault : goal.returns-clause-fault

@@ -5,7 +5,7 @@ use Rattle.eve_agree.proofs.Outcomes.{replica_told}
 use Rattle.eve_audit.specs.Verdict.{IsOwnFault}
 use Rattle.eve_audit.specs.Reports.{IsFirstOf, IsSoundReplica}
 use Rattle.eve_audit.proofs.Told.{section_history_by_its_own}
-use Rattle.eve_history.specs.Faults.{StandsInStructure}
+use Rattle.eve_history.specs.Structure.{StandsInStructure}
 use Rattle.eve_audit.proofs.replicas.judge_replica.Goals as goal
 
 pub settle-requires-clause-history : goal.settle-requires-clause-history

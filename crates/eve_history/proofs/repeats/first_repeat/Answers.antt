@@ -2,7 +2,7 @@ use Rattle.std.proofs.Common.{◌≡◌, ℕ, List, Option, Some, None, IfSome, 
 use Rattle.std.specs.Prelude.{IfNone}
 use Rattle.std.specs.List.Sorted.{IsPermutation}
 use Rattle.eve_grammar.specs.Trace.{Trace}
-use Rattle.eve_history.specs.Notes.{HasDistinctRequests}
+use Rattle.eve_history.specs.Order.{HasDistinctRequests}
 use Rattle.eve_views.specs.Order.{AreInOrder}
 use Rattle.eve_history.specs.Repeats.{arrivals_of, IsNoLaterArrival, NoneOccursTwice, IsFirstTwice, IsFirstRepeat}
 use Rattle.eve_history.specs.declared.repeats.Arrival.{Arrival}

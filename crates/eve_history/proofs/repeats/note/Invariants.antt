@@ -1,5 +1,5 @@
 use Rattle.std.proofs.Common.{◌≡◌, ◌++◌, map}
-use Rattle.eve_history.specs.Notes.{requests_said}
+use Rattle.eve_history.specs.Order.{requests_said}
 use Rattle.eve_history.specs.Repeats.{arrival}
 use Rattle.eve_history.proofs.repeats.note.Given as goal
 

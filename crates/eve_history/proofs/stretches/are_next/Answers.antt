@@ -2,7 +2,7 @@ use Rattle.std.proofs.Common.{◌≡◌, List, [], ◌∷◌, map, sym, subst, r
 use Rattle.eve_grammar.specs.Trace.{Asked}
 use Rattle.eve_grammar.specs.Bodies.{borrowed_asked}
 use Rattle.eve_grammar.specs.Trace.{request_id}
-use Rattle.eve_history.specs.Notes.{requests_said}
+use Rattle.eve_history.specs.Order.{requests_said}
 use Rattle.eve_history.specs.Spans.{span_of, AreInSpans}
 use Rattle.eve_history.proofs.Rising.{Rising, rising_start, rising_more, rising_end}
 use Rattle.eve_history.proofs.stretches.are_next.Goals as goal

@@ -1,6 +1,6 @@
 use Rattle.std.proofs.Common.{List, map}
 use Rattle.eve_grammar.specs.Trace.{RequestId, request_id}
-use Rattle.eve_history.specs.Notes.{requests_said}
+use Rattle.eve_history.specs.Order.{requests_said}
 use Rattle.eve_history.specs.Spans.{span_of, AreInSpans}
 use Rattle.eve_history.proofs.Rising.{Rising}
 use Rattle.eve_history.proofs.stretches.are_next.Given as goal

@@ -3,7 +3,7 @@ use Rattle.std.proofs.lemmas.List.{with_items_is}
 use Rattle.eve_grammar.specs.Spelling.{batches_at}
 use Rattle.eve_views.specs.Form.{SomePlace}
 use Rattle.eve_history.specs.declared.span.Span.{Span}
-use Rattle.eve_history.specs.Faults.{IsAskedAgain}
+use Rattle.eve_history.specs.Order.{IsAskedAgain}
 use Rattle.eve_history.specs.Spans.{span_of, HaveSpans, IsStretch}
 use Rattle.eve_history.proofs.Spans.{spans_none}
 use Rattle.eve_history.proofs.stretches.rise_on.Goals as goal

@@ -4,7 +4,7 @@ use Rattle.std.proofs.lemmas.List.Sums.{count_by-le-length}
 use Rattle.eve_grammar.specs.Trace.{Access}
 use Rattle.eve_frames.specs.Views.{access_in}
 use Rattle.eve_history.specs.declared.access_marks.AccessMarks.{AccessMarks}
-use Rattle.eve_history.specs.Faults.{accesses_of}
+use Rattle.eve_history.specs.Structure.{accesses_of}
 use Rattle.eve_history.specs.Marking.{AreMarked}
 use Rattle.eve_history.proofs.Marking.{refused_worker, refused_index, refused_again, refused_place, taken_right}
 use Rattle.eve_history.proofs.access_marks.AccessMarks.mark.Goals as goal

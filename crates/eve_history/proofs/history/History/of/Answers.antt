@@ -11,7 +11,7 @@ use Rattle.eve_views.specs.declared.fault.Fault.{Fault}
 use Rattle.eve_history.specs.Coming.{KeptSection, kept_section, HasCome}
 use Rattle.eve_history.proofs.Coming.{come_start, come_ended, come_told, come_faultless}
 use Rattle.eve_history.proofs.Taking.{weaker_found}
-use Rattle.eve_history.specs.Faults.{StandsInStructure}
+use Rattle.eve_history.specs.Structure.{StandsInStructure}
 use Rattle.eve_history.proofs.history.History.of.Goals as goal
 
 pub loop-step-init : goal.loop-step-init

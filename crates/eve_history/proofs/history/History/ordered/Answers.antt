@@ -1,8 +1,8 @@
 use Rattle.std.proofs.Common.{◌≡◌, ℕ, ◌+◌, ◌^◌, ◌<◌, ◌≤◌, map, length, get_or, drop, slice_get, vec_len, Some, ap, sym}
 use Rattle.std.proofs.Common.{◌∙◌, arith, rules}
 use Rattle.std.proofs.lemmas.List.{length-map, length-take}
-use Rattle.eve_history.specs.declared.notes.Notes.{Notes}
-use Rattle.eve_history.specs.declared.notes.Attempted.{Attempted}
+use Rattle.eve_history.specs.declared.structure.Notes.{Notes}
+use Rattle.eve_history.specs.declared.structure.Attempted.{Attempted}
 use Rattle.eve_grammar.specs.Frames.{OfAccess}
 use Rattle.eve_grammar.specs.Spelling.{frame_text}
 use Rattle.eve_grammar.proofs.Lists.{all-slice_get}

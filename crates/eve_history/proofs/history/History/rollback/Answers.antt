@@ -4,7 +4,7 @@ use Rattle.eve_grammar.specs.Frames.{OfRollback}
 use Rattle.eve_grammar.specs.Spelling.{frame_text}
 use Rattle.eve_grammar.proofs.Lists.{all-slice_get}
 use Rattle.eve_frames.specs.Views.{rollback_in}
-use Rattle.eve_history.specs.declared.notes.Notes.{Notes}
+use Rattle.eve_history.specs.declared.structure.Notes.{Notes}
 use Rattle.eve_history.specs.Standing.{IsRollbackAt}
 use Rattle.eve_history.specs.SectionHistory.{SectionHistory}
 use Rattle.eve_history.specs.Coming.{kept_section, rolled, section_history_of}

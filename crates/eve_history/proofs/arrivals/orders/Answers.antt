@@ -1,6 +1,0 @@
-use Rattle.eve_history.proofs.OrderLaws.{none_twice}
-use Rattle.eve_history.proofs.arrivals.orders.Goals as goal
-
-pub returns-clause-none : goal.returns-clause-none
-returns-clause-none c = none_twice c.args.trace.now c.in_ok-names.ensures.apart
-    c.in_ok-requests_apart.ensures.apart

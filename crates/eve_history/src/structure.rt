@@ -1,0 +1,445 @@
+//! A replica's section, step by step: what is kept of the steps, and what is wrong with the next.
+
+ghost use Rattle.std.specs.Prelude.{◌≡◌, ◌≤◌, ◌<◌, ◌++◌, ◌∷◌, ◌^◌, [], ℕ, List, IsTrue, IfErr, OnOk, IfNone, IfOk};
+ghost use Rattle.std.specs.Prelude.{◌==◌, ◌&&◌, ◌+◌, false, map, length, slice_index, Some, IfSome, IsOk};
+ghost use Rattle.std.specs.List.{AllByRecursion};
+ghost use Rattle.std.specs.Cmp.Lexicographic.{pointwise};
+ghost use Rattle.eve_grammar.specs.Trace.{Trace as TraceValue, Attempt, Step as StepValue, Attempts, Commits};
+ghost use Rattle.eve_grammar.specs.Trace.{RollsBack, head_of};
+ghost use Rattle.eve_grammar.specs.Frames.{without_accesses};
+ghost use Rattle.eve_grammar.specs.Spelling.{accesses_at};
+ghost use Rattle.eve_frames.specs.Said.{attempt_said, commit_said, rollback_said};
+ghost use Rattle.eve_views.specs.Form.{IfFound, IsLeast, IsFaultIn};
+ghost use Rattle.eve_views.specs.declared.fault.CheckFault.TheVariants.{Found};
+ghost use Rattle.eve_views.specs.StepKinds.{IsStep};
+ghost use Rattle.eve_history.specs.Section.{SectionState, is_due, is_right_commit, is_right_rollback};
+ghost use Rattle.eve_history.specs.Section.{worker_count};
+ghost use Rattle.eve_history.specs.FirstWrong.{wrong_attempt, wrong_step, fault_of};
+ghost use Rattle.eve_history.specs.Marking.{AreMarked};
+ghost use Rattle.eve_history.specs.Coming.{kept_section, StandsAt, HasCome, ComesNext, AreFramed, AreNotesOf};
+ghost use Rattle.eve_history.specs.Coming.{kept_at_first, seen};
+ghost use Rattle.eve_history.specs.SideBySide.{IsKeptAhead};
+ghost use Rattle.eve_history.specs.Structure.{StandsInStructure};
+
+use crate::access_marks::AccessMarks;
+use crate::certificate::{has_every_index, is_right_certificate, read_order};
+use crate::fate::Fate;
+use crate::frame::attempt_at;
+use crate::wrong::Wrong;
+use eve_frames::{AttemptView, CommitView, RollbackView};
+use eve_grammar::{Head, MOST_REQUESTS, MOST_WORKERS};
+use eve_views::{Accesses, CheckFault, Code, Fault, Step, Trace};
+use std::alloc::{AllocError, Global};
+
+/// An attempt, and where its access records begin among those of the section.
+#[derive(Clone, Copy)]
+pub struct Attempted {
+    /// The byte at which its frame begins.
+    pub at: u32,
+    /// The place of the record that stands first in its certificate's order.
+    pub from: usize,
+}
+
+/// What is kept of the steps of a section that have come. A frame is kept by the byte at which it begins.
+#[derive(Drop)]
+pub struct Notes<'a> {
+    /// The trace's bytes.
+    pub bytes: &'a [u8],
+    /// The section's view.
+    pub view: u32,
+    /// The last committed number.
+    pub last: u32,
+    /// Whether no attempt came since a rollback.
+    pub rolled_back: bool,
+    /// The attempts, in the order of their frames.
+    pub attempts: Vec<Attempted>,
+    /// What became of those that are settled, which are the first of them.
+    pub fates: Vec<Fate>,
+    /// The places among the attempts of those that were committed, by number.
+    pub commits: Vec<usize>,
+    /// The access records of one attempt after another, each attempt's in its certificate's order.
+    pub records: Vec<u32>,
+    /// The rollbacks, in the order of their frames.
+    pub rollbacks: Vec<u32>,
+}
+
+/// The fault in this replica's section.
+fn fault_in(e: u8, wrong: Wrong) -> CheckFault
+    ensures { result ≡ Found (fault_of e wrong) }
+{
+    CheckFault::Found(Fault {
+        code: wrong.code,
+        offset: wrong.offset,
+        replica: Some(e),
+    })
+}
+
+/// Whether the commit has the attempt's view and token.
+fn is_of(commit: &CommitView<'_>, attempt: &AttemptView<'_>) -> bool
+    ensures { result ≡ (((attempt_said attempt.now).view == (commit_said commit.now).view) && pointwise ◌==◌
+        (attempt_said attempt.now).token (commit_said commit.now).token) }
+{
+    attempt.view() == commit.view() && attempt.token() == commit.token()
+}
+
+/// Keeps the access records of an attempt, which are marked, in its certificate's order.
+pub fn keep_records(
+    records: &mut Vec<u32>,
+    order: &[u16],
+    marks: &AccessMarks,
+) -> Result<(), AllocError>
+    requires { AllByRecursion (λ i. i < MOST_REQUESTS) order.now }
+    ensures { OnOk result
+        (records.new.items ≡ records.old.items ++ map (λ i. slice_index marks.now.offsets i) order.now) }
+{
+    for index in order {
+        records.push(marks.offset(*index))?;
+    }
+    Ok(())
+}
+
+/// How many workers an attempt may have.
+pub fn workers_of(trace: &Trace<'_>, attempt: &AttemptView<'_>) -> u8
+    ensures workers { result ≡ worker_count trace.now (attempt_said attempt.now) }
+    ensures most { result ≤ MOST_WORKERS }
+{
+    trace.recall_limits();
+    if attempt.is_serial() {
+        1
+    } else {
+        trace.head().workers
+    }
+}
+
+impl<'a> Notes<'a> {
+    /// Before the first step.
+    pub fn new(alloc: Global, bytes: &'a [u8]) -> Notes<'a>
+        ensures bytes { result.bytes.now ≡ bytes.now }
+        ensures attempts { result.attempts.items ≡ [] }
+        ensures records { result.records.items ≡ [] }
+        ensures rollbacks { result.rollbacks.items ≡ [] }
+        ensures kept { kept_section result ≡ kept_at_first [] }
+    {
+        Notes::with_records(alloc, bytes, Vec::new(alloc))
+    }
+
+    /// Before the first step, with the access records of all attempts that are to come.
+    pub fn with_records(alloc: Global, bytes: &'a [u8], records: Vec<u32>) -> Notes<'a>
+        ensures bytes { result.bytes.now ≡ bytes.now }
+        ensures attempts { result.attempts.items ≡ [] }
+        ensures records { result.records.items ≡ records.items }
+        ensures rollbacks { result.rollbacks.items ≡ [] }
+        ensures kept { kept_section result ≡ kept_at_first (map (seen bytes.now) records.items) }
+    {
+        Notes {
+            bytes,
+            view: 0,
+            last: 0,
+            rolled_back: false,
+            attempts: Vec::new(alloc),
+            fates: Vec::new(alloc),
+            commits: Vec::new(alloc),
+            records,
+            rollbacks: Vec::new(alloc),
+        }
+    }
+
+    /// Whether an attempt's number, view and mode are those that are due.
+    fn is_due(&self, head: &Head, attempt: &AttemptView<'_>) -> bool
+        requires { length (kept_section self.now).fates ≤ length (kept_section self.now).attempts }
+        ensures due { (t : TraceValue) (s : SectionState) → StandsAt s (kept_section self.now)
+            → head.now ≡ head_of t
+            → result ≡ is_due t s (attempt_said attempt.now) }
+        ensures from_one { IsTrue result → 1 ≤ (attempt_said attempt.now).seq }
+        ensures there { IsTrue result → (attempt_said attempt.now).seq ≤ head.now.batches }
+    {
+        let seq = attempt.seq();
+        let open = self.attempts.len() - self.fates.len();
+        if seq <= self.last || (seq - self.last - 1) as usize != open {
+            return false;
+        }
+        if seq > head.batches || seq as u64 > self.last as u64 + head.window as u64 {
+            return false;
+        }
+        attempt.view() == self.view && attempt.is_serial() == self.rolled_back
+    }
+
+    /// What is wrong with an attempt but for its access records.
+    fn wrong_attempt(
+        &self,
+        trace: &Trace<'_>,
+        attempt: &AttemptView<'_>,
+        order: &[u16],
+    ) -> Option<Code>
+        requires fewer { length (kept_section self.now).fates ≤ length (kept_section self.now).attempts }
+        requires order { order.now ≡ (attempt_said attempt.now).certificate }
+        ensures { (s : SectionState) → StandsAt s (kept_section self.now)
+            → result ≡ wrong_attempt trace.now s (attempt_said attempt.now) }
+    {
+        if !self.is_due(&trace.head(), attempt) || !has_every_index(trace, attempt) {
+            return Some(Code::Attempt);
+        }
+        if !is_right_certificate(trace, attempt, order) {
+            return Some(Code::Certificate);
+        }
+        None
+    }
+
+    /// Whether the commit is of the first open attempt.
+    fn is_right_commit(&self, commit: &CommitView<'_>) -> bool
+        requires { AreFramed self.now }
+        ensures { (s : SectionState) → StandsAt s (kept_section self.now)
+            → result ≡ is_right_commit s (commit_said commit.now) }
+    {
+        let settled = self.fates.len();
+        if settled >= self.attempts.len() {
+            return false;
+        }
+        if commit.seq() as u64 != self.last as u64 + 1 {
+            return false;
+        }
+        is_of(commit, &attempt_at(self.bytes, self.attempts[settled].at))
+    }
+
+    /// Whether the rollback is to the last committed number, of a batch that is still to come, and in the next view.
+    fn rolls_back(&self, head: &Head, rollback: &RollbackView<'_>) -> bool
+        ensures { (t : TraceValue) (s : SectionState) → StandsAt s (kept_section self.now) → head.now ≡ head_of t
+            → result ≡ is_right_rollback t s (rollback_said rollback.now) }
+    {
+        rollback.to() == self.last
+            && self.last < head.batches
+            && rollback.view() as u64 == self.view as u64 + 1
+    }
+
+    /// What is wrong with the next attempt; where nothing is, its access records are marked.
+    fn judge(
+        &self,
+        trace: &Trace<'_>,
+        attempt: &AttemptView<'_>,
+        accesses: &Accesses<'_, '_>,
+        order: &[u16],
+        marks: &mut AccessMarks,
+    ) -> Option<Wrong>
+        requires fewer { length (kept_section self.now).fates ≤ length (kept_section self.now).attempts }
+        requires order { order.now ≡ (attempt_said attempt.now).certificate }
+        requires few { length order.now ≤ MOST_REQUESTS }
+        requires many { length accesses.now ≡ length order.now }
+        requires small { AllByRecursion (λ x. x.0 < 2 ^ 32) accesses.now }
+        requires none { AreMarked [] marks.old }
+        ensures wrong { (s : SectionState) (b : Attempt) → StandsAt s (kept_section self.now) → attempt_said attempt.now
+            ≡ without_accesses b → accesses.now ≡ accesses_at attempt.now.offset b
+            → result ≡ wrong_step trace.now s (attempt.now.offset, Attempts b) }
+        ensures marked { IfNone result (AreMarked accesses.now marks.new) }
+    {
+        trace.recall_limits();
+        if let Some(code) = self.wrong_attempt(trace, attempt, order) {
+            return Some(Wrong {
+                code,
+                offset: attempt.offset(),
+            });
+        }
+        marks.mark_all(workers_of(trace, attempt), order.len(), accesses)
+    }
+
+    /// Takes the next attempt, which becomes open, or says which of its frames is wrong.
+    pub fn take_attempt(
+        &mut self,
+        trace: &Trace<'_>,
+        e: u8,
+        attempt: &AttemptView<'_>,
+        accesses: &Accesses<'_, '_>,
+    ) -> Result<(), CheckFault>
+        requires noted { AreNotesOf trace.now self.old }
+        requires comes { (rest : List (ℕ × StepValue)) × (b : Attempt)
+            × ComesNext trace.now e rest b (kept_section self.old) attempt.now.offset (attempt_said attempt.now)
+            accesses.now }
+        ensures taken { OnOk result ((rest : List (ℕ × StepValue)) (b : Attempt)
+            → ComesNext trace.now e rest b (kept_section self.old) attempt.now.offset (attempt_said attempt.now)
+            accesses.now
+            → HasCome trace.now e rest (kept_section self.new)) }
+        ensures noted { OnOk result (AreNotesOf trace.now self.new) }
+        ensures wrong { IfErr result
+            (λ x. IfFound x (λ f. (rest : List (ℕ × StepValue)) (b : Attempt)
+            → ComesNext trace.now e rest b (kept_section self.old) attempt.now.offset (attempt_said attempt.now)
+            accesses.now
+            → IsLeast (IsFaultIn StandsInStructure trace.now e) f)) }
+    {
+        let mut indexes = [0; MOST_REQUESTS];
+        read_order(attempt, &mut indexes);
+        let order = &indexes[..attempt.len()];
+        let mut marks = AccessMarks::new();
+        if let Some(wrong) = self.judge(trace, attempt, accesses, order, &mut marks) {
+            return Err(fault_in(e, wrong));
+        }
+        let from = self.records.len();
+        keep_records(&mut self.records, order, &marks)?;
+        self.attempts.push(Attempted {
+            at: attempt.offset() as u32,
+            from,
+        })?;
+        self.rolled_back = false;
+        Ok(())
+    }
+
+    /// Takes the next attempt, whose certificate and access records are right and whose records are kept from this
+    /// place on, and gives the place behind them; nothing where it isn't due.
+    pub fn take_ordered(
+        &mut self,
+        trace: &Trace<'_>,
+        attempt: &AttemptView<'_>,
+        from: usize,
+    ) -> Result<Option<usize>, AllocError>
+        requires { (e : ℕ) × (rest : List (ℕ × StepValue)) × (b : Attempt)
+            × IsKeptAhead trace.now e ((attempt.now.offset, Attempts b) ∷ rest) from self.old
+            × (attempt_said attempt.now ≡ without_accesses b) }
+        ensures { IfOk result (λ next. IfSome next (λ to. (e : ℕ) (rest : List (ℕ × StepValue)) (b : Attempt)
+            → IsKeptAhead trace.now e ((attempt.now.offset, Attempts b) ∷ rest) from self.old
+            → attempt_said attempt.now ≡ without_accesses b → IsKeptAhead trace.now e rest to self.new)) }
+    {
+        if !self.is_due(&trace.head(), attempt) {
+            return Ok(None);
+        }
+        let next = from + attempt.len();
+        self.attempts.push(Attempted {
+            at: attempt.offset() as u32,
+            from,
+        })?;
+        self.rolled_back = false;
+        Ok(Some(next))
+    }
+
+    /// Takes the next commit, of the first open attempt, or says that it is wrong.
+    pub fn take_commit(&mut self, e: u8, commit: &CommitView<'_>) -> Result<(), CheckFault>
+        requires { AreFramed self.old }
+        ensures taken { OnOk result ((t : TraceValue) (rest : List (ℕ × StepValue))
+            → HasCome t e ((commit.now.offset, Commits (commit_said commit.now)) ∷ rest) (kept_section self.old)
+            → HasCome t e rest (kept_section self.new)) }
+        ensures noted { OnOk result ((t : TraceValue) → AreNotesOf t self.old → AreNotesOf t self.new) }
+        ensures records { OnOk result (self.new.records.items ≡ self.old.records.items) }
+        ensures wrong { IfErr result
+            (λ x. IfFound x (λ f. (t : TraceValue) (rest : List (ℕ × StepValue))
+            → HasCome t e ((commit.now.offset, Commits (commit_said commit.now)) ∷ rest) (kept_section self.old)
+            → IsLeast (IsFaultIn StandsInStructure t e) f)) }
+    {
+        if !self.is_right_commit(commit) {
+            return Err(fault_in(
+                e,
+                Wrong {
+                    code: Code::Commit,
+                    offset: commit.offset(),
+                },
+            ));
+        }
+        let place = self.fates.len();
+        self.commits.reserve(1)?;
+        self.fates.push(Fate::Committed)?;
+        self.commits.push_reserved(place);
+        self.last = commit.seq();
+        Ok(())
+    }
+
+    /// Takes the next rollback, which discards all open attempts, or says that it is wrong.
+    pub fn take_rollback(
+        &mut self,
+        trace: &Trace<'_>,
+        e: u8,
+        rollback: &RollbackView<'_>,
+    ) -> Result<(), CheckFault>
+        requires noted { AreNotesOf trace.now self.old }
+        requires comes { (rest : List (ℕ × StepValue))
+            × HasCome trace.now e ((rollback.now.offset, RollsBack (rollback_said rollback.now)) ∷ rest)
+            (kept_section self.old) }
+        ensures taken { OnOk result
+            ((rest : List (ℕ × StepValue))
+            → HasCome trace.now e ((rollback.now.offset, RollsBack (rollback_said rollback.now)) ∷ rest)
+            (kept_section self.old)
+            → HasCome trace.now e rest (kept_section self.new)) }
+        ensures noted { OnOk result (AreNotesOf trace.now self.new) }
+        ensures records { OnOk result (self.new.records.items ≡ self.old.records.items) }
+        ensures wrong { IfErr result
+            (λ x. IfFound x (λ f. (rest : List (ℕ × StepValue))
+            → HasCome trace.now e ((rollback.now.offset, RollsBack (rollback_said rollback.now)) ∷ rest)
+            (kept_section self.old)
+            → IsLeast (IsFaultIn StandsInStructure trace.now e) f)) }
+    {
+        if !self.rolls_back(&trace.head(), rollback) {
+            return Err(fault_in(
+                e,
+                Wrong {
+                    code: Code::Rollback,
+                    offset: rollback.offset(),
+                },
+            ));
+        }
+        self.rollbacks.push(rollback.offset() as u32)?;
+        self.fates.resize(self.attempts.len(), Fate::Discarded)?;
+        self.view = rollback.view();
+        self.rolled_back = true;
+        Ok(())
+    }
+}
+
+/// Takes the next step of a replica's section, or says what is wrong with it.
+pub fn take<'a>(
+    notes: &mut Notes<'a>,
+    trace: &Trace<'a>,
+    e: u8,
+    step: Step<'_, 'a>,
+) -> Result<(), CheckFault>
+    requires noted { AreNotesOf trace.now notes.old }
+    requires comes { (rest : List (ℕ × StepValue)) × (next : ℕ × StepValue)
+        × HasCome trace.now e (next ∷ rest) (kept_section notes.old) × IsStep step next }
+    ensures taken { OnOk result ((rest : List (ℕ × StepValue)) (next : ℕ × StepValue)
+        → HasCome trace.now e (next ∷ rest) (kept_section notes.old) → IsStep step.entry next
+        → HasCome trace.now e rest (kept_section notes.new)) }
+    ensures noted { OnOk result (AreNotesOf trace.now notes.new) }
+    ensures wrong { IfErr result
+        (λ x. IfFound x (λ f. (rest : List (ℕ × StepValue)) (next : ℕ × StepValue)
+        → HasCome trace.now e (next ∷ rest) (kept_section notes.old) → IsStep step.entry next
+        → IsLeast (IsFaultIn StandsInStructure trace.now e) f)) }
+{
+    match step {
+        Step::Attempt(attempt, accesses) => notes.take_attempt(trace, e, &attempt, &accesses),
+        Step::Commit(commit) => notes.take_commit(e, &commit),
+        Step::Rollback(rollback) => notes.take_rollback(trace, e, &rollback),
+    }
+}
+
+/// Whether a step was taken, where it is right.
+fn is_taken(taken: Result<(), CheckFault>) -> Result<bool, AllocError>
+    ensures { IfOk result (λ right. IsTrue right → IsOk taken) }
+{
+    match taken {
+        Ok(()) => Ok(true),
+        Err(CheckFault::Found(_)) => Ok(false),
+        Err(CheckFault::Memory) => Err(AllocError),
+    }
+}
+
+/// Takes the next step of a replica's section, whose access records are kept already, those of the attempts that come
+/// from this place on; and gives the place of those behind it. Nothing where the step isn't right.
+pub fn take_ahead<'a>(
+    notes: &mut Notes<'a>,
+    trace: &Trace<'a>,
+    e: u8,
+    step: Step<'_, 'a>,
+    from: usize,
+) -> Result<Option<usize>, AllocError>
+    requires { (rest : List (ℕ × StepValue)) × (next : ℕ × StepValue)
+        × IsKeptAhead trace.now e (next ∷ rest) from notes.old × IsStep step next }
+    ensures { IfOk result (λ next. IfSome next (λ to. (rest : List (ℕ × StepValue)) (next : ℕ × StepValue)
+        → IsKeptAhead trace.now e (next ∷ rest) from notes.old → IsStep step.entry next
+        → IsKeptAhead trace.now e rest to notes.new)) }
+{
+    match step {
+        Step::Attempt(attempt, _) => notes.take_ordered(trace, &attempt, from),
+        Step::Commit(commit) => {
+            let right = is_taken(notes.take_commit(e, &commit))?;
+            Ok(if right { Some(from) } else { None })
+        }
+        Step::Rollback(rollback) => {
+            let right = is_taken(notes.take_rollback(trace, e, &rollback))?;
+            Ok(if right { Some(from) } else { None })
+        }
+    }
+}
