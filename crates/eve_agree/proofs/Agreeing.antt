@@ -1,13 +1,13 @@
 -- Public: other crates cite these lemmas. The least of the faults of agreement, batch after batch.
-use Rattle.std.proofs.Common.{◌≡◌, ℕ, zero, suc, ◌+◌, ◌<◌, ◌≤◌, nat_le, Bool, true, false, cond, List, [], ◌∷◌, map}
-use Rattle.std.proofs.Common.{length, take, drop, slice_get, Option, Some, None, IfSome, refl, sym, ap, subst, ◌∙◌, inl}
-use Rattle.std.proofs.Common.{inr, ◌⊎◌, if◌then◌else◌, arith, add-one}
+use Rattle.std.proofs.Common.{◌≡◌, ℕ, zero, suc, ◌+◌, ◌<◌, ◌≤◌, Bool, true, false, cond, List, [], ◌∷◌, map}
+use Rattle.std.proofs.Common.{length, slice_get, Option, Some, None, IfSome, refl, sym, ap, subst, ◌∙◌, inl}
+use Rattle.std.proofs.Common.{inr, ◌⊎◌, if◌then◌else◌, arith}
 use Rattle.std.specs.List.{enumerate_from, find}
+use Rattle.std.specs.Option.{is_some}
 use Rattle.std.proofs.lemmas.Bool.{cases_lt}
 use Rattle.std.proofs.lemmas.Option.{same_Some}
 use Rattle.eve_smallbank.specs.declared.request.Reply.{Reply}
 use Rattle.eve_grammar.specs.Trace.{Trace}
-use Rattle.eve_grammar.proofs.Lists.{item_within}
 use Rattle.eve_views.specs.declared.fault.Code.{Code}
 use Rattle.eve_views.specs.declared.fault.Code.TheVariants as code
 use Rattle.eve_views.specs.declared.fault.Fault.{Fault}
@@ -15,16 +15,15 @@ use Rattle.eve_views.specs.Form.{IsUpTo, IsLeast, IsFaultSomewhere}
 use Rattle.eve_views.specs.Code.{code_number, phase_of}
 use Rattle.eve_views.specs.First.{is_before, first_of}
 use Rattle.eve_views.proofs.Firsts.{before_precedes, behind_precedes, up_to_from}
-use Rattle.eve_views.proofs.Lists.{cut_at}
-use Rattle.eve_votes.proofs.Places.{get_between}
 use Rattle.eve_history.specs.Section.{Placed}
-use Rattle.eve_history.specs.SectionHistory.{SectionHistory, section_history, section_histories, history, committed_at}
+use Rattle.eve_history.specs.SectionHistory.{SectionHistory, section_history, section_histories, committed_at}
 use Rattle.eve_history.specs.SectionHistory.{IsRightSection}
 use Rattle.eve_history.proofs.Rights.{as_many_told, section_history_at}
-use Rattle.eve_chains.proofs.Linked.{last_committed, none≢some, take_length}
+use Rattle.eve_chains.proofs.Linked.{none≢some}
 use Rattle.eve_agree.specs.Agreement.{first_to_commit, HaveSameOutcome, ReplicasAgree, StandsInAgreement}
 use Rattle.eve_agree.specs.Judging.{NoneBefore, Stand, IsUpToAt, KeepsFound, AgreesOrIsFound}
-use Rattle.eve_agree.proofs.Outcomes.{IsOf, last_told, committed_low, replica_there, first_there}
+use Rattle.eve_agree.proofs.Outcomes.{IsOf, last_told, first_there}
+use Rattle.eve_agree.proofs.ByNumber.{some_there, told_none, committed_low, replica_there}
 
 -- ---- the first of two
 
@@ -84,31 +83,19 @@ judged_later t least now e n lowers judged p at =
 -- it differs
 pub differs : (t : Trace) (e f n at : ℕ) (rs : List Reply) → IsOf t e n at rs → first_to_commit t n ≡ Some f
     → ¬ HaveSameOutcome t e f n → IsFaultSomewhere StandsInAgreement t (outcome_fault at e)
-differs t e f n at rs own first apart = by n own.item own.at own.offset_is first apart
-  where
-    by : (n : ℕ) (p : Placed) → committed_at t e n ≡ Some p → at ≡ p.offset → first_to_commit t n ≡ Some f
-        → ¬ HaveSameOutcome t e f n → IsFaultSomewhere StandsInAgreement t (outcome_fault at e)
-    by zero p here is first apart = none≢some p here
-    by (suc m) p here is first apart =
-        let number : length (take m (history t e).committed) + 1 ≡ suc m =
-        add-one (length (take m (history t e).committed)) ∙ ap suc (take_length (history t e).committed m p here) in (
-          e,
-          record {
-            stands = record {
-              before = take m (history t e).committed;
-              item = p;
-              rest = drop (suc m) (history t e).committed;
-              is = cut_at (history t e).committed m p here;
-              holds = (
-                sym is,
-                subst (λ (k : ℕ). IfSome (first_to_commit t k) (λ g. ¬ HaveSameOutcome t e g k))
-                    (sym number) (subst (λ (o : Option ℕ). IfSome o (λ g. ¬ HaveSameOutcome t e g (suc m)))
-                    (sym first) apart),
-              );
-            };
-            inside = refl;
-          },
-        )
+differs t e f n at rs own first apart = (
+  e,
+  record {
+    stands = record {
+      n = n;
+      item = own.item;
+      is = own.at;
+      offset = sym own.offset_is;
+      holds = subst (λ (o : Option ℕ). IfSome o (λ g. ¬ HaveSameOutcome t e g n)) (sym first) apart;
+    };
+    inside = refl;
+  },
+)
 
 pub judged_same : (t : Trace) (least : Option Fault) (e f n : ℕ) → first_to_commit t n ≡ Some f
     → HaveSameOutcome t e f n → AgreesOrIsFound t least e n
@@ -123,9 +110,9 @@ judged_apart t least e n at rs stand own p here =
     (lower_here t least at e stand))
 
 -- it didn't commit the batch
-pub judged_none : (t : Trace) (least : Option Fault) (e n : ℕ) → IsRightSection t e → (history t e).last < n
+pub judged_none : (t : Trace) (least : Option Fault) (e n : ℕ) → committed_at t e n ≡ None
     → AgreesOrIsFound t least e n
-judged_none t least e n right less p at = absurd (let low = committed_low t e n p right at in omega arith)
+judged_none t least e n none p at = none≢some p (sym none ∙ at)
 
 -- it is not there
 pub judged_missing : (t : Trace) (least : Option Fault) (e n : ℕ) → length t.sections ≤ e → AgreesOrIsFound t least e n
@@ -140,18 +127,16 @@ pub record InBatch (t : Trace) (before : Option Fault) (n e : ℕ) (least : Opti
   pub judged : (i : ℕ) → i < e → AgreesOrIsFound t least i n
 
 module _ (t : Trace) (before : Option Fault) (n : ℕ) where
-  pub batch_start : (f : ℕ) (hs : List SectionHistory) → hs ≡ section_histories t → ((e : ℕ) → IsRightSection t e)
-      → Stand t before → NoneBefore hs n f → f < length t.sections → first_to_commit t n ≡ Some f
-      → InBatch t before n (f + 1) before
-  batch_start f hs told right stand none there first = record {
+  pub batch_start : (f : ℕ) (hs : List SectionHistory) → hs ≡ section_histories t → Stand t before
+      → NoneBefore hs n f → f < length t.sections → first_to_commit t n ≡ Some f → InBatch t before n (f + 1) before
+  batch_start f hs told stand none there first = record {
     stand = stand;
     lowers = λ at up. up;
     judged = λ i lt. elim (cases_lt i f) [
       | inl early ↦
           let low = none i (section_history t i) early (ap (λ (xs : List SectionHistory). slice_get xs i) told
           ∙ section_history_at t i (omega arith)) in
-          let last = last_told t i (section_history t i) refl in
-          judged_none t before i n (right i) (omega arith)
+          judged_none t before i n (told_none t i (section_history t i) n refl low)
       | inr late ↦
           let same : i ≡ f = omega arith in
           judged_same t before i f n first
@@ -197,13 +182,10 @@ module _ (t : Trace) where
       ∙ section_history_at t e there) in
       known.judged e (suc m) (omega arith) (omega arith) p at
 
-  pub they_agree : ((e : ℕ) → IsRightSection t e) → ((e m : ℕ) → AgreesOrIsFound t None e m) → ReplicasAgree t
-  they_agree right judged e zero has = absurd (let one = has.0 in omega arith)
-  they_agree right judged e (suc m) has =
-      let le = has.1 in
-      let count = last_committed t e (right e) in
-      let got = item_within (history t e).committed m (omega arith) in
-      elim (judged e (suc m) got.0 got.1) [ inl same ↦ same | inr up ↦ absurd up ]
+  pub they_agree : ((e m : ℕ) → AgreesOrIsFound t None e m) → ReplicasAgree t
+  they_agree judged e n has =
+      let got = some_there (committed_at t e n) has in
+      elim (judged e n got.0 got.1) [ inl same ↦ same | inr up ↦ absurd up ]
 
   -- a fault stands where the outcome differs
   same_and_not : (o : Option ℕ) (P : ℕ → Type 0) → IfSome o P → IfSome o (λ f. ¬ P f) → (f : ℕ) → o ≡ Some f → ⊥
@@ -211,41 +193,33 @@ module _ (t : Trace) where
   same_and_not (Some g) P same apart f is = apart same
 
   -- what was found is up to each place at which the outcome differs
-  up_to_each : (least : Option Fault) (e at : ℕ) → ((e : ℕ) → IsRightSection t e)
-      → ((e m : ℕ) → AgreesOrIsFound t least e m)
+  up_to_each : (least : Option Fault) (e at : ℕ) → ((e m : ℕ) → AgreesOrIsFound t least e m)
       → StandsInAgreement code.Outcome t e at → IsUpToAt least at
-  up_to_each least e at right judged place =
-      let n = suc (length place.before) in
-      let here : committed_at t e n ≡ Some place.item = ap (λ (ps : List Placed). slice_get ps (length place.before))
-      place.is ∙ get_between place.before place.item place.rest in
-      let apart : IfSome (first_to_commit t n) (λ f. ¬ HaveSameOutcome t e f n) =
-      subst (λ (k : ℕ). IfSome (first_to_commit t k) (λ f. ¬ HaveSameOutcome t e f k)) (add-one (length place.before))
-      place.holds.1 in
-      let first = first_there t e n place.item (right e) here in
-      elim (judged e n place.item here) [
-        | inl same ↦ absurd (same_and_not (first_to_commit t n) (λ f. HaveSameOutcome t e f n) same apart first.0
+  up_to_each least e at judged place =
+      let n = place.n in
+      let first = first_there t e n place.item place.is in
+      elim (judged e n place.item place.is) [
+        | inl same ↦ absurd (same_and_not (first_to_commit t n) (λ f. HaveSameOutcome t e f n) same place.holds first.0
             first.1)
-        | inr up ↦ subst (IsUpToAt least) place.holds.0 up
+        | inr up ↦ subst (IsUpToAt least) place.offset up
       ]
 
-  pub none_stands : ((e : ℕ) → IsRightSection t e) → ((e m : ℕ) → AgreesOrIsFound t None e m) → (f : Fault)
-      → ¬ IsFaultSomewhere StandsInAgreement t f
-  none_stands right judged f is = by f.code is.1.stands
+  pub none_stands : ((e m : ℕ) → AgreesOrIsFound t None e m) → (f : Fault) → ¬ IsFaultSomewhere StandsInAgreement t f
+  none_stands judged f is = by f.code is.1.stands
     where
       by : (c : Code) → StandsInAgreement c t is.0 f.offset → ⊥
-      by code.Outcome stands = up_to_each None is.0 f.offset right judged stands
+      by code.Outcome stands = up_to_each None is.0 f.offset judged stands
       by c stands = absurd stands
 
-  pub is_least : (f : Fault) → ((e : ℕ) → IsRightSection t e) → ((e m : ℕ) → AgreesOrIsFound t (Some f) e m)
-      → Stand t (Some f)
+  pub is_least : (f : Fault) → ((e m : ℕ) → AgreesOrIsFound t (Some f) e m) → Stand t (Some f)
       → IsLeast (IsFaultSomewhere StandsInAgreement t) f
-  is_least f right judged stand =
+  is_least f judged stand =
       record { is = stand.1; least = λ g is. by g.code g.offset g.replica is.0 is.1.stands }
     where
       by : (c : Code) (at : ℕ) (r : Option ℕ) (e : ℕ) → StandsInAgreement c t e at
           → IsUpTo f (record { code = c; offset = at; replica = r })
       by code.Outcome at r e stands =
-          let le : f.offset ≤ at = up_to_each (Some f) e at right judged stands in
+          let le : f.offset ≤ at = up_to_each (Some f) e at judged stands in
           let number : code_number f.code ≡ code_number code.Outcome = ap code_number stand.0 in
           elim (cases_lt f.offset at) [ inl lt ↦ inl lt | inr ge ↦ inr (omega arith, omega arith) ]
       by c at r e stands = absurd stands
@@ -274,6 +248,6 @@ alone_judged t hs told few e n p at = inl (by (first_to_commit t n) refl)
     by None is = tt
     by (Some f) is =
         let there = replica_there t e n p at in
-        let zeroth = only_first (λ i. nat_le n (history t i).last) t.sections f sections is in
+        let zeroth = only_first (λ i. is_some (committed_at t i n)) t.sections f sections is in
         let same : e ≡ f = let few_sections = sections in omega arith in
         subst (λ (k : ℕ). HaveSameOutcome t e k n) same (record { balances = refl; replies = refl })

@@ -1,3 +1,4 @@
+pub mod ByNumber
 pub mod Outcomes
 pub mod Reaching
 pub mod Agreeing

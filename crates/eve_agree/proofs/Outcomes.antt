@@ -1,28 +1,30 @@
 -- Public: other crates cite these lemmas. What a batch came to in a replica, and which replica was the first to commit
 -- it.
-use Rattle.std.proofs.Common.{◌≡◌, ℕ, zero, suc, ◌+◌, ◌-◌, ◌<◌, ◌≤◌, ℤ, nat_le, Bool, true, false, List, [], ◌∷◌}
+use Rattle.std.proofs.Common.{◌≡◌, ℕ, zero, suc, ◌+◌, ◌-◌, ◌<◌, ◌≤◌, ℤ, Bool, true, false, List, [], ◌∷◌}
 use Rattle.std.proofs.Common.{◌++◌, map, length, take, slice_get, get_or, Option, Some, None, refl, sym, ap, subst, ◌∙◌}
 use Rattle.std.proofs.Common.{inl, inr, arith, take_all}
 use Rattle.std.specs.List.{enumerate_from, find}
-use Rattle.std.specs.Option.{option_map}
-use Rattle.std.proofs.lemmas.Bool.{cases_lt, leb-false, le-leb, lt-leb}
+use Rattle.std.specs.Option.{is_some, option_map}
+use Rattle.std.specs.Prelude.{IsTrue}
+use Rattle.std.proofs.lemmas.Bool.{cases_lt, false≢true}
 use Rattle.std.proofs.lemmas.List.{length-map}
 use Rattle.std.proofs.lemmas.List.FromFn.{length-enumerate_from}
 use Rattle.std.proofs.lemmas.Option.{slice_get_within, same_Some}
 use Rattle.eve_smallbank.specs.declared.request.Reply.{Reply}
-use Rattle.eve_grammar.specs.Trace.{Attempt, Step, Trace}
-use Rattle.eve_grammar.proofs.Lists.{take_one_more, unmapped}
+use Rattle.eve_grammar.specs.Trace.{Attempt, Trace}
+use Rattle.eve_grammar.proofs.Lists.{take_one_more}
 use Rattle.eve_grammar.proofs.Numbered.{numbered_at}
-use Rattle.eve_history.specs.Section.{Placed, start, state_after}
-use Rattle.eve_history.specs.SectionHistory.{ExecutedAttempt, executed_attempt, SectionHistory, section_history}
-use Rattle.eve_history.specs.SectionHistory.{section_histories, placed_at, history, committed_at, IsRightSection}
+use Rattle.eve_history.specs.Section.{Placed}
+use Rattle.eve_history.specs.SectionHistory.{ExecutedAttempt, SectionHistory, section_history}
+use Rattle.eve_history.specs.SectionHistory.{section_histories, history, committed_at}
 use Rattle.eve_chains.specs.Committed.{first_rows, values_to, balances_to}
-use Rattle.eve_chains.proofs.Linked.{last_committed, none≢some}
 use Rattle.eve_chains.specs.Settling.{Settling, settling, settlings, values_in}
-use Rattle.eve_history.proofs.Rights.{as_many_told, commits_told, none_at, section_history_at}
+use Rattle.eve_history.proofs.Rights.{as_many_told, section_history_at}
 use Rattle.eve_agree.proofs.TokensInOrder.{rows_are, rows_told}
+use Rattle.eve_agree.specs.ByNumber.{told_at}
 use Rattle.eve_agree.specs.Agreement.{first_to_commit, HaveSameOutcome}
 use Rattle.eve_agree.specs.Judging.{NoneBefore, IsAfter, AreAfter}
+use Rattle.eve_agree.proofs.ByNumber.{told_item, told_none, told_same, replica_there, there_some}
 
 -- ---- of each replica
 
@@ -56,24 +58,6 @@ module _ (t : Trace) (e : ℕ) where
   unfolding section_history
   replica_told h is = ap (λ (x : SectionHistory). x.replica) is
 
-  -- a replica that is not there committed nothing
-  none_there : length t.sections ≤ e → (history t e).committed ≡ []
-  unfolding history
-  none_there past = ap (λ (xs : List (ℕ × Step)). (state_after start xs).committed) (none_at t e past)
-
-  -- where it committed the batch, the batch is one up to the last
-  pub committed_low : (n : ℕ) (p : Placed) → IsRightSection t e → committed_at t e n ≡ Some p → n ≤ (history t e).last
-  committed_low zero p right at = omega arith
-  committed_low (suc n) p right at = let lt = slice_get_within (history t e).committed n p at in let last =
-      last_committed t e right in omega arith
-
-  pub replica_there : (n : ℕ) (p : Placed) → committed_at t e n ≡ Some p → e < length t.sections
-  replica_there zero p at = none≢some p at
-  replica_there (suc n) p at = elim (cases_lt e (length t.sections)) [
-    | inl lt ↦ lt
-    | inr past ↦ none≢some p (sym (ap (λ (ps : List Placed). slice_get ps n) (none_there past)) ∙ at)
-  ]
-
 -- ---- the attempt
 
 -- this offset and these replies are those of the attempt by which replica e committed batch n
@@ -83,17 +67,11 @@ pub record IsOf (t : Trace) (e n offset : ℕ) (replies : List Reply) : Type 0 w
   pub offset_is : offset ≡ item.offset
   pub replies_are : replies ≡ item.attempt.replies
 
-pub outcome_of : (t : Trace) (e n offset : ℕ) (said : Attempt) (h : SectionHistory) → h ≡ section_history t e → 1 ≤ n
-    → (r : ExecutedAttempt) × (slice_get h.commits (n - 1) ≡ Some r) × (offset ≡ r.offset) × (said ≡ r.attempt)
+pub outcome_of : (t : Trace) (e n offset : ℕ) (said : Attempt) (h : SectionHistory) → h ≡ section_history t e
+    → (r : ExecutedAttempt) × (told_at h n ≡ Some r) × (offset ≡ r.offset) × (said ≡ r.attempt)
     → IsOf t e n offset said.replies
-outcome_of t e zero offset said h is one got = absurd (omega arith)
-outcome_of t e (suc n) offset said h is one got =
-    let less : suc n - 1 ≡ n = omega arith in
-    let r = got.0 in
-    let here : slice_get (map (λ p. executed_attempt (placed_at p)) (history t e).committed) n ≡ Some r =
-    ap (λ (rs : List ExecutedAttempt). slice_get rs n) (sym (commits_told t e))
-    ∙ ap (λ (x : SectionHistory). slice_get x.commits n) (sym is) ∙ ap (slice_get h.commits) (sym less) ∙ got.1 in
-    let found = unmapped (λ p. executed_attempt (placed_at p)) (history t e).committed n r here in
+outcome_of t e n offset said h is got =
+    let found = told_item t e h n got.0 is got.1 in
     record {
       item = found.0;
       at = found.1;
@@ -163,42 +141,41 @@ find_none test k (x ∷ xs) none =
     ∙ none (suc j) (omega arith)))
 
 pub none_more : (hs : List SectionHistory) (n e : ℕ) (h : SectionHistory) → NoneBefore hs n e → slice_get hs e ≡ Some h
-    → h.committed < n → NoneBefore hs n (e + 1)
+    → told_at h n ≡ None → NoneBefore hs n (e + 1)
 none_more hs n e h none got less i g lt here = elim (cases_lt i e) [
   | inl before ↦ none i g before here
   | inr last ↦
       let same : i ≡ e = omega arith in
       let is : g ≡ h = same_Some g h (sym here ∙ ap (slice_get hs) same ∙ got) in
-      subst (λ (x : SectionHistory). x.committed < n) (sym is) less
+      subst (λ (x : SectionHistory). told_at x n ≡ None) (sym is) less
 ]
 
 module _ (t : Trace) (hs : List SectionHistory) (told : hs ≡ section_histories t) (n : ℕ) where
-  not_committed : (e i : ℕ) → e ≤ length t.sections → NoneBefore hs n e → i < e → nat_le n (history t i).last ≡ false
+  not_committed : (e i : ℕ) → e ≤ length t.sections → NoneBefore hs n e → i < e → is_some (committed_at t i n) ≡ false
   not_committed e i le none lt =
       let got : slice_get hs i ≡ Some (section_history t i) = ap (λ (xs : List SectionHistory). slice_get xs i) told
       ∙ section_history_at t i (omega arith) in
-      let low = none i (section_history t i) lt got in
-      let last = last_told t i (section_history t i) refl in
-      lt-leb n (history t i).last (omega arith)
+      ap is_some (told_none t i (section_history t i) n refl (none i (section_history t i) lt got))
 
-  pub first_is : (e : ℕ) (h : SectionHistory) → slice_get hs e ≡ Some h → n ≤ h.committed → NoneBefore hs n e
-      → first_to_commit t n ≡ Some e
+  pub first_is : (e : ℕ) (h : SectionHistory) → slice_get hs e ≡ Some h → IsTrue (is_some (told_at h n))
+      → NoneBefore hs n e → first_to_commit t n ≡ Some e
   first_is e h got some none =
       let count : length hs ≡ length t.sections = ap length told ∙ as_many_told t in
       let lt = slice_get_within hs e h got in
-      let last = last_told t e h (section_history_is t hs e h told got) in
+      let here : is_some (committed_at t e n) ≡ true = sym (told_same t e h n (section_history_is t hs e h told got))
+      ∙ some in
       let zeroth : 0 + e ≡ e = omega arith in
-      find_first (λ i. nat_le n (history t i).last) 0 t.sections e (omega arith)
-      (ap (λ (i : ℕ). nat_le n (history t i).last) zeroth ∙ le-leb n (history t e).last (omega arith))
-      (λ j less. let same : 0 + j ≡ j = omega arith in ap (λ (i : ℕ). nat_le n (history t i).last) same
+      find_first (λ i. is_some (committed_at t i n)) 0 t.sections e (omega arith)
+      (ap (λ (i : ℕ). is_some (committed_at t i n)) zeroth ∙ here)
+      (λ j less. let same : 0 + j ≡ j = omega arith in ap (λ (i : ℕ). is_some (committed_at t i n)) same
       ∙ not_committed e j (omega arith) none less)
       ∙ ap (λ (i : ℕ). Some i) zeroth
 
   pub first_none : (e : ℕ) → length hs ≤ e → NoneBefore hs n e → first_to_commit t n ≡ None
   first_none e past none =
       let count : length hs ≡ length t.sections = ap length told ∙ as_many_told t in
-      find_none (λ i. nat_le n (history t i).last) 0 t.sections
-      (λ j less. let same : 0 + j ≡ j = omega arith in ap (λ (i : ℕ). nat_le n (history t i).last) same
+      find_none (λ i. is_some (committed_at t i n)) 0 t.sections
+      (λ j less. let same : 0 + j ≡ j = omega arith in ap (λ (i : ℕ). is_some (committed_at t i n)) same
       ∙ not_committed (length t.sections) j (omega arith) (λ i h lt got. none i h (omega arith) got) less)
 
 none_found : {A : Type 0} (test : ℕ → Bool) (k : ℕ) (xs : List A) (i : ℕ) → i < length xs
@@ -218,18 +195,17 @@ none_found test k (x ∷ xs) i lt none = by (test k) refl i lt (λ j less e. non
         ∙ more j (omega arith) (sym (rw is refl) ∙ none)
 
 -- a batch that some replica committed has a first that did
-pub first_there : (t : Trace) (e n : ℕ) (p : Placed) → IsRightSection t e → committed_at t e n ≡ Some p → (f : ℕ)
+pub first_there : (t : Trace) (e n : ℕ) (p : Placed) → committed_at t e n ≡ Some p → (f : ℕ)
     × (first_to_commit t n ≡ Some f)
-first_there t e n p right at = by (first_to_commit t n) refl
+first_there t e n p at = by (first_to_commit t n) refl
   where
     by : (o : Option ℕ) → first_to_commit t n ≡ o → (f : ℕ) × (first_to_commit t n ≡ Some f)
     by (Some f) is = (f, is)
     by None is =
         let zeroth : 0 + e ≡ e = omega arith in
-        let out : nat_le n (history t e).last ≡ false = ap (λ (i : ℕ). nat_le n (history t i).last) (sym zeroth)
-        ∙ none_found (λ i. nat_le n (history t i).last) 0 t.sections e (replica_there t e n p at) is in
-        let low = committed_low t e n p right at in
-        absurd (omega (arith, leb-false n (history t e).last out))
+        let out : is_some (committed_at t e n) ≡ false = ap (λ (i : ℕ). is_some (committed_at t i n)) (sym zeroth)
+        ∙ none_found (λ i. is_some (committed_at t i n)) 0 t.sections e (replica_there t e n p at) is in
+        absurd (false≢true (sym out ∙ there_some (committed_at t e n) p at))
 
 -- an item that is there is read whatever stands for those that aren't
 read_default : {A : Type 0} (xs : List A) (i : ℕ) (x y : A) → i < length xs → get_or xs i x ≡ get_or xs i y

@@ -1,5 +1,5 @@
 -- Replicas that agreed on all batches so far have the same balances before the next.
-use Rattle.std.proofs.Common.{◌≡◌, ℕ, zero, suc, ◌-◌, ◌<◌, ◌≤◌, ℤ, List, [], ◌∷◌, length, slice_get, get_or, Option}
+use Rattle.std.proofs.Common.{◌≡◌, ℕ, zero, suc, ◌-◌, ◌<◌, ℤ, List, [], ◌∷◌, length, slice_get, get_or, Option}
 use Rattle.std.proofs.Common.{Some, None, IfSome, IfNone, Bool, true, not, ◌++◌, ◌*◌, refl, sym, ap, subst, ◌∙◌, inl}
 use Rattle.std.proofs.Common.{inr, arith, length-append}
 use Rattle.std.specs.Prelude.{pos}
@@ -8,19 +8,18 @@ use Rattle.std.proofs.lemmas.Bool.{cases_lt, false≢true}
 use Rattle.std.proofs.lemmas.Option.{slice_get_read, same_Some}
 use Rattle.eve_smallbank.specs.Access.{balance_of_row}
 use Rattle.eve_grammar.specs.Trace.{Trace}
-use Rattle.eve_grammar.proofs.Lists.{item_within}
 use Rattle.eve_views.specs.declared.fault.Fault.{Fault}
-use Rattle.eve_history.specs.SectionHistory.{SectionHistory, section_history, history, IsRightSection}
+use Rattle.eve_history.specs.Section.{Placed}
+use Rattle.eve_history.specs.SectionHistory.{committed_at, IsRightSection}
 use Rattle.eve_chains.specs.Committed.{first_rows, values_to, balances_to}
 use Rattle.eve_chains.specs.Settling.{Settling, settling, settlings, values_in, HaveSameBalances}
-use Rattle.eve_chains.proofs.Linked.{last_committed, batches_counted}
 use Rattle.eve_agree.specs.Agreement.{first_to_commit, HaveSameOutcome}
 use Rattle.eve_agree.specs.Judging.{IsAfter, AgreesOrIsFound, AllHaveSame}
 use Rattle.eve_agree.proofs.TokensInOrder.{rows_told}
+use Rattle.eve_agree.proofs.ByNumber.{some_there, reached_before}
 use Rattle.eve_agree.proofs.Outcomes.{settling_at, settlings_count, first_there}
 use Rattle.eve_agree.proofs.Reaching.{push_left, push_here}
 use Rattle.eve_agree.proofs.Agreeing.{Judged}
-use Rattle.eve_agree.proofs.Stretched.{commits_there}
 
 -- ---- the rows of a list of balances
 
@@ -81,33 +80,32 @@ module _ (t : Trace) (law : (e n : ℕ) → values_in (settling t e) n ≡ value
   }
 
   -- it has the balances of the first that committed the batch
-  with_first : (e n : ℕ) → IsRightSection t e → AgreesOrIsFound t None e (suc n) → suc n ≤ (history t e).last
-      → (g : ℕ) × (first_to_commit t (suc n) ≡ Some g) × (balances_to t e (suc n) ≡ balances_to t g (suc n))
-  with_first e n right judged le =
-      let count = last_committed t e right in
-      let got = item_within (history t e).committed n (omega arith) in
-      let first = first_there t e (suc n) got.0 right got.1 in
-      elim (judged got.0 got.1) [
+  with_first : (e n : ℕ) (p : Placed) → AgreesOrIsFound t None e n → committed_at t e n ≡ Some p
+      → (g : ℕ) × (first_to_commit t n ≡ Some g) × (balances_to t e n ≡ balances_to t g n)
+  with_first e n p judged at =
+      let first = first_there t e n p at in
+      elim (judged p at) [
         | inl same ↦
-            let here : IfSome (Some first.0) (λ g. HaveSameOutcome t e g (suc n)) =
-            subst (λ (o : Option ℕ). IfSome o (λ g. HaveSameOutcome t e g (suc n))) first.1 same in
+            let here : IfSome (Some first.0) (λ g. HaveSameOutcome t e g n) =
+            subst (λ (o : Option ℕ). IfSome o (λ g. HaveSameOutcome t e g n)) first.1 same in
             (first.0, first.1, here.balances)
         | inr up ↦ absurd up
       ]
 
-  have_same : ((e : ℕ) → IsRightSection t e) → (n : ℕ) → Judged t n None → AllHaveSame t n
-  have_same right zero known e f own its = same_opening t e f (settling t e) (settling t f) refl refl
-  have_same right (suc n) known e f own its =
-      let mine = with_first e n (right e) (known.judged e (suc n) (omega arith) (omega arith)) own in
-      let yours = with_first f n (right f) (known.judged f (suc n) (omega arith) (omega arith)) its in
+  have_same : (n : ℕ) → Judged t n None → AllHaveSame t n
+  have_same zero known e f own its = same_opening t e f (settling t e) (settling t f) refl refl
+  have_same (suc n) known e f own its =
+      let p = some_there (committed_at t e (suc n)) own in
+      let q = some_there (committed_at t f (suc n)) its in
+      let mine = with_first e (suc n) p.0 (known.judged e (suc n) (omega arith) (omega arith)) p.1 in
+      let yours = with_first f (suc n) q.0 (known.judged f (suc n) (omega arith) (omega arith)) q.1 in
       let one : mine.0 ≡ yours.0 = same_Some mine.0 yours.0 (sym mine.1 ∙ yours.1) in
       same_balances e f (suc n) (mine.2 ∙ ap (λ (g : ℕ). balances_to t g (suc n)) one ∙ sym yours.2)
 
   -- as long as nothing was found
-  pub all_have_same : ((e : ℕ) → IsRightSection t e) → (n k : ℕ) (least : Option Fault) → Judged t n least → n ≡ k
-      → IfNone least (AllHaveSame t k)
-  all_have_same right n k (Some f) known is = tt
-  all_have_same right n k None known is = subst (AllHaveSame t) is (have_same right n known)
+  pub all_have_same : (n k : ℕ) (least : Option Fault) → Judged t n least → n ≡ k → IfNone least (AllHaveSame t k)
+  all_have_same n k (Some f) known is = tt
+  all_have_same n k None known is = subst (AllHaveSame t) is (have_same n known)
 
 -- ---- one of all
 
@@ -119,30 +117,14 @@ settling_read t us e s told there is =
     let got = slice_get_read us (length us) e s refl (omega arith) is in
     same_Some s (settling t e) (sym got ∙ ap (λ (xs : List Settling). slice_get xs e) told ∙ settling_at t e there)
 
--- the first that committed a batch has it among its own
-pub first_committed : (t : Trace) (f n : ℕ) (h : SectionHistory) → h ≡ section_history t f → IsRightSection t f
-    → n ≤ length h.commits → n ≤ (history t f).last
-first_committed t f n h told right le =
-    let settled = batches_counted t f in
-    let same = commits_there t f h (settling t f) told refl in
-    let last = last_committed t f right in
-    omega arith
-
--- batches that a replica committed are settled
-pub settled_there : (t : Trace) (e n : ℕ) (s : Settling) → s ≡ settling t e → IsRightSection t e
-    → n ≤ (history t e).last → n ≤ length s.numbers
-settled_there t e n s is right le =
-    let count = batches_counted t e in
-    let many = ap (λ (x : Settling). length x.numbers) is in
-    let last = last_committed t e right in
-    omega arith
-
 -- two that committed the next batch have the same balances, if nothing was found
-pub before_next : (t : Trace) (e f n : ℕ) (s u : Settling) (least : Option Fault) → s ≡ settling t e
-    → u ≡ settling t f → n ≤ (history t e).last → n ≤ (history t f).last → IfNone least (AllHaveSame t (n - 1))
+pub before_next : (t : Trace) (e f n : ℕ) (p q : Placed) (s u : Settling) (least : Option Fault) → s ≡ settling t e
+    → u ≡ settling t f → ((e : ℕ) → IsRightSection t e) → committed_at t e n ≡ Some p → committed_at t f n ≡ Some q
+    → IfNone least (AllHaveSame t (n - 1))
     → (known : Bool) → is_some least ≡ not known → known ≡ true → HaveSameBalances s u (n - 1)
-before_next t e f n s u None is it own its same known tells so =
+before_next t e f n p q s u None is it right own its same known tells so =
     subst (λ (x : Settling). HaveSameBalances x u (n - 1)) (sym is)
     (subst (λ (y : Settling). HaveSameBalances (settling t e) y (n - 1)) (sym it)
-    (same e f (omega arith) (omega arith)))
-before_next t e f n s u (Some g) is it own its same known tells so = absurd (false≢true (sym (tells ∙ ap not so)))
+    (same e f (reached_before t e n p (right e) own) (reached_before t f n q (right f) its)))
+before_next t e f n p q s u (Some g) is it right own its same known tells so =
+    absurd (false≢true (sym (tells ∙ ap not so)))

@@ -1,19 +1,17 @@
 -- A token that another replica's attempt of the batch shows to be due.
-use Rattle.std.proofs.Common.{◌≡◌, ℕ, zero, suc, ◌+◌, ◌-◌, ◌≤◌, ℤ, List, Some, refl, sym, subst, ◌∙◌, arith}
-use Rattle.std.specs.Prelude.{slice_get}
+use Rattle.std.proofs.Common.{◌≡◌, ℕ, ℤ, List, Some, refl, sym, subst, ◌∙◌}
 use Rattle.std.specs.List.{flat_map}
 use Rattle.std.proofs.lemmas.Option.{same_Some}
 use Rattle.eve_smallbank.specs.declared.request.Reply.{Reply}
 use Rattle.eve_smallbank.specs.Spelling.{reply_text}
 use Rattle.eve_grammar.specs.Trace.{Attempt, Trace}
-use Rattle.eve_grammar.proofs.Lists.{all-slice_get}
 use Rattle.eve_token.specs.Token.{token_of, flat_token}
 use Rattle.eve_history.specs.Section.{Placed}
-use Rattle.eve_history.specs.SectionHistory.{ExecutedAttempt, SectionHistory, section_history, history}
+use Rattle.eve_history.specs.SectionHistory.{ExecutedAttempt, SectionHistory, section_history}
 use Rattle.eve_history.specs.SectionHistory.{IsRightSection}
 use Rattle.eve_chains.specs.Committed.{values_to}
 use Rattle.eve_chains.specs.Settling.{Settling, settling, values_in}
-use Rattle.eve_chains.proofs.Linked.{none≢some}
+use Rattle.eve_agree.specs.ByNumber.{told_at}
 use Rattle.eve_agree.specs.Judging.{IsAfter}
 use Rattle.eve_agree.specs.DueTokens.{due_token, TokensAreDue, IsDueIn}
 use Rattle.eve_agree.proofs.Stretched.{IsOfBatch, of_batch, batch_due}
@@ -35,28 +33,21 @@ number_read t e n offset said of = of.seq ∙ of.number
 
 pub read_of : (t : Trace) (e n offset : ℕ) (said : Attempt) (h : SectionHistory) (s : Settling) (b : List ℤ)
     → h ≡ section_history t e → s ≡ settling t e → IsRightSection t e
-    → ((m : ℕ) → values_in (settling t e) m ≡ values_to t e m) → 1 ≤ n
-    → (r : ExecutedAttempt) × (slice_get h.commits (n - 1) ≡ Some r) × (offset ≡ r.offset) × (said ≡ r.attempt)
+    → ((m : ℕ) → values_in (settling t e) m ≡ values_to t e m)
+    → (r : ExecutedAttempt) × (told_at h n ≡ Some r) × (offset ≡ r.offset) × (said ≡ r.attempt)
     → IsAfter s n b → IsReadOf t e n offset said b
-read_of t e zero offset said h s b is settled right law low got after = absurd (omega arith)
-read_of t e (suc n) offset said h s b is settled right law low got after =
-    let less : suc n - 1 ≡ n = omega arith in
-    let more : suc n ≡ n + 1 = omega arith in
-    let of = of_batch t e n offset said h is right (rw less at got) in
+read_of t e n offset said h s b is settled right law got after =
+    let of = of_batch t e n offset said h is right got in
     record {
       of = of;
-      due = batch_due t e n offset said b of (subst (λ (m : ℕ). IsAfter (settling t e) m b) more
-          (subst (λ (x : Settling). IsAfter x (suc n) b) settled after)) law;
-      seq = number_read t e (suc n) offset said of;
+      due = batch_due t e n offset said b of (subst (λ (x : Settling). IsAfter x n b) settled after) law;
+      seq = number_read t e n offset said of;
     }
 
 -- replica f's attempt has its due token
 token_due : (t : Trace) (f n offset : ℕ) (said : Attempt) (b : List ℤ) → IsReadOf t f n offset said b
     → TokensAreDue t f → said.token ≡ token_of 1 said.seq b said.replies
-token_due t f zero offset said b read due = none≢some read.of.item read.of.at
-token_due t f (suc n) offset said b read due =
-    read.of.token ∙ all-slice_get (λ p. p.attempt.token ≡ due_token t f p) (history t f).committed n read.of.item due
-    read.of.at ∙ sym read.due
+token_due t f n offset said b read due = read.of.token ∙ due n read.of.item read.of.at ∙ sym read.due
 
 -- where replica f has its due token, replica e has its own, if both are one and what it is made of is the same
 pub shown : (t : Trace) (e f n o q : ℕ) (said other : Attempt) (b c : List ℤ) → IsReadOf t e n o said b

@@ -1,5 +1,5 @@
 -- What is kept while the batches are judged one after another.
-use Rattle.std.specs.Prelude.{◌≡◌, ℕ, ℤ, ◌≤◌, ◌<◌, List, [], length, Option, Some, None, IfSome}
+use Rattle.std.specs.Prelude.{◌≡◌, ℕ, ℤ, ◌≤◌, ◌<◌, List, [], length, Option, Some, None, IfSome, IsTrue}
 use Rattle.std.specs.Prelude.{slice_get, slice_index_or, ◌⊎◌}
 use Rattle.eve_smallbank.specs.Access.{balance_of_row}
 use Rattle.eve_grammar.specs.Trace.{Trace}
@@ -7,8 +7,9 @@ use Rattle.eve_views.specs.declared.fault.Code.TheVariants as code
 use Rattle.eve_views.specs.declared.fault.Fault.{Fault}
 use Rattle.eve_views.specs.Form.{IsFaultSomewhere}
 use Rattle.eve_history.specs.Section.{Placed}
-use Rattle.eve_history.specs.SectionHistory.{SectionHistory, history, committed_at}
+use Rattle.eve_history.specs.SectionHistory.{SectionHistory, committed_at}
 use Rattle.eve_chains.specs.Settling.{Settling, settling, values_in, HaveSameBalances}
+use Rattle.eve_agree.specs.ByNumber.{told_at, is_reached}
 use Rattle.eve_agree.specs.Agreement.{first_to_commit, HaveSameOutcome, StandsInAgreement}
 
 -- the balances are those after the first n batches of the replica, or after all where it has fewer
@@ -23,7 +24,7 @@ pub record AreAfter (settled : List Settling) (n : ℕ) (all : List (List ℤ)) 
 
 -- none of the first replicas committed the batch
 abbrev pub NoneBefore : List SectionHistory → ℕ → ℕ → Type 0
-NoneBefore hs n e = (i : ℕ) (h : SectionHistory) → i < e → slice_get hs i ≡ Some h → h.committed < n
+NoneBefore hs n e = (i : ℕ) (h : SectionHistory) → i < e → slice_get hs i ≡ Some h → told_at h n ≡ None
 
 -- what was found is a fault of agreement
 abbrev pub Stand : Trace → Option Fault → Type 0
@@ -45,5 +46,5 @@ AgreesOrIsFound t least e n = (p : Placed) → committed_at t e n ≡ Some p
 
 -- the replicas that committed batch n have the same balances after it; all have them before the first
 abbrev pub AllHaveSame : Trace → ℕ → Type 0
-AllHaveSame t n = (e f : ℕ) → n ≤ (history t e).last → n ≤ (history t f).last
+AllHaveSame t n = (e f : ℕ) → IsTrue (is_reached t e n) → IsTrue (is_reached t f n)
     → HaveSameBalances (settling t e) (settling t f) n

@@ -1,3 +1,4 @@
+pub mod ByNumber
 pub mod Agreement
 pub mod Judging
 pub mod Tables

@@ -2,6 +2,7 @@
 
 ghost use Rattle.std.specs.Prelude.{◌≡◌, ◌≤◌, ◌<◌, ◌-◌, ◌↔◌, ℕ, IsTrue, IfOk, IfErr, IfSome, IfNone, Some, length};
 ghost use Rattle.std.specs.Prelude.{slice_get};
+ghost use Rattle.std.specs.Option.{is_some};
 ghost use Rattle.eve_frames.specs.Said.{attempt_said};
 ghost use Rattle.eve_views.specs.Form.{IfFound, IsLeast, HasNone, IsFaultSomewhere};
 ghost use Rattle.eve_views.specs.declared.fault.Code.TheVariants as code;
@@ -9,6 +10,7 @@ ghost use Rattle.eve_grammar.specs.Trace.{Trace as TraceValue};
 ghost use Rattle.eve_history.specs.SectionHistory.{ExecutedAttempt, SectionHistory, section_histories, IsRightSection};
 ghost use Rattle.eve_chains.specs.Settling.{settling, settlings, values_in, HaveSameBalances};
 ghost use Rattle.eve_chains.specs.Committed.{values_to};
+ghost use Rattle.eve_agree.specs.ByNumber.{told_at};
 ghost use Rattle.eve_agree.specs.Agreement.{first_to_commit, ReplicasAgree, StandsInAgreement};
 ghost use Rattle.eve_agree.specs.Judging.{NoneBefore, IsAfter, AreAfter, AllHaveSame, Stand, KeepsFound};
 ghost use Rattle.eve_agree.specs.Judging.{AgreesOrIsFound};
@@ -132,7 +134,7 @@ fn judge_batch(
     let before = least.is_none();
     let mut least = least;
     for e in first + 1..histories.len() {
-        if n <= histories[e].committed() {
+        if has_committed(&histories[e], n) {
             let attempt = committed_attempt(&histories[e], n);
             let same = is_same(
                 &attempt,
@@ -170,23 +172,29 @@ fn fault_at(offset: u64, replica: u8) -> Fault
 fn first_to_commit(histories: &[History<'_>], n: u32) -> Option<usize>
     ensures is { (t : TraceValue) → histories.now ≡ section_histories t → result ≡ first_to_commit t n }
     ensures there { IfSome result (λ f. (h : SectionHistory) × (slice_get histories.now f ≡ Some h)
-        × (n ≤ length h.commits)) }
+        × IsTrue (is_some (told_at h n))) }
     ensures before { IfSome result (λ f. NoneBefore histories.now n f) }
     ensures none { IfNone result (NoneBefore histories.now n (length histories.now)) }
 {
     for e in 0..histories.len() {
-        if n <= histories[e].committed() {
+        if has_committed(&histories[e], n) {
             return Some(e);
         }
     }
     None
 }
 
+/// Whether a replica committed batch n.
+pub(crate) fn has_committed(history: &History<'_>, n: u32) -> bool
+    ensures { result ≡ is_some (told_at history.now n) }
+{
+    1 <= n && n <= history.committed()
+}
+
 /// The attempt by which a replica committed batch n.
 pub(crate) fn committed_attempt<'a>(history: &History<'a>, n: u32) -> AttemptView<'a>
-    requires one { 1 ≤ n }
-    requires there { n ≤ length history.now.commits }
-    ensures { (r : ExecutedAttempt) × (slice_get history.now.commits (n - 1) ≡ Some r) × (result.offset ≡ r.offset)
+    requires there { IsTrue (is_some (told_at history.now n)) }
+    ensures { (r : ExecutedAttempt) × (told_at history.now n ≡ Some r) × (result.offset ≡ r.offset)
         × (attempt_said result ≡ r.attempt) }
 {
     history.attempt(history.committed_attempt(n))

@@ -12,7 +12,7 @@ ghost use Rattle.eve_agree.specs.Stretches.{AreOfSection, IsReadyStretch, IsJudg
 ghost use Rattle.eve_agree.specs.Stretches.{first_found};
 ghost use Rattle.eve_agree.specs.declared.due_tokens.Stretch.{Stretch as StretchValue};
 
-use crate::agreement::committed_attempt;
+use crate::agreement::{committed_attempt, has_committed};
 use eve_accounts::Balances;
 use eve_chains::Settled;
 use eve_chains::laws::settled_values_are_the_banks;
@@ -59,13 +59,15 @@ pub(crate) fn wrong_at(
 ) -> Option<u64>
     requires section { AreOfSection trace.now history.now settled.now }
     requires one { 1 ≤ n }
-    requires there { n ≤ length settled.now.numbers }
     requires after { IsAfter settled.now n balances.now }
     ensures { IsFirstWrong trace.now history.now.replica (n - 1) n result }
 {
     trace.recall_limits();
     history.recall_right();
     settled_values_are_the_banks();
+    if !has_committed(history, n) {
+        return None;
+    }
     let attempt = committed_attempt(history, n);
     if is_due(&attempt, balances) {
         return None;

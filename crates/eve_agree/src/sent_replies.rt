@@ -1,16 +1,17 @@
 //! The faults of replies.
 
-ghost use Rattle.std.specs.Prelude.{◌≡◌, ◌≢◌, ◌≤◌, ◌↔◌, ◌-◌, IsTrue, None, Some, length, slice_get};
+ghost use Rattle.std.specs.Prelude.{◌≡◌, ◌≢◌, ◌≤◌, ◌↔◌, ◌-◌, IsTrue, None, Some, length};
 ghost use Rattle.std.specs.Prelude.{IfSome, IfNone, IfOk, IfErr};
 ghost use Rattle.eve_frames.specs.Said.{attempt_said, sent_said};
 ghost use Rattle.eve_views.specs.Form.{IfFound, IsLeast, HasNone, IsFaultOutside};
 ghost use Rattle.eve_views.specs.declared.fault.CheckFault.TheVariants.{Memory};
 ghost use Rattle.eve_views.specs.declared.fault.Code.TheVariants as code;
 ghost use Rattle.eve_history.specs.SectionHistory.{ExecutedAttempt, section_history, section_histories};
+ghost use Rattle.eve_agree.specs.ByNumber.{told_at};
 ghost use Rattle.eve_agree.specs.SentReplies.{IsReplied, AllReplied, StandsInReplies};
 ghost use Rattle.eve_agree.specs.Keeping.{AreOf};
 
-use crate::agreement::committed_attempt;
+use crate::agreement::{committed_attempt, has_committed};
 use crate::batch_request_ids::BatchRequestIds;
 use eve_frames::{AttemptView, SentView};
 use eve_history::History;
@@ -76,12 +77,11 @@ fn is_replied(
 
 /// The attempt by which the replica committed a batch, by the batch's number from 1.
 fn committed<'a>(history: &History<'a>, batch: u32) -> Option<AttemptView<'a>>
-    requires { 1 ≤ batch }
-    ensures some { IfSome result (λ a. (r : ExecutedAttempt) × (slice_get history.now.commits (batch - 1) ≡ Some r)
+    ensures some { IfSome result (λ a. (r : ExecutedAttempt) × (told_at history.now batch ≡ Some r)
         × (attempt_said a ≡ r.attempt)) }
-    ensures none { IfNone result (slice_get history.now.commits (batch - 1) ≡ None) }
+    ensures none { IfNone result (told_at history.now batch ≡ None) }
 {
-    if batch > history.committed() {
+    if !has_committed(history, batch) {
         return None;
     }
     Some(committed_attempt(history, batch))

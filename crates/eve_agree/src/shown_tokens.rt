@@ -12,7 +12,7 @@ ghost use Rattle.eve_agree.specs.Judging.{IsAfter};
 ghost use Rattle.eve_agree.specs.ShownTokens.{IsDueReplica};
 ghost use Rattle.eve_agree.specs.Stretches.{AreOfSection};
 
-use crate::agreement::{advance, committed_attempt};
+use crate::agreement::{advance, committed_attempt, has_committed};
 use crate::due_tokens::{answer, wrong_at};
 use eve_accounts::Balances;
 use eve_chains::Settled;
@@ -75,7 +75,6 @@ fn is_shown(
     requires section { AreOfSection trace.now history.now settled.now }
     requires peer { IsDueReplica trace.now peer.history.now peer.settled.now }
     requires one { 1 ≤ n }
-    requires there { n ≤ length settled.now.numbers }
     requires after { IsAfter settled.now n balances.now }
     requires others { IsAfter peer.settled.now n others.now }
     requires before { IsTrue before → HaveSameBalances settled.now peer.settled.now (n - 1) }
@@ -86,7 +85,7 @@ fn is_shown(
     history.recall_right();
     peer.history.recall_right();
     settled_values_are_the_banks();
-    if peer.settled.committed() < n {
+    if !has_committed(history, n) || !has_committed(peer.history, n) {
         return false;
     }
     let attempt = committed_attempt(history, n);
@@ -115,7 +114,6 @@ fn wrong_beside(
 ) -> Option<u64>
     requires section { AreOfSection trace.now history.now settled.now }
     requires one { 1 ≤ n }
-    requires there { n ≤ length settled.now.numbers }
     requires after { IsAfter settled.now n balances.now }
     requires shown { IsTrue shown → IsDueIn trace.now history.now.replica n }
     ensures { IsFirstWrong trace.now history.now.replica (n - 1) n result }

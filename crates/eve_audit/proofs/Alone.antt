@@ -1,5 +1,6 @@
 -- A replica's own faults are judged by the header, the customers, the batches and its section alone.
-use Rattle.std.proofs.Common.{◌≡◌, ◌≢◌, ℕ, ◌*◌, ◌+◌, List, [], length, take, sym, ap, subst, ◌∙◌, IsTrue}
+use Rattle.std.proofs.Common.{◌≡◌, ◌≢◌, ℕ, zero, suc, ◌*◌, ◌+◌, ℤ, List, [], length, take, slice_get, refl, sym, ap, subst}
+use Rattle.std.proofs.Common.{◌∙◌, IsTrue}
 use Rattle.std.specs.Prelude.{IsFalse}
 use Rattle.eve_smallbank.specs.Access.{Fits}
 use Rattle.eve_grammar.specs.Trace.{Access, Attempt, Sent, Step, Trace, Vote}
@@ -13,10 +14,10 @@ use Rattle.eve_views.specs.Form.{SomePlace}
 use Rattle.eve_history.specs.Section.{Placed, SectionState, start, state_after, settled, are_right, is_right_attempt}
 use Rattle.eve_history.specs.Section.{is_right_certificate, is_right_access, is_right_commit, is_right_rollback}
 use Rattle.eve_history.specs.Section.{are_right_accesses}
-use Rattle.eve_history.specs.SectionHistory.{history, names_of}
+use Rattle.eve_history.specs.SectionHistory.{history, committed_at, names_of}
 use Rattle.eve_history.specs.Structure.{StandsInStructure, OfAttempt, OfCommit, OfRollback, accesses_of}
 use Rattle.eve_chains.specs.Visible.{executed_by, visible_to, rows_after}
-use Rattle.eve_chains.specs.Committed.{attempts_of, first_rows}
+use Rattle.eve_chains.specs.Committed.{attempts_of, first_rows, balances_to}
 use Rattle.eve_chains.specs.Faults.{StandsInRecords, StandsInChains}
 use Rattle.eve_agree.specs.Tables.{are_right_restores}
 use Rattle.eve_agree.specs.Restores.{StandsInRestores}
@@ -100,15 +101,25 @@ module _ (t : Trace) (sections : List (List Step)) (verifiers : List (List Vote)
   unfolding history
   same_history = ap (state_after start) same
 
+  committed_alone : (n : ℕ) → committed_at t e n ≡ committed_at (besides t sections verifiers sent) e n
+  committed_alone zero = refl
+  committed_alone (suc n) = ap (λ (s : SectionState). slice_get s.committed n) same_history
+
+  balances_alone : (n : ℕ) → balances_to t e n ≡ balances_to (besides t sections verifiers sent) e n
+  balances_alone n = ap (λ (s : SectionState). first_rows (2 * length t.customers)
+      (λ row. (rows_after t (attempts_of (take n s.committed)) row).value)) same_history
+
   tokens_alone : (c : Code) (at : ℕ) → StandsInTokens c t e at
       → StandsInTokens c (besides t sections verifiers sent) e at
-  tokens_alone code.Token at stands =
-      let P : SectionState → Type 0 =
-      λ s. SomePlace s.committed (λ _ p. (p.offset ≡ at)
-      × (p.attempt.token ≢ flat_token p.attempt.seq
-      (first_rows (2 * length t.customers)
-      (λ row. (rows_after t (attempts_of (take p.attempt.seq s.committed)) row).value)) p.attempt.replies)) in
-      subst P same_history stands
+  tokens_alone code.Token at stands = record {
+    n = stands.n;
+    item = stands.item;
+    is = sym (committed_alone stands.n) ∙ stands.is;
+    offset = stands.offset;
+    holds = subst (λ (balances : List ℤ). stands.item.attempt.token
+        ≢ flat_token stands.item.attempt.seq balances stands.item.attempt.replies)
+        (balances_alone stands.item.attempt.seq) stands.holds;
+  }
   tokens_alone c at stands = absurd stands
 
   own_alone : (f : Fault) → IsOwnFault t e f → IsOwnFault (besides t sections verifiers sent) e f

@@ -1,7 +1,7 @@
 -- Public: other crates cite these lemmas. What was committed a majority decided, and what was rolled back a majority
 -- rolled back.
 use Rattle.std.proofs.Common.{◌≡◌, ℕ, zero, suc, ◌+◌, ◌-◌, ◌==◌, true, List, [], ◌∷◌, ◌++◌, length, length-append}
-use Rattle.std.proofs.Common.{slice_get, Some, refl, sym, subst, ◌∙◌, zero-add, arith}
+use Rattle.std.proofs.Common.{slice_get, Some, refl, sym, ap, subst, ◌∙◌, ◌⊎◌, inl, inr, arith}
 use Rattle.std.specs.List.{AllByRecursion}
 use Rattle.std.specs.Cmp.Lexicographic.{same_text, pointwise}
 use Rattle.std.proofs.lemmas.Bool.{and_parts, eqb-true}
@@ -17,28 +17,31 @@ use Rattle.eve_agree.specs.Majority.{IsBacked}
 
 -- ---- along a section
 
--- each committed attempt's view and token are decided; the first has the number after n
-abbrev AreDecided : Trace → ℕ → List Placed → Type 0
-AreDecided t n [] = Unit {0}
-AreDecided t n (p ∷ ps) = IsDecided t (suc n) p.attempt.view p.attempt.token × AreDecided t (suc n) ps
+-- the view and token of each attempt by which a number was committed are decided for that number
+abbrev AreDecided : Trace → List Placed → Type 0
+AreDecided t ps = (n : ℕ) (p : Placed) → slice_get ps n ≡ Some p
+    → IsDecided t (suc n) p.attempt.view p.attempt.token
 
-decided-push : (t : Trace) (n : ℕ) (ps : List Placed) (q : Placed) → AreDecided t n ps
-    → IsDecided t (suc (n + length ps)) q.attempt.view q.attempt.token → AreDecided t n (ps ++ q ∷ [])
-decided-push t n [] q decided last = (subst (λ k. IsDecided t k q.attempt.view q.attempt.token) (none_more n) last, tt)
-  where
-    none_more : (n : ℕ) → suc (n + 0) ≡ suc n
-    none_more n = omega arith
-decided-push t n (p ∷ ps) q decided last = (
-  decided.0,
-  decided-push t (suc n) ps q decided.1
-      (subst (λ k. IsDecided t k q.attempt.view q.attempt.token) (one_more n (length ps)) last),
-)
-  where
-    one_more : (n m : ℕ) → suc (n + suc m) ≡ suc (suc n + m)
-    one_more n m = omega arith
+-- what stands in a list with one more at its end
+pushed : (ps : List Placed) (q : Placed) (n : ℕ) (p : Placed) → slice_get (ps ++ q ∷ []) n ≡ Some p
+    → (slice_get ps n ≡ Some p) ⊎ ((length ps ≡ n) × (q ≡ p))
+pushed [] q zero p at = inr (refl, same_Some q p at)
+pushed [] q (suc n) p at = none≢some p at
+pushed (x ∷ ps) q zero p at = inl at
+pushed (x ∷ ps) q (suc n) p at =
+    elim (pushed ps q n p at) [ inl there ↦ inl there | inr here ↦ inr (ap suc here.0, here.1) ]
+
+decided-push : (t : Trace) (ps : List Placed) (q : Placed) → AreDecided t ps
+    → IsDecided t (suc (length ps)) q.attempt.view q.attempt.token → AreDecided t (ps ++ q ∷ [])
+decided-push t ps q decided last n p at = elim (pushed ps q n p at) [
+  | inl there ↦ decided n p there
+  | inr here ↦
+      subst (λ (x : Placed). IsDecided t (suc n) x.attempt.view x.attempt.token) here.1
+      (subst (λ k. IsDecided t (suc k) q.attempt.view q.attempt.token) here.0 last)
+]
 
 record IsDecidedTo (t : Trace) (s : SectionState) : Type 0 where
-  decided : AreDecided t 0 s.committed
+  decided : AreDecided t s.committed
   last : s.last ≡ length s.committed
 
 decided_committing : (t : Trace) (s : SectionState) (c : Commit) (pending : List Placed) → c.seq ≡ s.last + 1
@@ -50,7 +53,7 @@ decided_committing t s c (p ∷ ps) number first by holds =
     let view = eqb-true p.attempt.view c.view parts.0 in
     let token = same_text p.attempt.token c.token (sym parts.1) in
     record {
-      decided = decided-push t 0 s.committed p holds.decided
+      decided = decided-push t s.committed p holds.decided
           (subst (λ n. IsDecided t n p.attempt.view p.attempt.token)
           (number ∙ place s.last (length s.committed) holds.last)
           (subst (λ v. IsDecided t c.seq v p.attempt.token) (sym view)
@@ -58,7 +61,7 @@ decided_committing t s c (p ∷ ps) number first by holds =
       last = one_more s.last s.committed holds.last;
     }
   where
-    place : (n m : ℕ) → n ≡ m → n + 1 ≡ suc (0 + m)
+    place : (n m : ℕ) → n ≡ m → n + 1 ≡ suc m
     place n m e = omega arith
 
     one_more : (n : ℕ) (qs : List Placed) → n ≡ length qs → n + 1 ≡ length (qs ++ p ∷ [])
@@ -80,30 +83,14 @@ decided_after t s (step ∷ steps) right backed holds =
     let parts = and_parts (is_right t s step.1) (are_right t (next s step) steps) right in
     decided_after t (next s step) steps parts.1 backed.1 (decided_next t s step parts.0 backed.0 holds)
 
-decided_at : (t : Trace) (n : ℕ) (ps : List Placed) (k : ℕ) (p : Placed) → AreDecided t n ps → slice_get ps k ≡ Some p
-    → IsDecided t (suc (n + k)) p.attempt.view p.attempt.token
-decided_at t n [] k p decided e = none≢some p e
-decided_at t n (q ∷ ps) zero p decided e =
-    subst (λ m. IsDecided t m p.attempt.view p.attempt.token) (none_more n)
-    (subst (λ (x : Placed). IsDecided t (suc n) x.attempt.view x.attempt.token) (same_Some q p e) decided.0)
-  where
-    none_more : (n : ℕ) → suc n ≡ suc (n + 0)
-    none_more n = omega arith
-decided_at t n (q ∷ ps) (suc k) p decided e =
-    subst (λ m. IsDecided t m p.attempt.view p.attempt.token) (one_more n k) (decided_at t (suc n) ps k p decided.1 e)
-  where
-    one_more : (n m : ℕ) → suc (suc n + m) ≡ suc (n + suc m)
-    one_more n m = omega arith
-
 -- each committed attempt is decided
 pub committed_decided : (t : Trace) (e : ℕ) → IsRightSection t e → AllByRecursion (λ x. IsBacked t x.1) (steps_at t e)
     → (n : ℕ) (p : Placed) → committed_at t e n ≡ Some p → IsDecided t n p.attempt.view p.attempt.token
 unfolding history
 committed_decided t e right backed zero p at = none≢some p at
 committed_decided t e right backed (suc k) p at =
-    subst (λ m. IsDecided t (suc m) p.attempt.view p.attempt.token) (zero-add k)
-    (decided_at t 0 (history t e).committed k p
-    (decided_after t start (steps_at t e) right backed (record { decided = tt; last = refl })).decided at)
+    (decided_after t start (steps_at t e) right backed
+    (record { decided = λ n q none. none≢some q none; last = refl })).decided k p at
 
 -- ---- step by step
 

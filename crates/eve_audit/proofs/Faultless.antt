@@ -73,7 +73,7 @@ module _ (laws : Laws) (t : Trace) (limits : HasLimits t) where
     together = record {
       votes = sound_votes t limits (λ f is. none f (in_common (of_votes is)));
       backed = all_backed t (λ f is. none f (in_common (of_majorities is)));
-      agree = all_agree t (λ e. (all_sound e).right) (λ f is. none f (in_common (of_agreement is)));
+      agree = all_agree t (λ f is. none f (in_common (of_agreement is)));
       replied = all_replied t (λ f is. none f (in_common (of_replies is)));
     }
 

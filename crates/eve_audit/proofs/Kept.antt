@@ -1,6 +1,6 @@
 -- What is kept of the replicas, one after another, and of all of them.
 use Rattle.std.proofs.Common.{◌≡◌, ℕ, ◌+◌, ◌^◌, ◌<◌, ◌≤◌, min, Option, Some, None, inl, inr, List, [], ◌∷◌}
-use Rattle.std.proofs.Common.{◌++◌, length, refl, sym, ap, subst, ◌∙◌}
+use Rattle.std.proofs.Common.{◌++◌, length, refl, sym, ap, subst, ◌∙◌, arith}
 use Rattle.std.specs.Prelude.{IsTrue}
 use Rattle.std.specs.List.{AllByRecursion}
 use Rattle.std.proofs.lemmas.Bool.{cases_lt}
@@ -11,12 +11,12 @@ use Rattle.eve_history.specs.SectionHistory.{SectionHistory, section_history, se
 use Rattle.eve_chains.specs.Settling.{Settling, settling, settlings}
 use Rattle.eve_chains.specs.Sound.{IsSoundAlong}
 use Rattle.eve_agree.specs.Tables.{all_restore_rightly}
-use Rattle.eve_agree.specs.DueTokens.{due_token}
 use Rattle.eve_views.specs.declared.fault.Fault.{Fault}
 use Rattle.eve_audit.specs.Verdict.{IsOwnFault}
 use Rattle.eve_views.specs.Form.{HasNone}
 use Rattle.eve_audit.specs.Reports.{IsFirstOf, IsSoundReplica, AreKept, IsJudgedBelow, IsFoundBelow, IsFaultBelow}
 use Rattle.eve_agree.proofs.Backing.{below_more}
+use Rattle.eve_agree.proofs.ByNumber.{replica_there}
 use Rattle.eve_audit.proofs.FirstOwnFaults.{none_more, least_more, first_more, both_more}
 use Rattle.eve_views.specs.First.{first_of}
 use Rattle.eve_views.proofs.Firsts.{first_of_two}
@@ -36,8 +36,7 @@ sound_beyond t e le =
       right = right_beyond t e le;
       sound = subst (λ (s : SectionState). AllByRecursion (IsSoundAlong t) (settled s)) state tt;
       restores = subst (λ (xs : List (ℕ × Step)). IsTrue (all_restore_rightly t start xs)) none refl;
-      tokens = subst (λ (s : SectionState). AllByRecursion (λ p. p.attempt.token ≡ due_token t e p) s.committed) state
-          tt;
+      tokens = λ n p at. absurd (let there = replica_there t e n p at in omega arith);
     }
 
 -- ---- what is kept

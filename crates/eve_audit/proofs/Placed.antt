@@ -1,5 +1,5 @@
 -- Each fault that stands names the replica in whose section it lies, or none.
-use Rattle.std.proofs.Common.{◌≡◌, ℕ, List, [], ◌∷◌, ◌++◌, None, Some, refl, ap, subst}
+use Rattle.std.proofs.Common.{◌≡◌, ℕ, List, [], None, Some, refl, ap, subst}
 use Rattle.std.specs.Prelude.{IsTrue, IsFalse, ◌≢◌, Bool, true, false, ◌&&◌, ◌||◌, ◌==◌, nat_le}
 use Rattle.eve_smallbank.specs.Access.{Fits}
 use Rattle.eve_grammar.specs.Trace.{Access, Attempt, Step, Attempts, Commits, RollsBack, Trace}
@@ -13,7 +13,7 @@ use Rattle.eve_grammar.specs.Following.{Spells}
 use Rattle.eve_history.specs.Section.{Placed, SectionState, start, state_after, settled, is_right_attempt}
 use Rattle.eve_history.specs.Section.{is_right_certificate, is_right_access, is_right_commit, is_right_rollback}
 use Rattle.eve_history.specs.Section.{are_right_accesses}
-use Rattle.eve_history.specs.SectionHistory.{history, names_of}
+use Rattle.eve_history.specs.SectionHistory.{history, committed_at, names_of}
 use Rattle.eve_views.specs.Form.{SomePlace}
 use Rattle.eve_history.specs.Structure.{accesses_of, OfAttempt, OfCommit, OfRollback, AtStep, AtAccess}
 use Rattle.eve_history.specs.Structure.{StandsInStructure}
@@ -21,6 +21,7 @@ use Rattle.eve_chains.specs.Visible.{executed_by, visible_to}
 use Rattle.eve_chains.specs.Faults.{AtSettledAccess, StandsInRecords, StandsInChains}
 use Rattle.eve_agree.specs.Restores.{StandsInRestores}
 use Rattle.eve_agree.specs.DueTokens.{StandsInTokens}
+use Rattle.eve_agree.proofs.ByNumber.{all_each}
 use Rattle.eve_agree.specs.Majority.{StandsInMajorities}
 use Rattle.eve_agree.specs.Agreement.{StandsInAgreement}
 use Rattle.eve_audit.specs.Verdict.{Stands, in_form, in_trace, IsTraceFault, in_orders, in_section, in_common, of_votes}
@@ -88,13 +89,9 @@ module _ (t : Trace) (e : ℕ) where
         place.holds.before place.holds.item place.holds.rest place.holds.is)
 
     -- where an attempt that was committed stands
-    committed_lies : (before : List Placed) (p : Placed) (rest : List Placed) → (history t e).committed
-        ≡ before ++ p ∷ rest → LiesIn t e p.offset
-    committed_lies before p rest is =
-        let within : StepIn t e (p.offset, Attempts p.attempt) =
-        at_place (λ (q : Placed). StepIn t e (q.offset, Attempts q.attempt)) (history t e).committed before p rest
-        is (committed_in t e law) in
-        starts_in t e (p.offset, Attempts p.attempt) within
+    committed_lies : (n : ℕ) (p : Placed) → committed_at t e n ≡ Some p → LiesIn t e p.offset
+    committed_lies n p at = starts_in t e (p.offset, Attempts p.attempt)
+        (all_each t e (λ q. StepIn t e (q.offset, Attempts q.attempt)) (committed_in t e law) n p at)
 
     pub record_lies : (c : Code) (at : ℕ) → StandsInRecords c t e at → LiesIn t e at
     record_lies code.Record at stands = at_settled at (λ p x. ¬ Fits (names_of t) (executed_by t p.attempt x)) stands
@@ -109,12 +106,12 @@ module _ (t : Trace) (e : ℕ) where
 
     pub token_lies : (c : Code) (at : ℕ) → StandsInTokens c t e at → LiesIn t e at
     token_lies code.Token at stands =
-        subst (LiesIn t e) stands.holds.0 (committed_lies stands.before stands.item stands.rest stands.is)
+        subst (LiesIn t e) stands.offset (committed_lies stands.n stands.item stands.is)
     token_lies c at stands = absurd stands
 
     pub outcome_lies : (c : Code) (at : ℕ) → StandsInAgreement c t e at → LiesIn t e at
     outcome_lies code.Outcome at stands =
-        subst (LiesIn t e) stands.holds.0 (committed_lies stands.before stands.item stands.rest stands.is)
+        subst (LiesIn t e) stands.offset (committed_lies stands.n stands.item stands.is)
     outcome_lies c at stands = absurd stands
 
 -- whether the faults of a phase lie in sections

@@ -48,7 +48,7 @@ module _ (t : Trace) (accepted : IsAccepted t) where
     serial = serial;
     from_opening = from_opening;
     keeps_groups = keeps_groups;
-    agree = replicas_agree t accepted.agree accepted.right;
+    agree = replicas_agree t accepted.agree;
     restored = restored;
     once = once;
     replied = reply_given;

@@ -1,6 +1,6 @@
 -- Whether a fault stands at an offset under a code can be decided.
-use Rattle.std.proofs.Common.{◌≡◌, ◌≢◌, ℕ, ◌+◌, ◌-◌, ◌<◌, ◌≤◌, ◌⊎◌, inl, inr, List, [], ◌∷◌, length, get_or}
-use Rattle.std.proofs.Common.{refl, sym, subst, ◌∙◌, arith}
+use Rattle.std.proofs.Common.{◌≡◌, ◌≢◌, ℕ, suc, ◌+◌, ◌-◌, ◌<◌, ◌≤◌, ◌⊎◌, inl, inr, List, [], ◌∷◌, length}
+use Rattle.std.proofs.Common.{get_or, IfSome, refl, sym, subst, ◌∙◌, arith}
 use Rattle.std.specs.Prelude.{IsTrue, IsFalse, Contains, slice_index_or, Bool}
 use Rattle.std.specs.List.{All, list_any}
 use Rattle.std.proofs.lemmas.Bool.{cases_Bool, cases_lt, false≢true}
@@ -31,7 +31,9 @@ use Rattle.eve_votes.specs.Faults.{HasTwoDecisions, StandsInVotes, IsFurther}
 use Rattle.eve_votes.proofs.Casting.{none_behind}
 use Rattle.eve_votes.proofs.Counting.{decided_backs}
 use Rattle.eve_agree.specs.Majority.{StandsInMajorities}
-use Rattle.eve_agree.specs.Agreement.{first_to_commit, StandsInAgreement}
+use Rattle.eve_agree.specs.Agreement.{first_to_commit, HaveSameOutcome, StandsInAgreement}
+use Rattle.eve_agree.specs.ByNumber.{SomeCommitted}
+use Rattle.eve_agree.proofs.ByNumber.{some_from_place, place_from_some}
 use Rattle.eve_agree.specs.SentReplies.{StandsInReplies}
 use Rattle.eve_audit.proofs.Deciding.{Decided, HasEquality, decided_both, decided_not, decided_as, some_if}
 use Rattle.eve_audit.proofs.Deciding.{below_or_none, numbers, integers, lists, pairs}
@@ -285,10 +287,16 @@ module _ (t : Trace) (at : ℕ) where
         (steps_at t e)
     restores_decided c = inr (λ stands. absurd stands)
 
+    committed_somewhere : (Q : ℕ → Placed → Type 0) → ((n : ℕ) (p : Placed) → Decided (Q n p))
+        → Decided (SomeCommitted t e at Q)
+    committed_somewhere Q decided = decided_as (some_from_place t e at Q) (place_from_some t e at Q)
+        (place_decided _ (λ before p. decided_both (numbers p.offset at) (decided (suc (length before)) p))
+        (history t e).committed)
+
     pub tokens_decided : (c : Code) → Decided (StandsInTokens c t e at)
     tokens_decided code.Token =
-        place_decided _ (λ _ p. decided_both (numbers p.offset at)
-        (decided_not (lists numbers p.attempt.token (due_token t e p)))) (history t e).committed
+        committed_somewhere (λ n p. p.attempt.token ≢ due_token t e p)
+        (λ n p. decided_not (lists numbers p.attempt.token (due_token t e p)))
     tokens_decided c = inr (λ stands. absurd stands)
 
     pub majorities_decided : (c : Code) → Decided (StandsInMajorities c t e at)
@@ -305,7 +313,6 @@ module _ (t : Trace) (at : ℕ) where
 
     pub agreement_decided : (c : Code) → Decided (StandsInAgreement c t e at)
     agreement_decided code.Outcome =
-        place_decided _ (λ before p. decided_both (numbers p.offset at)
-        (some_if _ (λ f. decided_not (same_outcome t e (length before + 1) f))
-        (first_to_commit t (length before + 1)))) (history t e).committed
+        committed_somewhere (λ n p. IfSome (first_to_commit t n) (λ f. ¬ HaveSameOutcome t e f n))
+        (λ n p. some_if _ (λ f. decided_not (same_outcome t e n f)) (first_to_commit t n))
     agreement_decided c = inr (λ stands. absurd stands)

@@ -20,7 +20,7 @@ use Rattle.eve_agree.specs.Tables.{are_right_restores, all_restore_rightly, Rest
 use Rattle.eve_agree.specs.DueTokens.{due_token, TokensAreDue, StandsInTokens}
 use Rattle.eve_agree.specs.Restores.{StandsInRestores}
 use Rattle.eve_views.specs.Form.{HasNone, IsFaultIn}
-use Rattle.eve_audit.proofs.Deciding.{Decided, stable, all_if_none, numbers, lists}
+use Rattle.eve_audit.proofs.Deciding.{Decided, stable, numbers, lists}
 
 module _ (t : Trace) (e : ℕ) where
   -- ---- structure
@@ -97,7 +97,6 @@ module _ (t : Trace) (e : ℕ) where
   -- ---- tokens
 
   pub due_tokens : HasNone (IsFaultIn StandsInTokens t e) → TokensAreDue t e
-  due_tokens none = all_if_none (λ p. p.attempt.token ≡ due_token t e p)
-      (λ p. lists numbers p.attempt.token (due_token t e p)) (λ p. p.offset) (history t e).committed
-      (λ p place. none (record { code = code.Token; offset = p.offset; replica = Some e })
-      (record { stands = place; inside = refl }))
+  due_tokens none n p at = stable (lists numbers p.attempt.token (due_token t e p))
+      (λ wrong. none (record { code = code.Token; offset = p.offset; replica = Some e })
+      (record { stands = record { n = n; item = p; is = at; offset = refl; holds = wrong }; inside = refl }))

@@ -14,7 +14,7 @@ use Rattle.eve_grammar.specs.Limits.{HasLimits, is_vote}
 use Rattle.eve_views.specs.declared.fault.Code.TheVariants as code
 use Rattle.eve_views.specs.declared.fault.Fault.{Fault}
 use Rattle.eve_history.specs.Section.{Placed, no_batch, batch_at}
-use Rattle.eve_history.specs.SectionHistory.{committed_at, IsRightSection}
+use Rattle.eve_history.specs.SectionHistory.{committed_at}
 use Rattle.eve_chains.specs.Committed.{balances_to}
 use Rattle.eve_chains.proofs.Linked.{none≢some}
 use Rattle.eve_votes.specs.Votes.{IsDecided, backers}
@@ -142,8 +142,8 @@ module _ (t : Trace) where
             (record { item = p; at = at; offset_is = refl; replies_are = refl }) is apart))
       ]
 
-  pub all_agree : ((e : ℕ) → IsRightSection t e) → HasNone (IsFaultSomewhere StandsInAgreement t) → ReplicasAgree t
-  all_agree right none = they_agree t right (λ e n p at. inl (outcome_is none e n p at))
+  pub all_agree : HasNone (IsFaultSomewhere StandsInAgreement t) → ReplicasAgree t
+  all_agree none = they_agree t (λ e n p at. inl (outcome_is none e n p at))
 
 -- ---- replies
 

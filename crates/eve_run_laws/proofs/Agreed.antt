@@ -1,25 +1,24 @@
 -- Where replicas differ in what a batch came to, though their tokens are due and decided, the trace shows a collision.
-use Rattle.std.proofs.Common.{◌≡◌, ℕ, zero, suc, ◌+◌, ◌≤◌, nat_le, Bool, true, false, List, [], ◌∷◌, map, length}
-use Rattle.std.proofs.Common.{slice_get, Option, Some, IfSome, refl, sym, ap, subst, ◌∙◌, add-one, arith}
+use Rattle.std.proofs.Common.{◌≡◌, ℕ, ◌+◌, Bool, true, false, List, [], ◌∷◌, map, Option, Some, IfSome, refl, sym}
+use Rattle.std.proofs.Common.{subst, ◌∙◌}
+use Rattle.std.specs.Option.{is_some}
 use Rattle.std.specs.List.{enumerate_from, find}
-use Rattle.std.proofs.lemmas.Bool.{leb-true, cond-true, cond-false}
+use Rattle.std.proofs.lemmas.Bool.{cond-true, cond-false}
 use Rattle.std.proofs.lemmas.Option.{same_Some}
-use Rattle.eve_smallbank.proofs.Members.{all_in}
 use Rattle.eve_grammar.specs.Trace.{Trace}
 use Rattle.eve_grammar.specs.Limits.{HasLimits}
-use Rattle.eve_grammar.proofs.Lists.{item_within}
 use Rattle.eve_views.specs.declared.fault.Code.{Code}
 use Rattle.eve_views.specs.declared.fault.Code.TheVariants as code
 use Rattle.eve_views.specs.declared.fault.Fault.{Fault}
 use Rattle.eve_views.specs.Form.{IsFaultSomewhere}
 use Rattle.eve_history.specs.Section.{Placed}
-use Rattle.eve_history.specs.SectionHistory.{history, committed_at, IsRightSection}
-use Rattle.eve_chains.proofs.Linked.{last_committed, committed_number, in_at, none≢some}
+use Rattle.eve_history.specs.SectionHistory.{committed_at, IsRightSection}
+use Rattle.eve_chains.proofs.Linked.{committed_number, none≢some}
 use Rattle.eve_votes.specs.Faults.{AreVotesSound}
-use Rattle.eve_votes.proofs.Places.{get_between}
 use Rattle.eve_agree.specs.Agreement.{first_to_commit, HaveSameOutcome, StandsInAgreement}
-use Rattle.eve_agree.specs.DueTokens.{due_token, TokensAreDue}
+use Rattle.eve_agree.specs.DueTokens.{TokensAreDue}
 use Rattle.eve_agree.specs.Majority.{AllAreBacked}
+use Rattle.eve_agree.proofs.ByNumber.{some_there}
 use Rattle.eve_agree.proofs.Outcomes.{first_there}
 use Rattle.eve_audit.proofs.Decisions.{committed_decided}
 use Rattle.eve_run_laws.specs.Collision.{Collides}
@@ -41,20 +40,10 @@ found_passes {A} test k f (x ∷ xs) is = by (test k) refl (λ rest. found_passe
     by false here further = further (sym (cond-false (test k) (Some k) others here) ∙ is)
 
 -- the first to commit a batch committed it
-pub first_committed : (t : Trace) (f n : ℕ) → IsRightSection t f → first_to_commit t (suc n) ≡ Some f → (q : Placed)
-    × (committed_at t f (suc n) ≡ Some q)
-first_committed t f n right is =
-    let reached : suc n ≤ (history t f).last =
-    leb-true (suc n) (history t f).last (found_passes (λ e. nat_le (suc n) (history t e).last) 0 f t.sections is) in
-    let last = last_committed t f right in
-    item_within (history t f).committed n (omega arith)
-
--- a committed attempt has the token that is due
-due_at : (t : Trace) (e n : ℕ) (q : Placed) → TokensAreDue t e → committed_at t e n ≡ Some q
-    → q.attempt.token ≡ due_token t e q
-due_at t e zero q due at = none≢some q at
-due_at t e (suc n) q due at =
-    all_in (λ p. p.attempt.token ≡ due_token t e p) due (in_at (history t e).committed n q at)
+pub first_committed : (t : Trace) (f n : ℕ) → first_to_commit t n ≡ Some f → (q : Placed)
+    × (committed_at t f n ≡ Some q)
+first_committed t f n is =
+    some_there (committed_at t f n) (found_passes (λ e. is_some (committed_at t e n)) 0 f t.sections is)
 
 module _ (t : Trace) (limits : HasLimits t) (right : (e : ℕ) → IsRightSection t e) (due : (e : ℕ) → TokensAreDue t e)
     (votes : AreVotesSound t) (backed : AllAreBacked t) where
@@ -65,7 +54,7 @@ module _ (t : Trace) (limits : HasLimits t) (right : (e : ℕ) → IsRightSectio
       collides t e f n q r at also (balances_within t e n limits) (balances_within t f n limits)
       (balances_count t e n ∙ sym (balances_count t f n)) (replies_within t e n q limits at)
       (replies_within t f n r limits also) (committed_number t e n q (right e) at)
-      (committed_number t f n r (right f) also) (due_at t e n q (due e) at) (due_at t f n r (due f) also)
+      (committed_number t f n r (right f) also) (due e n q at) (due f n r also)
       (votes.one_token n q.attempt.view r.attempt.view q.attempt.token r.attempt.token
       (committed_decided t e (right e) (backed e) n q at) (committed_decided t f (right f) (backed f) n r also)) apart
 
@@ -76,13 +65,8 @@ module _ (t : Trace) (limits : HasLimits t) (right : (e : ℕ) → IsRightSectio
       by : (c : Code) → StandsInAgreement c t is.0 f.offset → Collides t
       by code.Outcome place =
           let e = is.0 in
-          let n = length place.before in
-          let here : committed_at t e (suc n) ≡ Some place.item = ap (λ (ps : List Placed). slice_get ps n) place.is
-          ∙ get_between place.before place.item place.rest in
-          let first = first_there t e (suc n) place.item (right e) here in
-          let apart : IfSome (first_to_commit t (suc n)) (λ g. ¬ HaveSameOutcome t e g (suc n)) =
-          subst (λ (k : ℕ). IfSome (first_to_commit t k) (λ g. ¬ HaveSameOutcome t e g k)) (add-one n) place.holds.1 in
-          let other = first_committed t first.0 n (right first.0) first.1 in
-          outcomes_collide e first.0 (suc n) place.item other.0 here other.1
-          (subst (λ (o : Option ℕ). IfSome o (λ g. ¬ HaveSameOutcome t e g (suc n))) first.1 apart)
+          let first = first_there t e place.n place.item place.is in
+          let other = first_committed t first.0 place.n first.1 in
+          outcomes_collide e first.0 place.n place.item other.0 place.is other.1
+          (subst (λ (o : Option ℕ). IfSome o (λ g. ¬ HaveSameOutcome t e g place.n)) first.1 place.holds)
       by _ place = absurd place

@@ -16,6 +16,7 @@ use Rattle.eve_chains.specs.Visible.{rows_after}
 use Rattle.eve_chains.specs.Committed.{attempts_of, committed_to, first_rows}
 use Rattle.eve_chains.proofs.Linked.{IsLinked, AreLinked, linked_history}
 use Rattle.eve_agree.specs.DueTokens.{due_token, TokensAreDue}
+use Rattle.eve_agree.proofs.ByNumber.{all_each}
 use Rattle.eve_agree.proofs.TokensInOrder.{rows_are, first_version}
 use Rattle.eve_run_laws.proofs.Alike.{AreAlike}
 
@@ -116,4 +117,5 @@ tokens_from t e done (q ∷ ps) is linked due = (
 
 pub tokens_due : (t : Trace) (e : ℕ) → IsRightSection t e → AreDueSoFar t (history t e) → TokensAreDue t e
 tokens_due t e right due =
-    tokens_from t e [] (history t e).committed refl (linked_history t e right) due.committed
+    all_each t e (λ q. q.attempt.token ≡ due_token t e q)
+    (tokens_from t e [] (history t e).committed refl (linked_history t e right) due.committed)

@@ -2,7 +2,7 @@
 use Rattle.std.proofs.Common.{◌≡◌, ℕ, ℤ, ◌+◌, ◌<◌, ◌≤◌, Bool, true, List, [], ◌∷◌, ◌++◌, map}
 use Rattle.std.proofs.Common.{All, take, drop, length, slice_get, Some, refl, sym, subst, ap, ◌∙◌, append_assoc}
 use Rattle.std.proofs.Common.{arith, length-append, append-nil}
-use Rattle.std.specs.Prelude.{if◌then◌else◌}
+use Rattle.std.specs.Prelude.{IsTrue, if◌then◌else◌}
 use Rattle.std.proofs.lemmas.Bool.{eq-eqb, ne_eqb}
 use Rattle.std.proofs.lemmas.List.{take_at}
 use Rattle.eve_grammar.specs.Trace.{Rollback, Step, Attempts, Commits, RollsBack, Trace}
@@ -11,6 +11,8 @@ use Rattle.eve_grammar.proofs.Lists.{same_first, same_others, no_item}
 use Rattle.eve_history.specs.Section.{Placed, SectionState, start, committing, next, state_after}
 use Rattle.eve_history.specs.SectionHistory.{history}
 use Rattle.eve_chains.specs.Committed.{attempts_of, balances_to}
+use Rattle.eve_agree.specs.ByNumber.{is_reached}
+use Rattle.eve_agree.proofs.ByNumber.{reached_up}
 use Rattle.eve_attempts.specs.Ledgers.{Ledger, Opened}
 use Rattle.eve_replica.specs.Deciding.{token_given_up}
 use Rattle.eve_replica.specs.Sections.{RunPlan, GoesThrough}
@@ -197,5 +199,5 @@ module _ (p : RunPlan) (t : Trace) (plan : IsPlanOf p t) (number : ℕ) (rest : 
         ≡ Some (serial_token p number (balances_to t e number))
     gives_up_serial = ap (token_given_up (length before + 2) []) (sym (plain_steps t e)) ∙ given_up.token
 
-    pub has_reached : number ≤ length (history t e).committed
-    has_reached = given_up.reached
+    pub has_reached : IsTrue (is_reached t e number)
+    has_reached = reached_up t e number given_up.reached

@@ -1,6 +1,6 @@
 -- Where all is as it must be no fault stands: in structure, votes and majorities.
 use Rattle.std.proofs.Common.{◌≡◌, ℕ, ◌+◌, ◌-◌, ◌≤◌, Bool, true, false, cond, List, [], ◌∷◌, ◌++◌, map, filter, length}
-use Rattle.std.proofs.Common.{refl, sym, ap, subst, ◌∙◌, append-nil, length-append, eq-eqb, arith}
+use Rattle.std.proofs.Common.{refl, sym, ap, subst, ◌∙◌, append-nil, length-append, eq-eqb, inl, inr, arith}
 use Rattle.std.specs.Prelude.{◌==◌, ◌||◌}
 use Rattle.std.specs.List.{AllByRecursion, list_any}
 use Rattle.std.proofs.lemmas.Bool.{and_from, false≢true}
@@ -20,9 +20,9 @@ use Rattle.eve_history.specs.Section.{start}
 use Rattle.eve_history.specs.SectionHistory.{IsRightSection}
 use Rattle.eve_history.specs.Structure.{OfCommit, OfRollback, StandsInStructure}
 use Rattle.eve_history.specs.FirstWrong.{first_wrong}
+use Rattle.eve_history.proofs.Places.{no_place, place_cases}
 use Rattle.eve_history.proofs.StructureLaws.{steps_on, none_stands}
 use Rattle.eve_agree.specs.Majority.{IsBacked, AllAreBacked, StandsInMajorities}
-use Rattle.eve_agree.proofs.TokensInOrder.{none_fails}
 
 -- ---- structure
 
@@ -87,6 +87,15 @@ module _ (t : Trace) (sound : AreVotesSound t) where
       by c stands = absurd stands
 
 -- ---- majorities
+
+-- where it holds of all, it fails nowhere
+none_fails : {A : Type 0} (P : A → Type 0) (Q : List A → A → Type 0) (xs : List A) → AllByRecursion P xs
+    → ((b : List A) (x : A) → P x → Q b x → ⊥) → SomePlace xs Q → ⊥
+none_fails P Q [] all apart place = no_place Q place
+none_fails P Q (x ∷ xs) all apart place = elim (place_cases Q x xs place) [
+  | inl here ↦ apart [] x all.0 here
+  | inr there ↦ none_fails P (λ b y. Q (x ∷ b) y) xs all.1 (λ b y. apart (x ∷ b) y) there
+]
 
 module _ (t : Trace) where
   commit_backed : (step : Step) → IsBacked t step → OfCommit step (λ c. ¬ IsDecided t c.seq c.view c.token) → ⊥

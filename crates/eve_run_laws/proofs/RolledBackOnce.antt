@@ -2,6 +2,7 @@
 -- time; or the trace shows a collision.
 use Rattle.std.proofs.Common.{◌≡◌, ℕ, zero, suc, ◌+◌, ◌<◌, ◌≤◌, Bool, true, false, cond, List, [], ◌∷◌, ◌++◌}
 use Rattle.std.proofs.Common.{length, get_or, Some, refl, sym, subst, ap, ◌∙◌, ◌⊎◌, inl, inr, arith}
+use Rattle.std.specs.Prelude.{IsTrue}
 use Rattle.std.specs.List.{count_by}
 use Rattle.std.specs.Cmp.Lexicographic.{bytes_decides}
 use Rattle.std.proofs.lemmas.Bool.{eqb-true, false≢true}
@@ -10,11 +11,12 @@ use Rattle.std.proofs.lemmas.List.Sums.{sum_by-cons}
 use Rattle.eve_grammar.specs.Trace.{Step, Vote, Trace}
 use Rattle.eve_grammar.specs.Limits.{HasLimits}
 use Rattle.eve_grammar.specs.Spelling.{steps_of}
-use Rattle.eve_grammar.proofs.Lists.{item_within}
 use Rattle.eve_votes.proofs.Counting.{Counted, counted}
 use Rattle.eve_votes.proofs.Deciding.{quorum_limits}
-use Rattle.eve_history.specs.SectionHistory.{history}
+use Rattle.eve_history.specs.SectionHistory.{committed_at}
 use Rattle.eve_chains.specs.Committed.{balances_to}
+use Rattle.eve_agree.specs.ByNumber.{is_reached}
+use Rattle.eve_agree.proofs.ByNumber.{some_there}
 use Rattle.eve_workload.specs.declared.mixer.Mixer.{Mixer}
 use Rattle.eve_workload.specs.Workload.{Workload}
 use Rattle.eve_replica.specs.Deciding.{is_some_of, token_given_up}
@@ -145,8 +147,7 @@ module _ (w : Workload) (mixer : Mixer) (t : Trace) (run : IsTraceOf w mixer t) 
     gives_up f there whole = gives_up_serial p t (plan_of w mixer t run) twice.number twice.rest run.sections f
         twice.before (goes_back f there whole)
 
-    reached : (f : ℕ) → f < length t.sections → is_whole (steps_of t f) ≡ true
-        → twice.number ≤ length (history t f).committed
+    reached : (f : ℕ) → f < length t.sections → is_whole (steps_of t f) ≡ true → IsTrue (is_reached t f twice.number)
     reached f there whole = has_reached p t (plan_of w mixer t run) twice.number twice.rest run.sections f twice.before
         (goes_back f there whole)
 
@@ -161,12 +162,12 @@ module _ (w : Workload) (mixer : Mixer) (t : Trace) (run : IsTraceOf w mixer t) 
         ∙ (bytes_decides (own f) (own e)).1 (ap (serial_token p twice.number) (sym same)))
 
     -- and two replicas that have committed other balances show a collision
-    apart_collide : (f n : ℕ) → n ≤ length (history t e).committed → n ≤ length (history t f).committed
+    apart_collide : (f n : ℕ) → IsTrue (is_reached t e n) → IsTrue (is_reached t f n)
         → ¬ (balances_to t e n ≡ balances_to t f n) → Collides t
     apart_collide f zero one other apart = absurd (apart refl)
     apart_collide f (suc n) one other apart =
-        let q = item_within (history t e).committed n (omega (arith, one)) in
-        let r = item_within (history t f).committed n (omega (arith, other)) in
+        let q = some_there (committed_at t e (suc n)) one in
+        let r = some_there (committed_at t f (suc n)) other in
         outcomes_collide t limits (sections_right w mixer t run) (sections_due w mixer t run)
         (votes_sound w mixer t run limits) (all_backed w mixer t run limits) e f (suc n) q.0 r.0 q.1 r.1
         (λ same. apart same.balances)

@@ -1,20 +1,21 @@
-use Rattle.std.proofs.Common.{◌≤◌, ◌<◌, length, sym, arith, refl}
+use Rattle.std.proofs.Common.{◌≡◌, None, length, sym, arith, refl, ◌∙◌}
+use Rattle.std.specs.Prelude.{IsTrue}
+use Rattle.std.specs.Option.{is_some}
 use Rattle.std.proofs.lemmas.Option.{slice_get_read}
+use Rattle.eve_agree.specs.ByNumber.{told_at}
+use Rattle.eve_agree.proofs.ByNumber.{not_there}
 use Rattle.eve_agree.proofs.Outcomes.{none_more, first_is, first_none}
 use Rattle.eve_agree.proofs.agreement.first_to_commit.Goals as goal
 
-pub returns-then-n-committed : goal.returns-then-n-committed
-returns-then-n-committed c =
+pub returns-then-has_committed : goal.returns-then-has_committed
+returns-then-has_committed c =
     let hs = c.args.histories.now in
     let h = c.index-histories-e.result in
     let got = slice_get_read hs (length hs) c.loop-e.e h refl c.loop-e-test.true c.index-histories-e.is in
-    let number = c.committed.ensures.number in
-    let count = c.committed.ensures.count in
-    let some : c.args.n ≤ h.committed = omega (arith, c.if-n-committed.true) in
-    let there : c.args.n ≤ length h.commits = omega (arith, c.if-n-committed.true) in
+    let some : IsTrue (is_some (told_at h c.args.n)) = sym c.has_committed.ensures ∙ c.if-has_committed.true in
     record {
       is = λ t told. sym (first_is t hs told c.args.n c.loop-e.e h got some c.loop-e.invariant);
-      there = (h, got, there);
+      there = (h, got, some);
       before = c.loop-e.invariant;
       none = tt;
     }
@@ -24,9 +25,9 @@ loop-e-preserved c =
     let hs = c.args.histories.now in
     let h = c.index-histories-e.result in
     let got = slice_get_read hs (length hs) c.loop-e.e h refl c.loop-e-test.true c.index-histories-e.is in
-    let number = c.committed.ensures.number in
-    let less : h.committed < c.args.n = omega (arith, c.if-n-committed.false) in
-    none_more hs c.args.n c.loop-e.e h c.loop-e.invariant got less
+    let none : told_at h c.args.n ≡ None =
+    not_there (told_at h c.args.n) (sym c.has_committed.ensures ∙ c.if-has_committed.false) in
+    none_more hs c.args.n c.loop-e.e h c.loop-e.invariant got none
 
 pub returns : goal.returns
 returns c =

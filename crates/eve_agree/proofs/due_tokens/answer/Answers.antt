@@ -1,7 +1,5 @@
-use Rattle.std.proofs.Common.{length, ap, subst, arith}
-use Rattle.eve_chains.specs.Settling.{Settling}
+use Rattle.std.proofs.Common.{length, subst}
 use Rattle.eve_agree.specs.DueTokens.{IsFirstWrong}
-use Rattle.eve_chains.proofs.Linked.{batches_counted}
 use Rattle.eve_agree.proofs.TokensInOrder.{no_token_fault}
 use Rattle.eve_agree.proofs.Stretched.{all_due, first_is_least}
 use Rattle.eve_agree.proofs.due_tokens.answer.Goals as goal
@@ -19,9 +17,8 @@ returns-in-None-clause-due c =
     let t = c.args.trace.now in
     let e = c.args.history.now.replica in
     let last = length c.args.settled.now.numbers in
-    let past = batches_counted t e in
-    let many = ap (λ (s : Settling). length s.numbers) c.requires.section.settled in
-    all_due t e last (omega arith) (subst (IsFirstWrong t e 0 last) c.in-None.is c.requires.wrong)
+    all_due t e c.args.settled.now c.requires.section.settled
+    (subst (IsFirstWrong t e 0 last) c.in-None.is c.requires.wrong)
 
 pub returns-in-None-clause-none : goal.returns-in-None-clause-none
 returns-in-None-clause-none c =

@@ -1,15 +1,14 @@
-use Rattle.std.proofs.Common.{◌-◌, ℕ, Some, sym, subst, ◌∙◌, arith}
+use Rattle.std.proofs.Common.{◌-◌, ℕ, Some, sym, subst, ◌∙◌}
 use Rattle.std.proofs.lemmas.Bool.{false≢true}
 use Rattle.eve_frames.specs.Views.{attempt_in}
 use Rattle.eve_agree.specs.DueTokens.{IsFirstWrong}
-use Rattle.eve_agree.proofs.Stretched.{commits_there, one_judged}
+use Rattle.eve_agree.proofs.Stretched.{none_judged, one_judged}
 use Rattle.eve_agree.proofs.due_tokens.wrong_at.Goals as goal
 
-pub committed_attempt-attempt-requires-clause-there : goal.committed_attempt-attempt-requires-clause-there
-committed_attempt-attempt-requires-clause-there c =
-    let same = commits_there c.args.trace.now c.args.history.now.replica c.args.history.now c.args.settled.now
-    c.requires.section.history c.requires.section.settled in
-    omega (arith, same, c.requires.there)
+pub returns-then-not-has_committed : goal.returns-then-not-has_committed
+returns-then-not-has_committed c =
+    none_judged c.args.trace.now c.args.history.now.replica c.args.n c.args.history.now c.requires.section.history
+    (sym c.has_committed.ensures ∙ c.if-not-has_committed.true)
 
 pub returns-then-is_due : goal.returns-then-is_due
 returns-then-is_due c =

@@ -1,9 +1,10 @@
-use Rattle.std.proofs.Common.{◌≡◌, ℕ, ◌-◌, ◌≤◌, None, Some, map, slice_get, sym, subst, ap, ◌∙◌}
+use Rattle.std.proofs.Common.{◌≡◌, ℕ, ◌≤◌, None, Some, map, sym, subst, ap, ◌∙◌}
 use Rattle.std.proofs.lemmas.Bool.{false≢true}
 use Rattle.eve_grammar.specs.Trace.{Sent}
 use Rattle.eve_frames.specs.Views.{attempt_in, sent_in}
 use Rattle.eve_history.specs.Section.{batch_at}
 use Rattle.eve_grammar.specs.Trace.{request_id}
+use Rattle.eve_agree.specs.ByNumber.{told_at}
 use Rattle.eve_agree.specs.Keeping.{kept_ids}
 use Rattle.eve_agree.proofs.Answering.{not_committed, is_committed, replied_from, answer_from}
 use Rattle.eve_agree.proofs.sent_replies.is_replied.Goals as goal
@@ -14,9 +15,9 @@ returns-in-Some-clause-replied c =
     let s : Sent = sent_in c.args.sent.now.bytes.now in
     let a = attempt_in c.in-Some.attempt.bytes.now in
     let some = c.in-Some.ensures.some in
-    let at : slice_get c.args.history.now.commits (s.seq - 1) ≡ Some some.0 =
-    ap (λ (n : ℕ). slice_get c.args.history.now.commits (n - 1)) (sym c.seq.ensures) ∙ some.1 in
-    let committed = is_committed t s.replica s.seq c.args.history.now some.0 a c.requires.one c.requires.history at
+    let at : told_at c.args.history.now s.seq ≡ Some some.0 =
+    ap (told_at c.args.history.now) (sym c.seq.ensures) ∙ some.1 in
+    let committed = is_committed t s.replica s.seq c.args.history.now some.0 a c.requires.history at
     some.2 in
     let batch : c.turn_to.new.self.batch ≡ s.seq = c.turn_to.ensures.batch ∙ c.seq-in-Some.ensures in
     let request_ids : kept_ids c.turn_to.new.self ≡ map request_id (batch_at t s.seq).requests =
@@ -32,8 +33,8 @@ pub returns-in-None-clause-replied : goal.returns-in-None-clause-replied
 returns-in-None-clause-replied c =
     let t = c.args.trace.now in
     let s : Sent = sent_in c.args.sent.now.bytes.now in
-    let none : slice_get c.args.history.now.commits (s.seq - 1) ≡ None =
-    ap (λ (n : ℕ). slice_get c.args.history.now.commits (n - 1)) (sym c.seq.ensures) ∙ c.in-None.ensures.none in (
+    let none : told_at c.args.history.now s.seq ≡ None =
+    ap (told_at c.args.history.now) (sym c.seq.ensures) ∙ c.in-None.ensures.none in (
       λ wrong. absurd (false≢true wrong),
-      λ replied. absurd (not_committed t s c.args.history.now c.requires.one c.requires.history none replied),
+      λ replied. absurd (not_committed t s c.args.history.now c.requires.history none replied),
     )
