@@ -1,6 +1,6 @@
 -- Public: other crates cite these lemmas. Records one after another: the tables between them, and the first thing that
 -- is wrong.
-use Rattle.std.proofs.Common.{◌≡◌, ℕ, ℤ, zero, suc, ◌+◌, true, false, cond, List, [], ◌∷◌, ◌++◌, take}
+use Rattle.std.proofs.Common.{◌≡◌, ℕ, zero, suc, ◌+◌, true, false, List, [], ◌∷◌, ◌++◌, take}
 use Rattle.std.proofs.Common.{drop, length, get_or, slice_get, Some, refl, sym, subst, ap, ◌∙◌, inl, inr}
 use Rattle.std.proofs.Common.{◌⊎◌, append-nil, arith, IsTrue}
 use Rattle.std.specs.List.{list_all}
@@ -8,7 +8,7 @@ use Rattle.std.proofs.lemmas.Bool.{and_parts}
 use Rattle.std.proofs.lemmas.Grind.{flat_map-append}
 use Rattle.std.proofs.lemmas.Option.{same_Some}
 use Rattle.eve_smallbank.specs.declared.entry.Entry.{Entry}
-use Rattle.eve_smallbank.specs.Access.{Executed, writes_row, values_after}
+use Rattle.eve_smallbank.specs.Access.{Executed}
 use Rattle.eve_smallbank.specs.Chain.{Table, table_after, table_after_all}
 use Rattle.eve_grammar.specs.Trace.{Access}
 use Rattle.eve_grammar.specs.Limits.{is_entry}
@@ -27,11 +27,6 @@ pub table_after_all-append : (table : Table) (xs ys : List Executed) → table_a
     ≡ table_after_all (table_after_all table xs) ys
 table_after_all-append table [] ys = refl
 table_after_all-append table (x ∷ xs) ys = table_after_all-append (table_after table x.entries) xs ys
-
-pub values_after-append : (values : ℕ → ℤ) (es fs : List Entry) → values_after values (es ++ fs)
-    ≡ values_after (values_after values es) fs
-values_after-append values [] fs = refl
-values_after-append values (e ∷ es) fs = values_after-append (λ row. cond (writes_row row e) e.after (values row)) es fs
 
 -- ---- one record more
 

@@ -35,7 +35,7 @@ use Rattle.eve_chains.specs.Visible.{executed_by}
 use Rattle.eve_chains.specs.Sound.{RecordsFit}
 use Rattle.eve_chains.specs.Faults.{StandsInRecords}
 use Rattle.eve_chains.proofs.Distinct.{in_map, in_source, in_right, in_split}
-use Rattle.eve_chains.proofs.Walks.{right_one, complete_one}
+use Rattle.eve_chains.proofs.LeftByRecords.{right_one, complete_one}
 use Rattle.eve_chains.proofs.Faultless.{in_place, place_of}
 use Rattle.eve_chains.proofs.Linked.{none≢some}
 use Rattle.eve_chains.specs.Unfit.{is_settled, recorded_of, records_along, records_if_settled, HasRequests}

@@ -1,5 +1,4 @@
 pub mod AttemptRecords
-pub mod Steps
 mod Told
 mod ByRow
 mod WalkedRows
@@ -21,7 +20,7 @@ pub mod Once
 pub mod Arrivals
 mod Openings
 pub mod AlongLaws
-pub mod Walks
+pub mod LeftByRecords
 pub mod Advancing
 mod WorkedCases
 pub mod Nearest

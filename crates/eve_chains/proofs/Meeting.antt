@@ -1,7 +1,6 @@
 -- What a row's walk meets at an entry is what the path and the records before it leave.
 use Rattle.std.proofs.Common.{◌≡◌, inl, inr, ℕ, ◌≤◌, ◌==◌, Bool, true, false, cond, ◌||◌, List, [], ◌∷◌, ◌++◌, map}
 use Rattle.std.proofs.Common.{filter, flat_map, refl, sym, subst, ap, ◌∙◌, append_assoc, append-nil, arith}
-use mathlib.Core.Path.{fun_ext}
 use Rattle.std.specs.List.{AllByRecursion}
 use Rattle.std.proofs.lemmas.Bool.{eq-eqb, false≢true}
 use Rattle.std.proofs.lemmas.List.{map-append}
@@ -11,19 +10,19 @@ use Rattle.eve_smallbank.specs.Chain.{Table, table_after}
 use Rattle.eve_smallbank.proofs.Members.{In, here, there, all_in, in_front, in_cons}
 use Rattle.eve_smallbank.proofs.Chains.{table_after-append}
 use Rattle.eve_grammar.specs.Limits.{HasLimits}
-use Rattle.eve_grammar.specs.Trace.{Access, Attempt, Trace}
+use Rattle.eve_grammar.specs.Trace.{Access, Trace}
 use Rattle.eve_grammar.proofs.Lists.{all-append, all-filter, filter_kept, filter_dropped}
 use Rattle.eve_history.specs.declared.fate.Fate.{Fate}
 use Rattle.eve_history.specs.declared.fate.Fate.TheVariants.{Committed, Discarded, Open}
 use Rattle.eve_history.specs.Section.{Placed, settled}
 use Rattle.eve_history.specs.SectionHistory.{history, IsRightSection, is_committed, is_discarded}
-use Rattle.eve_chains.specs.Visible.{opening_table, table_along}
+use Rattle.eve_chains.specs.Visible.{opening_table, rows_after}
 use Rattle.eve_chains.specs.Along.{entries_along}
 use Rattle.eve_chains.proofs.Distinct.{in_map, in_right}
 use Rattle.eve_chains.specs.Rows.{Fated, told_of, settles, Noted, noted_by, noted_in, all_noted}
 use Rattle.eve_chains.specs.Rows.{of_row, met_by, pair_after}
 use Rattle.eve_chains.proofs.AttemptRecords.{own}
-use Rattle.eve_chains.proofs.Steps.{Advances, lead_all}
+use Rattle.eve_chains.proofs.LeftByRecords.{left_by_all}
 use Rattle.eve_chains.proofs.Paths.{all_placed, counts_in, counting, will_commit, will_fall, view_of, number_of}
 use Rattle.eve_chains.proofs.Paths.{AreCounting, counting_told, committed_told, discarded_told}
 use Rattle.eve_chains.proofs.RowWalks.{counts, entries, after_all, AreRising, own_of, table_row, meets_what_counts}
@@ -261,16 +260,6 @@ counting_at done [] x after known = subst (λ ys. AreCounting ys (x ∷ after)) 
 counting_at done (y ∷ before) x after known = subst (λ ys. AreCounting ys (x ∷ after))
     (append_assoc done (y ∷ []) before) (counting_at (done ++ y ∷ []) before x after known.3)
 
-advanced : (t : Trace) (before : List Attempt) (ps : List Placed) → Advances t before ps
-    → table_along t (before ++ map (λ p. p.attempt) ps) ≡ table_after (table_along t before)
-    (flat_map (λ p. entries_along (own p)) ps)
-advanced t before [] known = ap (table_along t) (append-nil before)
-advanced t before (p ∷ ps) known =
-    ap (table_along t) (sym (append_assoc before (p.attempt ∷ []) (map (λ q. q.attempt) ps)))
-    ∙ advanced t (before ++ p.attempt ∷ []) ps known.1
-    ∙ ap (λ (table : Table). table_after table (flat_map (λ q. entries_along (own q)) ps)) known.0
-    ∙ sym (table_after-append (table_along t before) (entries_along (own p)) (flat_map (λ q. entries_along (own q)) ps))
-
 module _ (t : Trace) (e : ℕ) (limits : HasLimits t) (right : IsRightSection t e) where
   -- an attempt that settles is among the settled ones
   pub settled_there : (y : Fated) → In y (told_of t e) → settles y ≡ true → In y.placed (settled (history t e))
@@ -298,13 +287,11 @@ module _ (t : Trace) (e : ℕ) (limits : HasLimits t) (right : IsRightSection t 
     settle = known.2 done
 
     -- the path's table, by what was noted before
-    path_table : table_along t x.placed.path
+    path_table : rows_after t x.placed.path
         ≡ table_after (opening_table t) (entries (filter (counts (view_of x)) (all_noted before)))
     path_table =
-        ap (table_along t) known.0 ∙ advanced t [] (all_placed (counting (view_of x) before))
-        (lead_all t e [] (all_placed (counting (view_of x) before)) limits right there_all)
-        ∙ ap (λ (table : Table). table_after table
-        (flat_map (λ p. entries_along (own p)) (all_placed (counting (view_of x) before)))) (fun_ext (λ row. refl))
+        ap (rows_after t) known.0
+        ∙ left_by_all t e (opening_table t) (all_placed (counting (view_of x) before)) limits right there_all
         ∙ ap (table_after (opening_table t)) (sym (entries_of_all (counting (view_of x) before))
         ∙ ap entries (sym (counting_noted (view_of x) before settle)))
       where
@@ -324,7 +311,7 @@ module _ (t : Trace) (e : ℕ) (limits : HasLimits t) (right : IsRightSection t 
     pub meets_visible : (xs : List (ℕ × Access)) (row : ℕ) (n : Noted) → n.view ≡ view_of x
         → met_by (pair_after (opening_table t row)
         (of_row row (all_noted before ++ flat_map (noted_by (view_of x) (number_of x) (is_committed x.fate)) xs))) n
-        ≡ table_after (table_along t x.placed.path) (entries_along xs) row
+        ≡ table_after (rows_after t x.placed.path) (entries_along xs) row
     meets_visible xs row n same =
         meets_what_counts (opening_table t row) (of_row row ns) n (rising_filter (λ m. m.entry.row == row) ns rising)
         (all-filter (λ m. m.view ≤ n.view) (λ m. m.entry.row == row) ns up)

@@ -1,4 +1,4 @@
--- What is wrong on the rows is what is wrong along the records.
+-- What is wrong on the rows, each walked by itself, is what is said of chains.
 use Rattle.std.proofs.Common.{◌≡◌, inl, inr, ℕ, ◌+◌, ◌||◌, Some, length, ◌==◌, Bool, true, List, [], ◌∷◌, ◌++◌}
 use Rattle.std.proofs.Common.{map, filter, flat_map, refl, sym, subst, ap, ◌∙◌, append_assoc, append-nil}
 use Rattle.std.proofs.lemmas.Bool.{eqb-true, eq-eqb, ne_eqb}
@@ -7,31 +7,32 @@ use Rattle.std.proofs.lemmas.Grind.{flat_map-append}
 use Rattle.std.specs.List.{AllByRecursion}
 use Rattle.std.proofs.lemmas.List.Elements.{filter-append}
 use Rattle.eve_smallbank.specs.declared.entry.Entry.{Entry}
-use Rattle.eve_smallbank.specs.Chain.{Table, Sees, table_after}
+use Rattle.eve_smallbank.specs.Chain.{Table, Sees}
 use Rattle.eve_smallbank.proofs.Members.{In, all_in, all_from_in, in_middle}
 use Rattle.eve_smallbank.proofs.Unique.{AreDistinct, entries_are_rows}
 use Rattle.eve_smallbank.specs.Access.{Fits}
-use Rattle.eve_smallbank.proofs.Chains.{table_after-append}
 use Rattle.eve_smallbank.specs.declared.versioned.Versioned.{Versioned}
 use Rattle.eve_grammar.specs.Limits.{HasLimits}
 use Rattle.eve_grammar.specs.Trace.{Access, Trace}
 use Rattle.eve_views.specs.declared.fault.Code.{Code}
+use Rattle.eve_views.specs.declared.fault.Code.TheVariants as code
 use Rattle.eve_views.specs.declared.fault.Fault.{Fault}
+use Rattle.eve_views.specs.Form.{SomePlace, IsFaultIn}
 use Rattle.eve_history.specs.Section.{Placed, settled}
-use Rattle.eve_history.specs.SectionHistory.{ordered, history, names_of, IsRightSection, is_committed, is_discarded}
+use Rattle.eve_history.specs.SectionHistory.{history, names_of, IsRightSection, is_committed, is_discarded}
 use Rattle.eve_history.specs.declared.fate.Fate.{Fate}
 use Rattle.eve_history.specs.declared.fate.Fate.TheVariants.{Committed, Discarded, Open}
 use Rattle.eve_grammar.specs.Frames.{OfAccess, OfAttempt}
-use Rattle.eve_grammar.specs.Spelling.{frame_text}
+use Rattle.eve_grammar.specs.Spelling.{frame_text, accesses_at}
 use Rattle.eve_grammar.proofs.Lists.{filter_kept, filter_dropped}
-use Rattle.eve_chains.specs.Visible.{opening_table, table_along, executed_by}
-use Rattle.eve_chains.specs.Sound.{RecordsFit}
-use Rattle.eve_chains.specs.Along.{entries_along, SeesAnother, SomeSeesAnother, IsWrongAlong, IsWrongSomewhere, AllSee}
-use Rattle.eve_chains.specs.Along.{AllSettledSee}
+use Rattle.eve_chains.specs.Visible.{opening_table, executed_by, visible_to}
+use Rattle.eve_chains.specs.Sound.{RecordsFit, EntriesSee}
+use Rattle.eve_chains.specs.Faults.{AtSettledAccess, StandsInChains}
+use Rattle.eve_chains.specs.Along.{SeesAnother}
 use Rattle.eve_chains.proofs.Distinct.{in_map, in_source, in_split}
-use Rattle.eve_chains.proofs.Faultless.{place_of, in_place, standing, in_located}
-use Rattle.eve_chains.proofs.Walks.{right_one, complete_one}
-use Rattle.eve_chains.proofs.Attempts.{from_ordered}
+use Rattle.eve_chains.proofs.Faultless.{Standing, place_of, in_place, standing, in_located}
+use Rattle.eve_chains.proofs.LeftByRecords.{left_before, right_one, complete_one}
+use Rattle.eve_chains.proofs.Attempts.{in_ordered, from_ordered, located_in}
 use Rattle.eve_chains.specs.Rows.{Fated, told_of, settles, Noted, noted_by, noted_in, all_noted, of_row, met_by}
 use Rattle.eve_chains.specs.Rows.{pair_after, IsWrongOnRow, EachSees}
 use Rattle.eve_chains.proofs.AttemptRecords.{own}
@@ -61,10 +62,20 @@ none_before at view number commits row (d ∷ before) e rest apart its =
     other same = all_in (λ n. ¬ (n ≡ d.row)) apart.0
         (in_map (λ (x : Entry). x.row) (before ++ e ∷ rest) (in_middle e before rest)) (its ∙ sym same)
 
--- the fault at an entry is one at its record
-at_record : (c : Code) (table : Table) (es : List Entry) (e : Entry) → In e es → SeesAnother c (table e.row) e
-    → SomeSeesAnother c table es
-at_record c table es e i other = place_of (λ d. SeesAnother c (table d.row) d) es i other
+-- an entry of a settled attempt's record at this offset sees something else than it must
+abbrev SeesAnotherAt : Trace → ℕ → Code → ℕ → Type 0
+SeesAnotherAt t e c at = AtSettledAccess t e at (λ p x. SomePlace x.entries
+    (λ _ y. SeesAnother c (visible_to t p x.index y.row) y))
+
+chain_stands : (t : Trace) (e : ℕ) (c : Code) (at : ℕ) → SeesAnotherAt t e c at → StandsInChains c t e at
+chain_stands t e code.Version at other = other
+chain_stands t e code.Value at other = other
+chain_stands t e _ at other = absurd other.holds.holds.1.holds
+
+other_seen : (t : Trace) (e : ℕ) (c : Code) (at : ℕ) → StandsInChains c t e at → SeesAnotherAt t e c at
+other_seen t e code.Version at stands = stands
+other_seen t e code.Value at stands = stands
+other_seen t e _ at stands = absurd stands
 
 -- where an attempt stands among those told
 record ToldAt (told : List Fated) (p : Placed) : Type 0 where
@@ -102,9 +113,30 @@ discarded_settles Open e = e
 module _ (t : Trace) (e : ℕ) (limits : HasLimits t) (right : IsRightSection t e)
     (apart : (y : Fated) → In y (told_of t e) → settles y ≡ true → (x : ℕ × Access) → In x (own y.placed)
     → AreDistinct (map (λ d. d.row) x.1.entries)) where
+  -- a record of a settled attempt has a frame
+  record_framed : (y : Fated) → In y (told_of t e) → settles y ≡ true → (x : ℕ × Access) → In x (own y.placed)
+      → In x (accesses_at y.placed.offset y.placed.attempt)
+  record_framed y i done x j =
+      let there_is = settled_there t e limits right y i done in
+      from_ordered t y.placed (right_one t e y.placed right there_is) (complete_one t e y.placed limits there_is) x j
+
+  -- what the row's walk meets at an entry of a record is what the record's entries must see
+  meets_must : (front : List Fated) (y : Fated) (back : List Fated) → told_of t e ≡ front ++ y ∷ back → settles y ≡ true
+      → (xs : List (ℕ × Access)) (x : ℕ × Access) (zs : List (ℕ × Access)) → own y.placed ≡ xs ++ x ∷ zs
+      → (row : ℕ) (n : Noted) → n.view ≡ view_of y
+      → met_by (pair_after (opening_table t row)
+      (of_row row (all_noted front ++ flat_map (noted_by (view_of y) (number_of y) (is_committed y.fate)) xs))) n
+      ≡ visible_to t y.placed x.1.index row
+  meets_must front y back is done xs x zs its row n same =
+      let there_is = settled_there t e limits right y (in_cut (told_of t e) front y back is) done in
+      meets_visible t e limits right front y back is done xs row n same
+      ∙ ap (λ (table : Table). table row)
+      (left_before t y.placed (right_one t e y.placed right there_is) (complete_one t e y.placed limits there_is) xs x zs
+      its)
+
   -- a fault on a row stands at some record
   pub row_fault_stands : (row : ℕ) (f : Fault)
-      → IsWrongOnRow e (opening_table t row) (of_row row (all_noted (told_of t e))) f → IsWrongSomewhere t e f
+      → IsWrongOnRow e (opening_table t row) (of_row row (all_noted (told_of t e))) f → IsFaultIn StandsInChains t e f
   row_fault_stands row f wrong =
       let place = wrong.stands in
       let n = place.item in
@@ -135,31 +167,29 @@ module _ (t : Trace) (e : ℕ) (limits : HasLimits t) (right : IsRightSection t 
       d.front
       ∙ ap (λ (ks : List Noted). of_row row (all_noted c.front ++ mine) ++ ks) none
       ∙ append-nil (of_row row (all_noted c.front ++ mine)) in
-      let table = table_after (table_along t b.item.placed.path) (entries_along d.earlier) in
+      let table : Table = visible_to t b.item.placed d.item.1.index in
       let met : met_by (pair_after (opening_table t row) place.before) n ≡ table n.entry.row =
       ap (λ (ks : List Noted). met_by (pair_after (opening_table t row) ks) n) before
-      ∙ meets_visible t e limits right c.front b.item c.back c.is c.passes d.earlier row n
+      ∙ meets_must c.front b.item c.back c.is c.passes d.earlier d.item d.later d.is row n
       (ap (λ (k : Noted). k.view) m.it) ∙ ap table (sym its) in
       let other : SeesAnother f.code (table n.entry.row) n.entry =
       subst (λ (v : Versioned). SeesAnother f.code v n.entry) met place.holds.1 in
       let member : In n.entry d.item.1.entries = subst (λ (k : Entry). In k d.item.1.entries) (sym same)
       (in_cut d.item.1.entries m.earlier m.item m.later m.is) in
-      place_of (λ p. IsWrongAlong e (table_along t p.path) (ordered p.offset p.attempt) f) (settled (history t e))
-      (settled_there t e limits right b.item there_is c.passes)
-      (record {
-        stands = record {
-          before = d.earlier;
-          item = d.item;
-          rest = d.later;
-          is = d.is;
-          holds = (
-            sym (ap (λ (k : Noted). k.offset) m.it)
-                ∙ place.holds.0,
-            at_record f.code table d.item.1.entries n.entry member other,
-          );
-        };
+      record {
+        stands = chain_stands t e f.code f.offset
+            (place_of (λ p. SomePlace (accesses_at p.offset p.attempt) (λ _ x. (x.0 ≡ f.offset) × SomePlace x.1.entries
+            (λ _ z. SeesAnother f.code (visible_to t p x.1.index z.row) z)))
+            (settled (history t e)) (settled_there t e limits right b.item there_is c.passes)
+            (place_of (λ x. (x.0 ≡ f.offset) × SomePlace x.1.entries
+            (λ _ z. SeesAnother f.code (visible_to t b.item.placed x.1.index z.row) z))
+            (accesses_at b.item.placed.offset b.item.placed.attempt)
+            (record_framed b.item there_is c.passes d.item record_there) (
+              sym (ap (λ (k : Noted). k.offset) m.it) ∙ place.holds.0,
+              place_of (λ z. SeesAnother f.code (table z.row) z) d.item.1.entries member other,
+            )));
         inside = wrong.inside;
-      })
+      }
 
   its_place : (p : Placed) → In p (settled (history t e)) → ToldAt (told_of t e) p
   its_place p i =
@@ -245,8 +275,11 @@ module _ (t : Trace) (e : ℕ) (limits : HasLimits t) (right : IsRightSection t 
             (apart y there_is done x record_there)) refl)
             ∙ append-nil (of_row en.row (all_noted front ++ mine))
 
-    found_there : (f : Fault) → x.0 ≡ f.offset
-        → SeesAnother f.code (table_after (table_along t y.placed.path) (entries_along xs) en.row) en
+    met : met_by (pair_after (opening_table t en.row) (of_row en.row (all_noted front ++ mine))) note
+        ≡ visible_to t y.placed x.1.index en.row
+    met = meets_must front y back is done xs x zs its en.row note refl
+
+    found_there : (f : Fault) → x.0 ≡ f.offset → SeesAnother f.code (visible_to t y.placed x.1.index en.row) en
         → f.replica ≡ Some e
         → IsWrongOnRow e (opening_table t en.row) (of_row en.row (all_noted (told_of t e))) f
     found_there f at other inside = record {
@@ -255,68 +288,57 @@ module _ (t : Trace) (e : ℕ) (limits : HasLimits t) (right : IsRightSection t 
         item = note;
         rest = of_row en.row others;
         is = row_is;
-        holds = (
-          at,
-          subst (λ (w : Versioned). SeesAnother f.code w en)
-              (sym (meets_visible t e limits right front y back is done xs en.row note refl)) other,
-        );
+        holds = (at, subst (λ (w : Versioned). SeesAnother f.code w en) (sym met) other);
       };
       inside = inside;
     }
 
     sees_there : EachSees (opening_table t en.row) (of_row en.row (all_noted (told_of t e)))
-        → Sees (table_after (table_along t y.placed.path) (entries_along xs)) en
+        → Sees (visible_to t y.placed x.1.index) en
     sees_there each =
         let own_seen = each (of_row en.row (all_noted front ++ mine)) note (of_row en.row others) row_is in
-        let met = meets_visible t e limits right front y back is done xs en.row note refl in
         record {
           version = own_seen.0 ∙ ap (λ (w : Versioned). w.version) met;
-          value = own_seen.1
-              ∙ ap (λ (w : Versioned). w.value) met;
+          value = own_seen.1 ∙ ap (λ (w : Versioned). w.value) met;
         }
 
-  -- a fault at some record stands on a row
-  pub fault_on_row : (f : Fault) → IsWrongSomewhere t e f → (row : ℕ)
+  -- where a framed record of a settled attempt stands among its own
+  stands_own : (p : Placed) → In p (settled (history t e)) → (x : ℕ × Access) → In x (accesses_at p.offset p.attempt)
+      → Standing (own p) x
+  stands_own p i x j = standing (own p) (in_ordered t p (right_one t e p right i) x j)
+
+  -- a fault of chains stands on a row
+  pub fault_on_row : (f : Fault) → IsFaultIn StandsInChains t e f → (row : ℕ)
       × IsWrongOnRow e (opening_table t row) (of_row row (all_noted (told_of t e))) f
-  fault_on_row f wrong =
-      let p = its_place wrong.item (in_place (settled (history t e)) wrong) in
-      let own_wrong = subst (λ q. IsWrongAlong e (table_along t q.path) (ordered q.offset q.attempt) f)
-      (sym p.same) wrong.holds in
-      let place = own_wrong.stands in
-      let at = place.holds.1 in (
+  fault_on_row f fault =
+      let wrong = other_seen t e f.code f.offset fault.stands in
+      let i = in_place (settled (history t e)) wrong in
+      let p = its_place wrong.item i in
+      let x = wrong.holds.item in
+      let o = subst (λ q. Standing (own q) x) (sym p.same)
+      (stands_own wrong.item i x (in_place (accesses_at wrong.item.offset wrong.item.attempt) wrong.holds)) in
+      let at = wrong.holds.holds.1 in (
         at.item.row,
-        found_there p.front p.item p.back p.is p.passes place.before place.item place.rest place.is at.before at.item
-            at.rest at.is f place.holds.0 at.holds own_wrong.inside,
+        found_there p.front p.item p.back p.is p.passes o.before x o.rest o.is at.before at.item at.rest at.is f
+            wrong.holds.holds.0
+            (subst (λ q. SeesAnother f.code (visible_to t q x.1.index at.item.row) at.item) (sym p.same) at.holds)
+            fault.inside,
       )
 
-  -- where each row's entries see what its walk meets, each record sees what it must
-  pub all_rows_see : ((row : ℕ) → EachSees (opening_table t row) (of_row row (all_noted (told_of t e))))
-      → AllSettledSee t e
+  -- where each row's entries see what its walk meets, each entry sees what it must
+  pub all_rows_see : ((row : ℕ) → EachSees (opening_table t row) (of_row row (all_noted (told_of t e)))) → EntriesSee t e
   all_rows_see each =
-      all_from_in (λ p. AllSee (table_along t p.path) (ordered p.offset p.attempt)) (settled (history t e)) (λ p i.
+      all_from_in (λ p. AllByRecursion (λ x. AllByRecursion (Sees (visible_to t p x.index)) x.entries)
+      p.attempt.accesses) (settled (history t e)) (λ p i.
+      all_from_in (λ x. AllByRecursion (Sees (visible_to t p x.index)) x.entries) p.attempt.accesses (λ x j.
+      all_from_in (Sees (visible_to t p x.index)) x.entries (λ en k.
       let q = its_place p i in
-      subst (λ r. AllSee (table_along t r.path) (ordered r.offset r.attempt)) q.same
-      (along q.front q.item q.back q.is q.passes [] (own q.item.placed) refl))
-    where
-      along : (front : List Fated) (y : Fated) (back : List Fated) → told_of t e ≡ front ++ y ∷ back → settles y ≡ true
-          → (xs zs : List (ℕ × Access)) → own y.placed ≡ xs ++ zs
-          → AllSee (table_after (table_along t y.placed.path) (entries_along xs)) zs
-      along front y back is done xs [] its = tt
-      along front y back is done xs (x ∷ zs) its = (
-        all_from_in (Sees (table_after (table_along t y.placed.path) (entries_along xs))) x.1.entries (λ en i.
-            let s = standing x.1.entries i in
-            sees_there front y back is done xs x zs its s.before en s.rest s.is (each en.row)),
-        subst (λ (table : Table). AllSee table zs) one_more
-            (along front y back is done (xs ++ x ∷ []) zs (its ∙ sym (append_assoc xs (x ∷ []) zs))),
-      )
-        where
-          one_more : table_after (table_along t y.placed.path) (entries_along (xs ++ x ∷ []))
-              ≡ table_after (table_after (table_along t y.placed.path) (entries_along xs)) x.1.entries
-          one_more =
-              ap (table_after (table_along t y.placed.path))
-              (flat_map-append (λ (z : ℕ × Access). z.1.entries) xs (x ∷ [])
-              ∙ ap (λ es. entries_along xs ++ es) (append-nil x.1.entries))
-              ∙ table_after-append (table_along t y.placed.path) (entries_along xs) x.1.entries
+      let framed = located_in (p.offset + length (frame_text (OfAttempt p.attempt))) p.attempt.accesses j in
+      let o = subst (λ r. Standing (own r) (framed.0, x)) (sym q.same) (stands_own p i (framed.0, x) framed.1) in
+      let s = standing x.entries k in
+      subst (λ r. Sees (visible_to t r x.index) en) q.same
+      (sees_there q.front q.item q.back q.is q.passes o.before (framed.0, x) o.rest o.is s.before en s.rest s.is
+      (each en.row)))))
 
 -- ---- one row each
 

@@ -10,19 +10,19 @@ use Rattle.std.proofs.lemmas.Option.{same_Some}
 use Rattle.eve_smallbank.specs.declared.request.Reply.{Reply}
 use Rattle.eve_smallbank.specs.SmallBank.{Bank, Request, run, does}
 use Rattle.eve_smallbank.specs.Access.{Executed, bank_of}
-use Rattle.eve_smallbank.specs.Chain.{Table, before_rest, values_of}
+use Rattle.eve_smallbank.specs.Chain.{Table, before_rest, table_after_all, values_of}
 use Rattle.eve_smallbank.specs.SerialOrder.{bank_at, IsSound, IsSerial}
 use Rattle.eve_smallbank.proofs.Members.{all_in}
+use Rattle.eve_smallbank.proofs.Chains.{visible_at-before_rest}
 use Rattle.eve_smallbank.proofs.SerialOrders.{serial}
 use Rattle.eve_grammar.specs.Trace.{Trace}
 use Rattle.eve_grammar.specs.Certificate.{is_permutation, keeps_groups}
 use Rattle.eve_history.specs.Section.{Placed, batch_at, request_count}
 use Rattle.eve_history.specs.SectionHistory.{history, committed_at, IsRightSection, names_of}
-use Rattle.eve_chains.specs.Visible.{opening_table, executed_at, executed_in, execution, executions, rows_after}
-use Rattle.eve_chains.specs.Visible.{entries_before}
+use Rattle.eve_chains.specs.Visible.{executed_at, executed_in, execution, executions, rows_after}
 use Rattle.eve_chains.specs.Committed.{attempts_of, committed_to, bank_after, opening_bank, Leads, IsSerialBetween}
 use Rattle.eve_chains.specs.Sound.{IsSoundAlong, SettledAreSound}
-use Rattle.eve_chains.proofs.Nearest.{rows_visible, before_rest-append}
+use Rattle.eve_chains.proofs.LeftByRecords.{rows_after-push}
 use Rattle.eve_chains.proofs.Permutations.{reordering_of_permutations}
 use Rattle.eve_chains.proofs.Linked.{linked_history, none≢some, linked_at, in_at}
 
@@ -46,12 +46,6 @@ all-front P (x ∷ xs) ys all = (all.0, all-front P xs ys all.1)
 
 -- ---- banks
 
--- the bank after n batches is what is visible along the path of the next
-bank_along : (t : Trace) (e n : ℕ) → bank_after t e n ≡ bank_at (names_of t) (opening_table t)
-    (entries_before t (committed_to t e n))
-unfolding bank_after
-bank_along t e n = ap (λ (table : Table). bank_of (names_of t) (values_of table)) (rows_visible t (committed_to t e n))
-
 -- the requests of one more committed attempt
 pub one_more : (t : Trace) (ps : List Placed) (n : ℕ) (p : Placed) → slice_get ps n ≡ Some p
     → executions t (attempts_of (take (suc n) ps)) ≡ executions t (attempts_of (take n ps)) ++ execution t p.attempt
@@ -61,45 +55,51 @@ one_more t ps n p e =
     ∙ flat_map-append (execution t) (attempts_of (take n ps)) (p.attempt ∷ [])
     ∙ ap (λ (xs : List Executed). executions t (attempts_of (take n ps)) ++ xs) (append-nil (execution t p.attempt))
 
-next_entries : (t : Trace) (ps : List Placed) (n : ℕ) (p : Placed) → slice_get ps n ≡ Some p
-    → entries_before t (attempts_of (take (suc n) ps)) ≡ before_rest (entries_before t (attempts_of (take n ps)))
-    (execution t p.attempt)
-next_entries t ps n p e =
-    ap (before_rest []) (one_more t ps n p e)
-    ∙ before_rest-append [] (executions t (attempts_of (take n ps))) (execution t p.attempt)
+-- and what the rows have after it
+pub rows_next : (t : Trace) (ps : List Placed) (n : ℕ) (p : Placed) → slice_get ps n ≡ Some p
+    → rows_after t (attempts_of (take (suc n) ps))
+    ≡ table_after_all (rows_after t (attempts_of (take n ps))) (execution t p.attempt)
+rows_next t ps n p e =
+    ap (rows_after t) (ap attempts_of (take_one_more ps n p e)
+    ∙ map-append (λ (q : Placed). q.attempt) (take n ps) (p ∷ []))
+    ∙ rows_after-push t (attempts_of (take n ps)) p.attempt
 
 -- ---- the law
 
 module _ (t : Trace) (e : ℕ) (right : IsRightSection t e) (sound : SettledAreSound t e) (n : ℕ) where
   committed_serial : (p : Placed) → slice_get (history t e).committed n ≡ Some p
-      → IsSerial (names_of t) (opening_table t) (entries_before t (committed_to t e n)) (execution t p.attempt)
+      → IsSerial (names_of t) (rows_after t (committed_to t e n)) [] (execution t p.attempt)
   committed_serial p at =
       let own = all_in (IsSoundAlong t)
       (all-front (IsSoundAlong t) (history t e).committed (history t e).discarded sound)
       (in_at (history t e).committed n p at) in
       let along = (linked_at t [] (history t e).committed n p (linked_history t e right) at).path in
-      serial (names_of t) (opening_table t) (entries_before t (committed_to t e n)) (execution t p.attempt)
-      (subst (λ path. IsSound (names_of t) (opening_table t) (entries_before t path) (execution t p.attempt)) along own)
+      serial (names_of t) (rows_after t (committed_to t e n)) [] (execution t p.attempt)
+      (subst (λ path. IsSound (names_of t) (rows_after t path) [] (execution t p.attempt)) along own)
 
   bank_next : (p : Placed) → slice_get (history t e).committed n ≡ Some p
-      → bank_at (names_of t) (opening_table t)
-      (before_rest (entries_before t (committed_to t e n)) (execution t p.attempt)) ≡ bank_after t e (suc n)
-  bank_next p at = sym (bank_along t e (suc n)
-      ∙ ap (bank_at (names_of t) (opening_table t)) (next_entries t (history t e).committed n p at))
+      → bank_at (names_of t) (rows_after t (committed_to t e n)) (before_rest [] (execution t p.attempt))
+      ≡ bank_after t e (suc n)
+  unfolding bank_after
+  bank_next p at = ap (λ (table : Table). bank_of (names_of t) (values_of table))
+      (visible_at-before_rest (rows_after t (committed_to t e n)) [] (execution t p.attempt)
+      ∙ sym (rows_next t (history t e).committed n p at))
 
-  -- a run between what is visible is one between the banks
+  bank_now : bank_after t e n ≡ bank_at (names_of t) (rows_after t (committed_to t e n)) []
+  unfolding bank_after
+  bank_now = refl
+
+  -- a run from the rows after the path is one between the banks
   run_between : (p : Placed) → slice_get (history t e).committed n ≡ Some p
       → (requests : List Request) (replies : List Reply)
-      → run (bank_at (names_of t) (opening_table t) (entries_before t (committed_to t e n))) requests
+      → run (bank_at (names_of t) (rows_after t (committed_to t e n)) []) requests
       ≡ (
-        bank_at (names_of t) (opening_table t)
-            (before_rest (entries_before t (committed_to t e n)) (execution t p.attempt)),
+        bank_at (names_of t) (rows_after t (committed_to t e n)) (before_rest [] (execution t p.attempt)),
         replies,
       )
       → run (bank_after t e n) requests ≡ (bank_after t e (suc n), replies)
   run_between p at requests replies runs =
-      ap (λ (bank : Bank). run bank requests) (bank_along t e n) ∙ runs
-      ∙ ap (λ (bank : Bank). (bank, replies)) (bank_next p at)
+      ap (λ (bank : Bank). run bank requests) bank_now ∙ runs ∙ ap (λ (bank : Bank). (bank, replies)) (bank_next p at)
 
   serial_next : (p : Placed) → slice_get (history t e).committed n ≡ Some p
       → IsSerialBetween (bank_after t e n) (bank_after t e (suc n)) (execution t p.attempt)

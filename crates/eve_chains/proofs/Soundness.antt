@@ -5,11 +5,10 @@ use Rattle.std.proofs.lemmas.Bool.{cases_Bool, and_parts, eqb-true, eq-eqb, ne_e
 use Rattle.std.proofs.lemmas.Bool.{not-true, false≢true}
 use Rattle.std.proofs.lemmas.List.{length-map}
 use Rattle.std.specs.List.{AllByRecursion, list_any}
-use Rattle.eve_smallbank.specs.declared.entry.Entry.{Entry}
 use Rattle.eve_smallbank.specs.Access.{Executed, Fits}
-use Rattle.eve_smallbank.specs.Chain.{Table, Sees, visible_at, before_next, before_rest, IsChained}
+use Rattle.eve_smallbank.specs.Chain.{Table, Sees, table_after, table_after_all}
 use Rattle.eve_smallbank.proofs.Members.{In, here, there, all_in, all_from_in, none_of_list_any, in_front, in_middle}
-use Rattle.eve_smallbank.proofs.Chains.{chained_by_rows, rows_by_chain}
+use Rattle.eve_smallbank.proofs.Chains.{Follows, follows_chain, chain_follows, chained_by_rows, rows_by_chain}
 use Rattle.eve_grammar.specs.Trace.{Access, Attempt, Trace}
 use Rattle.eve_grammar.specs.Limits.{HasLimits}
 use Rattle.eve_grammar.specs.Certificate.{is_permutation, keeps_groups}
@@ -17,13 +16,12 @@ use Rattle.eve_grammar.specs.Accesses.{is_right_place}
 use Rattle.eve_history.specs.Section.{Placed, settled, batch_at, request_count, is_right_certificate, is_right_access}
 use Rattle.eve_history.specs.Section.{are_right_accesses}
 use Rattle.eve_history.specs.SectionHistory.{history, IsRightSection, names_of}
-use Rattle.eve_chains.specs.Visible.{opening_table, entries_with, executed_with, executed_at, executed_by, execution}
-use Rattle.eve_chains.specs.Visible.{entries_before, before_index, visible_to}
+use Rattle.eve_chains.specs.Visible.{entries_with, executed_with, executed_at, executed_by, execution}
+use Rattle.eve_chains.specs.Visible.{rows_after, before_index, visible_to}
 use Rattle.eve_chains.specs.Sound.{RecordsFit, EntriesSee, IsSoundAlong, SettledAreSound}
 use Rattle.eve_chains.proofs.Distinct.{Distinct, Source, in_map, in_source, distinct_permutation, below_permutation}
 use Rattle.eve_chains.proofs.Distinct.{in_permutation, all_of_them}
 use Rattle.eve_chains.proofs.SettledAttempts.{IsRightAlone, IsComplete, settled_right, settled_complete}
-use Rattle.eve_chains.proofs.Nearest.{seen_visible}
 
 abbrev pub indexes_of : List Access → List ℕ
 indexes_of xs = map (λ x. x.index) xs
@@ -95,46 +93,40 @@ in_rest i j order other here = absurd (false≢true (sym other ∙ eq-eqb i i re
 in_rest i j order other (there k) = k
 
 -- what the request with this index sees, where f is executed in this order
-abbrev SeesAt : Table → (ℕ → Executed) → List Entry → List ℕ → ℕ → Type 0
-SeesAt base f before order i =
-    AllByRecursion (Sees (visible_at base (before_rest before (map f (before_index i order))))) (f i).entries
+abbrev SeesAt : Table → (ℕ → Executed) → List ℕ → ℕ → Type 0
+SeesAt table f order i = AllByRecursion (Sees (table_after_all table (map f (before_index i order)))) (f i).entries
 
 -- at the first place
-sees_first : (base : Table) (f : ℕ → Executed) (before : List Entry) (order : List ℕ) (i : ℕ)
-    → before_index i (i ∷ order) ≡ []
-sees_first base f before order i = cond-true (i == i) [] (i ∷ before_index i order) (eq-eqb i i refl)
+sees_first : (order : List ℕ) (i : ℕ) → before_index i (i ∷ order) ≡ []
+sees_first order i = cond-true (i == i) [] (i ∷ before_index i order) (eq-eqb i i refl)
 
 -- and at a later one
 sees_later : (order : List ℕ) (i j : ℕ) → (j == i) ≡ false → before_index i (j ∷ order) ≡ j ∷ before_index i order
 sees_later order i j other = cond-false (j == i) [] (j ∷ before_index i order) other
 
 -- along a chain, the entries of an index see what the indexes before it leave
-chain_at : (base : Table) (f : ℕ → Executed) (before : List Entry) (order : List ℕ) (i : ℕ)
-    → IsChained base before (map f order) → In i order → SeesAt base f before order i
-chain_at base f before [] i chained member = elim member [ ]
-chain_at base f before (j ∷ order) i chained member =
+chain_at : (table : Table) (f : ℕ → Executed) (order : List ℕ) (i : ℕ) → Follows table (map f order) → In i order
+    → SeesAt table f order i
+chain_at table f [] i follows member = elim member [ ]
+chain_at table f (j ∷ order) i follows member =
     elim (cases_Bool (j == i)) [
-      | inl same ↦ subst (SeesAt base f before (j ∷ order)) (eqb-true j i same)
-          (subst (λ (front : List ℕ). AllByRecursion (Sees (visible_at base (before_rest before (map f front))))
-          (f j).entries)
-          (sym (sees_first base f before order j)) chained.0)
-      | inr other ↦ subst (λ (front : List ℕ). AllByRecursion
-          (Sees (visible_at base (before_rest before (map f front)))) (f i).entries)
+      | inl same ↦ subst (SeesAt table f (j ∷ order)) (eqb-true j i same)
+          (subst (λ (front : List ℕ). AllByRecursion (Sees (table_after_all table (map f front))) (f j).entries)
+          (sym (sees_first order j)) follows.0)
+      | inr other ↦ subst (λ (front : List ℕ). AllByRecursion (Sees (table_after_all table (map f front))) (f i).entries)
           (sym (sees_later order i j other))
-          (chain_at base f (before_next before (f j).entries) order i chained.1 (in_rest i j order other member))
+          (chain_at (table_after table (f j).entries) f order i follows.1 (in_rest i j order other member))
     ]
 
 -- and that makes a chain
-chain_from : (base : Table) (f : ℕ → Executed) (before : List Entry) (order : List ℕ) → Distinct order
-    → ((i : ℕ) → In i order → SeesAt base f before order i)
-    → IsChained base before (map f order)
-chain_from base f before [] d sees = tt
-chain_from base f before (j ∷ order) d sees = (
-  subst (λ (front : List ℕ). AllByRecursion (Sees (visible_at base (before_rest before (map f front)))) (f j).entries)
-      (sees_first base f before order j) (sees j here),
-  chain_from base f (before_next before (f j).entries) order d.1 (λ i k.
-      subst (λ (front : List ℕ). AllByRecursion (Sees (visible_at base (before_rest before (map f front))))
-      (f i).entries)
+chain_from : (table : Table) (f : ℕ → Executed) (order : List ℕ) → Distinct order
+    → ((i : ℕ) → In i order → SeesAt table f order i) → Follows table (map f order)
+chain_from table f [] d sees = tt
+chain_from table f (j ∷ order) d sees = (
+  subst (λ (front : List ℕ). AllByRecursion (Sees (table_after_all table (map f front))) (f j).entries)
+      (sees_first order j) (sees j here),
+  chain_from (table_after table (f j).entries) f order d.1 (λ i k.
+      subst (λ (front : List ℕ). AllByRecursion (Sees (table_after_all table (map f front))) (f i).entries)
       (sees_later order i j (ne_eqb j i (λ e. d.0 (subst (λ n. In n order) (sym e) k)))) (sees i (there k))),
 )
 
@@ -177,11 +169,10 @@ module _ (t : Trace) (p : Placed) (right : IsRightAlone t p.attempt) where
   sees_alone sound =
       all_from_in (λ x. AllByRecursion (Sees (visible_to t p x.index)) x.entries) p.attempt.accesses (λ x i.
       subst (λ (y : Executed). AllByRecursion (Sees (visible_to t p x.index)) y.entries) (as_executed x i)
-      (subst (λ (table : Table). AllByRecursion (Sees table) (executed_at t p.attempt x.index).entries)
-      (sym (seen_visible t p x.index))
-      (chain_at (opening_table t) (executed_at t p.attempt) (entries_before t p.path) p.attempt.certificate x.index
-      (chained_by_rows (opening_table t) (entries_before t p.path) (execution t p.attempt) sound.chained)
-      (its_place x i))))
+      (chain_at (rows_after t p.path) (executed_at t p.attempt) p.attempt.certificate x.index
+      (follows_chain (rows_after t p.path) [] (execution t p.attempt)
+      (chained_by_rows (rows_after t p.path) [] (execution t p.attempt) sound.chained))
+      (its_place x i)))
 
   -- what holds of the record of each index, as it was executed
   by_record : IsComplete p.attempt → (P : ℕ → Executed → Type 0)
@@ -193,27 +184,21 @@ module _ (t : Trace) (p : Placed) (right : IsRightAlone t p.attempt) where
       (subst (P s.item.index) (sym (as_executed s.item s.there_is))
       (all_in (λ x. P x.index (executed_by t p.attempt x)) all s.there_is))
 
-  pub sound_chain : IsComplete p.attempt
-      → AllByRecursion (λ x. Fits (names_of t) (executed_by t p.attempt x)) p.attempt.accesses
-      → IsChained (opening_table t) (entries_before t p.path) (execution t p.attempt) → IsSoundAlong t p
-  sound_chain complete fits chained = record {
-    fits = all_from_in (Fits (names_of t)) (execution t p.attempt) (λ y i.
-        let s = in_source (executed_at t p.attempt) p.attempt.certificate i in
-        subst (Fits (names_of t)) (sym s.is) (by_record complete (λ _ x. Fits (names_of t) x) fits s.item s.there_is));
-    chained = rows_by_chain (opening_table t) (entries_before t p.path) (execution t p.attempt) chained;
-  }
-
   pub sound_alone : IsComplete p.attempt
       → AllByRecursion (λ x. Fits (names_of t) (executed_by t p.attempt x)) p.attempt.accesses
       → AllByRecursion (λ x. AllByRecursion (Sees (visible_to t p x.index)) x.entries) p.attempt.accesses
       → IsSoundAlong t p
-  sound_alone complete fits sees =
-      sound_chain complete fits
-      (chain_from (opening_table t) (executed_at t p.attempt) (entries_before t p.path) p.attempt.certificate
-      (distinct_permutation (request_count t p.attempt) p.attempt.certificate (permutes t p.attempt right.certificate))
-      (λ i member. subst (λ (table : Table). AllByRecursion (Sees table) (executed_at t p.attempt i).entries)
-      (seen_visible t p i)
-      (by_record complete (λ j x. AllByRecursion (Sees (visible_to t p j)) x.entries) sees i member)))
+  sound_alone complete fits sees = record {
+    fits = all_from_in (Fits (names_of t)) (execution t p.attempt) (λ y i.
+        let s = in_source (executed_at t p.attempt) p.attempt.certificate i in
+        subst (Fits (names_of t)) (sym s.is) (by_record complete (λ _ x. Fits (names_of t) x) fits s.item s.there_is));
+    chained = rows_by_chain (rows_after t p.path) [] (execution t p.attempt)
+        (chain_follows (rows_after t p.path) [] (execution t p.attempt)
+        (chain_from (rows_after t p.path) (executed_at t p.attempt) p.attempt.certificate
+        (distinct_permutation (request_count t p.attempt) p.attempt.certificate
+        (permutes t p.attempt right.certificate))
+        (by_record complete (λ j x. AllByRecursion (Sees (visible_to t p j)) x.entries) sees)));
+  }
 
 -- ---- all settled attempts
 

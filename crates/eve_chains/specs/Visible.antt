@@ -1,10 +1,10 @@
 -- What an attempt executed, and what its entries must see. docs/MODEL.md, "What an entry must see".
-use Rattle.std.specs.Prelude.{ℕ, ℤ, pos, ◌==◌, if◌then◌else◌, List, [], ◌∷◌, map, slice_index_or}
+use Rattle.std.specs.Prelude.{ℕ, ℤ, pos, ◌==◌, if◌then◌else◌, List, [], ◌∷◌, map, fold, slice_index_or}
 use Rattle.std.specs.List.{flat_map}
 use Rattle.eve_smallbank.specs.declared.request.Reply.TheVariants.{Done}
 use Rattle.eve_smallbank.specs.declared.entry.Entry.{Entry}
 use Rattle.eve_smallbank.specs.Access.{Executed}
-use Rattle.eve_smallbank.specs.Chain.{Table, visible_at, before_rest, table_after_all}
+use Rattle.eve_smallbank.specs.Chain.{Table, before_rest, table_after_all}
 use Rattle.eve_grammar.specs.Trace.{Access, Attempt, Trace}
 use Rattle.eve_history.specs.Section.{Placed}
 use Rattle.eve_history.specs.SectionHistory.{asked_in}
@@ -53,9 +53,13 @@ executions t attempts = flat_map (execution t) attempts
 
 -- ---- what an entry must see
 
--- what the rows have after the attempts on a path
+-- a table after what an attempt executed
+abbrev pub with_attempt : Trace → Table → Attempt → Table
+with_attempt t table a = table_after_all table (execution t a)
+
+-- what the rows have after a path: the opening balances, and what came since
 abbrev pub rows_after : Trace → List Attempt → Table
-rows_after t path = table_after_all (opening_table t) (executions t path)
+rows_after t path = fold (with_attempt t) (opening_table t) path
 
 -- the indexes that stand before this one
 abbrev pub before_index : ℕ → List ℕ → List ℕ
@@ -70,10 +74,6 @@ visible_to t p index = table_after_all (rows_after t p.path)
 
 -- ---- the same by the nearest write
 
--- the entries along a path, the nearest first
+-- The entries along a path of attempts, the nearest first: the law on nearest writes is said of them, and nothing else.
 abbrev pub entries_before : Trace → List Attempt → List Entry
 entries_before t path = before_rest [] (executions t path)
-
--- what is visible after the attempts on the path
-abbrev pub table_along : Trace → List Attempt → Table
-table_along t path = visible_at (opening_table t) (entries_before t path)

@@ -1,4 +1,4 @@
-//! Laws about the definitions. The bodies call lower laws at most: the contract is the law.
+//! Laws about the definitions. Each body is empty: the contract is the law.
 
 ghost use Rattle.std.specs.Prelude.{ℕ, ◌≡◌, ◌-◌, suc, List, IsTrue, length, Some, AllPairs, ◌≢◌};
 ghost use Rattle.eve_grammar.specs.Trace.{Trace, Attempt};
@@ -7,7 +7,7 @@ ghost use Rattle.eve_views.specs.declared.fault.Fault.{Fault};
 ghost use Rattle.eve_views.specs.Form.{IsFaultIn};
 ghost use Rattle.eve_history.specs.SectionHistory.{IsRightSection, ordered, committed_at, names_of};
 ghost use Rattle.eve_chains.specs.Visible.{opening_table, executed_by, executed_in, execution, executions, rows_after};
-ghost use Rattle.eve_chains.specs.Visible.{before_index, visible_to, entries_before, table_along};
+ghost use Rattle.eve_chains.specs.Visible.{before_index, visible_to, entries_before};
 ghost use Rattle.eve_chains.specs.Sound.{SettledAreSound, RecordsFit, OfSettledAccesses, EntriesSee};
 ghost use Rattle.eve_chains.specs.Faults.{HasNoFault, StandsInChains};
 ghost use Rattle.eve_chains.specs.Rows.{told_of, all_noted, of_row, IsWrongOnRow, EachSees};
@@ -21,7 +21,7 @@ ghost use Rattle.eve_views.specs.declared.fault.Code.TheVariants as code;
 ghost use Rattle.eve_history.specs.Order.{StandsInOrders};
 ghost use Rattle.eve_chains.specs.Committed.{committed_to, values_to, opening_bank, bank_after, Leads, IsSerialBetween};
 ghost use Rattle.eve_chains.specs.Committed.{committed_request_ids, batch_request_ids};
-ghost use Rattle.eve_chains.specs.Along.{entries_along, IsWrongSomewhere, AllSettledSee};
+ghost use Rattle.eve_chains.specs.Along.{entries_along};
 ghost use Rattle.eve_chains.specs.Settling.{settling, values_in};
 
 /// Rows can be judged each by itself: in a right section whose settled records fit, the faults of chains are exactly
@@ -38,9 +38,7 @@ pub fn rows_are_judged_by_themselves()
         → (row : ℕ) × IsWrongOnRow e (opening_table t row) (of_row row (all_noted (told_of t e))) f }
     ensures sound { (t : Trace) (e : ℕ) → HasLimits t → IsRightSection t e → RecordsFit t e
         → ((row : ℕ) → EachSees (opening_table t row) (of_row row (all_noted (told_of t e)))) → SettledAreSound t e }
-{
-    chains_are_judged_along_the_records();
-}
+{}
 
 /// A replica whose section is right, and whose settled attempts fit and are chained row by row, committed
 /// what SmallBank on one thread gives: batch after batch, and from the opening balances on.
@@ -100,29 +98,19 @@ pub fn sound_sections_have_no_fault()
     ensures { (t : Trace) (e : ℕ) → IsRightSection t e → SettledAreSound t e → HasNoFault t e }
 {}
 
-/// What is found along the records of the settled attempts, each in its certificate's order and from what its path
-/// left, is exactly the faults of chains; where nothing is found, and the records fit, the attempts are sound.
-pub fn chains_are_judged_along_the_records()
-    ensures stands { (t : Trace) (e : ℕ) (f : Fault) → HasLimits t → IsRightSection t e → IsWrongSomewhere t e f
-        → IsFaultIn StandsInChains t e f }
-    ensures found { (t : Trace) (e : ℕ) (f : Fault) → HasLimits t → IsRightSection t e → IsFaultIn StandsInChains t e f
-        → IsWrongSomewhere t e f }
-    ensures sound { (t : Trace) (e : ℕ) → HasLimits t → IsRightSection t e → RecordsFit t e → AllSettledSee t e
-        → SettledAreSound t e }
-{}
-
 /// The balances after a committed batch are those before it with what its records wrote, in their order.
 pub fn balances_advance_along_the_records()
     ensures { (t : Trace) (e n : ℕ) (p : Placed) → HasLimits t → IsRightSection t e → committed_at t e (suc n) ≡ Some p
         → values_to t e (suc n) ≡ values_after (values_to t e n) (entries_along (ordered p.offset p.attempt)) }
 {}
 
-/// What the rows have after the attempts on a path is what the nearest write of each left, or else the opening balance;
+/// What the rows have after a path of attempts is what the nearest write of each left, or else the opening balance;
 /// and so is what each entry must see.
 ///
 /// docs/MODEL.md, "What an entry must see".
 pub fn rows_have_what_the_nearest_writes_left()
-    ensures rows { (t : Trace) (path : List Attempt) → rows_after t path ≡ table_along t path }
+    ensures rows { (t : Trace) (path : List Attempt) → rows_after t path
+        ≡ visible_at (opening_table t) (entries_before t path) }
     ensures seen { (t : Trace) (p : Placed) (index : ℕ) → visible_to t p index ≡ visible_at (opening_table t)
         (before_rest (entries_before t p.path) (executed_in t p.attempt (before_index index p.attempt.certificate))) }
 {}
