@@ -1,12 +1,11 @@
--- Public: other crates cite these lemmas. The open attempts of a section that a rollback discards: their requests are
--- chained from what is committed.
+-- The open attempts of a section that a rollback discards: their requests are chained from what is committed.
 use Rattle.std.proofs.Common.{◌≡◌, ℕ, List, [], ◌∷◌, ◌++◌, map, refl, sym, subst, ap, ◌∙◌, append_assoc, append-nil}
 use Rattle.std.specs.List.{flat_map}
 use Rattle.std.proofs.lemmas.Grind.{flat_map-append}
 use Rattle.eve_smallbank.specs.Access.{Executed}
 use Rattle.eve_smallbank.specs.Chain.{Table, table_after, table_after_all}
 use Rattle.eve_smallbank.specs.SerialOrder.{IsSound}
-use Rattle.eve_smallbank.proofs.Chains.{Follows, follows_chain, chained_by_rows, visible_at-before_rest}
+use Rattle.eve_smallbank.proofs.Chains.{Follows, follows_chain, chained_by_rows}
 use Rattle.eve_smallbank.proofs.Members.{In, here, there, all_in, in_front}
 use Rattle.eve_grammar.specs.Trace.{Attempt, Rollback, Step, Attempts, Commits, RollsBack, Trace}
 use Rattle.eve_grammar.specs.Spelling.{steps_at, accesses_at}
@@ -15,14 +14,13 @@ use Rattle.eve_history.specs.Section.{Placed, SectionState, start, path_of, comm
 use Rattle.eve_history.specs.SectionHistory.{ExecutedAttempt, executed_attempt, ordered, access_with, history, names_of}
 use Rattle.eve_history.specs.SectionHistory.{placed_at, IsRightSection}
 use Rattle.eve_history.proofs.StructureLaws.{state_after-append}
-use Rattle.eve_chains.specs.Visible.{opening_table, execution, executions, executed_at, entries_before, rows_after}
+use Rattle.eve_chains.specs.Visible.{execution, executions, executed_at, rows_after}
 use Rattle.eve_chains.specs.Committed.{attempts_of}
 use Rattle.eve_chains.specs.Sound.{IsSoundAlong, SettledAreSound}
 use Rattle.eve_chains.specs.Along.{entries_along}
 use Rattle.eve_chains.proofs.Linked.{placed_push, ArePlaced}
-use Rattle.eve_chains.proofs.AlongLaws.{table_after_all-append}
 use Rattle.eve_chains.proofs.Distinct.{in_right}
-use Rattle.eve_chains.proofs.Walks.{record_at, same_entries, right_one, complete_one}
+use Rattle.eve_chains.proofs.LeftByRecords.{rows_after-push, record_at, same_entries, right_one, complete_one}
 use Rattle.eve_agree.specs.Tables.{committed_rows, entries_of, open_entries}
 
 -- ---- paths
@@ -66,25 +64,16 @@ follows-append : (table : Table) (xs ys : List Executed) → Follows table xs �
 follows-append table [] ys first rest = rest
 follows-append table (x ∷ xs) ys first rest = (first.0, follows-append (table_after table x.entries) xs ys first.1 rest)
 
-pub left_more : (t : Trace) (path : List Attempt) (a : Attempt) → rows_after t (path ++ a ∷ [])
-    ≡ table_after_all (rows_after t path) (execution t a)
-left_more t path a =
-    ap (table_after_all (opening_table t)) (flat_map-append (execution t) path (a ∷ [])
-    ∙ ap (λ (xs : List Executed). executions t path ++ xs) (append-nil (execution t a)))
-    ∙ table_after_all-append (opening_table t) (executions t path) (execution t a)
-
 follows_path : (t : Trace) (before : List Attempt) (ps : List Placed) → ArePlaced before ps
     → ((p : Placed) → In p ps → IsSoundAlong t p) → Follows (rows_after t before) (executions t (attempts_of ps))
 follows_path t before [] placed sound = tt
 follows_path t before (p ∷ ps) placed sound =
     follows-append (rows_after t before) (execution t p.attempt) (executions t (attempts_of ps))
-    (subst (λ (table : Table). Follows table (execution t p.attempt))
-    (visible_at-before_rest (opening_table t) [] (executions t before))
-    (follows_chain (opening_table t) (entries_before t before) (execution t p.attempt)
-    (chained_by_rows (opening_table t) (entries_before t before) (execution t p.attempt)
-    (subst (λ (path : List Attempt). IsSound (names_of t) (opening_table t) (entries_before t path)
-    (execution t p.attempt)) placed.0 (sound p here)).chained)))
-    (subst (λ (table : Table). Follows table (executions t (attempts_of ps))) (left_more t before p.attempt)
+    (follows_chain (rows_after t before) [] (execution t p.attempt)
+    (chained_by_rows (rows_after t before) [] (execution t p.attempt)
+    (subst (λ (path : List Attempt). IsSound (names_of t) (rows_after t path) [] (execution t p.attempt)) placed.0
+    (sound p here)).chained))
+    (subst (λ (table : Table). Follows table (executions t (attempts_of ps))) (rows_after-push t before p.attempt)
     (follows_path t (before ++ p.attempt ∷ []) ps placed.1 (λ q i. sound q (there i))))
 
 -- ---- what is discarded

@@ -9,7 +9,6 @@ use Rattle.std.proofs.lemmas.Bool.Decides.{Decides-int_eq}
 use Rattle.std.proofs.lemmas.List.{map-append}
 use Rattle.std.proofs.lemmas.Option.{same_Some, none-some}
 use Rattle.std.proofs.lemmas.List.Folds.{list_any-append}
-use Rattle.std.proofs.lemmas.Grind.{flat_map-append}
 use Rattle.eve_smallbank.specs.Access.{Executed, writes_row}
 use Rattle.eve_smallbank.specs.Chain.{Table, table_after, table_after_all}
 use Rattle.eve_smallbank.proofs.Members.{In, here, there, all_of_list_all}
@@ -19,13 +18,13 @@ use Rattle.eve_grammar.specs.Trace.{Attempt, Commit, Rollback, Step, Attempts, C
 use Rattle.eve_grammar.specs.Spelling.{steps_at}
 use Rattle.eve_grammar.specs.declared.restore.Restore.{Restore}
 use Rattle.eve_history.specs.Section.{Placed, SectionState, start, path_of, committing, next, state_after}
-use Rattle.eve_chains.specs.Visible.{opening_table, execution, executions}
+use Rattle.eve_chains.specs.Visible.{opening_table, execution, executions, rows_after}
 use Rattle.eve_chains.specs.Committed.{attempts_of}
 use Rattle.eve_agree.specs.Marking.{restores_row}
 use Rattle.eve_agree.specs.Tables.{restored, worked, committed_rows, working_table, committed_table, IsRestored}
 use Rattle.eve_agree.specs.Tables.{entries_of, open_entries, is_written_in, are_right_restores, all_restore_rightly}
 use Rattle.eve_agree.specs.Tables.{RestoresAreRight}
-use Rattle.eve_chains.proofs.AlongLaws.{table_after_all-append}
+use Rattle.eve_chains.proofs.LeftByRecords.{rows_after-append}
 use Rattle.eve_agree.proofs.Marking.{is_covered, not_covered}
 
 -- ---- one rollback
@@ -116,15 +115,13 @@ module _ (t : Trace) (s : SectionState) (rs : List Restore) (right : are_right_r
 
 -- what the attempts leave that are not discarded
 abbrev line_rows : Trace → List Placed → Table
-line_rows t ps = table_after_all (opening_table t) (executions t (attempts_of ps))
+line_rows t ps = rows_after t (attempts_of ps)
 
 line_rows-append : (t : Trace) (ps qs : List Placed) → line_rows t (ps ++ qs)
     ≡ table_after_all (line_rows t ps) (executions t (attempts_of qs))
 line_rows-append t ps qs =
-    ap (λ (path : List Attempt). table_after_all (opening_table t) (executions t path))
-    (map-append (λ (p : Placed). p.attempt) ps qs)
-    ∙ ap (table_after_all (opening_table t)) (flat_map-append (execution t) (attempts_of ps) (attempts_of qs))
-    ∙ table_after_all-append (opening_table t) (executions t (attempts_of ps)) (executions t (attempts_of qs))
+    ap (rows_after t) (map-append (λ (p : Placed). p.attempt) ps qs)
+    ∙ rows_after-append t (attempts_of ps) (attempts_of qs)
 
 abbrev along : Trace → SectionState → Table
 along t s = line_rows t (s.committed ++ s.pending)
