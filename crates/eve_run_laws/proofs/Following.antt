@@ -31,7 +31,7 @@ use Rattle.eve_history.proofs.Rights.{none_at}
 use Rattle.eve_chains.specs.Visible.{opening_of, opening_table, execution, rows_after}
 use Rattle.eve_chains.specs.Committed.{attempts_of}
 use Rattle.eve_agree.specs.Tables.{entries_of}
-use Rattle.eve_agree.proofs.Discarding.{left_more}
+use Rattle.eve_chains.proofs.LeftByRecords.{rows_after-push}
 use Rattle.eve_votes.proofs.Places.{located_values}
 use Rattle.eve_attempts.specs.Ledgers.{Opened, Ledger, ledger_rows, opening, rows_at_first, table_of_rows, table_now}
 use Rattle.eve_attempts.specs.Ledgers.{values_before, writes_in}
@@ -192,7 +192,7 @@ module _ (t : Trace) (s : SectionState) (old : Ledger) (alike : AreAlike t s old
         committed = made.committed
             ∙ (λ i. table_after (alike.committed i) (sym own i).written)
             ∙ writes_leave t (rows_after t (attempts_of s.committed)) q.attempt
-            ∙ sym (left_more t (attempts_of s.committed) q.attempt)
+            ∙ sym (rows_after-push t (attempts_of s.committed) q.attempt)
             ∙ ap (rows_after t) (sym (attempts_of-push s.committed q));
       }
 
@@ -278,7 +278,7 @@ module _ (t : Trace) (s : SectionState) (old : Ledger) (alike : AreAlike t s old
               ∙ (λ i. table_after_all (alike.now i)
               (sym (executes t (front_of old old.view old.is_next_serial) old new made.batch _ made.records a
               batch_found made.closed) i))
-              ∙ sym (left_more t (path_of s) a)
+              ∙ sym (rows_after-push t (path_of s) a)
               ∙ ap (rows_after t) (sym (attempts_of-push (s.committed ++ s.pending) q))
               ∙ ap (λ (ps : List Placed). rows_after t (attempts_of ps)) (append_assoc s.committed s.pending (q ∷ []));
           committed = opens.committed ∙ alike.committed;

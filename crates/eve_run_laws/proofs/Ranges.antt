@@ -1,6 +1,6 @@
 -- The balances and the replies of a replica lie within the range of money.
 use Rattle.std.proofs.Common.{◌≡◌, ℕ, ℤ, pos, zero, suc, ◌*◌, ◌==◌, nat_le, nat_lt, Bool, true, false, cond, ◌&&◌}
-use Rattle.std.proofs.Common.{List, [], ◌∷◌, take, length, Some, refl, subst, ◌∙◌, IsTrue}
+use Rattle.std.proofs.Common.{List, [], ◌∷◌, take, length, Some, refl, sym, subst, ◌∙◌, IsTrue}
 use Rattle.std.specs.Prelude.{slice_index_or}
 use Rattle.std.specs.Int.RustNames.{int_le}
 use Rattle.std.specs.List.{AllByRecursion, list_all}
@@ -24,7 +24,8 @@ use Rattle.eve_history.specs.Fates.{fates_from}
 use Rattle.eve_history.specs.SectionHistory.{attempts_among, history, committed_at, is_committed, placed_at}
 use Rattle.eve_history.proofs.FateLaws.{committed_are_picked}
 use Rattle.eve_chains.specs.Visible.{opening_table, entries_with, executed_in, execution, executions}
-use Rattle.eve_chains.specs.Committed.{attempts_of, first_rows, values_to, balances_to}
+use Rattle.eve_chains.specs.Committed.{attempts_of, committed_to, first_rows, values_to, balances_to}
+use Rattle.eve_chains.proofs.LeftByRecords.{rows_after-append}
 use Rattle.eve_chains.proofs.Attempts.{in_picked}
 use Rattle.eve_chains.proofs.Distinct.{in_map}
 use Rattle.eve_chains.proofs.Linked.{none≢some, in_at}
@@ -152,9 +153,11 @@ executions_within rows t (p ∷ ps) (suc n) whole =
 
 values_within : (t : Trace) (e n : ℕ) → HasLimits t → (row : ℕ) → IsTrue (is_balance (values_to t e n row))
 values_within t e n limits =
-    balances_after_all (row_count (head_of t)) (opening_table t)
-    (executions t (attempts_of (take n (history t e).committed))) (opening_balances t limits)
-    (executions_within (row_count (head_of t)) t (history t e).committed n (committed_whole t e limits))
+    subst AreBalances
+    (sym (rows_after-append t [] (committed_to t e n)))
+    (balances_after_all (row_count (head_of t)) (opening_table t) (executions t (committed_to t e n))
+    (opening_balances t limits)
+    (executions_within (row_count (head_of t)) t (history t e).committed n (committed_whole t e limits)))
 
 first_within : (values : ℕ → ℤ) → ((row : ℕ) → IsTrue (is_balance (values row))) → (n : ℕ)
     → IsTrue (list_all is_balance (first_rows n values))

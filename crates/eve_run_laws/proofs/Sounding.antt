@@ -1,18 +1,17 @@
 -- Each attempt of a run is sound: its records fit, and its rows are chained from what its path left.
-use Rattle.std.proofs.Common.{◌≡◌, ℕ, List, [], ◌∷◌, map, sym, subst, ap, ◌∙◌}
+use Rattle.std.proofs.Common.{◌≡◌, ℕ, List, [], ◌∷◌, map, sym, subst, ap}
 use Rattle.std.specs.List.{AllByRecursion}
 use Rattle.std.proofs.lemmas.List.Sorted.{IsPermutation-map}
-use Rattle.eve_smallbank.specs.declared.entry.Entry.{Entry}
 use Rattle.eve_smallbank.specs.Access.{Executed, Fits}
-use Rattle.eve_smallbank.specs.Chain.{Table, visible_at, IsChained}
+use Rattle.eve_smallbank.specs.Chain.{Table}
 use Rattle.eve_smallbank.specs.SerialOrder.{IsSound}
-use Rattle.eve_smallbank.proofs.Chains.{Follows, follows_chain, chain_follows, rows_by_chain, visible_at-before_rest}
+use Rattle.eve_smallbank.proofs.Chains.{rows_by_chain}
 use Rattle.eve_grammar.specs.Trace.{Attempt, Step, Attempts, Commits, RollsBack, Trace}
 use Rattle.eve_grammar.proofs.Lists.{all-append}
 use Rattle.eve_stamps.specs.Applied.{Applied}
 use Rattle.eve_history.specs.Section.{Placed, SectionState, start, path_of, committing, next}
 use Rattle.eve_history.specs.SectionHistory.{history, names_of}
-use Rattle.eve_chains.specs.Visible.{opening_table, execution, executions, entries_before}
+use Rattle.eve_chains.specs.Visible.{execution}
 use Rattle.eve_chains.specs.Sound.{IsSoundAlong, SettledAreSound}
 use Rattle.eve_attempts.specs.Ledgers.{Ledger, table_now}
 use Rattle.eve_attempts.specs.Closing.{touched_in_batch, executed}
@@ -21,18 +20,6 @@ use Rattle.eve_replica.specs.Replicas.{front_of}
 use Rattle.eve_replica.specs.Sections.{RunPlan, AttemptsNext, MakesOf}
 use Rattle.eve_run_laws.proofs.Alike.{IsPlanOf, AreAlike}
 use Rattle.eve_run_laws.proofs.Executing.{batch_due, executes}
-
--- ---- requests that fit and are chained
-
--- Requests that fit, and that are chained from a table, are sound after the entries that left the table.
-sound_from : (names : List (List ℕ)) (base table : Table) (before : List Entry) (xs : List Executed)
-    → table ≡ visible_at base before → AllByRecursion (Fits names) xs → IsChained table [] xs
-    → IsSound names base before xs
-sound_from names base table before xs left fits chained = record {
-  fits = fits;
-  chained = rows_by_chain base before xs
-      (chain_follows base before xs (subst (λ (u : Table). Follows u xs) left (follows_chain table [] xs chained)));
-}
 
 -- ---- how far the attempts are sound
 
@@ -66,16 +53,15 @@ module _ (p : RunPlan) (t : Trace) (plan : IsPlanOf p t) where
       let ran : execution t a ≡ map ran_as closed.ordered =
       executes t (front_of old old.view old.is_next_serial) old new due.batch (touched_in_batch p.names due.batch)
       due.records a (batch_due p t old new a plan due) closed in
-      let left : table_now old ≡ visible_at (opening_table t) (entries_before t (path_of s)) =
-      alike.now ∙ sym (visible_at-before_rest (opening_table t) [] (executions t (path_of s))) in
-      subst (IsSound (names_of t) (opening_table t) (entries_before t (path_of s))) (sym ran)
-      (sound_from (names_of t) (opening_table t) (table_now old) (entries_before t (path_of s))
-      (map ran_as closed.ordered) left
-      (all_moved (Fits (names_of t)) (map ran_as due.records) (map ran_as closed.ordered)
-      (IsPermutation-map ran_as due.records closed.ordered closed.by_ticks.same)
-      (closed.right.noted.fit (names_of t)
-      (ap (λ (names : List (List ℕ)). touched_in_batch names due.batch) plan.names)))
-      closed.right.chained)
+      subst (λ (table : Table). IsSound (names_of t) table [] (execution t a)) alike.now
+      (subst (IsSound (names_of t) (table_now old) []) (sym ran)
+      (record {
+        fits = all_moved (Fits (names_of t)) (map ran_as due.records) (map ran_as closed.ordered)
+            (IsPermutation-map ran_as due.records closed.ordered closed.by_ticks.same)
+            (closed.right.noted.fit (names_of t)
+            (ap (λ (names : List (List ℕ)). touched_in_batch names due.batch) plan.names));
+        chained = rows_by_chain (table_now old) [] (map ran_as closed.ordered) closed.right.chained;
+      }))
 
   pub sound_next : (s : SectionState) (old new : Ledger) (at : ℕ) (x : Step) → AreAlike t s old → MakesOf p x old new
       → AreSoundSoFar t s → AreSoundSoFar t (next s (at, x))
