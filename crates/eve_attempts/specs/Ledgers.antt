@@ -1,11 +1,10 @@
 -- A replica's own account of its rows, and of what is open on them. docs/MODEL.md, "Section state, fate".
-use Rattle.std.specs.Prelude.{◌≡◌, ℕ, ℤ, ◌+◌, ◌≤◌, Bool, false, ◌&&◌, IsTrue, if◌then◌else◌, List, [], ◌∷◌, length}
-use Rattle.std.specs.Prelude.{replicate, slice_index_or}
+use Rattle.std.specs.Prelude.{◌≡◌, ℕ, ℤ, ◌+◌, ◌^◌, ◌<◌, ◌≤◌, Bool, false, ◌&&◌, IsTrue, if◌then◌else◌, List, [], ◌∷◌}
+use Rattle.std.specs.Prelude.{length, replicate, slice_index_or}
 use Rattle.std.specs.List.{flat_map, list_all}
 use Rattle.eve_smallbank.specs.declared.entry.Entry.{Entry}
 use Rattle.eve_smallbank.specs.Access.{is_write, writes_row, balance_of_row}
 use Rattle.eve_smallbank.specs.Chain.{Table, table_after}
-use Rattle.eve_grammar.specs.declared.limits.TheConstants.{MOST_BATCHES}
 use Rattle.eve_grammar.specs.Limits.{is_entry}
 
 -- An open attempt: its view, its token, and what its records wrote, in its certificate's order.
@@ -96,10 +95,10 @@ AreLaid base [] now = base ≡ now
 AreLaid base (o ∷ opened) now =
     (values_before (table_after base o.written) o.written ≡ base) × AreLaid (table_after base o.written) opened now
 
--- The numbers lie within the limit, and no more attempts are open than may be. What they wrote lies within the limits
--- of the format, and was laid on the rows as they are committed, one attempt after another.
+-- The numbers have four bytes, and no more attempts are open than may be. What they wrote lies within the limits of the
+-- format, and was laid on the rows as they are committed, one attempt after another.
 pub record IsLedger (s : Ledger) : Type 0 where
-  pub counted : s.committed + length s.opened ≤ MOST_BATCHES
+  pub counted : s.committed + length s.opened < 2 ^ 32
   pub room : length s.opened ≤ s.window
   pub written : IsTrue (list_all (is_write_in (ledger_rows s)) (open_writes s))
   pub laid : AreLaid (rows_committed s) s.opened (table_now s)

@@ -115,12 +115,12 @@ impl Ledger {
         self.opened.len()
     }
 
-    /// The number of the batch that is attempted next.
-    pub fn next_number(&self) -> u32
+    /// The number of the batch that is attempted next. No frame has 2^32, which is next behind the greatest number.
+    pub fn next_number(&self) -> u64
         ensures { result ≡ self.now.committed + 1 + length self.now.opened }
     {
         self.recall_ledger();
-        self.committed + 1 + self.opened.len() as u32
+        u64::from(self.committed) + 1 + self.opened.len() as u64
     }
 
     /// Whether one more attempt may be open.
@@ -288,11 +288,10 @@ impl Ledger {
     /// Takes over a state of a batch that isn't committed here, in a view that isn't behind: rows, number and view are
     /// its, nothing is open any more, and the next attempt is parallel. It takes no memory.
     ///
-    /// docs/MODEL.md, "Section state, fate". The number is at most `MOST_BATCHES`. A refusal changes nothing.
+    /// docs/MODEL.md, "Section state, fate". A refusal changes nothing.
     pub fn take_over(&mut self, state: &TransferData) -> Result<(), NotDue>
         requires rows { length state.now.rows.items ≡ ledger_rows self.old }
         requires few { ledger_rows self.old ≤ MOST_ROWS }
-        requires last { state.now.seq ≤ MOST_BATCHES }
         ensures taken { IfOk result (λ _. TakesOver (transfer state.now) self.old self.new) }
         ensures due { IsOk result
             ↔ ((self.old.committed < state.now.seq) × (self.old.view ≤ state.now.view)) }

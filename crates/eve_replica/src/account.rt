@@ -111,10 +111,11 @@ impl<'n> Account<'n> {
 
     /// Number, view and mode of the attempt that is due.
     fn next_front(&self) -> AttemptFront
+        requires { self.now.ledger.committed + 1 + length self.now.ledger.opened ≤ MOST_BATCHES }
         ensures { result ≡ front_of self.now.ledger self.now.ledger.view self.now.ledger.is_next_serial }
     {
         AttemptFront {
-            seq: self.ledger.next_number(),
+            seq: self.ledger.next_number() as u32,
             view: self.ledger.view(),
             serial: self.ledger.is_next_serial(),
         }
@@ -187,7 +188,6 @@ impl<'n> Account<'n> {
     /// Takes over the state, with nothing open.
     pub(crate) fn transfer(&mut self, state: &TransferData) -> Result<(), TransferFault>
         requires rows { length state.now.rows.items ≡ ledger_rows self.old.ledger }
-        requires last { state.now.seq ≤ MOST_BATCHES }
         ensures taken { OnOk result (TakesOver (plain_state state.now) self.old.ledger self.new.ledger) }
         ensures whole { OnOk result (self.new ≡ record self.old { ledger = self.new.ledger }) }
         ensures there { IsOk result ↔ ((self.old.is_broken ≡ false) × IsDue (plain_state state.now) self.old.ledger) }

@@ -124,8 +124,8 @@ impl<'n> Replica<'n> {
         self.account.ledger.has_room()
     }
 
-    /// The number of the batch that is attempted next.
-    pub fn next_number(&self) -> u32
+    /// The number of the batch that is attempted next. No frame has 2^32, which is next behind the greatest number.
+    pub fn next_number(&self) -> u64
         ensures { result ≡ self.now.ledger.committed + 1 + length self.now.ledger.opened }
     {
         self.account.ledger.next_number()
@@ -328,14 +328,13 @@ impl<'n> Replica<'n> {
     /// Takes over a state that another replica committed: rows, number and view are its, nothing is open, and the next
     /// attempt is parallel. It takes no memory and waits for nobody.
     ///
-    /// docs/TRACE.md, "Version 2". The state has each row of the replica, its versions are at most `MOST_VERSIONS` and
-    /// its number is at most `MOST_BATCHES`: a trace has no later batch. `Broken` is tested first, so that
-    /// `NotDue` comes exactly where the replica isn't broken, and the number isn't above the last committed one or the
-    /// view is below the replica's. A refusal changes nothing.
+    /// docs/TRACE.md, "Version 2". The state has each row of the replica, and its versions are at most `MOST_VERSIONS`:
+    /// so has every state of that many rows with a spelling. `Broken` is tested first, so that `NotDue` comes exactly
+    /// where the replica isn't broken, and the number isn't above the last committed one or the view is below the
+    /// replica's. A refusal changes nothing.
     pub fn transfer(&mut self, state: &TransferData) -> Result<(), TransferFault>
         requires rows { length state.now.rows.items ≡ ledger_rows self.old.ledger }
         requires versions { HaveRightVersions (plain_state state.now).rows }
-        requires last { state.now.seq ≤ MOST_BATCHES }
         ensures taken { OnOk result (TakesOver (plain_state state.now) self.old.ledger self.new.ledger) }
         ensures whole { OnOk result (self.new ≡ record self.old { ledger = self.new.ledger }) }
         ensures there { IsOk result ↔ ((self.old.is_broken ≡ false) × IsDue (plain_state state.now) self.old.ledger) }

@@ -222,9 +222,10 @@ fn close(
     said: &mut Text,
 ) -> &'static str {
     let number = ledger.next_number();
-    if !ledger.has_room() || number > case.workload.batches() {
+    if !ledger.has_room() || number > u64::from(case.workload.batches()) {
         return "without room";
     }
+    let number = number as u32;
     let Ok(batch) = batch_of(case.alloc, case.workload, number, case.names, case.mixer) else {
         said.refused();
         return NOTHING;
@@ -320,7 +321,7 @@ fn close_due(
     };
     let touched = touched.as_slice();
     let front = AttemptFront {
-        seq: ledger.next_number(),
+        seq: ledger.next_number() as u32,
         view: ledger.view(),
         serial: ledger.is_next_serial(),
     };

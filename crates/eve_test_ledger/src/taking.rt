@@ -5,7 +5,7 @@ ghost use Rattle.std.specs.Prelude.{◌<◌, length};
 use crate::comparing::Shown;
 use crate::replaying::{Case, end, ledger_of, replay_step, tell_root};
 use eve_attempts::Ledger;
-use eve_grammar::{MOST_BATCHES, MOST_ROWS, TransferData};
+use eve_grammar::{MOST_ROWS, TransferData};
 use eve_smallbank::Versioned;
 use eve_testing::Text;
 use eve_views::Step;
@@ -54,7 +54,7 @@ fn take_over(alloc: Global, first: &Ledger, second: &mut Ledger, said: &mut Text
     if is_refused(alloc, second, &state, said) {
         said.words(" not due again,");
     }
-    if state.view > 0 && state.seq < MOST_BATCHES {
+    if state.view > 0 && state.seq < u32::MAX {
         let earlier = TransferData {
             seq: state.seq + 1,
             view: state.view - 1,
@@ -77,10 +77,7 @@ fn state_of(alloc: Global, ledger: &Ledger) -> Result<Vec<Versioned>, AllocError
 /// Whether the ledger takes the state over, which must have its rows.
 fn takes(ledger: &mut Ledger, state: &TransferData) -> bool {
     let many = ledger.balances().len();
-    many == state.rows.len()
-        && many <= MOST_ROWS as usize
-        && state.seq <= MOST_BATCHES
-        && ledger.take_over(state).is_ok()
+    many == state.rows.len() && many <= MOST_ROWS as usize && ledger.take_over(state).is_ok()
 }
 
 /// Whether the ledger has the state's number, view and rows, and nothing open, so that the next attempt is parallel.

@@ -409,6 +409,18 @@ const TAKES_OVER: &[Want] = &[
         ),
         what: "the next attempt is parallel, in that view",
     },
+    Want {
+        deed: Deed::TakeOver(u32::MAX, 4, TAKEN_OVER, None),
+        what: "no number is too great",
+    },
+    Want {
+        deed: Deed::TakeOver(u32::MAX, 5, HUNDRED, Some(TransferFault::NotDue)),
+        what: "none comes after it",
+    },
+    Want {
+        deed: Deed::GoBack(u32::MAX, None),
+        what: "what was open is discarded, and the number stays",
+    },
 ];
 
 /// Ann's deposit is closed of a record that was taken by hand, so that another attempt fails. The broken replica has its

@@ -5,7 +5,7 @@ ghost use Rattle.eve_stamps.specs.Stripes.{HaveRightVersions};
 
 use crate::world::stopped;
 use eve_accounts::{Cents, Row};
-use eve_grammar::{MOST_BATCHES, MOST_VERSIONS, Restore, TransferData};
+use eve_grammar::{MOST_VERSIONS, Restore, TransferData};
 use eve_replica::{Replica, TransferFault};
 use eve_smallbank::Versioned;
 use eve_token::RowTree;
@@ -54,7 +54,7 @@ pub fn take_over(
     view: u32,
     checking: Restore,
 ) -> io::Result<Result<(), TransferFault>> {
-    if replica.balances().len() != 2 || seq > MOST_BATCHES {
+    if replica.balances().len() != 2 {
         return Err(stopped());
     }
     let state = state_of(alloc, seq, view, checking)?;

@@ -98,7 +98,7 @@ pub fn attempt<R: Threads + Wait + Sync, G: Gate>(
     fit: &Fit,
     gate: &G,
 ) -> Result<AttemptData, AttemptFault> {
-    if !replica.has_room() || replica.next_number() > MOST_BATCHES {
+    if !replica.has_room() || replica.next_number() > u64::from(MOST_BATCHES) {
         return Err(AttemptFault::Full);
     }
     let view = replica.view();
@@ -114,9 +114,10 @@ pub fn close(
     records: &[AccessRecord],
 ) -> Result<AttemptData, CloseFault> {
     let seq = replica.next_number();
-    if !replica.has_room() || seq > MOST_BATCHES {
+    if !replica.has_room() || seq > u64::from(MOST_BATCHES) {
         return Err(CloseFault::Memory);
     }
+    let seq = seq as u32;
     let view = replica.view();
     let serial = replica.is_next_serial();
     replica.close_attempt(alloc, seq, view, serial, &fit.batch, records)
