@@ -84,7 +84,7 @@ impl<'s> Lead<'s> {
     /// Where it hasn't run all its parts, nobody is to wait for it.
     pub(crate) fn end(&self) {
         if !self.turns.is_empty() {
-            self.progress.give_up();
+            self.progress.leave();
         }
     }
 }

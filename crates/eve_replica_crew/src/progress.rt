@@ -1,6 +1,9 @@
 //! How far the workers of a window are.
 
+ghost use Rattle.std.specs.Prelude.{◌≡◌};
+
 use crossbeam_utils::CachePadded;
+use eve_floor::ExecFault;
 use std::hint::spin_loop;
 use std::sync::Wait;
 use std::sync::atomic::{AtomicU64, Ordering};
@@ -32,7 +35,15 @@ impl Progress {
     }
 
     /// Says that a request is given up, so that nobody waits for it.
-    pub(crate) fn give_up(&self) {
+    pub(crate) fn give_up(&self, why: ExecFault) -> GivenUp
+        ensures { result.0 ≡ why }
+    {
+        self.leave();
+        GivenUp(why)
+    }
+
+    /// Says that a worker leaves with parts that it doesn't run, so that nobody waits for it.
+    pub(crate) fn leave(&self) {
         self.ended.fetch_add(GIVEN_UP, Ordering::SeqCst);
     }
 
@@ -52,6 +63,20 @@ impl Progress {
             }
         }
         unreachable!()
+    }
+}
+
+/// Why a worker gave a request up. It is made by `Progress::give_up` and nowhere else: a worker that ends with one has
+/// told the others, who would wait for the request without end.
+#[derive(Clone, Copy)]
+pub(crate) struct GivenUp(ExecFault);
+
+impl GivenUp {
+    /// The fault of the request.
+    pub(crate) fn why(self) -> ExecFault
+        ensures { result ≡ self.0 }
+    {
+        self.0
     }
 }
 

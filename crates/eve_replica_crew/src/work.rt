@@ -11,7 +11,7 @@ ghost use Rattle.eve_replica_crew.specs.Crews.{IsSeated};
 
 use crate::crew::Member;
 use crate::lone::run_lone;
-use crate::progress::{Pace, Progress};
+use crate::progress::{GivenUp, Pace, Progress};
 use crate::share::{Part, Share, Turn};
 use crate::shared::Shared;
 use eve_floor::{ExecFault, Worker, execute_kept, execute_touched};
@@ -38,7 +38,7 @@ pub(crate) fn run_parts<R: Wait, G: Gate>(
         let (tick, end) = run_part(rt, ticks, share, tick, gate);
         member.tick = Some(tick);
         if let Err(why) = end {
-            member.fault = why;
+            member.fault = fault_in(why);
             return;
         }
     }
@@ -65,7 +65,18 @@ pub(crate) fn run_own<R: Wait, G: Gate>(
             Ok(()) => Ok(()),
             Err(why) => Err(Some(why)),
         },
-        Part::Beside(turn) => run_turn(rt, ticks, turn, tick, gate, records),
+        Part::Beside(turn) => match run_turn(rt, ticks, turn, tick, gate, records) {
+            Ok(()) => Ok(()),
+            Err(why) => Err(fault_in(why)),
+        },
+    }
+}
+
+/// The fault of the request that the worker itself gave up, if it did.
+fn fault_in(own: Option<GivenUp>) -> Option<ExecFault> {
+    match own {
+        Some(given_up) => Some(given_up.why()),
+        None => None,
     }
 }
 
@@ -78,7 +89,7 @@ fn run_turn<R: Wait, G: Gate>(
     tick: &mut TicketSeat,
     gate: &G,
     records: &mut Vec<AccessRecord>,
-) -> Result<(), Option<ExecFault>>
+) -> Result<(), Option<GivenUp>>
     requires tick { tick.old.tickets ≡ ticks.now }
     requires empty { vec_len records.old ≡ 0 }
     requires room { MOST_REQUESTS ≤ vec_capacity records.old }
@@ -108,7 +119,7 @@ fn run_kept<R: Wait, G: Gate>(
     claims: &mut TicketSeat,
     gate: &G,
     records: &mut Vec<AccessRecord>,
-) -> Result<(), Option<ExecFault>>
+) -> Result<(), Option<GivenUp>>
     requires set { IsSet shared.now }
     requires tick { tick.old.tickets ≡ ticks.now }
     requires claims { claims.old.tickets ≡ shared.now.claims.now }
@@ -138,10 +149,7 @@ fn run_kept<R: Wait, G: Gate>(
         );
         match executed {
             Ok(record) => records.push_reserved(record),
-            Err(why) => {
-                shared.progress.give_up();
-                return Err(Some(why));
-            }
+            Err(why) => return Err(Some(shared.progress.give_up(why))),
         }
         pace.note();
     }
@@ -155,7 +163,7 @@ fn next_due<R: Wait>(
     shared: &Shared<'_>,
     claims: &mut TicketSeat,
     pace: &mut Pace,
-) -> Result<Option<u16>, Option<ExecFault>>
+) -> Result<Option<u16>, Option<GivenUp>>
     requires set { IsSet shared.now }
     requires own { claims.old.tickets ≡ shared.now.claims.now }
     ensures own { claims.new.tickets ≡ shared.now.claims.now }
@@ -182,7 +190,7 @@ fn noted_after(shared: &Shared<'_>) -> u64 {
 }
 
 /// Counts for the others what the worker noted, at the end of its part. An error where a request was given up.
-fn tell(pace: &mut Pace, progress: &Progress) -> Result<(), Option<ExecFault>> {
+fn tell(pace: &mut Pace, progress: &Progress) -> Result<(), Option<GivenUp>> {
     if pace.tell(progress) {
         Ok(())
     } else {
@@ -219,7 +227,7 @@ fn run_part<R: Wait, G: Gate>(
     share: Share<'_>,
     tick: TicketSeat,
     gate: &G,
-) -> (TicketSeat, Result<(), Option<ExecFault>>)
+) -> (TicketSeat, Result<(), Option<GivenUp>>)
     requires { tick.tickets ≡ ticks.now }
     ensures { result.0.tickets ≡ ticks.now }
 {
@@ -255,7 +263,7 @@ fn run_share<R: Wait, G: Gate>(
     worker: &mut Worker,
     claims: &mut TicketSeat,
     gate: &G,
-) -> Result<(), Option<ExecFault>>
+) -> Result<(), Option<GivenUp>>
     requires set { IsSet shared.now }
     requires own { IsSeatedAt shared.now.recorder.now ticks.now worker.old }
     requires claims { claims.old.tickets ≡ shared.now.claims.now }
@@ -298,7 +306,7 @@ fn run_one<R: Wait, G: Gate>(
     worker: &mut Worker,
     index: u16,
     gate: &G,
-) -> Result<(), ExecFault>
+) -> Result<(), GivenUp>
     requires set { IsSet shared.now }
     requires there { index < length shared.now.batch.now.requests.items }
     requires place { length worker.old.seat.noted < MOST_PLACES }
@@ -320,10 +328,7 @@ fn run_one<R: Wait, G: Gate>(
     );
     match executed {
         Ok(()) => Ok(()),
-        Err(why) => {
-            shared.progress.give_up();
-            Err(why)
-        }
+        Err(why) => Err(shared.progress.give_up(why)),
     }
 }
 

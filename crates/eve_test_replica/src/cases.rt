@@ -2,8 +2,9 @@
 
 use crate::gates::{Held, Turn};
 use crate::replicas::{Attempted, Closed, Deed, Due, OPENING, Seen, Setting, Want};
+use eve_grammar::MOST_VERSIONS;
 use eve_replica::eve_workload::Mixer;
-use eve_replica::{CloseFault, CommitFault, TransferFault};
+use eve_replica::{AttemptFault, CloseFault, CommitFault, TransferFault};
 
 /// What is done in a case.
 #[derive(Clone, Copy)]
@@ -48,6 +49,9 @@ const HUNDRED: Seen = Seen(1, 100);
 
 /// As it is in a state that is taken over.
 const TAKEN_OVER: Seen = Seen(3, 30);
+
+/// As it is in one after which no deposit is taken.
+const WORN: Seen = Seen(MOST_VERSIONS, 30);
 
 /// The first attempt is parallel, and sees the opening rows.
 const FIRST: Want = Want {
@@ -134,6 +138,31 @@ const IN_TURN: &[Want] = &[Want {
     }),
     what: "the third parallelBatch begins after the second",
 }];
+
+/// Two parallelBatches of 2 and 1 requests by two workers. Whichever runs the first request gives it up, since ann's row
+/// may be written no more, and the other, who waits for it, is told.
+const GIVEN_UP: &[Want] = &[
+    Want {
+        deed: Deed::TakeOver(1, 0, WORN, None),
+        what: "her row may be written no more",
+    },
+    Want {
+        deed: Deed::Attempt(1, Attempted::Failed(AttemptFault::Worn)),
+        what: "a deposit on it is given up",
+    },
+    Want {
+        deed: Deed::BeBroken(true),
+        what: "a broken replica",
+    },
+    Want {
+        deed: Deed::GoBack(1, None),
+        what: "nothing to restore",
+    },
+    Want {
+        deed: Deed::HaveState(WORN),
+        what: "her row is as it was",
+    },
+];
 
 /// A rollback puts the stripes back, so that the serial attempt sees version 0 again.
 const ROLLED_BACK: &[Want] = &[
@@ -256,7 +285,7 @@ const BROKEN: &[Want] = &[
         what: "her deposit is closed",
     },
     Want {
-        deed: Deed::Attempt(2, Attempted::Failed),
+        deed: Deed::Attempt(2, Attempted::Failed(AttemptFault::Mismatch)),
         what: "an attempt over her row fails",
     },
     Want {
@@ -431,7 +460,7 @@ const TAKES_NOTHING_OVER: &[Want] = &[
         what: "her deposit is closed",
     },
     Want {
-        deed: Deed::Attempt(1, Attempted::Failed),
+        deed: Deed::Attempt(1, Attempted::Failed(AttemptFault::Mismatch)),
         what: "an attempt over her row fails",
     },
     Want {
@@ -562,7 +591,7 @@ const FREE: Turn = Turn::Free;
 /// A run in which nothing is held.
 pub static FREE_RUN: [Turn; 7] = [FREE; 7];
 
-static CASES: [Case; 16] = [
+static CASES: [Case; 17] = [
     Case {
         name: "replica-attempt-and-close",
         file: "one-deposit",
@@ -582,6 +611,11 @@ static CASES: [Case; 16] = [
         name: "parallel-batches-in-turn",
         file: "three-parallel-batches",
         doing: Doing::Calls(FIRST_FIT, &[IN_TURN]),
+    },
+    Case {
+        name: "given-up",
+        file: "deposits-and-a-stranger",
+        doing: Doing::Calls(FIRST_FIT, &[GIVEN_UP]),
     },
     Case {
         name: "rollback",

@@ -77,8 +77,8 @@ pub enum Attempted {
     Met(Due),
     /// Committed, it gives the trace that is wanted.
     Given,
-    /// It fails, since the stripes don't have a deposit that was closed.
-    Failed,
+    /// It fails so.
+    Failed(AttemptFault),
     /// It is refused, since the replica is broken.
     Broken,
 }
@@ -265,7 +265,7 @@ impl<R: Threads + Wait + Sync> Bench<'_, R> {
         match ends {
             Attempted::Met(due) => due.is_met(ran(made)),
             Attempted::Given => self.gives(ran(made), replica),
-            Attempted::Failed => Ok(is_failed(made.err())),
+            Attempted::Failed(fault) => Ok(is_failed(made.err(), fault)),
             Attempted::Broken => Ok(made.err() == Some(AttemptFault::Broken)),
         }
     }
@@ -357,9 +357,9 @@ fn is_refused(why: Option<CloseFault>, due: CloseFault) -> io::Result<bool> {
     Ok(why == Some(due))
 }
 
-/// Whether an attempt failed as it has to where the stripes are others, or for lack of memory.
-fn is_failed(why: Option<AttemptFault>) -> bool {
-    why == Some(AttemptFault::Mismatch) || why == Some(AttemptFault::Memory)
+/// Whether an attempt failed so, or for lack of memory.
+fn is_failed(why: Option<AttemptFault>, due: AttemptFault) -> bool {
+    why == Some(due) || why == Some(AttemptFault::Memory)
 }
 
 fn goes_back(
