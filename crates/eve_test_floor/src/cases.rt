@@ -7,11 +7,12 @@ use crate::crew::{Crew, crew_of};
 use crate::gates::{Held, PairGate};
 use crate::opening::{Ask, batch_of, floor_of, state_of};
 use crate::site::{Site, take_both_turns, take_turn};
-use crate::telling::Text;
+use crate::telling::{is_done, tell_answer, tell_entries, tell_record, tell_whether};
 use eve_accounts::Names;
 use eve_floor::{Floor, Worker, flush};
 use eve_recorder::TakerSeat;
 use eve_stamps::AccessRecord;
+use eve_testing::Text;
 use eve_write::BatchData;
 use std::alloc::{AllocError, Global};
 use std::mem;
@@ -120,7 +121,7 @@ impl<'n> Case<'n> {
                 Act::RunBoth => self.run_until_one_waits(rt, text),
                 Act::Turn => self.turn(),
                 Act::Flush => self.flush(rt, text),
-                Act::Take => text.say_record(self.take(rt)),
+                Act::Take => tell_record(self.take(rt), text),
                 Act::TakeEntries => self.take_entries(rt, text),
                 Act::TakeBoth => self.take_both(rt, text),
                 Act::Settle(tick) => self.site.floor.settle(tick),
@@ -134,20 +135,20 @@ impl<'n> Case<'n> {
     fn install(&mut self, alloc: Global, text: &mut Text) {
         match state_of(alloc) {
             Ok(state) => self.site.floor.install(&state),
-            Err(AllocError) => text.lacks_memory(),
+            Err(AllocError) => text.refused(),
         }
     }
 
     /// The worker at hand executes a request, if it is there and the worker has a place for it.
     fn run<R: Wait>(&mut self, rt: &R, index: u16, text: &mut Text) {
         let answer = take_turn(rt, &self.site, index, &mut self.hand);
-        text.say_answer(answer);
+        tell_answer(answer, text);
     }
 
     /// Both workers at once: the one at hand executes request 0, the other request 1. Whether each did.
     fn run_both<R: Threads + Wait + Sync>(&mut self, rt: &R, text: &mut Text) -> (bool, bool) {
         let (first, second) = take_both_turns(rt, &self.site, &mut self.hand, &mut self.other);
-        (text.is_done(first), text.is_done(second))
+        (is_done(first, text), is_done(second, text))
     }
 
     /// Both at once. Whether their gate shows what it looks for; the case is at its end then.
@@ -161,7 +162,7 @@ impl<'n> Case<'n> {
     /// Both at once, of which one has to wait: that worker comes to hand.
     fn run_until_one_waits<R: Threads + Wait + Sync>(&mut self, rt: &R, text: &mut Text) {
         let (first, second) = self.run_both(rt, text);
-        text.say_whether(first != second);
+        tell_whether(first != second, text);
         if first {
             self.turn();
         }
@@ -174,9 +175,9 @@ impl<'n> Case<'n> {
 
     /// What waits in the worker at hand is noted.
     fn flush<R: Wait>(&mut self, rt: &R, text: &mut Text) {
-        text.say(", flush");
+        text.words(", flush");
         let answer = flush(rt, &self.site.recorder, &mut self.hand);
-        text.say_answer(answer);
+        tell_answer(answer, text);
     }
 
     /// What was noted first, and not yet taken.
@@ -189,13 +190,13 @@ impl<'n> Case<'n> {
         let first = self.take(rt).is_some();
         self.flush(rt, text);
         let second = self.take(rt).is_some();
-        text.say_whether(first && second);
+        tell_whether(first && second, text);
     }
 
     /// Tells the entries of what was noted first, and not yet taken.
     fn take_entries<R: Wait>(&mut self, rt: &R, text: &mut Text) {
         if let Some(record) = self.take(rt) {
-            text.say_entries(&record);
+            tell_entries(&record, text);
             drop(record);
         }
     }

@@ -15,9 +15,10 @@ use crate::cases::{Case, case_of};
 use crate::opening::customers;
 use crate::pairs::tell_pairs;
 use crate::scripts::{SCRIPTS, Script};
-use crate::telling::Text;
+use crate::telling::{tell_record, tell_whether};
 use eve_accounts::Names;
 use eve_floor::Worker;
+use eve_testing::Text;
 use std::alloc::{AllocError, Global};
 use std::hash::RandomState;
 use std::io;
@@ -32,12 +33,12 @@ fn tell_script<R: Threads + Wait + Sync>(
     script: &Script,
     text: &mut Text,
 ) {
-    text.say(script.begin);
+    text.words(script.begin);
     match case_of(alloc, names, &script.plan, text) {
         Ok(case) => play(rt, alloc, script, case, text),
-        Err(AllocError) => text.lacks_memory(),
+        Err(AllocError) => text.refused(),
     }
-    text.say("\n");
+    text.words("\n");
 }
 
 /// Does what the script says in its case.
@@ -59,16 +60,16 @@ fn play<R: Threads + Wait + Sync>(
 /// Tells whether the worker gives its seats, and what waits in it otherwise.
 fn take_apart(worker: Worker, text: &mut Text) {
     match worker.into_seats().err() {
-        None => text.say(", its seats"),
+        None => text.words(", its seats"),
         Some(worker) => take_waiting(worker, text),
     }
 }
 
 /// Tells what waits in the worker, and whether it gives its seats then.
 fn take_waiting(mut worker: Worker, text: &mut Text) {
-    text.say_record(worker.take_waiting());
+    tell_record(worker.take_waiting(), text);
     let kept = worker.into_seats().err();
-    text.say_whether(kept.is_none());
+    tell_whether(kept.is_none(), text);
     drop(kept);
 }
 

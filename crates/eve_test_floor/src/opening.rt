@@ -3,11 +3,11 @@
 ghost use Rattle.std.specs.Prelude.{IfOk};
 ghost use Rattle.eve_stamps.specs.Stripes.{HaveRightVersions};
 
-use crate::telling::Text;
 use eve_accounts::{Amount, Balances, Cents, Name, Names, Row};
 use eve_floor::Floor;
 use eve_grammar::TransferData;
 use eve_smallbank::Versioned;
+use eve_testing::Text;
 use eve_write::{BatchData, RequestData, TransactionData};
 use std::alloc::{AllocError, Global};
 use std::hash::RandomState;
@@ -17,7 +17,7 @@ pub fn customers(alloc: Global, random: RandomState, text: &mut Text) -> Names<'
     let mut names = Names::new(alloc, random, 32);
     for name in b"abcdefghijklmnopq".chunks(1) {
         if names.add(name).is_err() {
-            text.lacks_memory();
+            text.refused();
         }
     }
     names
@@ -65,7 +65,7 @@ pub fn batch_of(alloc: Global, asks: &[Ask], text: &mut Text) -> BatchData {
                 transaction,
             };
             if requests.push(request).is_err() {
-                text.lacks_memory();
+                text.refused();
             }
         }
     }

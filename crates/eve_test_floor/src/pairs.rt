@@ -3,8 +3,9 @@
 use crate::cases::{Plan, case_of};
 use crate::gates::Held;
 use crate::opening::Ask;
-use crate::telling::Text;
+use crate::telling::tell_whether;
 use eve_accounts::Names;
+use eve_testing::Text;
 use std::alloc::{AllocError, Global};
 use std::sync::Wait;
 use std::thread::Threads;
@@ -29,16 +30,16 @@ static SHARED: [[Ask; 2]; 5] = [
 
 /// Requests of different stripes don't wait for one another, and those that share a stripe do.
 pub fn tell_pairs<R: Threads + Wait + Sync>(rt: &R, alloc: Global, names: &Names, text: &mut Text) {
-    text.say("gates-held:");
+    text.words("gates-held:");
     for asks in &APART {
         tell_held(rt, alloc, names, asks, text);
     }
-    text.say("; meet:");
+    text.words("; meet:");
     for asks in &SHARED {
         let is_met = is_shown(rt, alloc, names, asks, Held::Each, text);
-        text.say_whether(is_met);
+        tell_whether(is_met, text);
     }
-    text.say("\n");
+    text.words("\n");
 }
 
 /// Tells whether request 1 is noted by another thread in time, while request 0 is held in its gate.
@@ -54,7 +55,7 @@ fn tell_held<R: Threads + Wait + Sync>(
         // Where a thread couldn't be started, once more.
         is_held = is_shown(rt, alloc, names, asks, Held::First, text);
     }
-    text.say_whether(is_held);
+    tell_whether(is_held, text);
 }
 
 /// Two requests in two threads, of which a gate holds so. Whether it shows what it looks for.
@@ -75,7 +76,7 @@ fn is_shown<R: Threads + Wait + Sync>(
     match case_of(alloc, names, &plan, text) {
         Ok(case) => case.shows(rt, text),
         Err(AllocError) => {
-            text.lacks_memory();
+            text.refused();
             false
         }
     }

@@ -111,10 +111,11 @@ fn tell<R: Print + Threads + Wait + Sync>(
     random: RandomState,
     name: &str,
 ) -> io::Result<()> {
-    let mut seen = Seen::nothing();
+    let mut seen = Seen::nothing(alloc);
     look(rt, alloc, random, name, &mut seen);
-    seen.whole()?;
-    println!(rt; "{name}: {seen}")
+    let printed = seen.print(rt, name);
+    drop(seen);
+    printed
 }
 
 fn main(rt: HostRuntime) -> io::Result<()> {

@@ -1,24 +1,25 @@
 //! What of a case was looked at.
 
-use std::alloc::AllocError;
-use std::fmt;
+use eve_testing::Text;
+use std::alloc::Global;
+use std::io;
 
-/// How many things of a case were looked at, the first of them that wasn't as it is due, if there is one, and whether
-/// there was memory for all.
-#[derive(Clone, Copy)]
+/// How many things of a case were looked at, and the first of them that wasn't as it is due, if there is one. The text
+/// of its line keeps whether there was memory for all.
+#[derive(Drop)]
 pub struct Seen {
     count: u32,
     wrong: Option<&'static str>,
-    is_whole: bool,
+    text: Text,
 }
 
 impl Seen {
     /// Nothing was looked at yet.
-    pub fn nothing() -> Seen {
+    pub fn nothing(alloc: Global) -> Seen {
         Seen {
             count: 0,
             wrong: None,
-            is_whole: true,
+            text: Text::new(alloc),
         }
     }
 
@@ -32,24 +33,25 @@ impl Seen {
 
     /// Keeps whether there was memory for something.
     pub fn needs(&mut self, is_there: bool) {
-        self.is_whole &= is_there;
-    }
-
-    /// Refuses where there wasn't memory for all.
-    pub fn whole(&self) -> Result<(), AllocError> {
-        if self.is_whole {
-            Ok(())
-        } else {
-            Err(AllocError)
+        if !is_there {
+            self.text.refused();
         }
     }
-}
 
-impl fmt::Display for Seen {
-    fn fmt<W: fmt::Write>(&self, f: &mut fmt::Formatter<W>) -> fmt::Result {
+    /// Prints what was seen of the case of that name, if there was memory for all.
+    pub fn print<R: Print>(&mut self, rt: &R, name: &str) -> io::Result<()> {
+        self.text.words(name);
         match self.wrong {
-            Some(what) => write!(f, "wanted: {what}"),
-            None => write!(f, "{} as they are due", self.count),
+            Some(what) => {
+                self.text.words(": wanted: ");
+                self.text.words(what);
+            }
+            None => {
+                self.text.value(": ", self.count);
+                self.text.words(" as they are due");
+            }
         }
+        self.text.words("\n");
+        self.text.print(rt)
     }
 }
