@@ -1,6 +1,6 @@
 -- How replicas of a run begin.
 use Rattle.std.proofs.Common.{◌≡◌, ℕ, ℤ, ◌-◌, ◌*◌, true, false, List, [], All, length, map, refl, sym, ap, ◌∙◌}
-use Rattle.std.proofs.Common.{rules, ◌≤◌, IsTrue, subst, arith}
+use Rattle.std.proofs.Common.{subst, arith}
 use Rattle.std.proofs.lemmas.Bool.{false≢true}
 use Rattle.std.proofs.lemmas.List.{append-nil}
 use Rattle.std.proofs.lemmas.List.Elements.{All-nil}

@@ -10,4 +10,5 @@ mod Beginning
 mod Sectioned
 mod Answering
 mod WhereWell
+mod Noted
 mod Parts

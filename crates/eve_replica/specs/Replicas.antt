@@ -9,6 +9,7 @@ use Rattle.eve_attempts.specs.declared.front.AttemptFront.{AttemptFront}
 use Rattle.eve_attempts.specs.Ledgers.{Ledger}
 use Rattle.eve_attempts.specs.Closing.{touched_in_batch, Closes}
 use Rattle.eve_attempts.specs.Discarding.{Commits}
+use Rattle.eve_replica_crew.specs.Recording.{AreNotedOf}
 use Rattle.eve_replica.specs.declared.fault.AttemptFault.{AttemptFault}
 use Rattle.eve_replica.specs.declared.fault.AttemptFault.TheVariants as attempt_fault
 
@@ -24,16 +25,23 @@ pub record ClosesThese (front : AttemptFront) (old new : Replica) (b : Batch) (r
   pub closed : Closes front old.ledger new.ledger b (touched_in_batch old.names b) records a
   pub rest : new ≡ record old { ledger = new.ledger }
 
--- Some records were, whatever threads noted them.
+-- And they are what the replica's workers noted of the batch.
+pub record ClosesNoted (front : AttemptFront) (old new : Replica) (b : Batch) (records : List Applied) (a : Attempt)
+    : Type 0 where
+  pub noted : AreNotedOf old.names b records
+  pub closed : Closes front old.ledger new.ledger b (touched_in_batch old.names b) records a
+  pub rest : new ≡ record old { ledger = new.ledger }
+
+-- Some records were that its workers noted.
 abbrev pub ClosesSome : AttemptFront → Replica → Replica → Batch → Attempt → Type 0
-ClosesSome front old new b a = (records : List Applied) × ClosesThese front old new b records a
+ClosesSome front old new b a = (records : List Applied) × ClosesNoted front old new b records a
 
 -- number, view and mode of an attempt of the batch that is due, in this view and this mode
 abbrev pub front_of : Ledger → ℕ → Bool → AttemptFront
 front_of s view serial = record { seq = s.committed + 1 + length s.opened; view = view; serial = serial }
 
--- The replica wasn't broken, and some records were closed to the attempt: all that holds of an attempt that is
--- closed holds of it, however its threads ran.
+-- The replica wasn't broken, and records that its workers noted were closed to the attempt: all that holds of an attempt
+-- that is closed holds of it, however its threads ran.
 abbrev pub Attempts : ℕ → Bool → Replica → Replica → Batch → Attempt → Type 0
 Attempts view serial old new b a = (old.is_broken ≡ false) × ClosesSome (front_of old.ledger view serial) old new b a
 

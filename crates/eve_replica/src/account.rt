@@ -1,7 +1,7 @@
 //! A replica's own account of its rows.
 
 ghost use Rattle.std.specs.Prelude.{◌≡◌, ◌+◌, ◌-◌, ◌*◌, ◌^◌, ◌<◌, ◌≤◌, ◌↔◌, ◌⊎◌, true, false, Err, All, length};
-ghost use Rattle.std.specs.Prelude.{IsTrue, IfOk, IfErr, IfSome, IfNone, OnOk, OnErr, IsOk, Contains, [], map};
+ghost use Rattle.std.specs.Prelude.{IsTrue, IfOk, IfErr, IfSome, IfNone, OnOk, OnErr, IsOk, Contains, List, [], ◌∷◌, map};
 ghost use Rattle.eve_grammar.specs.Bodies.{transfer as plain_state};
 ghost use Rattle.eve_grammar.specs.Limits.{is_batch};
 ghost use Rattle.eve_write.specs.Data.{batch as plain, attempt, commit, rollback};
@@ -9,6 +9,8 @@ ghost use Rattle.eve_attempts.specs.Ledgers.{ledger_rows, opening};
 ghost use Rattle.eve_attempts.specs.Closing.{touched_in_batch, AreMismatched};
 ghost use Rattle.eve_attempts.specs.Discarding.{RollsBack};
 ghost use Rattle.eve_attempts.specs.TakingOver.{TakesOver};
+ghost use Rattle.eve_grammar.specs.Trace.{Batch};
+ghost use Rattle.eve_replica_crew.specs.FirstWorkers.{StaysAt};
 ghost use Rattle.eve_replica.specs.Replicas.{AttemptsDue, ClosesThese, IsFirstOpen, CommitsFirst};
 ghost use Rattle.eve_replica.specs.Replicas.{GivesUp, IsDue, KeepsCrew, MayAttempt, front_of};
 
@@ -78,10 +80,10 @@ impl<'n> Account<'n> {
         })
     }
 
-    /// The first worker runs its part in the next batch. What was noted of it becomes an attempt in the view and in the
-    /// mode that are due, and is opened. An error without a fault comes where a worker gave a request up; any fault
-    /// breaks the replica.
-    pub(crate) fn attempt_next<R: Wait, G: Gate>(
+    /// The first worker runs its part in the next batch. What was noted of it, and nothing else, becomes an attempt in
+    /// the view and in the mode that are due, and is opened. An error without a fault comes where a worker gave a
+    /// request up; any fault breaks the replica.
+    pub(crate) fn close_next<R: Wait, G: Gate>(
         &mut self,
         rt: &R,
         alloc: Global,
@@ -91,8 +93,13 @@ impl<'n> Account<'n> {
         gate: &G,
     ) -> Result<AttemptData, Option<AttemptFault>>
         requires due { MayAttempt self.old (plain batch.now) touched.now }
-        ensures lead { lead.new ≡ lead.old }
+        requires over { lead.old.names ≡ self.old.names }
+        requires next { (rest : List Batch) × (lead.old.left ≡ plain batch.now ∷ rest) }
+        ensures lead { StaysAt lead.old lead.new }
+        ensures left { OnOk result (lead.old.left ≡ plain batch.now ∷ lead.new.left) }
         ensures attempted { IfOk result (λ a. AttemptsDue self.old self.new (plain batch.now) (attempt a)) }
+        ensures records { let front = front_of self.old.ledger self.old.ledger.view self.old.ledger.is_next_serial in
+            IfOk result (λ a. ClosesThese front self.old self.new (plain batch.now) lead.new.records (attempt a)) }
         ensures refused { IfErr result (λ given. GivesUp given self.old self.new) }
         ensures same { KeepsCrew self.old self.new }
     {

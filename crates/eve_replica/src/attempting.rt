@@ -1,11 +1,14 @@
 //! Attempts made while a replica's workers run.
 
-ghost use Rattle.std.specs.Prelude.{◌≡◌, ◌+◌, ◌≤◌, true, false, ℕ, [], ◌∷◌, ◌++◌, All, length, map};
+ghost use Rattle.std.specs.Prelude.{◌≡◌, ◌+◌, ◌≤◌, true, false, ℕ, List, [], ◌∷◌, ◌++◌, All, length, map};
 ghost use Rattle.std.specs.Prelude.{IsTrue, IfOk, IfErr, IfSome, OnOk, OnErr};
 ghost use Rattle.std.specs.List.{list_all};
 ghost use Rattle.eve_grammar.specs.Limits.{is_step};
 ghost use Rattle.eve_write.specs.Data.{attempt, batch as plain_batch, section, step as plain};
-ghost use Rattle.eve_replica_crew.specs.Sharing.{IsRightLeg};
+ghost use Rattle.eve_grammar.specs.Trace.{Batch};
+ghost use Rattle.eve_replica_crew.specs.FirstWorkers.{StaysAt};
+ghost use Rattle.eve_replica_crew.specs.Parts.{assigned_batches};
+ghost use Rattle.eve_replica_crew.specs.Sharing.{IsRightAssignment};
 ghost use Rattle.eve_replica.specs.Replicas.{AttemptsDue, FailsAttempt, GivesUp, KeepsCrew, MayAttempt};
 ghost use Rattle.eve_replica.specs.Serving.{AreDue, GoesOn, IsRightMixed, MayAttemptAll, AttemptsAll, attempt_move};
 ghost use Rattle.eve_replica.specs.Serving.{server_with};
@@ -16,7 +19,7 @@ use crate::account::Account;
 use crate::fault::{AttemptFault, RunFault, fault_of};
 use eve_floor::{ExecFault, Floor};
 use eve_recorder::Gate;
-use eve_replica_crew::{Lead, Leg, Workers, run_batches};
+use eve_replica_crew::{Assignment, Lead, Workers, run_batches};
 use eve_workload::MixedBatch;
 use eve_write::{AttemptData, Step};
 use std::alloc::{AllocError, Global};
@@ -24,34 +27,37 @@ use std::sync::Wait;
 use std::thread::Threads;
 
 /// Runs one batch by the workers, makes an attempt of what they noted, and opens it. A fault breaks the replica.
-pub(crate) fn attempt_one<R: Threads + Wait + Sync, G: Gate>(
+pub(crate) fn run_and_close<R: Threads + Wait + Sync, G: Gate>(
     rt: &R,
     alloc: Global,
     floor: &Floor,
     workers: &mut Workers,
     account: &mut Account<'_>,
-    leg: Leg<'_>,
+    assignment: Assignment<'_>,
     gate: &G,
 ) -> Result<AttemptData, AttemptFault>
-    requires leg { IsRightLeg floor.now workers.old.many leg }
-    requires due { MayAttempt account.old (plain_batch leg.batch.now) leg.touched.now }
+    requires assignment { IsRightAssignment floor.now workers.old.many assignment }
+    requires over { floor.now ≡ account.old.names }
+    requires due { MayAttempt account.old (plain_batch assignment.batch.now) assignment.touched.now }
     ensures workers { workers.new ≡ workers.old }
     ensures attempted { IfOk result (λ a.
-        AttemptsDue account.old account.new (plain_batch leg.entry.batch.now) (attempt a)) }
+        AttemptsDue account.old account.new (plain_batch assignment.entry.batch.now) (attempt a)) }
     ensures refused { IfErr result (λ why. FailsAttempt why account.old account.new) }
     ensures same { KeepsCrew account.old account.new }
 {
-    let batch = leg.batch;
-    let touched = leg.touched;
+    let batch = assignment.batch;
+    let touched = assignment.touched;
     let mut own = |lead: &mut Lead| -> Result<AttemptData, Option<AttemptFault>>
-        requires { MayAttempt account.now (plain_batch batch.now) touched.now }
-        ensures lead { lead.new ≡ lead.old }
+        requires { MayAttempt account.now (plain_batch batch.now) touched.now
+            × (lead.old.names ≡ account.now.names)
+            × ((rest : List Batch) × (lead.old.left ≡ plain_batch batch.now ∷ rest)) }
+        ensures lead { StaysAt lead.old lead.new }
         ensures attempted { IfOk result (λ a.
             AttemptsDue account.entry.now account.exit.now (plain_batch batch.entry.now) (attempt a)) }
         ensures refused { IfErr result (λ given. GivesUp given account.entry.now account.exit.now) }
         ensures same { KeepsCrew account.entry.now account.exit.now }
-    { account.attempt_next(rt, alloc, lead, batch, touched, gate) };
-    let ran = run_batches(rt, alloc, floor, workers, &[leg], gate, &mut own);
+    { account.close_next(rt, alloc, lead, batch, touched, gate) };
+    let ran = run_batches(rt, alloc, floor, workers, &[assignment], gate, &mut own);
     match ran {
         Ok((Ok(attempt), _)) => Ok(attempt),
         Ok((Err(Some(why)), _)) => Err(why),
@@ -62,7 +68,7 @@ pub(crate) fn attempt_one<R: Threads + Wait + Sync, G: Gate>(
 
 /// Runs the batches of a window by the workers, one after another, and makes an attempt of what they noted of each
 /// while the other workers run the next. A fault breaks the replica; the attempts before it stay open.
-pub(crate) fn attempt_legs<R: Threads + Wait + Sync, G: Gate>(
+pub(crate) fn run_and_close_each<R: Threads + Wait + Sync, G: Gate>(
     rt: &R,
     alloc: Global,
     floor: &Floor,
@@ -70,10 +76,12 @@ pub(crate) fn attempt_legs<R: Threads + Wait + Sync, G: Gate>(
     account: &mut Account<'_>,
     steps: &mut Vec<Step>,
     window: &[MixedBatch],
-    legs: &[Leg],
+    assignments: &[Assignment],
     gate: &G,
 ) -> Result<(), RunFault>
-    requires legs { All (IsRightLeg floor.now workers.old.many) legs.now }
+    requires assignments { All (IsRightAssignment floor.now workers.old.many) assignments.now }
+    requires over { floor.now ≡ account.old.names }
+    requires batches { assigned_batches assignments.now ≡ map (λ m. plain_batch m.batch) window.now }
     requires due { MayAttemptAll account.old window.now }
     ensures workers { workers.new ≡ workers.old }
     ensures on { OnOk result (AttemptsAll window.now account.old steps.old account.new steps.new) }
@@ -81,14 +89,15 @@ pub(crate) fn attempt_legs<R: Threads + Wait + Sync, G: Gate>(
     ensures same { KeepsCrew account.old account.new }
 {
     let mut own = |lead: &mut Lead| -> Result<(), Option<RunFault>>
-        requires { MayAttemptAll account.now window.now }
-        ensures lead { lead.new ≡ lead.old }
+        requires { MayAttemptAll account.now window.now × (lead.old.names ≡ account.now.names)
+            × (lead.old.left ≡ map (λ m. plain_batch m.batch) window.now) }
+        ensures lead { StaysAt lead.old lead.new }
         ensures on { OnOk result
             (AttemptsAll window.entry.now account.entry.now steps.entry.now account.exit.now steps.exit.now) }
         ensures broken { IfErr result (λ given. IfSome given (λ _. account.exit.now.is_broken ≡ true)) }
         ensures same { KeepsCrew account.entry.now account.exit.now }
-    { attempt_each(rt, alloc, lead, account, steps, window, gate) };
-    let ran = run_batches(rt, alloc, floor, workers, legs, gate, &mut own);
+    { close_each(rt, alloc, lead, account, steps, window, gate) };
+    let ran = run_batches(rt, alloc, floor, workers, assignments, gate, &mut own);
     match ran {
         Ok((Ok(()), _)) => Ok(()),
         Ok((Err(Some(why)), _)) => Err(why),
@@ -99,7 +108,7 @@ pub(crate) fn attempt_legs<R: Threads + Wait + Sync, G: Gate>(
 
 /// The first worker runs its part in each batch of the window, and attempts it. An error with a fault has broken the
 /// replica; one without comes where a worker gave a request up.
-fn attempt_each<R: Wait, G: Gate>(
+fn close_each<R: Wait, G: Gate>(
     rt: &R,
     alloc: Global,
     lead: &mut Lead<'_>,
@@ -109,19 +118,21 @@ fn attempt_each<R: Wait, G: Gate>(
     gate: &G,
 ) -> Result<(), Option<RunFault>>
     requires due { MayAttemptAll account.old window.now }
-    ensures lead { lead.new ≡ lead.old }
+    requires over { lead.old.names ≡ account.old.names }
+    requires left { lead.old.left ≡ map (λ m. plain_batch m.batch) window.now }
+    ensures lead { StaysAt lead.old lead.new }
     ensures on { OnOk result (AttemptsAll window.now account.old steps.old account.new steps.new) }
     ensures broken { IfErr result (λ given. IfSome given (λ _. account.new.is_broken ≡ true)) }
     ensures same { KeepsCrew account.old account.new }
 {
     for place in 0..window.len() {
-        attempt_mixed(rt, alloc, lead, account, steps, &window[place], gate)?;
+        close_mixed(rt, alloc, lead, account, steps, &window[place], gate)?;
     }
     Ok(())
 }
 
 /// The first worker runs its part in the next batch, and attempts it.
-fn attempt_mixed<R: Wait, G: Gate>(
+fn close_mixed<R: Wait, G: Gate>(
     rt: &R,
     alloc: Global,
     lead: &mut Lead<'_>,
@@ -133,14 +144,17 @@ fn attempt_mixed<R: Wait, G: Gate>(
     requires due { AreDue 1 account.old.ledger }
     requires mixed { IsRightMixed account.old.names mixed.now }
     requires whole { account.old.is_broken ≡ false }
-    ensures lead { lead.new ≡ lead.old }
+    requires over { lead.old.names ≡ account.old.names }
+    requires next { (rest : List Batch) × (lead.old.left ≡ plain_batch mixed.now.batch ∷ rest) }
+    ensures lead { StaysAt lead.old lead.new }
+    ensures left { OnOk result (lead.old.left ≡ plain_batch mixed.now.batch ∷ lead.new.left) }
     ensures on { OnOk result (GoesOn (attempt_move 1 (plain_batch mixed.now.batch ∷ []))
         (server_with account.old steps.old) (server_with account.new steps.new)) }
     ensures broken { IfErr result (λ given. IfSome given (λ _. account.new.is_broken ≡ true)) }
     ensures same { KeepsCrew account.old account.new }
 {
     let touched = mixed.touched.as_slice();
-    match account.attempt_next(rt, alloc, lead, &mixed.batch, touched, gate) {
+    match account.close_next(rt, alloc, lead, &mixed.batch, touched, gate) {
         Ok(attempt) => match add_step(steps, Step::Attempt(attempt)) {
             Ok(()) => Ok(()),
             Err(_) => Err(Some(account.broken_by(AttemptFault::Memory).into())),

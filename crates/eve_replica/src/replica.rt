@@ -15,17 +15,18 @@ ghost use Rattle.eve_attempts.specs.TakingOver.{IsStateOf, TakesOver};
 ghost use Rattle.eve_replica.specs.Replicas.{Attempts, AttemptsDue, FailsAttempt, ClosesThese, ClosesOwn};
 ghost use Rattle.eve_replica.specs.Replicas.{IsDue, IsFirstOpen, CommitsFirst};
 ghost use Rattle.eve_replica.specs.Serving.{IsRightMixed, MayAttemptAll, AttemptsAll};
-ghost use Rattle.eve_replica_crew.specs.Sharing.{IsRightLeg};
+ghost use Rattle.eve_replica_crew.specs.Parts.{assigned_batches};
+ghost use Rattle.eve_replica_crew.specs.Sharing.{IsRightAssignment};
 
 use crate::account::Account;
-use crate::attempting::{attempt_legs, attempt_one};
+use crate::attempting::{run_and_close, run_and_close_each};
 use crate::fault::{AttemptFault, CloseFault, CommitFault, RunFault, TransferFault};
 use eve_accounts::{Balances, Names};
 use eve_attempts::{AttemptFront, CloseFault as Unclosed};
 use eve_floor::Floor;
 use eve_grammar::{MOST_BATCHES, MOST_WINDOW, MOST_WORKERS, TransferData};
 use eve_recorder::Gate;
-use eve_replica_crew::{Leg, Workers, crew_size};
+use eve_replica_crew::{Assignment, Workers, crew_size};
 use eve_smallbank::{Touched, Versioned};
 use eve_stamps::AccessRecord;
 use eve_workload::{MixedBatch, look_up};
@@ -189,8 +190,9 @@ impl<'n> Replica<'n> {
     /// docs/TRACE.md, "The deployment's procedure". `has_room`, `next_number`, `view` and `is_next_serial` say what the
     /// conditions ask; the next number is at most `MOST_BATCHES`. The gate is entered before each execution, with the
     /// request's index. Nothing that the threads did is believed: the attempt is what the replica's own account makes
-    /// of the records (`Closes`). The fault is one worker's, where several have one. Each fault but `Broken` leaves the
-    /// account as it was, and breaks the replica until `rollback` succeeds. May wait for other threads.
+    /// of the records that they noted (`AreNotedOf`, `Closes`). The fault is one worker's, where several have one. Each
+    /// fault but `Broken` leaves the account as it was, and breaks the replica until `rollback` succeeds. May wait for
+    /// other threads.
     pub fn run_attempt<R: Threads + Wait + Sync, G: Gate>(
         &mut self,
         rt: &R,
@@ -215,14 +217,14 @@ impl<'n> Replica<'n> {
             return Err(self.account.broken_by(AttemptFault::Memory));
         };
         let touched = touched.as_slice();
-        let leg = leg_of(&self.floor, self.workers.many(), batch, touched, serial);
-        attempt_one(
+        let assignment = assignment_of(&self.floor, self.workers.many(), batch, touched, serial);
+        run_and_close(
             rt,
             alloc,
             &self.floor,
             &mut self.workers,
             &mut self.account,
-            leg,
+            assignment,
             gate,
         )
     }
@@ -243,10 +245,10 @@ impl<'n> Replica<'n> {
     {
         let workers = self.workers.many();
         let serial = self.is_next_serial();
-        let Ok(legs) = legs_of(alloc, &self.floor, workers, window, serial) else {
+        let Ok(assignments) = assignments_of(alloc, &self.floor, workers, window, serial) else {
             return Err(self.account.broken_by(AttemptFault::Memory).into());
         };
-        attempt_legs(
+        run_and_close_each(
             rt,
             alloc,
             &self.floor,
@@ -254,7 +256,7 @@ impl<'n> Replica<'n> {
             &mut self.account,
             steps,
             window,
-            legs.as_slice(),
+            assignments.as_slice(),
             gate,
         )
     }
@@ -364,22 +366,22 @@ impl<'n> Replica<'n> {
 }
 
 /// The batches of a window, for the given number of workers. Only the first can be in serial mode.
-fn legs_of<'b>(
+fn assignments_of<'b>(
     alloc: Global,
     floor: &Floor,
     workers: u8,
     window: &'b [MixedBatch],
     serial: bool,
-) -> Result<Vec<Leg<'b>>, AllocError>
+) -> Result<Vec<Assignment<'b>>, AllocError>
     requires workers { (1 ≤ workers) × (workers ≤ MOST_WORKERS) }
     requires mixed { All (IsRightMixed floor.now) window.now }
-    ensures right { IfOk result (λ legs. All (IsRightLeg floor.now workers) legs.items) }
-    ensures many { IfOk result (λ legs. vec_len legs ≡ length window.now) }
+    ensures right { IfOk result (λ assignments. All (IsRightAssignment floor.now workers) assignments.items) }
+    ensures batches { IfOk result (λ assignments. assigned_batches assignments.items ≡ map (λ m. plain m.batch) window.now) }
 {
-    let mut legs = Vec::with_capacity(alloc, window.len())?;
+    let mut assignments = Vec::with_capacity(alloc, window.len())?;
     let mut is_serial = serial;
     for mixed in window {
-        legs.push_reserved(leg_of(
+        assignments.push_reserved(assignment_of(
             floor,
             workers,
             &mixed.batch,
@@ -388,25 +390,25 @@ fn legs_of<'b>(
         ));
         is_serial = false;
     }
-    Ok(legs)
+    Ok(assignments)
 }
 
 /// The batch with those of the workers that can have something to do in it.
-fn leg_of<'b>(
+fn assignment_of<'b>(
     floor: &Floor,
     workers: u8,
     batch: &'b BatchData,
     touched: &'b [Touched],
     serial: bool,
-) -> Leg<'b>
+) -> Assignment<'b>
     requires workers { (1 ≤ workers) × (workers ≤ MOST_WORKERS) }
     requires batch { IsTrue (is_batch (plain batch.now)) }
     requires touched { touched.now ≡ touched_in_batch floor.now (plain batch.now) }
-    ensures right { IsRightLeg floor.now workers result }
+    ensures right { IsRightAssignment floor.now workers result }
     ensures batch { result.batch.now ≡ batch.now }
 {
     let crew = crew_size(batch.sizes.as_slice(), workers, serial);
-    Leg {
+    Assignment {
         batch,
         touched,
         crew,

@@ -3,3 +3,4 @@ mod Sizes
 mod Faults
 mod Seatings
 mod Records
+mod Parts

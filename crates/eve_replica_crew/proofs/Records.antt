@@ -1,5 +1,6 @@
 -- One more record that the first worker keeps, and its seat where it keeps none.
 use Rattle.std.proofs.Common.{◌≡◌, ℕ, ap, ◌∙◌, ◌+◌, List, [], ◌∷◌, ◌++◌, length, subst, sym, arith}
+use Rattle.std.proofs.lemmas.List.{append-nil}
 use Rattle.eve_stamps.specs.Applied.{Applied}
 use Rattle.eve_grammar.specs.Trace.{Batch, request_with}
 use Rattle.eve_recorder.specs.Drawing.{Drawer, TicketSource}
@@ -7,7 +8,7 @@ use Rattle.eve_floor.specs.Applying.{Refuses}
 use Rattle.eve_floor.specs.Executing.{IsRecordOf}
 use Rattle.eve_floor.specs.declared.fault.ExecFault.{ExecFault}
 use Rattle.eve_floor.specs.declared.fault.ExecFault.TheVariants as fault
-use Rattle.eve_replica_crew.specs.Recording.{AreKeptFrom, AreRecordsFrom}
+use Rattle.eve_replica_crew.specs.Recording.{AreKeptFrom, AreNotedOf, AreRecordsFrom}
 
 -- of a worker alone: that of the request after those that have one
 pub records_push : (names : List (List ℕ)) (b : Batch) (index : ℕ) (records : List Applied) (r : Applied) (next : ℕ)
@@ -41,3 +42,23 @@ refused_at fault.NoRow old new t drew at = ap (λ (d : Drawer). d.tickets) drew.
 refused_at fault.TickOrder old new t drew at = ap (λ (d : Drawer). d.tickets) drew.1 ∙ at
 refused_at fault.Worn old new t drew at = ap (λ (d : Drawer). d.tickets) drew.1 ∙ at
 refused_at fault.Memory old new t drew at = ap (λ (d : Drawer). d.tickets) drew.1 ∙ at
+
+-- those of a worker alone are ones that it kept
+kept_alone : (names : List (List ℕ)) (b : Batch) (index : ℕ) (records : List Applied)
+    → AreRecordsFrom names b index records → AreKeptFrom names b index records
+kept_alone names b index [] all = record {}
+kept_alone names b index (r ∷ records) all = (
+  subst (λ (k : ℕ). IsRecordOf names (request_with b k) k 0 index r) (sym all.0.0) all.0,
+  kept_alone names b (index + 1) records all.1,
+)
+
+-- and all that was noted
+pub noted_alone : (names : List (List ℕ)) (b : Batch) (records : List Applied) → AreRecordsFrom names b 0 records
+    → AreNotedOf names b records
+noted_alone names b records all = record {
+  kept = records;
+  taken = [];
+  all = sym (append-nil records);
+  own = kept_alone names b 0 records all;
+  orderly = λ w. record {};
+}

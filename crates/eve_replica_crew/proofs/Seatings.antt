@@ -41,12 +41,12 @@ seatings_pop (r ∷ rooms) (p ∷ seatings) s all = (all.0, seatings_pop rooms s
 pub seats_seen : (rooms : List Room) (seatings : List Seating) (s : Seating) (r : Room) (k : ℕ) (d : Desk)
     (t : TicketSource)
     → AreSeatingsOf rooms (seatings ++ s ∷ []) → k ≡ length seatings → r ≡ slice_index_or rooms k r → d ≡ r.recorder
-    → t ≡ r.claims → AreSeatsAt d.recorder t r.leg.crew s
+    → t ≡ r.claims → AreSeatsAt d.recorder t r.assignment.crew s
 seats_seen rooms seatings s r k d t all at is desk claims =
     let own = subst (λ (q : Room). IsSeatingOf q s) (sym (is ∙ ap (λ (j : ℕ). slice_index_or rooms j r) at))
     (seatings_last rooms seatings s r all).1 in
-    subst (λ (e : Desk). AreSeatsAt e.recorder t r.leg.crew s) (sym desk)
-    (subst (λ (u : TicketSource). AreSeatsAt r.recorder.recorder u r.leg.crew s) (sym claims) own)
+    subst (λ (e : Desk). AreSeatsAt e.recorder t r.assignment.crew s) (sym desk)
+    (subst (λ (u : TicketSource). AreSeatsAt r.recorder.recorder u r.assignment.crew s) (sym claims) own)
 
 -- at first all seats of a recorder's workers are there, and nothing is noted on them
 pub fresh_noters : (recorder : RecorderId) (n : ℕ) → n ≤ recorder.workers → recorder.workers ≡ 8

@@ -2,19 +2,19 @@
 use Rattle.std.specs.Prelude.{◌≡◌}
 use denote.Ref.{MutBor}
 use denote.Param.Members.{Mut}
-use Rattle.eve_recorder.specs.Drawing.{TicketSource}
+use Rattle.eve_replica_crew.specs.FirstWorkers.{FirstWorker}
 
-module _ {F A : Type 0} (g : Mut F (MutBor TicketSource × Unit {0}) (A × (MutBor TicketSource × Unit {0})))
-    (ticks : TicketSource) (f : F) where
-  -- it may be called with a first worker that has its seat at these tickets of ticks, which then has it there still
+module _ {F A : Type 0} (g : Mut F (MutBor FirstWorker × Unit {0}) (A × (MutBor FirstWorker × Unit {0})))
+    (first : FirstWorker) (f : F) where
+  -- it may be called with this first worker, whose seat is at the same tickets of ticks then
   pub record Leads : Type 0 where
-    pub callable : (p : MutBor TicketSource) → p.now ≡ ticks → g.pre f (p, tt)
-    pub keeps : (p q : MutBor TicketSource) (a : A) (h : F) → p.now ≡ ticks → g.steps f (p, tt) (a, (q, tt)) h
-        → q.now ≡ ticks
+    pub callable : (p : MutBor FirstWorker) → p.now ≡ first → g.pre f (p, tt)
+    pub keeps : (p q : MutBor FirstWorker) (a : A) (h : F) → p.now ≡ first → g.steps f (p, tt) (a, (q, tt)) h
+        → q.now.ticks ≡ first.ticks
 
-  -- it was called with such a worker, returned this, and became that
+  -- it was called with that worker, returned this, and became that
   pub record Led (a : A) (h : F) : Type 0 where
-    pub given : MutBor TicketSource
-    pub there : given.now ≡ ticks
-    pub left : MutBor TicketSource
+    pub given : MutBor FirstWorker
+    pub there : given.now ≡ first
+    pub left : MutBor FirstWorker
     pub met : g.steps f (given, tt) (a, (left, tt)) h

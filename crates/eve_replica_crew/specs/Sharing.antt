@@ -9,10 +9,10 @@ use Rattle.eve_smallbank.specs.Touch.{touched_of}
 use Rattle.eve_grammar.specs.declared.limits.TheConstants.{MOST_REQUESTS, MOST_WORKERS}
 use Rattle.eve_grammar.specs.Limits.{is_batch}
 use Rattle.eve_grammar.specs.Trace.{Batch}
-use Rattle.eve_replica_crew.specs.declared.leg.Leg.{Leg}
+use Rattle.eve_replica_crew.specs.declared.assignment.Assignment.{Assignment}
 use Rattle.eve_replica_crew.specs.declared.room.Room.{Room}
 use Rattle.eve_replica_crew.specs.declared.room.Seating.{Seating}
-use Rattle.eve_replica_crew.specs.declared.shared.Shared.{Shared}
+use Rattle.eve_replica_crew.specs.declared.shared_batch.SharedBatch.{SharedBatch}
 
 -- what each of the batch's requests touches was looked up among these names
 abbrev pub AreLookedUp : List (List ℕ) → Batch → List Touched → Type 0
@@ -20,14 +20,14 @@ AreLookedUp names b touched = touched ≡ map (λ a. touched_of names a.request)
 
 -- What is shared is of a batch of at most 256 requests: each has a start, and what it touches was looked up among the
 -- floor's names.
-pub record IsSet (s : Shared) : Type 0 where
+pub record IsSet (s : SharedBatch) : Type 0 where
   pub few : length s.batch.now.requests.items ≤ MOST_REQUESTS
   pub starts : length s.starts.now ≡ length s.batch.now.requests.items
   pub touched : AreLookedUp s.floor.now (plain s.batch.now) s.touched.now
 
 -- A batch of a window, for at most the given number of workers, over stripes of these names: it is a batch, what its
 -- requests touch was looked up among the names, and some workers take part.
-pub record IsRightLeg (names : List (List ℕ)) (workers : ℕ) (l : Leg) : Type 0 where
+pub record IsRightAssignment (names : List (List ℕ)) (workers : ℕ) (l : Assignment) : Type 0 where
   pub batch : IsTrue (is_batch (plain l.batch.now))
   pub touched : AreLookedUp names (plain l.batch.now) l.touched.now
   pub some : 1 ≤ l.crew
@@ -36,9 +36,9 @@ pub record IsRightLeg (names : List (List ℕ)) (workers : ℕ) (l : Leg) : Type
 
 -- Such a batch with its room: each request has a start.
 pub record IsRightRoom (names : List (List ℕ)) (workers : ℕ) (r : Room) : Type 0 where
-  pub leg : IsRightLeg names workers r.leg
-  pub crew : r.leg.crew ≤ r.recorder.recorder.workers
-  pub starts : length r.starts.items ≡ length r.leg.batch.now.requests.items
+  pub assignment : IsRightAssignment names workers r.assignment
+  pub crew : r.assignment.crew ≤ r.recorder.recorder.workers
+  pub starts : length r.starts.items ≡ length r.assignment.batch.now.requests.items
 
 -- the seats of the workers below this number are there, and nothing is noted on them
 abbrev pub AreNoters : RecorderId → ℕ → List (Option Noter) → Type 0
@@ -58,7 +58,7 @@ pub record AreSeatsAt (recorder : RecorderId) (tickets : TicketSource) (n : ℕ)
 
 -- the seats of a room
 abbrev pub IsSeatingOf : Room → Seating → Type 0
-IsSeatingOf r s = AreSeatsAt r.recorder.recorder r.claims r.leg.crew s
+IsSeatingOf r s = AreSeatsAt r.recorder.recorder r.claims r.assignment.crew s
 
 -- each room's seats, for the first rooms: one room for each of these seats
 abbrev pub AreSeatingsOf : List Room → List Seating → Type 0
@@ -66,14 +66,14 @@ AreSeatingsOf rooms [] = ⊤
 AreSeatingsOf [] (s ∷ seatings) = ⊥
 AreSeatingsOf (r ∷ rooms) (s ∷ seatings) = IsSeatingOf r s × AreSeatingsOf rooms seatings
 
--- the seats of the first worker's part in a batch: the taker's at the recorder that is shared, and one at the tickets
--- of claims
-abbrev pub IsTakeable : Shared → Taker → Drawer → Type 0
+-- the seats of the first worker's part in a batch: the taker's at the recorder that is shared, with nothing taken on it,
+-- and one at the tickets of claims
+abbrev pub IsTakeable : SharedBatch → Taker → Drawer → Type 0
 IsTakeable s taker claims =
-    IsSet s × (taker.recorder ≡ s.recorder.now.recorder) × (claims.tickets ≡ s.claims.now)
+    IsSet s × (taker.recorder ≡ s.recorder.now.recorder) × (taker.taken ≡ []) × (claims.tickets ≡ s.claims.now)
 
 -- the seats of a part in a batch: at the recorder that is shared, with nothing noted on it, and at the
 -- tickets of claims
-abbrev pub IsReady : Shared → Noter → Drawer → Type 0
+abbrev pub IsReady : SharedBatch → Noter → Drawer → Type 0
 IsReady s seat claims =
     IsSet s × (seat.recorder ≡ s.recorder.now.recorder) × (length seat.noted ≡ 0) × (claims.tickets ≡ s.claims.now)

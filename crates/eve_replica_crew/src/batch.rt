@@ -1,22 +1,24 @@
 //! Batches run by a crew.
 
-ghost use Rattle.std.specs.Prelude.{◌≡◌, ◌+◌, ◌≤◌, ℕ, All, IfOk, OnErr, IsTrue, List, length, vec_len};
+ghost use Rattle.std.specs.Prelude.{◌≡◌, ◌+◌, ◌≤◌, ℕ, All, IfOk, OnErr, IsTrue, List, length, map, vec_len};
 ghost use Rattle.eve_grammar.specs.Limits.{is_batch};
 ghost use Rattle.eve_write.specs.Data.{batch as plain};
 ghost use Rattle.eve_replica_crew.specs.Crews.{AreTickets};
-ghost use Rattle.eve_replica_crew.specs.Sharing.{AreSeatingsOf, IsRightLeg, IsRightRoom, IsSeatingOf};
+ghost use Rattle.eve_replica_crew.specs.Sharing.{AreSeatingsOf, IsRightAssignment, IsRightRoom, IsSeatingOf};
 ghost use Rattle.eve_replica_crew.specs.Sharing.{IsSet};
+ghost use Rattle.eve_replica_crew.specs.FirstWorkers.{first_worker};
 ghost use Rattle.eve_replica_crew.specs.Leading.{Leads, Led};
+ghost use Rattle.eve_replica_crew.specs.Parts.{AreOver, batches_left, assigned_batches};
 
-use crate::crew::{deal, run_hands};
+use crate::assignment::Assignment;
+use crate::crew::{deal, run_crew};
 use crate::lead::Lead;
-use crate::leg::Leg;
-use crate::lone::lone_hands;
+use crate::lone::lone_parts;
+use crate::part::{Part, Parts};
 use crate::progress::Progress;
+use crate::recorder_pool::{PooledRecorder, RecorderPool};
 use crate::room::{Room, Seating, requests_before};
-use crate::share::{Hands, Share};
-use crate::shared::{Shared, starts_of};
-use crate::spare::{Spare, Stock};
+use crate::shared_batch::{SharedBatch, starts_of};
 use crate::workers::Workers;
 use eve_floor::{ExecFault, Floor};
 use eve_grammar::MOST_REQUESTS;
@@ -37,25 +39,28 @@ pub fn run_batches<R: Threads + Wait + Sync, G: Gate, A, F: FnMut(&mut Lead<'_>)
     alloc: Global,
     floor: &Floor,
     workers: &mut Workers,
-    legs: &[Leg],
+    assignments: &[Assignment],
     gate: &G,
     own: &mut F,
 ) -> Result<(A, Option<ExecFault>), AllocError>
-    requires legs { All (IsRightLeg floor.now workers.old.many) legs.now }
-    requires own { Leads F.FnMut workers.old.ticks own.old }
+    requires assignments { All (IsRightAssignment floor.now workers.old.many) assignments.now }
+    requires own { Leads F.FnMut (first_worker workers.old.ticks floor.now (assigned_batches assignments.now)) own.old }
     ensures workers { workers.new ≡ workers.old }
-    ensures led { IfOk result (λ r. Led F.FnMut workers.old.ticks own.old r.0 own.new) }
+    ensures led { let first = first_worker workers.old.ticks floor.now (assigned_batches assignments.now) in
+        IfOk result (λ r. Led F.FnMut first own.old r.0 own.new) }
     ensures refused { OnErr result (own.new ≡ own.old) }
 {
     let progress = Progress::new();
     let many = workers.many();
     if many == 1 {
-        let hands = lone_hands(alloc, floor, legs)?;
-        return run_hands(rt, alloc, workers, &progress, hands, gate, own);
+        let parts = lone_parts(alloc, floor, assignments)?;
+        return run_crew(rt, alloc, floor, workers, &progress, parts, gate, own);
     }
-    let (rooms, seatings) = furnish_all(alloc, legs, &mut workers.stock)?;
-    workers.stock.want(legs.len(), most_requests(legs));
-    let hands = deal_all(
+    let (rooms, seatings) = furnish_all(alloc, assignments, &mut workers.pool)?;
+    workers
+        .pool
+        .want(assignments.len(), most_requests(assignments));
+    let parts = deal_all(
         alloc,
         floor,
         &progress,
@@ -63,26 +68,27 @@ pub fn run_batches<R: Threads + Wait + Sync, G: Gate, A, F: FnMut(&mut Lead<'_>)
         seatings,
         many as usize,
     )?;
-    run_hands(rt, alloc, workers, &progress, hands, gate, own)
+    run_crew(rt, alloc, floor, workers, &progress, parts, gate, own)
 }
 
 /// The rooms of the batches, and the seats of each.
 fn furnish_all<'b>(
     alloc: Global,
-    legs: &[Leg<'b>],
-    stock: &mut Stock,
+    assignments: &[Assignment<'b>],
+    pool: &mut RecorderPool,
 ) -> Result<(Vec<Room<'b>>, Vec<Seating>), AllocError>
-    requires legs { (names : List (List ℕ)) × (workers : ℕ) × All (IsRightLeg names workers) legs.now }
-    ensures rooms { (names : List (List ℕ)) (workers : ℕ) → All (IsRightLeg names workers) legs.now
+    requires assignments { (names : List (List ℕ)) × (workers : ℕ) × All (IsRightAssignment names workers) assignments.now }
+    ensures rooms { (names : List (List ℕ)) (workers : ℕ) → All (IsRightAssignment names workers) assignments.now
         → IfOk result (λ r. All (IsRightRoom names workers) r.0.items) }
-    ensures many { IfOk result (λ r. vec_len r.0 ≡ length legs.now) }
+    ensures assignments { IfOk result (λ r. map (λ x. x.assignment) r.0.items ≡ assignments.now) }
+    ensures many { IfOk result (λ r. vec_len r.0 ≡ length assignments.now) }
     ensures seatings { IfOk result (λ r. AreSeatingsOf r.0.items r.1.items) }
-    ensures all { IfOk result (λ r. vec_len r.1 ≡ length legs.now) }
+    ensures all { IfOk result (λ r. vec_len r.1 ≡ length assignments.now) }
 {
-    let mut rooms = Vec::with_capacity(alloc, legs.len())?;
-    let mut seatings = Vec::with_capacity(alloc, legs.len())?;
-    for leg in legs {
-        let (room, seating) = furnish(alloc, leg, stock)?;
+    let mut rooms = Vec::with_capacity(alloc, assignments.len())?;
+    let mut seatings = Vec::with_capacity(alloc, assignments.len())?;
+    for assignment in assignments {
+        let (room, seating) = furnish(alloc, assignment, pool)?;
         rooms.push_reserved(room);
         seatings.push_reserved(seating);
     }
@@ -97,26 +103,29 @@ fn deal_all<'s, 'b>(
     rooms: &'s [Room<'b>],
     mut seatings: Vec<Seating>,
     workers: usize,
-) -> Result<Hands<'s>, AllocError>
+) -> Result<Parts<'s>, AllocError>
     requires rooms { All (IsRightRoom floor.now workers) rooms.now }
     requires seatings { AreSeatingsOf rooms.now seatings.items }
     requires all { vec_len seatings ≡ length rooms.now }
     requires some { 1 ≤ workers }
-    ensures { IfOk result (λ hands. vec_len hands.others + 1 ≡ workers) }
+    ensures workers { IfOk result (λ parts. vec_len parts.others + 1 ≡ workers) }
+    ensures batches { IfOk result (λ parts.
+        batches_left parts.lead.items ≡ assigned_batches (map (λ r. r.assignment) rooms.now)) }
+    ensures over { IfOk result (λ parts. AreOver floor.now parts.lead.items) }
 {
-    let mut hands = Hands {
-        turns: Vec::with_capacity(alloc, rooms.len())?,
-        others: empty_hands(alloc, workers - 1, rooms.len())?,
+    let mut parts = Parts {
+        lead: Vec::with_capacity(alloc, rooms.len())?,
+        others: empty_parts(alloc, workers - 1, rooms.len())?,
     };
     while let Some(mut seating) = seatings.pop() {
         let place = seatings.len();
         let room = &rooms[place];
         let shared = shared_of(floor, progress, room, requests_before(rooms, place));
-        let dealt = deal(&shared, room.leg.crew, &mut seating, &mut hands);
+        let dealt = deal(&shared, room.assignment.crew, &mut seating, &mut parts);
         drop(seating);
         dealt?;
     }
-    Ok(hands)
+    Ok(parts)
 }
 
 /// What the workers share while a room's batch is run, after batches with the given number of requests.
@@ -125,16 +134,18 @@ fn shared_of<'s, 'b>(
     progress: &'s Progress,
     room: &'s Room<'b>,
     before: u64,
-) -> Shared<'s>
+) -> SharedBatch<'s>
     requires { (workers : ℕ) × IsRightRoom floor.now workers room.now }
     ensures set { IsSet result }
+    ensures floor { result.floor.now ≡ floor.now }
+    ensures batch { result.batch.now ≡ room.now.assignment.batch.now }
     ensures recorder { result.recorder.now ≡ room.now.recorder }
     ensures claims { result.claims.now ≡ room.now.claims }
 {
-    Shared {
+    SharedBatch {
         floor,
-        batch: room.leg.batch,
-        touched: room.leg.touched,
+        batch: room.assignment.batch,
+        touched: room.assignment.touched,
         recorder: &room.recorder,
         claims: &room.claims,
         starts: room.starts.as_slice(),
@@ -144,46 +155,47 @@ fn shared_of<'s, 'b>(
 }
 
 /// An empty list of parts for each worker, with room for one in each batch.
-fn empty_hands<'s>(
+fn empty_parts<'s>(
     alloc: Global,
     workers: usize,
-    legs: usize,
-) -> Result<Vec<Vec<Share<'s>>>, AllocError>
-    ensures { IfOk result (λ hands. vec_len hands ≡ workers) }
+    assignments: usize,
+) -> Result<Vec<Vec<Part<'s>>>, AllocError>
+    ensures { IfOk result (λ all. vec_len all ≡ workers) }
 {
-    let mut hands = Vec::with_capacity(alloc, workers)?;
+    let mut all = Vec::with_capacity(alloc, workers)?;
     for number in 0..workers {
-        let shares = Vec::with_capacity(alloc, legs)?;
-        hands.push_reserved(shares);
+        let parts = Vec::with_capacity(alloc, assignments)?;
+        all.push_reserved(parts);
     }
-    Ok(hands)
+    Ok(all)
 }
 
 /// The room of a batch, with its seats.
 fn furnish<'b>(
     alloc: Global,
-    leg: &Leg<'b>,
-    stock: &mut Stock,
+    assignment: &Assignment<'b>,
+    pool: &mut RecorderPool,
 ) -> Result<(Room<'b>, Seating), AllocError>
-    requires { (names : List (List ℕ)) × (workers : ℕ) × IsRightLeg names workers leg.now }
-    ensures room { (names : List (List ℕ)) (workers : ℕ) → IsRightLeg names workers leg.now
+    requires { (names : List (List ℕ)) × (workers : ℕ) × IsRightAssignment names workers assignment.now }
+    ensures room { (names : List (List ℕ)) (workers : ℕ) → IsRightAssignment names workers assignment.now
         → IfOk result (λ r. IsRightRoom names workers r.0) }
+    ensures assignment { IfOk result (λ r. r.0.assignment ≡ assignment.now) }
     ensures seating { IfOk result (λ r. IsSeatingOf r.0 r.1) }
 {
-    let count = count_of(leg.batch);
-    let starts = starts_of(alloc, leg.batch.sizes.as_slice(), count as u16)?;
-    let (claims, own) = Tickets::new(alloc, leg.crew, count as u64)?;
-    let Ok(spare) = stock.take(count) else {
+    let count = count_of(assignment.batch);
+    let starts = starts_of(alloc, assignment.batch.sizes.as_slice(), count as u16)?;
+    let (claims, own) = Tickets::new(alloc, assignment.crew, count as u64)?;
+    let Ok(pooled) = pool.take(count) else {
         drop(own);
         return Err(AllocError);
     };
-    let Spare {
+    let PooledRecorder {
         recorder,
         places,
         ..
-    } = spare;
+    } = pooled;
     let room = Room {
-        leg: *leg,
+        assignment: *assignment,
         recorder,
         claims,
         starts,
@@ -198,10 +210,10 @@ fn furnish<'b>(
 }
 
 /// The number of requests of the largest batch. It says only how large new recorders are.
-fn most_requests(legs: &[Leg]) -> usize {
+fn most_requests(assignments: &[Assignment]) -> usize {
     let mut most = 0;
-    for leg in legs {
-        most = leg.batch.requests.len().max(most);
+    for assignment in assignments {
+        most = assignment.batch.requests.len().max(most);
     }
     most
 }

@@ -2,21 +2,21 @@
 //! one another, and what they note.
 #![tactic(auto)]
 
+mod assignment;
 mod batch;
 mod crew;
 mod lead;
-mod leg;
 mod lone;
+mod part;
 mod progress;
+mod recorder_pool;
 mod room;
-mod share;
-mod shared;
-mod spare;
+mod shared_batch;
 mod work;
 mod workers;
 
+pub use assignment::Assignment;
 pub use batch::run_batches;
 pub use crew::crew_size;
 pub use lead::Lead;
-pub use leg::Leg;
 pub use workers::Workers;

@@ -1,12 +1,12 @@
 //! The recorder and the tickets of one batch.
 
-use crate::leg::Leg;
+use crate::assignment::Assignment;
 use eve_recorder::{Recorder, Seats, TicketSeats, Tickets};
 
 /// The recorder on which a batch's workers note its records, and the tickets by which they claim its requests.
 #[derive(Drop)]
 pub(crate) struct Room<'b> {
-    pub leg: Leg<'b>,
+    pub assignment: Assignment<'b>,
     pub recorder: Recorder,
     // the tickets by which requests are claimed
     pub claims: Tickets,
@@ -25,7 +25,7 @@ pub(crate) struct Seating {
 pub(crate) fn requests_before(rooms: &[Room<'_>], count: usize) -> u64 {
     let mut all = 0u64;
     for room in rooms.iter().take(count) {
-        all = all.saturating_add(room.leg.batch.requests.len() as u64);
+        all = all.saturating_add(room.assignment.batch.requests.len() as u64);
     }
     all
 }

@@ -1,19 +1,21 @@
 //! A worker's parts in its batches.
 
-ghost use Rattle.std.specs.Prelude.{◌≡◌, ◌+◌, ◌<◌, ◌≤◌, IfOk, IfSome, OnOk, length, vec_len, vec_capacity};
+ghost use Rattle.std.specs.Prelude.{◌≡◌, ◌+◌, ◌<◌, ◌≤◌, ◌++◌, [], IfOk, IfSome, OnOk, length, vec_len, vec_capacity};
 ghost use Rattle.eve_smallbank.specs.Touch.{touched_of};
 ghost use Rattle.eve_write.specs.Data.{batch as plain_batch};
 ghost use Rattle.eve_floor.specs.Executing.{IsSeatedAt};
 ghost use Rattle.eve_grammar.specs.Trace.{request_with};
-ghost use Rattle.eve_replica_crew.specs.Recording.{AreKeptFrom};
+ghost use Rattle.eve_recorder.specs.Noted.{IsOrderly};
+ghost use Rattle.eve_replica_crew.specs.Parts.{batch_of_part, names_of_part};
+ghost use Rattle.eve_replica_crew.specs.Recording.{AreKeptFrom, AreNotedOf};
 ghost use Rattle.eve_replica_crew.specs.Sharing.{IsSet};
 ghost use Rattle.eve_replica_crew.specs.Crews.{IsSeated};
 
 use crate::crew::Member;
 use crate::lone::run_lone;
+use crate::part::{LeadPart, Part, SharedPart};
 use crate::progress::{GivenUp, Pace, Progress};
-use crate::share::{Part, Share, Turn};
-use crate::shared::Shared;
+use crate::shared_batch::SharedBatch;
 use eve_floor::{ExecFault, Worker, execute_kept, execute_touched};
 use eve_grammar::MOST_REQUESTS;
 use eve_recorder::{Gate, TakerSeat, TicketSeat, Tickets};
@@ -31,11 +33,11 @@ pub(crate) fn run_parts<R: Wait, G: Gate>(
     requires seated { IsSeated ticks.now member.old }
     ensures seated { IsSeated ticks.now member.new }
 {
-    while let Some(share) = member.shares.pop() {
+    while let Some(part) = member.parts.pop() {
         let Some(tick) = member.tick.take() else {
             unreachable!()
         };
-        let (tick, end) = run_part(rt, ticks, share, tick, gate);
+        let (tick, end) = run_part(rt, ticks, part, tick, gate);
         member.tick = Some(tick);
         if let Err(why) = end {
             member.fault = fault_in(why);
@@ -46,10 +48,10 @@ pub(crate) fn run_parts<R: Wait, G: Gate>(
 
 /// Runs the first worker's part in a batch, and takes what was noted of the whole batch. The error is the worker's own
 /// fault, or none where another worker gave a request up.
-pub(crate) fn run_own<R: Wait, G: Gate>(
+pub(crate) fn run_lead_part<R: Wait, G: Gate>(
     rt: &R,
     ticks: &Tickets,
-    part: Part<'_>,
+    part: LeadPart<'_>,
     tick: &mut TicketSeat,
     gate: &G,
     records: &mut Vec<AccessRecord>,
@@ -59,13 +61,14 @@ pub(crate) fn run_own<R: Wait, G: Gate>(
     requires room { MOST_REQUESTS ≤ vec_capacity records.old }
     ensures tick { tick.new.tickets ≡ ticks.now }
     ensures room { vec_capacity records.new ≡ vec_capacity records.old }
+    ensures noted { OnOk result (AreNotedOf (names_of_part part.entry) (batch_of_part part.entry) records.new.items) }
 {
     match part {
-        Part::Alone(lone) => match run_lone(rt, ticks, &lone, tick, gate, records) {
+        LeadPart::Alone(lone) => match run_lone(rt, ticks, &lone, tick, gate, records) {
             Ok(()) => Ok(()),
             Err(why) => Err(Some(why)),
         },
-        Part::Beside(turn) => match run_turn(rt, ticks, turn, tick, gate, records) {
+        LeadPart::Beside(beside) => match run_shared_part(rt, ticks, beside, tick, gate, records) {
             Ok(()) => Ok(()),
             Err(why) => Err(fault_in(why)),
         },
@@ -82,10 +85,10 @@ fn fault_in(own: Option<GivenUp>) -> Option<ExecFault> {
 
 /// Runs the first worker's part in one batch, keeps its records, and takes what the others noted, once all is noted.
 /// The error is the worker's own fault, or none where another worker gave a request up.
-fn run_turn<R: Wait, G: Gate>(
+fn run_shared_part<R: Wait, G: Gate>(
     rt: &R,
     ticks: &Tickets,
-    turn: Turn<'_>,
+    part: SharedPart<'_>,
     tick: &mut TicketSeat,
     gate: &G,
     records: &mut Vec<AccessRecord>,
@@ -95,14 +98,16 @@ fn run_turn<R: Wait, G: Gate>(
     requires room { MOST_REQUESTS ≤ vec_capacity records.old }
     ensures tick { tick.new.tickets ≡ ticks.now }
     ensures room { vec_capacity records.new ≡ vec_capacity records.old }
+    ensures noted { let shared = part.entry.shared in
+        OnOk result (AreNotedOf shared.floor.now (plain_batch shared.batch.now) records.new.items) }
 {
-    let Turn {
+    let SharedPart {
         shared,
         mut taker,
         mut claims,
         ..
-    } = turn;
-    run_kept(rt, ticks, &shared, tick, &mut claims, gate, records)?;
+    } = part;
+    claim_and_keep(rt, ticks, &shared, tick, &mut claims, gate, records)?;
     if !shared.progress.wait_for(rt, noted_after(&shared)) {
         return Err(None);
     }
@@ -110,11 +115,11 @@ fn run_turn<R: Wait, G: Gate>(
     Ok(())
 }
 
-/// Claims requests of the batch and runs them, as `run_share` does, and keeps their records.
-fn run_kept<R: Wait, G: Gate>(
+/// Claims requests of the batch and runs them, as `claim_and_run` does, and keeps their records.
+fn claim_and_keep<R: Wait, G: Gate>(
     rt: &R,
     ticks: &Tickets,
-    shared: &Shared<'_>,
+    shared: &SharedBatch<'_>,
     tick: &mut TicketSeat,
     claims: &mut TicketSeat,
     gate: &G,
@@ -160,7 +165,7 @@ fn run_kept<R: Wait, G: Gate>(
 /// are noted. An error where one was given up.
 fn next_due<R: Wait>(
     rt: &R,
-    shared: &Shared<'_>,
+    shared: &SharedBatch<'_>,
     claims: &mut TicketSeat,
     pace: &mut Pace,
 ) -> Result<Option<u16>, Option<GivenUp>>
@@ -183,7 +188,7 @@ fn next_due<R: Wait>(
 }
 
 /// The number of requests that are noted once the batch is. It says only for how long the first worker waits.
-fn noted_after(shared: &Shared<'_>) -> u64 {
+fn noted_after(shared: &SharedBatch<'_>) -> u64 {
     shared
         .before
         .saturating_add(shared.batch.requests.len() as u64)
@@ -201,15 +206,18 @@ fn tell(pace: &mut Pace, progress: &Progress) -> Result<(), Option<GivenUp>> {
 /// Takes what the others noted of the batch, until there is a record of each request.
 fn take_rest<R: Wait>(
     rt: &R,
-    shared: &Shared<'_>,
+    shared: &SharedBatch<'_>,
     taker: &mut TakerSeat,
     records: &mut Vec<AccessRecord>,
 )
     requires set { IsSet shared.now }
     requires taker { taker.old.recorder ≡ shared.now.recorder.now.recorder }
+    requires fresh { taker.old.taken ≡ [] }
     requires few { vec_len records.old ≤ length shared.now.batch.now.requests.items }
     requires room { MOST_REQUESTS ≤ vec_capacity records.old }
-    ensures { vec_capacity records.new ≡ vec_capacity records.old }
+    ensures room { vec_capacity records.new ≡ vec_capacity records.old }
+    ensures taken { records.new.items ≡ records.old.items ++ taker.new.taken }
+    ensures orderly { IsOrderly taker.new.taken }
 {
     for place in records.len()..shared.batch.requests.len() {
         let Some(record) = shared.recorder.take(rt, taker) else {
@@ -224,21 +232,21 @@ fn take_rest<R: Wait>(
 fn run_part<R: Wait, G: Gate>(
     rt: &R,
     ticks: &Tickets,
-    share: Share<'_>,
+    part: Part<'_>,
     tick: TicketSeat,
     gate: &G,
 ) -> (TicketSeat, Result<(), Option<GivenUp>>)
     requires { tick.tickets ≡ ticks.now }
     ensures { result.0.tickets ≡ ticks.now }
 {
-    let Share {
+    let Part {
         shared,
         seat,
         mut claims,
         ..
-    } = share;
+    } = part;
     let mut worker = Worker::new(seat, tick);
-    let end = run_share(rt, ticks, &shared, &mut worker, &mut claims, gate);
+    let end = claim_and_run(rt, ticks, &shared, &mut worker, &mut claims, gate);
     (tick_of(worker), end)
 }
 
@@ -256,10 +264,10 @@ fn tick_of(mut worker: Worker) -> TicketSeat
 
 /// Claims requests of the batch and runs them, one after another, until none is left. A request waits until those of
 /// earlier batches and of earlier parallelBatches are noted.
-fn run_share<R: Wait, G: Gate>(
+fn claim_and_run<R: Wait, G: Gate>(
     rt: &R,
     ticks: &Tickets,
-    shared: &Shared<'_>,
+    shared: &SharedBatch<'_>,
     worker: &mut Worker,
     claims: &mut TicketSeat,
     gate: &G,
@@ -275,7 +283,7 @@ fn run_share<R: Wait, G: Gate>(
         let Some(index) = next_due(rt, shared, claims, &mut pace)? else {
             break;
         };
-        if let Err(why) = run_one(rt, ticks, shared, worker, index, gate) {
+        if let Err(why) = run_request(rt, ticks, shared, worker, index, gate) {
             return Err(Some(why));
         }
         pace.note();
@@ -284,7 +292,7 @@ fn run_share<R: Wait, G: Gate>(
 }
 
 /// Claims the next request and returns its index.
-fn claim(shared: &Shared<'_>, claims: &mut TicketSeat) -> Option<u16>
+fn claim(shared: &SharedBatch<'_>, claims: &mut TicketSeat) -> Option<u16>
     requires set { IsSet shared.now }
     requires own { claims.old.tickets ≡ shared.now.claims.now }
     ensures own { claims.new.tickets ≡ shared.now.claims.now }
@@ -299,10 +307,10 @@ fn claim(shared: &Shared<'_>, claims: &mut TicketSeat) -> Option<u16>
 }
 
 /// Runs the request with this index. The error is why it is given up.
-fn run_one<R: Wait, G: Gate>(
+fn run_request<R: Wait, G: Gate>(
     rt: &R,
     ticks: &Tickets,
-    shared: &Shared<'_>,
+    shared: &SharedBatch<'_>,
     worker: &mut Worker,
     index: u16,
     gate: &G,
@@ -333,7 +341,7 @@ fn run_one<R: Wait, G: Gate>(
 }
 
 /// What the request with this index touches.
-fn touched_at(shared: &Shared<'_>, index: u16) -> Touched
+fn touched_at(shared: &SharedBatch<'_>, index: u16) -> Touched
     requires set { IsSet shared.now }
     requires there { index < length shared.now.batch.now.requests.items }
     ensures { result ≡ touched_of shared.now.floor.now (request_with (plain_batch shared.now.batch.now) index) }

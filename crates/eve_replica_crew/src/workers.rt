@@ -4,7 +4,7 @@ ghost use Rattle.std.specs.Prelude.{◌≡◌, ◌≤◌, IfOk, vec_len, vec_cap
 ghost use Rattle.eve_recorder.specs.Drawing.{fresh_seats};
 ghost use Rattle.eve_replica_crew.specs.Crews.{AreTickets};
 
-use crate::spare::Stock;
+use crate::recorder_pool::RecorderPool;
 use eve_grammar::MOST_WORKERS;
 use eve_recorder::{MOST_DRAWN, TicketSeat, TicketSeats, Tickets};
 use std::alloc::{AllocError, Global};
@@ -17,7 +17,7 @@ pub struct Workers {
     pub(crate) ticks: Tickets,
     // one for each worker
     pub(crate) seats: Vec<TicketSeat>,
-    pub(crate) stock: Stock,
+    pub(crate) pool: RecorderPool,
 }
 
 impl Model for Workers {
@@ -45,7 +45,7 @@ impl Workers {
         Ok(Workers {
             ticks,
             seats,
-            stock: Stock::new(alloc, 0, 0),
+            pool: RecorderPool::new(alloc, 0, 0),
         })
     }
 

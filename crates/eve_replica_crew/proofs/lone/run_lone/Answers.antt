@@ -11,7 +11,7 @@ use Rattle.eve_replica_crew.proofs.lone.run_lone.Goals as goal
 pub loop-index-preserved : goal.loop-index-preserved
 loop-index-preserved g c =
     let names : List (List ℕ) = c.args.lone.now.floor.now in
-    let b : Batch = plain c.args.lone.now.leg.batch.now in (
+    let b : Batch = plain c.args.lone.now.assignment.batch.now in (
       ap (λ (d : Drawer). d.tickets) c.in_ok-record.ensures.0 ∙ c.loop-index.invariant.0,
       omega arith,
       omega arith,
@@ -22,11 +22,11 @@ loop-index-preserved g c =
 
 pub overflow_cast-number : goal.overflow_cast-number
 overflow_cast-number g c =
-    let few = (batch_counted c.args.lone.now.leg.batch.now c.args.lone.now.right.batch).1 in omega arith
+    let few = (batch_counted c.args.lone.now.assignment.batch.now c.args.lone.now.right.batch).1 in omega arith
 
 pub push_reserved-requires : goal.push_reserved-requires
 push_reserved-requires g c =
-    let few = (batch_counted c.args.lone.now.leg.batch.now c.args.lone.now.right.batch).1 in omega arith
+    let few = (batch_counted c.args.lone.now.assignment.batch.now c.args.lone.now.right.batch).1 in omega arith
 
 pub returns-in_err-record-clause-tick : goal.returns-in_err-record-clause-tick
 returns-in_err-record-clause-tick g c =
@@ -34,4 +34,4 @@ returns-in_err-record-clause-tick g c =
     c.in_err-record.ensures c.loop-index.invariant.0
 
 pub returns-clause-all : goal.returns-clause-all
-returns-clause-all g c = omega (arith, c.args.lone.now.leg.batch.now.requests.ok)
+returns-clause-all g c = omega (arith, c.args.lone.now.assignment.batch.now.requests.ok)

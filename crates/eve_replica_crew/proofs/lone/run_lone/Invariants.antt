@@ -7,4 +7,4 @@ abbrev pub invariant-loop-index : goal.invariant-loop-index
 invariant-loop-index g l =
     (l.tick.tickets ≡ l.ticks) × (vec_len l.records ≡ l.index)
     × (vec_capacity l.records ≡ vec_capacity l.fn.records)
-    × AreRecordsFrom l.lone.floor.now (plain l.lone.leg.batch.now) 0 l.records.items
+    × AreRecordsFrom l.lone.floor.now (plain l.lone.assignment.batch.now) 0 l.records.items

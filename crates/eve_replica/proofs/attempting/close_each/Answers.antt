@@ -1,0 +1,97 @@
+use Rattle.std.proofs.Common.{◌≡◌, ℕ, ◌+◌, ◌<◌, List, ◌∷◌, refl, sym, ◌∙◌, ap, map, length, drop, get_or, option_map, subst}
+use Rattle.std.proofs.Common.{arith}
+use Rattle.std.proofs.lemmas.List.{drop_more, get_or-map, length-map}
+use Rattle.std.proofs.lemmas.Option.{slice_get-map, slice_get_read}
+use Rattle.eve_grammar.specs.Trace.{Batch}
+use Rattle.eve_write.specs.Data.{batch}
+use Rattle.eve_workload.specs.declared.mixer.MixedBatch.{MixedBatch}
+use Rattle.eve_replica.specs.declared.standing.Standing.{Standing}
+use Rattle.eve_replica.specs.Serving.{GoesOn, IsRightMixed, attempt_move, server_with}
+use Rattle.eve_replica.proofs.Going.{one_more}
+use Rattle.eve_replica.proofs.OneStep.{none_made}
+use Rattle.eve_replica.proofs.attempting.close_each.Goals as goal
+
+-- the batch that is next, before those after it
+next_left : (window : List MixedBatch) (m : MixedBatch) (place : ℕ) → place < length window → m ≡ get_or window place m
+    → drop place (map (λ (w : MixedBatch). batch w.batch) window)
+    ≡ batch m.batch ∷ drop (place + 1) (map (λ (w : MixedBatch). batch w.batch) window)
+next_left window m place there is =
+    let batches : List Batch = map (λ (w : MixedBatch). batch w.batch) window in
+    let many = length-map window (λ (w : MixedBatch). batch w.batch) in
+    drop_more batches place (batch m.batch) (omega (arith, many))
+    ∙ ap (λ (b : Batch). b ∷ drop (place + 1) batches)
+    (get_or-map (λ (w : MixedBatch). batch w.batch) window place m (batch m.batch) there
+    ∙ ap (λ (w : MixedBatch). batch w.batch) (sym is))
+
+pub loop-place-init : goal.loop-place-init
+loop-place-init g c = record {
+  on = none_made (map (λ (m : MixedBatch). batch m.batch) c.args.window.now)
+      (server_with c.args.account.now c.args.steps.now);
+  same = (refl, refl);
+  stays = (refl, refl);
+  left = c.requires.left;
+}
+
+pub loop-place-preserved : goal.loop-place-preserved
+loop-place-preserved g c = record {
+  on = one_more c.loop-place.place (map (λ m. batch m.batch) c.args.window.now)
+      (batch c.index-window-place.result.batch)
+      (server_with c.args.account.now c.args.steps.now) (server_with c.loop-place.account c.loop-place.steps)
+      (server_with c.close_mixed.new.account c.close_mixed.new.steps)
+      (slice_get-map (λ (m : MixedBatch). batch m.batch) c.args.window.now c.loop-place.place
+      ∙ ap (option_map (λ m. batch m.batch))
+      (slice_get_read c.args.window.now (length c.args.window.now) c.loop-place.place c.index-window-place.result refl
+      (omega arith) c.index-window-place.is))
+      c.loop-place.invariant.on c.in_ok-close_mixed.ensures.on;
+  same = (
+    c.close_mixed.ensures.same.0 ∙ c.loop-place.invariant.same.0,
+    c.close_mixed.ensures.same.1 ∙ c.loop-place.invariant.same.1,
+  );
+  stays = (
+    c.close_mixed.ensures.lead.0 ∙ c.loop-place.invariant.stays.0,
+    c.close_mixed.ensures.lead.1 ∙ c.loop-place.invariant.stays.1,
+  );
+  left = let both = sym c.in_ok-close_mixed.ensures.left ∙ c.loop-place.invariant.left
+      ∙ next_left c.args.window.now c.index-window-place.result c.loop-place.place (omega arith)
+      c.index-window-place.is in cc;
+}
+
+pub returns-clause-on : goal.returns-clause-on
+returns-clause-on g c =
+    let window = map (λ (m : MixedBatch). batch m.batch) c.args.window.now in
+    let all : c.loop-place.place ≡ length c.args.window.now = omega arith in
+    subst
+    (λ (n : ℕ). GoesOn (attempt_move n window) (server_with c.args.account.now c.args.steps.now)
+    (server_with c.loop-place.account c.loop-place.steps))
+    all c.loop-place.invariant.on
+
+pub close_mixed-requires-clause-due : goal.close_mixed-requires-clause-due
+close_mixed-requires-clause-due g c κs within =
+    let was = c.requires.due.due in
+    let now = (c.loop-place.invariant.on.live refl).1 in
+    let committed = ap (λ (s : Standing). s.committed) now in
+    let opened = ap (λ (s : Standing). s.opened) now in
+    let room = c.loop-place.invariant.on.room in
+    record { last = omega (arith, was.last); room = omega (arith, was.room) }
+
+pub close_mixed-requires-clause-mixed : goal.close_mixed-requires-clause-mixed
+close_mixed-requires-clause-mixed g c κs within =
+    let one : MixedBatch = c.index-window-place.result in
+    subst (λ (names : List (List ℕ)). IsRightMixed names one) (sym c.loop-place.invariant.on.names)
+    (subst (IsRightMixed c.args.account.now.names) (sym c.index-window-place.is)
+    (c.requires.due.mixed c.loop-place.place one (omega arith)))
+
+pub close_mixed-requires-clause-whole : goal.close_mixed-requires-clause-whole
+close_mixed-requires-clause-whole g c κs within = c.loop-place.invariant.on.whole c.requires.due.whole
+
+pub close_mixed-requires-clause-over : goal.close_mixed-requires-clause-over
+close_mixed-requires-clause-over g c κs within =
+    c.loop-place.invariant.stays.1 ∙ c.requires.over ∙ sym c.loop-place.invariant.same.0
+
+pub close_mixed-requires-clause-next : goal.close_mixed-requires-clause-next
+close_mixed-requires-clause-next g c κs within = (
+  drop (c.loop-place.place + 1) (map (λ (m : MixedBatch). batch m.batch) c.args.window.now),
+  c.loop-place.invariant.left
+      ∙ next_left c.args.window.now c.index-window-place.result c.loop-place.place (omega arith)
+      c.index-window-place.is,
+)

@@ -1,0 +1,13 @@
+use Rattle.std.proofs.Common.{◌≡◌, ◌≤◌, All, length, map, take, vec_len, vec_capacity}
+use Rattle.eve_write.specs.Data.{batch as plain}
+use Rattle.eve_replica_crew.specs.Parts.{assigned_batches}
+use Rattle.eve_replica_crew.specs.Sharing.{IsRightAssignment}
+use Rattle.eve_replica.proofs.replica.assignments_of.Given as goal
+
+abbrev pub invariant-loop-mixed : goal.invariant-loop-mixed
+invariant-loop-mixed l = record {
+  right : All (IsRightAssignment l.floor l.workers) l.assignments.items;
+  many : vec_len l.assignments ≡ l.mixed-index;
+  room : length l.window ≤ vec_capacity l.assignments;
+  batches : assigned_batches l.assignments.items ≡ map (λ m. plain m.batch) (take l.mixed-index l.window);
+}
