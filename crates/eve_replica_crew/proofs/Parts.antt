@@ -1,6 +1,6 @@
 -- The batches that are left of the first worker's parts, pushed and popped.
 use Rattle.std.proofs.Common.{◌≡◌, ℕ, ◌+◌, ◌<◌, List, [], ◌∷◌, ◌++◌, length, get_or, drop, map, reverse, refl, sym, ap, ◌∙◌}
-use Rattle.std.proofs.Common.{◌≤◌, All, subst, take}
+use Rattle.std.proofs.Common.{◌≤◌, subst, take}
 use Rattle.std.proofs.lemmas.List.{drop_all, drop_more, get_or-map, length-map, map-append, reverse-append, take_more}
 use Rattle.std.proofs.lemmas.List.Elements.{All-push}
 use Rattle.eve_grammar.specs.Trace.{Batch}

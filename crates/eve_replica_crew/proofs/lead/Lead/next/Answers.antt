@@ -1,7 +1,7 @@
-use Rattle.std.proofs.Common.{◌≡◌, ℕ, List, [], ◌∷◌, ◌++◌, All, IfSome, Some, refl, sym, subst, ap, ◌∙◌, arith}
+use Rattle.std.proofs.Common.{◌≡◌, ℕ, List, Some, refl, sym, subst, ap, ◌∙◌, arith}
 use Rattle.std.proofs.lemmas.List.Elements.{All-pop}
-use Rattle.eve_replica_crew.specs.FirstWorkers.{FirstWorker, RunsNext}
-use Rattle.eve_replica_crew.specs.Parts.{AreOver, batch_of_part, batches_left, names_of_part}
+use Rattle.eve_replica_crew.specs.FirstWorkers.{FirstWorker}
+use Rattle.eve_replica_crew.specs.Parts.{batch_of_part, batches_left, names_of_part}
 use Rattle.eve_replica_crew.specs.Recording.{AreNotedOf}
 use Rattle.eve_replica_crew.specs.declared.part.LeadPart.{LeadPart}
 use Rattle.eve_replica_crew.proofs.Parts.{left_push}
