@@ -1,0 +1,35 @@
+//! Replies.
+
+ghost use Rattle.std.specs.Prelude.{◌+◌, ◌≤◌, length};
+ghost use Rattle.arrayvec.specs.ArrayVec.{array_vec_len};
+
+use crate::line::{LINE_ROOM, Line, put, put_signed};
+use eve_smallbank::{Abort, Reply};
+
+/// Why a transaction changed nothing, in one word.
+fn abort_word(why: Abort) -> &'static str
+    ensures { length result.now ≤ 12 }
+{
+    match why {
+        Abort::NoSuchName => "NoSuchName",
+        Abort::BadAmount => "BadAmount",
+        Abort::Insufficient => "Insufficient",
+        Abort::OutOfRange => "OutOfRange",
+    }
+}
+
+/// Appends a reply: `Done`, `Total 2000`, or why nothing changed.
+#[inline(always)]
+pub fn put_reply(line: &mut Line, reply: Reply)
+    requires { array_vec_len line.old + 26 ≤ LINE_ROOM }
+    ensures { array_vec_len line.new ≤ array_vec_len line.old + 26 }
+{
+    match reply {
+        Reply::Done => put(line, "Done"),
+        Reply::Total(total) => {
+            put(line, "Total ");
+            put_signed(line, total);
+        }
+        Reply::Aborted(why) => put(line, abort_word(why)),
+    }
+}
