@@ -1,10 +1,15 @@
 //! The program `eve`: `serve` over the arguments and the streams of the process.
 #![tactic(auto)]
 
-use eve_streams::{Buffered, Sink, SinkOf, SourceOf};
-use eve_tool::{ToolFault, serve, stop};
+use eve_streams::{Buffered, Sink, SinkOf, Source, SourceOf};
+use eve_tool::{ToolFault, file_named, serve, stop};
 use std::alloc::{AllocError, Global};
+use std::fs::File;
 use std::process::ExitCode;
+use std::random::RandomSource;
+use std::rt::Files;
+use std::sync::Wait;
+use std::thread::Threads;
 use std::{env, io};
 
 /// Arguments that are no call.
@@ -35,6 +40,34 @@ fn finish<O: Sink + Drop, E: Sink>(status: u8, out: &mut Buffered<O>, err: &mut 
     status
 }
 
+/// Serves the arguments, with this file as the input.
+fn serve_file<R: AllocGlobal + Files + RandomSource + Threads + Wait + Sync, O: Sink, E: Sink>(
+    rt: &R,
+    arguments: &[String],
+    path: &str,
+    out: &mut O,
+    err: &mut E,
+) -> u8 {
+    match File::open(rt, path) {
+        Ok(file) => serve(rt, arguments, &mut SourceOf::new(file), out, err),
+        Err(_) => stop(ToolFault::Read, err),
+    }
+}
+
+/// Serves the arguments. The input is the file that they name, and `input` where they name none.
+fn serve_named<
+    R: AllocGlobal + Files + RandomSource + Threads + Wait + Sync,
+    I: Source,
+    O: Sink,
+    E: Sink,
+>(rt: &R, arguments: &[String], input: &mut I, out: &mut O, err: &mut E) -> u8 {
+    match file_named(rt.alloc(), arguments) {
+        Ok(Some(path)) => serve_file(rt, arguments, path.as_str(), out, err),
+        Ok(None) => serve(rt, arguments, input, out, err),
+        Err(_) => stop(ToolFault::Memory, err),
+    }
+}
+
 fn main(rt: HostRuntime) -> ExitCode {
     let mut input = SourceOf::new(rt.stdin());
     let mut err = SinkOf::new(rt.stderr());
@@ -42,7 +75,7 @@ fn main(rt: HostRuntime) -> ExitCode {
         return ExitCode::from(stop(ToolFault::Memory, &mut err));
     };
     let status = match arguments_of(&rt) {
-        Ok(arguments) => serve(&rt, arguments.as_slice(), &mut input, &mut out, &mut err),
+        Ok(arguments) => serve_named(&rt, arguments.as_slice(), &mut input, &mut out, &mut err),
         Err(_) => stop(ToolFault::Memory, &mut err),
     };
     ExitCode::from(finish(status, &mut out, &mut err))

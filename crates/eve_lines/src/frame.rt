@@ -21,7 +21,7 @@ use eve_grammar::{
 
 /// The words of a frame that are still to come, with a space before the first: what `eve show --long` says of it.
 ///
-/// docs/USING.md, "Lists with their fields".
+/// docs/USING.md, "What `show --long` prints".
 #[derive(Drop)]
 pub struct FrameWords<'a> {
     words: Words<'a>,
@@ -30,7 +30,7 @@ pub struct FrameWords<'a> {
 #[derive(Drop)]
 enum Words<'a> {
     None,
-    Customer(u32, CustomerView<'a>),
+    Customer(usize, CustomerView<'a>),
     Batch(BatchWords<'a>),
     Replica(u8),
     Verifier(u8),
@@ -62,7 +62,7 @@ fn words_of_lists(kind: FrameKind, frame: &[u8]) -> Words<'_>
 }
 
 /// The words of a frame that isn't an Access frame. It is frame number `number` of its trace.
-fn words_of(kind: FrameKind, number: u32, frame: &[u8]) -> Words<'_>
+fn words_of(kind: FrameKind, number: usize, frame: &[u8]) -> Words<'_>
     requires { FRAME_HEAD_LEN ≤ length frame.now }
 {
     let body = &frame[FRAME_HEAD_LEN..];
@@ -92,7 +92,7 @@ fn words_of(kind: FrameKind, number: u32, frame: &[u8]) -> Words<'_>
 impl<'a> FrameWords<'a> {
     /// Those of a frame, which is frame number `number` of its trace, from 0; none, where its kind is not known or its
     /// body isn't right.
-    pub fn of(number: u32, frame: &'a [u8]) -> FrameWords<'a>
+    pub fn of(number: usize, frame: &'a [u8]) -> FrameWords<'a>
         requires { FRAME_HEAD_LEN ≤ length frame.now }
     {
         let words = match FrameKind::of(frame[0]) {

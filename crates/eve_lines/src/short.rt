@@ -10,11 +10,11 @@ use eve_frames::{CommitView, CustomerView, SentView, VoteView};
 use eve_grammar::Choice;
 
 /// Appends ` #0 ann saving 0 checking 0`, of the customer with this number.
-pub(crate) fn put_customer(line: &mut Line, number: u32, customer: &CustomerView)
+pub(crate) fn put_customer(line: &mut Line, number: usize, customer: &CustomerView)
     requires { array_vec_len line.old + LONGEST_PART ≤ LINE_ROOM }
 {
     put(line, " #");
-    put_number(line, u64::from(number));
+    put_number(line, number as u64);
     put(line, " ");
     put_name(line, customer.name());
     put(line, " saving ");

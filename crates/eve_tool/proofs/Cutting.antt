@@ -23,7 +23,8 @@ use Rattle.eve_tool.specs.Calls.{Leaves}
 use Rattle.eve_tool.specs.Lines.{status_of_verdict}
 use Rattle.eve_grammar.specs.declared.limits.TheConstants.{MOST_BYTES}
 use Rattle.eve_tool.specs.Show.{Shows}
-use Rattle.eve_tool_arguments.specs.Arguments.{Audit, Show}
+use Rattle.eve_tool.specs.Long.{ShowsLong}
+use Rattle.eve_tool_arguments.specs.Arguments.{Audit, Show, ShowLong}
 use Rattle.eve_tool.specs.Writes.{WritesAll, WritesAllOf, WritesFront, WritesFrontOf}
 
 number-least : (c : Code) → 1 ≤ code_number c
@@ -94,6 +95,33 @@ Shows-cut limit bytes text status enough shows =
               fault = found.0.fault;
               least = same_fault (take (limit + 1) bytes) bytes found.0.fault read long
                   found.0.least;
+              line = found.0.line;
+            },
+            found.1,
+          )
+
+-- a number of bytes that no trace has is enough to say what is to be said of all of them
+pub ShowsLong-cut : (limit : ℕ) (bytes text : List ℕ) (status : ℕ) → 2 ^ 30 ≤ limit
+    → ShowsLong (take (limit + 1) bytes) text status → ShowsLong bytes text status
+ShowsLong-cut limit bytes text status enough shows =
+    elim (cases_lt (limit + 1) (length bytes)) [
+      | inl longer ↦ cut limit bytes text status enough longer shows
+      | inr all ↦ subst (λ (b : List ℕ). ShowsLong b text status) (take_all (limit + 1) bytes all) shows
+    ] where
+      cut : (limit : ℕ) (bytes text : List ℕ) (status : ℕ) → 2 ^ 30 ≤ limit → limit + 1 < length bytes
+          → ShowsLong (take (limit + 1) bytes) text status → ShowsLong bytes text status
+      cut limit bytes text status enough longer (inl trace) =
+          let frames = spells_frames (take (limit + 1) bytes) trace.0.trace trace.0.spelled in
+          absurd (omega (arith, length-take (limit + 1) bytes, frames.short))
+      cut limit bytes text status enough longer (inr found) =
+          let read : 2 ^ 30 < length (take (limit + 1) bytes) = omega (arith, length-take (limit + 1) bytes) in
+          let long : 2 ^ 30 < length bytes = omega arith in
+          inr (
+            record {
+              fault = found.0.fault;
+              least = same_fault (take (limit + 1) bytes) bytes found.0.fault read long
+                  found.0.least;
+              before = found.0.before;
               line = found.0.line;
             },
             found.1,
@@ -253,3 +281,18 @@ show_left written failures known failed bytes old new fault.Random cut left = ab
 show_left written failures known failed bytes old new fault.Memory cut (inl same) = inl same
 show_left written failures known failed bytes old new fault.Memory cut (inr front) = inr (front.0, cut front.1)
 show_left written failures known failed bytes old new fault.Write cut left = (left.0, cut left.1)
+
+pub long_left : {O : Type 0} (written : O → Option (List ℕ)) (failures : O → ℕ) (known : Option (List ℕ))
+    (failed : Type 0) (bytes : List ℕ) (old new : O) (why : ToolFault)
+    → (WritesFront ShowsLong bytes (written old) (written new)
+    → WritesFrontOf ShowsLong known (written old) (written new))
+    → Leaves MOST_BYTES written failures ShowLong (Some bytes) ⊥ old new why
+    → Leaves MOST_BYTES written failures ShowLong known failed old new why
+long_left written failures known failed bytes old new fault.Read cut left = absurd left.0
+long_left written failures known failed bytes old new (fault.Line number) cut left = absurd left.0
+long_left written failures known failed bytes old new fault.TooLong cut left = absurd left.0
+long_left written failures known failed bytes old new fault.Broken cut left = absurd left.0
+long_left written failures known failed bytes old new fault.Random cut left = absurd left.0
+long_left written failures known failed bytes old new fault.Memory cut (inl same) = inl same
+long_left written failures known failed bytes old new fault.Memory cut (inr front) = absurd front.0
+long_left written failures known failed bytes old new fault.Write cut left = (left.0, cut left.1)

@@ -1,13 +1,14 @@
 -- What a call left where the text that it was to send was not sent.
-use Rattle.std.proofs.Common.{◌≡◌, ℕ, List, Option, Some, Result, Ok, Err, IfErr, OnErr, inl, inr, ap, subst, sym, ◌∙◌}
+use Rattle.std.proofs.Common.{◌≡◌, ◌++◌, ℕ, List, Option, Some, Result, Ok, Err, IfErr, OnErr, inl, inr, ap, subst, sym, ◌∙◌}
 use Rattle.std.specs.Prelude.{IsErrAnd}
 use Rattle.eve_streams.specs.Failures.{after_failure}
 use Rattle.eve_streams.specs.Front.{AppendsFront}
 use Rattle.eve_tool.specs.declared.fault.ToolFault.{ToolFault}
 use Rattle.eve_tool.specs.declared.fault.ToolFault.TheVariants as fault
-use Rattle.eve_tool.specs.Calls.{Leaves, StopsInParts, StopsSending, CallSays}
+use Rattle.eve_tool.specs.Calls.{Leaves, StopsInParts, StopsLong, StopsSending, CallSays}
 use Rattle.eve_grammar.specs.declared.limits.TheConstants.{MOST_BYTES}
-use Rattle.eve_tool_arguments.specs.Arguments.{Subcommand, Show}
+use Rattle.eve_tool.specs.Long.{ShowsLong}
+use Rattle.eve_tool_arguments.specs.Arguments.{Subcommand, Show, ShowLong}
 
 -- by a text that is sent at once
 pub sent_left : {O : Type 0} (written : O → Option (List ℕ)) (failures : O → ℕ) (call : Subcommand)
@@ -37,6 +38,26 @@ shown_left written failures bytes text status old new said fault.Memory stopped 
     inr (tt, record { text = text; status = status; said = said; written = stopped.0 })
 shown_left written failures bytes text status old new said fault.Write stopped =
     (stopped.counted, record { text = text; status = status; said = said; written = stopped.front })
+
+-- by lines that end with this one
+pub long_stopped : {O : Type 0} (written : O → Option (List ℕ)) (failures : O → ℕ) (bytes last : List ℕ) (old new : O)
+    → ((before : List ℕ) → ShowsLong bytes (before ++ last) 1) → (why : ToolFault)
+    → StopsLong written failures old new last why → Leaves MOST_BYTES written failures ShowLong (Some bytes) ⊥ old new why
+long_stopped written failures bytes last old new said fault.Read stopped = absurd stopped
+long_stopped written failures bytes last old new said (fault.Line number) stopped = absurd stopped
+long_stopped written failures bytes last old new said fault.TooLong stopped = absurd stopped
+long_stopped written failures bytes last old new said fault.Broken stopped = absurd stopped
+long_stopped written failures bytes last old new said fault.Random stopped = absurd stopped
+long_stopped written failures bytes last old new said fault.Memory stopped = inl stopped
+long_stopped written failures bytes last old new said fault.Write stopped = (
+  stopped.1,
+  record {
+    text = stopped.0.before ++ last;
+    status = 1;
+    said = said stopped.0.before;
+    written = stopped.0.sent;
+  },
+)
 
 -- what stands of a fault stands of what is answered
 pub at_err : {A : Type 0} (result : Result A ToolFault) (P : ToolFault → Type 0) (why : ToolFault)

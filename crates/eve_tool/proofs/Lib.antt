@@ -3,3 +3,4 @@ mod SentLines
 mod WholeInput
 pub mod Leaving
 pub mod Running
+mod LongLines

@@ -12,7 +12,8 @@ use Rattle.eve_tool.specs.Audit.{Audits}
 use Rattle.eve_tool.specs.Fault.{error_line, status_of}
 use Rattle.eve_tool.specs.Run.{Runs, IsTooLong, IsRunnable}
 use Rattle.eve_tool.specs.Show.{Shows}
-use Rattle.eve_tool_arguments.specs.Arguments.{Subcommand, Audit, Run, Show, call_of}
+use Rattle.eve_tool.specs.Long.{ShowsLong, StopsBefore}
+use Rattle.eve_tool_arguments.specs.Arguments.{Subcommand, Audit, Run, Show, ShowLong, call_of}
 use Rattle.eve_tool.specs.Writes.{WritesFrontOf}
 
 -- the arguments are this call
@@ -24,6 +25,7 @@ abbrev pub CallSays : ℕ → Subcommand → List ℕ → List ℕ → ℕ → T
 CallSays limit Audit = Audits
 CallSays limit (Run mixer) = Runs limit mixer
 CallSays limit Show = Shows
+CallSays limit ShowLong = ShowsLong
 
 -- the number is that of a bad line of the bytes, which `run` alone reads by lines, and only where they are not too long
 abbrev pub HasBadLine : ℕ → Subcommand → Option (List ℕ) → ℕ → Type 0
@@ -45,6 +47,7 @@ abbrev pub AsksForRandom : ℕ → Subcommand → Option (List ℕ) → Type 0
 AsksForRandom limit Audit known = ⊤
 AsksForRandom limit (Run mixer) known = CallRuns limit (Run mixer) known
 AsksForRandom limit Show known = ⊥
+AsksForRandom limit ShowLong known = ⊥
 
 -- the call sends in parts what it says
 abbrev pub SendsInParts : Subcommand → Type 0
@@ -81,6 +84,13 @@ StopsInParts written failures old new text fault.Memory =
     AppendsFront (written old) (written new) text × (failures new ≡ failures old)
 StopsInParts written failures old new text fault.Write = Stopped written failures old new text
 StopsInParts written failures old new text _ = ⊥
+
+-- what was left of a text that ends with this line: its line is made before any of it is sent
+abbrev pub StopsLong : {O : Type 0} → (O → Option (List ℕ)) → (O → ℕ) → O → O → List ℕ → ToolFault → Type 0
+StopsLong written failures old new last fault.Memory = new ≡ old
+StopsLong written failures old new last fault.Write =
+    StopsBefore (written old) (written new) last × (failures new ≡ after_failure (failures old))
+StopsLong written failures old new last _ = ⊥
 
 -- The input was read, where its bytes are `known`: to its end, but no further than `limit + 1` bytes. `left` is what is
 -- left of them.

@@ -1,7 +1,9 @@
 pub mod Fault
 pub mod Lines
 pub mod Writes
+pub mod Sending
 pub mod Show
+pub mod Long
 pub mod Audit
 pub mod Run
 pub mod Calls

@@ -4,6 +4,7 @@
 mod audit;
 mod fault;
 mod lines;
+mod long;
 mod program;
 mod random;
 mod run;
@@ -11,6 +12,7 @@ mod sending;
 mod show;
 
 pub use eve_tool_arguments;
+pub use eve_tool_arguments::file_named;
 pub use fault::ToolFault;
 pub use program::{serve, stop};
 pub use run::run_within;

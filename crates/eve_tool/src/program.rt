@@ -8,12 +8,13 @@ ghost use Rattle.eve_tool.specs.Calls.{Calls, WasRead, Leaves, LeavesHelp, Stops
 ghost use Rattle.eve_tool.specs.Fault.{status_of};
 ghost use Rattle.eve_tool_arguments.specs.Arguments.{AsksForHelp, Audit, AuditsBy, CallsNothing, CallsSome, GetsHelp};
 ghost use Rattle.eve_tool_arguments.specs.Arguments.{IsRefused, Run};
-ghost use Rattle.eve_tool_arguments.specs.Arguments.{Show, Subcommand, subcommand_of_call, workers_of};
+ghost use Rattle.eve_tool_arguments.specs.Arguments.{Show, ShowLong, Subcommand, subcommand_of_call, workers_of};
 ghost use Rattle.eve_workload.specs.declared.mixer.Mixer.{Mixer};
 ghost use Rattle.eve_tool.specs.Writes.{WritesAllOf};
 
 use crate::audit::audit;
 use crate::fault::ToolFault;
+use crate::long::show_long;
 use crate::run::run_within;
 use crate::show::show;
 use eve_grammar::{MOST_AUDIT_WORKERS, MOST_BYTES};
@@ -58,6 +59,7 @@ fn answer_call<R: AllocGlobal + RandomSource + Threads + Wait + Sync, I: Source,
         Call::Audit(workers) => audit(rt, workers, input, out),
         Call::Run(mixer) => run_within(rt, mixer, MOST_BYTES as u32, input, out),
         Call::Show => show(rt.alloc(), input, out),
+        Call::ShowLong => show_long(rt.alloc(), input, out),
     }
 }
 
@@ -128,6 +130,7 @@ pub fn serve<
     // Which arguments, after the program's name, are calls and ask for help; how many workers those of `audit` ask for.
     ensures audit { (name : List ℕ) → Calls Audit (name ∷ codes "audit" ∷ []) }
     ensures show { (name : List ℕ) → Calls Show (name ∷ codes "show" ∷ []) }
+    ensures show_long { (name : List ℕ) → Calls ShowLong (name ∷ codes "show" ∷ codes "--long" ∷ []) }
     ensures run { (name : List ℕ) → Calls (Run Mixer.First) (name ∷ codes "run" ∷ []) }
     ensures run_whole { (name : List ℕ)
         → Calls (Run Mixer.Whole) (name ∷ codes "run" ∷ codes "--mixer" ∷ codes "whole" ∷ []) }
@@ -140,6 +143,7 @@ pub fn serve<
     ensures too_many { (name : List ℕ)
         → CallsNothing (name ∷ codes "audit" ∷ codes "--workers" ∷ decimal (MOST_AUDIT_WORKERS + 1) ∷ []) }
     ensures help { (name : List ℕ) → GetsHelp (name ∷ codes "--help" ∷ []) }
+    ensures version { (name : List ℕ) → GetsHelp (name ∷ codes "--version" ∷ []) }
 
     // A call that ends well: all is said, on `out`, nothing failed, and the input was read. A yes of `audit` is said of
     // bytes alone that spell a trace that is audited.

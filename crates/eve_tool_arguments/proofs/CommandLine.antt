@@ -14,7 +14,8 @@ use Rattle.std.specs.List.{list_any}
 use Rattle.clap.proofs.OnLiterals.{clap_on_literals}
 use Rattle.eve_tool_arguments.specs.Arguments.{Answers, SaysOf, Subcommand, Run, NamesNoMixer, mixer_in, audit}
 use Rattle.eve_tool_arguments.specs.Arguments.{run_shape, show}
-use Rattle.eve_tool_arguments.specs.Arguments.{call_of, call_unless, eve, faults_of, program, subcommand_named}
+use Rattle.eve_tool_arguments.specs.Arguments.{call_of, call_unless, eve, faults_of, file_behind, file_of, file_unless}
+use Rattle.eve_tool_arguments.specs.Arguments.{program, subcommand_named}
 use Rattle.clap.specs.declared.error.kind.ErrorKind.{ErrorKind}
 use Rattle.eve_workload.specs.declared.mixer.Mixer.{Mixer}
 use Rattle.clap.specs.declared.error.kind.ErrorKind.TheVariants as kind
@@ -154,15 +155,34 @@ no_call words k among = none_if (faults_of words) k among (option_and_then subco
     none_if [] k among found = absurd among
     none_if (x ∷ xs) k among found = refl
 
+-- words without a fault name the file behind their subcommand, if any
+pub file_without_faults : (words : List Text) → fault_of eve words ≡ [] → file_of words
+    ≡ file_behind (subcommand_of eve words)
+unfolding file_of faults_of
+file_without_faults words h = rw h refl
+
+-- words with a fault name no file
+pub no_file : (words : List Text) (k : ErrorKind) → IsAmong k (fault_of eve words) → file_of words ≡ None
+unfolding file_of faults_of
+no_file words k among = none_if (fault_of eve words) k among (file_behind (subcommand_of eve words))
+  where
+    none_if : (kinds : Kinds) (k : ErrorKind) → IsAmong k kinds → (found : Option Text) → file_unless kinds found ≡ None
+    none_if [] k among found = absurd among
+    none_if (x ∷ xs) k among found = refl
+
 -- what is said of a fault is an answer to the arguments
 pub answers_with_fault : (words : List Text) (k : ErrorKind) (a : Asked) → (k ≡ kind.OutOfMemory)
     ⊎ IsAmong k (fault_of eve words) → SaysOf k a → Answers words a
 unfolding faults_of
 answers_with_fault words k (asked.Call call) found says = absurd says
-answers_with_fault words k (asked.Help text) (inl e) says = cc
-answers_with_fault words k (asked.Help text) (inr among) says =
+answers_with_fault words k (asked.Help text) (inl e) (inl says) = cc
+answers_with_fault words k (asked.Help text) (inl e) (inr says) = cc
+answers_with_fault words k (asked.Help text) (inr among) (inl says) =
     let help = subst (λ (x : ErrorKind). IsAmong x (fault_of eve words)) says among in
-    (no_call words kind.DisplayHelp help, help)
-answers_with_fault words k (asked.Refused text) (inl e) says = absurd (says.1 e)
+    (no_call words kind.DisplayHelp help, inl help)
+answers_with_fault words k (asked.Help text) (inr among) (inr says) =
+    let version = subst (λ (x : ErrorKind). IsAmong x (fault_of eve words)) says among in
+    (no_call words kind.DisplayVersion version, inr version)
+answers_with_fault words k (asked.Refused text) (inl e) says = absurd (says.2 e)
 answers_with_fault words k (asked.Refused text) (inr among) says =
-    (no_call words k among, inl (record { what = k; found = among; no_help = says.0 }))
+    (no_call words k among, inl (record { what = k; found = among; no_help = says.0; no_version = says.1 }))

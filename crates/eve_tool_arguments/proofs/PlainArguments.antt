@@ -1,10 +1,10 @@
 -- Public: other crates cite these lemmas. What plain arguments after the program's name ask for.
 use Rattle.std.proofs.Common.{◌≡◌, ◌⊎◌, ℕ, suc, ◌≤◌, ◌<◌, inl, inr, arith, subst, refl, List, [], ◌∷◌, Some, codes}
-use Rattle.clap.specs.Words.{Text}
+use Rattle.clap.specs.Words.{IsAmong, Text}
 use Rattle.std.specs.Fmt.{decimal, digits}
 use Rattle.std.proofs.lemmas.Bool.{cases_lt}
 use Rattle.clap.proofs.OnLiterals.{clap_on_literals}
-use Rattle.eve_tool_arguments.specs.Arguments.{AsksForHelp, AuditsBy, CallsNothing, GetsHelp, Audit, Run, Show, call_of}
+use Rattle.eve_tool_arguments.specs.Arguments.{AuditsBy, CallsNothing, GetsHelp, Audit, Run, Show, ShowLong, call_of}
 use Rattle.eve_tool_arguments.specs.Arguments.{faults_of, workers_of}
 use Rattle.clap.specs.declared.error.kind.ErrorKind.TheVariants as kind
 use Rattle.eve_workload.specs.declared.mixer.Mixer.TheVariants.{First, Whole}
@@ -30,6 +30,10 @@ pub show_call : (name : Text) → call_of (name ∷ codes "show" ∷ []) ≡ Som
 unfolding call_of faults_of clap_on_literals
 show_call name = refl
 
+pub long_call : (name : Text) → call_of (name ∷ codes "show" ∷ codes "--long" ∷ []) ≡ Some ShowLong
+unfolding call_of faults_of clap_on_literals
+long_call name = refl
+
 help_fault : (name : Text) → faults_of (name ∷ codes "--help" ∷ []) ≡ kind.DisplayHelp ∷ []
 unfolding faults_of clap_on_literals
 help_fault name = refl
@@ -37,7 +41,18 @@ help_fault name = refl
 pub asks_help : (name : Text) → GetsHelp (name ∷ codes "--help" ∷ [])
 asks_help name =
     let words = name ∷ codes "--help" ∷ [] in
-    let among : AsksForHelp words = rw (help_fault name) (inl refl) in (no_call words kind.DisplayHelp among, among)
+    let among : IsAmong kind.DisplayHelp (faults_of words) = rw (help_fault name) (inl refl) in
+    (no_call words kind.DisplayHelp among, inl among)
+
+version_fault : (name : Text) → faults_of (name ∷ codes "--version" ∷ []) ≡ kind.DisplayVersion ∷ []
+unfolding faults_of clap_on_literals
+version_fault name = refl
+
+pub asks_version : (name : Text) → GetsHelp (name ∷ codes "--version" ∷ [])
+asks_version name =
+    let words = name ∷ codes "--version" ∷ [] in
+    let among : IsAmong kind.DisplayVersion (faults_of words) = rw (version_fault name) (inl refl) in
+    (no_call words kind.DisplayVersion among, inr among)
 
 -- ---- workers that are named
 

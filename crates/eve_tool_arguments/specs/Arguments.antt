@@ -1,11 +1,12 @@
 -- What the arguments of a command line ask for. docs/USING.md, "Lines and statuses".
-use Rattle.std.specs.Prelude.{◌≡◌, ◌≢◌, ◌⊎◌, ⊤, ℕ, pos, max, min, true, if◌then◌else◌, List, [], ◌∷◌, Option, Some}
-use Rattle.std.specs.Prelude.{None, codes, find, slice_get, option_and_then, option_map}
+use Rattle.std.specs.Prelude.{◌≡◌, ◌≢◌, ◌⊎◌, ⊤, ℕ, pos, max, min, Bool, true, false, if◌then◌else◌, List, [], ◌∷◌}
+use Rattle.std.specs.Prelude.{Option, Some, None, codes, find, slice_get, option_and_then, option_map, unwrap_or}
 use Rattle.std.specs.Str.{bytes_eq}
 use Rattle.clap.specs.Words.{App, Rule, Shape, Text, IsAmong, Kinds, fault_of, new_app, new_rule, subcommand_of}
 use Rattle.clap.specs.Words.{with_rule, with_subcommand}
 use Rattle.clap.specs.Walk.{Row, byte_or_zero}
 use Rattle.clap.specs.declared.builder.value_parser.ValueParser.TheVariants as vp
+use Rattle.clap.specs.declared.builder.action.ArgAction.TheVariants.{SetTrue}
 use Rattle.clap.specs.declared.error.kind.ErrorKind.TheVariants as kind
 use Rattle.clap.specs.declared.error.kind.ErrorKind.{ErrorKind}
 use Rattle.eve_workload.specs.declared.mixer.Mixer.{Mixer}
@@ -16,10 +17,12 @@ use Rattle.eve_tool_arguments.specs.declared.arguments.Asked.{Asked}
 use Rattle.eve_tool_arguments.specs.declared.arguments.Asked.TheVariants as asked
 use Rattle.eve_grammar.specs.declared.limits.TheConstants.{MOST_AUDIT_WORKERS}
 
--- the program wants a subcommand
+-- the program wants a subcommand, and tells its version
 abbrev pub program : App
 program = let new = new_app (codes "eve") in
-    record new { top = record new.top { disable_help_subcommand = true; subcommand_required = true } }
+    record new {
+      top = record new.top { disable_help_subcommand = true; subcommand_required = true; has_version = true };
+    }
 
 -- the argument that says how many workers audit
 abbrev pub workers : Rule
@@ -30,11 +33,19 @@ workers = record (new_rule (codes "workers")) {
   parser = Some (vp.Signed (pos 1) (pos MOST_AUDIT_WORKERS));
 }
 
+-- the argument that names a file to read
+abbrev pub file : Rule
+file = record (new_rule (codes "file")) { value_names = 1 }
+
 abbrev pub audit : Shape
-audit = (with_rule (new_app (codes "audit")) workers).top
+audit = (with_rule (with_rule (new_app (codes "audit")) workers) file).top
+
+-- the argument that asks for the fields of each frame
+abbrev pub long : Rule
+long = record (new_rule (codes "long")) { long = Some (codes "long"); action = Some SetTrue }
 
 abbrev pub show : Shape
-show = (new_app (codes "show")).top
+show = (with_rule (with_rule (new_app (codes "show")) long) file).top
 
 -- the argument that names the mixer
 abbrev pub mixer : Rule
@@ -45,7 +56,7 @@ mixer = record (new_rule (codes "mixer")) {
 }
 
 abbrev pub run_shape : Shape
-run_shape = (with_rule (new_app (codes "run")) mixer).top
+run_shape = (with_rule (with_rule (new_app (codes "run")) mixer) file).top
 
 -- the program with its subcommands
 abbrev pub eve : App
@@ -55,6 +66,7 @@ pub data Subcommand : Type 0 where
   Audit : Subcommand
   Run : Mixer → Subcommand
   Show : Subcommand
+  ShowLong : Subcommand
 
 -- the first value of an argument among what was found
 abbrev pub value_given : Text → List Row → Option Text
@@ -73,18 +85,27 @@ number_named None = 0
 abbrev pub workers_in : List Row → ℕ
 workers_in rows = max 1 (min (number_named (value_given (codes "workers") rows)) MOST_AUDIT_WORKERS)
 
+-- whether the fields of each frame are asked for among what was found
+abbrev pub is_long : List Row → Bool
+is_long rows = unwrap_or (option_map (λ t. bytes_eq t (codes "true")) (value_given (codes "long") rows)) false
+
+-- the subcommand `show`, with the fields of each frame or without
+abbrev pub listing : Bool → Subcommand
+listing is_long = if is_long then ShowLong else Show
+
 abbrev pub subcommand_named : Text × List Row → Option Subcommand
 subcommand_named found =
     if bytes_eq found.0 (codes "audit") then Some Audit
     else (if bytes_eq found.0 (codes "run") then option_map Run (mixer_in found.1) else
-    (if bytes_eq found.0 (codes "show") then Some Show else None))
+    (if bytes_eq found.0 (codes "show") then Some (listing (is_long found.1)) else None))
 
 abbrev pub subcommand_of_call : Call → Subcommand
 subcommand_of_call (call.Audit _) = Audit
 subcommand_of_call (call.Run mixer) = Run mixer
 subcommand_of_call call.Show = Show
+subcommand_of_call call.ShowLong = ShowLong
 
--- what clap finds wrong with the arguments, the program's name first, or a request for help
+-- what clap finds wrong with the arguments, the program's name first, or a request for help or for the version
 unfoldable pub faults_of : List Text → Kinds
 faults_of arguments = fault_of eve arguments
 
@@ -105,6 +126,18 @@ workers_behind found = option_map (λ f. workers_in f.1) found
 unfoldable pub workers_of : List Text → Option ℕ
 workers_of arguments = workers_behind (subcommand_of eve arguments)
 
+-- the file that is named after the subcommand that was met
+abbrev pub file_behind : Option (Text × List Row) → Option Text
+file_behind found = option_and_then (λ f. value_given (codes "file") f.1) found
+
+-- the file that the arguments name to be read, where clap finds nothing wrong with them
+abbrev pub file_unless : Kinds → Option Text → Option Text
+file_unless [] file = file
+file_unless (k ∷ ks) file = None
+
+unfoldable pub file_of : List Text → Option Text
+file_of arguments = file_unless (faults_of arguments) (file_behind (subcommand_of eve arguments))
+
 -- the call has this number of workers, if it is one that has any
 abbrev pub HasWorkers : Option ℕ → Call → Type 0
 HasWorkers asked_for (call.Audit found) = asked_for ≡ Some found
@@ -113,8 +146,8 @@ HasWorkers _ _ = ⊤
 -- what is answered to arguments in which clap finds this wrong
 abbrev pub SaysOf : ErrorKind → Asked → Type 0
 SaysOf k (asked.Call call) = ⊥
-SaysOf k (asked.Help text) = k ≡ kind.DisplayHelp
-SaysOf k (asked.Refused text) = (k ≢ kind.DisplayHelp) × (k ≢ kind.OutOfMemory)
+SaysOf k (asked.Help text) = (k ≡ kind.DisplayHelp) ⊎ (k ≡ kind.DisplayVersion)
+SaysOf k (asked.Refused text) = (k ≢ kind.DisplayHelp) × (k ≢ kind.DisplayVersion) × (k ≢ kind.OutOfMemory)
 
 -- the arguments are the call `audit`
 abbrev pub CallsAudit : List Text → Type 0
@@ -128,9 +161,10 @@ CallsSome arguments = call_of arguments ≢ None
 abbrev pub CallsNothing : List Text → Type 0
 CallsNothing arguments = call_of arguments ≡ None
 
--- the arguments ask for help
+-- the arguments ask for help, or for the version
 abbrev pub AsksForHelp : List Text → Type 0
-AsksForHelp arguments = IsAmong kind.DisplayHelp (faults_of arguments)
+AsksForHelp arguments =
+    IsAmong kind.DisplayHelp (faults_of arguments) ⊎ IsAmong kind.DisplayVersion (faults_of arguments)
 
 -- the arguments are no call, but ask for help
 abbrev pub GetsHelp : List Text → Type 0
@@ -145,6 +179,7 @@ pub record IsWrong (arguments : List Text) : Type 0 where
   pub what : ErrorKind
   pub found : IsAmong what (faults_of arguments)
   pub no_help : what ≢ kind.DisplayHelp
+  pub no_version : what ≢ kind.DisplayVersion
 
 -- the arguments are `run` with a mixer that isn't there
 pub record NamesNoMixer (arguments : List Text) : Type 0 where

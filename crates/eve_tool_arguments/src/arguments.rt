@@ -1,16 +1,18 @@
 //! What the arguments of a command line ask for.
 
-ghost use Rattle.std.specs.Prelude.{◌≡◌, false, IfOk, IfSome, Some, map, option_and_then, option_map, pos};
+ghost use Rattle.std.specs.Prelude.{◌≡◌, ℕ, Option, false, IfOk, IfSome, Some, map, option_and_then, option_map, pos};
+ghost use Rattle.std.specs.String.{string_bytes};
 ghost use Rattle.clap.specs.Words.{app_of, found_of, kind_of, rule_of, shape_of, subcommand_rows_of};
 ghost use Rattle.clap.specs.Walk.{rows_of};
-ghost use Rattle.eve_tool_arguments.specs.Arguments.{Answers, HasWorkers, SaysOf, audit, eve, mixer, mixer_in};
+ghost use Rattle.eve_tool_arguments.specs.Arguments.{Answers, HasWorkers, SaysOf, audit, eve, file, file_behind};
+ghost use Rattle.eve_tool_arguments.specs.Arguments.{file_of, is_long, listing, long, mixer, mixer_in};
 ghost use Rattle.eve_tool_arguments.specs.Arguments.{program, run_shape, show, subcommand_named};
 ghost use Rattle.eve_tool_arguments.specs.Arguments.{subcommand_of_call, workers, workers_behind, workers_in};
 
 use clap::builder::ValueParser;
 use clap::error::ErrorKind;
-use clap::{Arg, ArgMatches, Command, Error, value_parser};
-use eve_grammar::{MOST_AUDIT_WORKERS, WorkerCount};
+use clap::{Arg, ArgAction, ArgMatches, Command, Error, value_parser};
+use eve_grammar::{MOST_AUDIT_WORKERS, NEWEST_VERSION, WorkerCount};
 use eve_workload::Mixer;
 use std::alloc::{AllocError, Global};
 use std::convert::AsStr;
@@ -24,6 +26,8 @@ pub enum Call {
     Run(Mixer),
     /// Prints the frames of a trace.
     Show,
+    /// Prints the frames of a trace with their fields.
+    ShowLong,
 }
 
 /// What the arguments of a command line come to.
@@ -31,7 +35,7 @@ pub enum Call {
 pub enum Asked {
     /// They are a call.
     Call(Call),
-    /// They ask for help, which is this text.
+    /// They ask for help, or for the version, which is this text.
     Help(String),
     /// They are no call, and this text says why.
     Refused(String),
@@ -42,11 +46,55 @@ const NO_MIXER: &str =
     "error: invalid value for '--mixer <MIXER>': it has to be 'first' or 'whole'\n\n\
     For more information, try '--help'.\n";
 
-const EXAMPLES: &str = "Examples:\n\
-    \x20 eve run < examples/two-deposits.workload | eve audit\n\
-    \x20 eve audit < examples/deposit-committed.trace\n\
-    \x20 eve audit --workers 2 < examples/two-orders-agree.trace\n\
-    \x20 eve show < examples/empty-run.trace";
+/// What is said where no number of workers is named that may be.
+const NO_WORKERS: &str =
+    "error: invalid value for '--workers <N>': it has to be a number from 1 to 16\n\n\
+    For more information, try '--help'.\n";
+
+const EXAMPLES: &str = "Statuses:\n\
+    \x20 0  yes, or done\n\
+    \x20 1  no: a fault stands\n\
+    \x20 2  what was given can't be used: arguments, input, a workload\n\
+    \x20 3  this machine failed: memory, output, random words, a run\n\n\
+    Examples:\n\
+    \x20 eve audit examples/deposit-committed.trace\n\
+    \x20 eve run examples/two-deposits.workload | eve audit\n\
+    \x20 eve show --long examples/rollback-and-serial-rerun.trace";
+
+const AUDIT_EXAMPLES: &str = "Statuses:\n\
+    \x20 0  yes\n\
+    \x20 1  no\n\
+    \x20 2  wrong arguments, or the input can't be read\n\
+    \x20 3  no memory, no random words, or the output can't be written\n\n\
+    Examples:\n\
+    \x20 eve audit examples/deposit-committed.trace\n\
+    \x20 eve audit --workers 2 < examples/two-orders-agree.trace";
+
+const RUN_EXAMPLES: &str = "Statuses:\n\
+    \x20 0  the trace is written\n\
+    \x20 2  wrong arguments, a bad workload, or the input can't be read\n\
+    \x20 3  no memory, no random words, a broken run, or the output can't be written\n\n\
+    Examples:\n\
+    \x20 eve run examples/two-deposits.workload > run.trace\n\
+    \x20 eve run --mixer whole < examples/two-deposits.workload > whole.trace";
+
+const SHOW_EXAMPLES: &str = "Statuses:\n\
+    \x20 0  all frames are listed\n\
+    \x20 1  it is no trace: the last line is the first fault of form\n\
+    \x20 2  wrong arguments, or the input can't be read\n\
+    \x20 3  no memory, or the output can't be written\n\n\
+    Examples:\n\
+    \x20 eve show < examples/empty-run.trace\n\
+    \x20 eve show --long examples/rollback-and-serial-rerun.trace";
+
+/// Which traces the program reads, behind its name.
+fn formats() -> &'static str {
+    if NEWEST_VERSION == 1 {
+        "for traces of format 1"
+    } else {
+        "for traces of formats 1 and 2"
+    }
+}
 
 /// The numbers of workers that may be named.
 fn worker_counts<'a>() -> ValueParser<'a>
@@ -63,15 +111,10 @@ fn workers_argument<'a>(alloc: Global) -> Arg<'a>
     Arg::new(alloc, "workers")
         .long("workers")
         .value_name("N")
-        .help(
-            "How many workers judge the replicas side by side, 1 to 16; with one, no thread is started",
-        )
+        .help("How many threads judge, 1 to 16")
         .default_value("1")
         .value_parser(worker_counts())
 }
-
-const RUN_EXAMPLE: &str =
-    "Example:\n  eve run --mixer whole < examples/two-deposits.workload > two-deposits.trace";
 
 /// Which mixer cuts the batches of a workload.
 fn mixer_argument<'a>(alloc: Global) -> Arg<'a>
@@ -81,38 +124,71 @@ fn mixer_argument<'a>(alloc: Global) -> Arg<'a>
     Arg::new(alloc, "mixer")
         .long("mixer")
         .value_name("MIXER")
-        .help(
-            "How batches are cut into groups of requests that may run in parallel: 'first' fit, or each batch 'whole'",
-        )
+        .help("How batches are cut: 'first' or 'whole'")
         .default_value("first")
+}
+
+/// Whether the fields of each frame are listed.
+fn long_argument<'a>(alloc: Global) -> Arg<'a>
+    ensures rule { rule_of result ≡ long }
+    ensures local { result.global ≡ false }
+{
+    Arg::new(alloc, "long")
+        .long("long")
+        .help("Prints what each frame says, too")
+        .action(ArgAction::SetTrue)
+}
+
+/// Which file is read.
+fn file_argument<'a>(alloc: Global) -> Arg<'a>
+    ensures rule { rule_of result ≡ file }
+    ensures local { result.global ≡ false }
+{
+    Arg::new(alloc, "file")
+        .value_name("FILE")
+        .help("What is read; standard input where none is named")
 }
 
 /// The subcommand that audits.
 fn audit_command<'a>(alloc: Global) -> Result<Command<'a>, AllocError>
     ensures { IfOk result (λ c. shape_of c ≡ audit) }
 {
-    Command::new(alloc, "audit")
-        .about("Prints the verdict on the trace on standard input: yes, or the first fault")
+    let Ok(command) = Command::new(alloc, "audit")
+        .about("Prints the verdict on a trace: yes, or the first fault")
+        .after_help(AUDIT_EXAMPLES)
         .arg(workers_argument(alloc))
+    else {
+        return Err(AllocError);
+    };
+    command.arg(file_argument(alloc))
 }
 
 /// The subcommand that runs a workload.
 fn run_command<'a>(alloc: Global) -> Result<Command<'a>, AllocError>
     ensures { IfOk result (λ c. shape_of c ≡ run_shape) }
 {
-    Command::new(alloc, "run")
-        .about("Runs the workload on standard input on replicas, and prints the trace of the run")
-        .after_help(RUN_EXAMPLE)
+    let Ok(command) = Command::new(alloc, "run")
+        .about("Runs a workload on replicas, and prints the trace of the run")
+        .after_help(RUN_EXAMPLES)
         .arg(mixer_argument(alloc))
+    else {
+        return Err(AllocError);
+    };
+    command.arg(file_argument(alloc))
 }
 
 /// The subcommand that prints the frames of a trace.
-fn show_command<'a>(alloc: Global) -> Command<'a>
-    ensures { shape_of result ≡ show }
+fn show_command<'a>(alloc: Global) -> Result<Command<'a>, AllocError>
+    ensures { IfOk result (λ c. shape_of c ≡ show) }
 {
-    Command::new(alloc, "show").about(
-        "Prints the frames of the trace on standard input, a line for each",
-    )
+    let Ok(command) = Command::new(alloc, "show")
+        .about("Prints the frames of a trace, a line for each")
+        .after_help(SHOW_EXAMPLES)
+        .arg(long_argument(alloc))
+    else {
+        return Err(AllocError);
+    };
+    command.arg(file_argument(alloc))
 }
 
 /// The program, which wants a subcommand, and has none yet.
@@ -120,6 +196,7 @@ fn program<'a>(alloc: Global) -> Command<'a>
     ensures { app_of result ≡ program }
 {
     Command::new(alloc, "eve")
+        .version(formats())
         .about("Records runs of replicated SmallBank servers, and audits their traces")
         .after_help(EXAMPLES)
         .disable_help_subcommand(true)
@@ -142,7 +219,10 @@ fn command<'a>(alloc: Global) -> Result<Command<'a>, AllocError>
     let Ok(runs) = audits.subcommand(run) else {
         return Err(AllocError);
     };
-    runs.subcommand(show_command(alloc))
+    let Ok(show) = show_command(alloc) else {
+        return Err(AllocError);
+    };
+    runs.subcommand(show)
 }
 
 /// How many workers were named.
@@ -162,6 +242,38 @@ fn mixer_of(found: &ArgMatches<'_>) -> Option<Mixer>
 {
     match found.get_str("mixer") {
         Some(name) => Mixer::named(name),
+        None => None,
+    }
+}
+
+/// Whether the fields of each frame were asked for.
+fn is_long(found: &ArgMatches<'_>) -> bool
+    ensures { result ≡ is_long (rows_of (found_of found.now)) }
+{
+    match found.get_str("long") {
+        Some(text) => text == "true",
+        None => false,
+    }
+}
+
+/// The call `show`, with the fields of each frame or without.
+fn show_of(found: &ArgMatches<'_>) -> Call
+    ensures call { subcommand_of_call result ≡ listing (is_long (rows_of (found_of found.now))) }
+    ensures workers { (n : Option ℕ) → HasWorkers n result }
+{
+    if is_long(found) {
+        Call::ShowLong
+    } else {
+        Call::Show
+    }
+}
+
+/// The file that was named.
+fn file_in<'a>(matches: &ArgMatches<'a>) -> Option<&'a str>
+    ensures { option_map (λ s. s.now) result ≡ file_behind (subcommand_rows_of matches.now) }
+{
+    match matches.subcommand() {
+        Some((_, found)) => found.get_str("file"),
         None => None,
     }
 }
@@ -186,7 +298,7 @@ fn call_named(name: &str, found: &ArgMatches<'_>) -> Option<Call>
     match name {
         "audit" => Some(Call::Audit(workers_of(found))),
         "run" => Some(Call::Run(mixer_of(found)?)),
-        "show" => Some(Call::Show),
+        "show" => Some(show_of(found)),
         _ => None,
     }
 }
@@ -197,7 +309,10 @@ fn answer_of(alloc: Global, error: &Error) -> Result<Asked, AllocError>
 {
     match error.kind() {
         ErrorKind::OutOfMemory => Err(AllocError),
-        ErrorKind::DisplayHelp => Ok(Asked::Help(error.to_string(alloc)?)),
+        ErrorKind::DisplayHelp | ErrorKind::DisplayVersion => {
+            Ok(Asked::Help(error.to_string(alloc)?))
+        }
+        ErrorKind::ValueValidation => Ok(Asked::Refused(String::from_str(alloc, NO_WORKERS)?)),
         _ => Ok(Asked::Refused(error.to_string(alloc)?)),
     }
 }
@@ -213,5 +328,22 @@ pub fn read_arguments<S: AsStr>(alloc: Global, arguments: &[S]) -> Result<Asked,
             None => Ok(Asked::Refused(String::from_str(alloc, NO_MIXER)?)),
         },
         Err(error) => answer_of(alloc, &error),
+    }
+}
+
+/// The file that the arguments of a command line name to be read; none where they name none, or are no call.
+pub fn file_named<S: AsStr>(alloc: Global, arguments: &[S]) -> Result<Option<String>, AllocError>
+    ensures { IfOk result (λ file. option_map string_bytes file ≡ file_of (map S.text arguments.now)) }
+{
+    let command = command(alloc)?;
+    match command.try_get_matches_from(arguments) {
+        Ok(matches) => match file_in(&matches) {
+            Some(file) => Ok(Some(String::from_str(alloc, file)?)),
+            None => Ok(None),
+        },
+        Err(error) => match error.kind() {
+            ErrorKind::OutOfMemory => Err(AllocError),
+            _ => Ok(None),
+        },
     }
 }

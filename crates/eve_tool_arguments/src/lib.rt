@@ -3,5 +3,5 @@
 
 mod arguments;
 
-pub use arguments::{Asked, Call, read_arguments};
+pub use arguments::{Asked, Call, file_named, read_arguments};
 pub use eve_grammar::WorkerCount;

@@ -1,7 +1,7 @@
 use Rattle.std.proofs.Common.{arith}
 use Rattle.eve_tool_arguments.specs.Arguments.{Audit}
 use Rattle.eve_tool_arguments.proofs.PlainArguments.{alone, asks, asks_help, audit_call, run_call, show_call}
-use Rattle.eve_tool_arguments.proofs.PlainArguments.{first_call, no_worker, too_many, whole_call}
+use Rattle.eve_tool_arguments.proofs.PlainArguments.{asks_version, first_call, long_call, no_worker, too_many, whole_call}
 use Rattle.eve_tool.proofs.Cutting.{audited_of}
 use Rattle.eve_tool.proofs.program.serve.Goals as goal
 
@@ -73,3 +73,15 @@ returns-in-Err-clause-no_worker g c = no_worker
 
 pub returns-in-Err-clause-too_many : goal.returns-in-Err-clause-too_many
 returns-in-Err-clause-too_many g c = too_many
+
+pub returns-in-Ok-clause-show_long : goal.returns-in-Ok-clause-show_long
+returns-in-Ok-clause-show_long g c = long_call
+
+pub returns-in-Err-clause-show_long : goal.returns-in-Err-clause-show_long
+returns-in-Err-clause-show_long g c = long_call
+
+pub returns-in-Ok-clause-version : goal.returns-in-Ok-clause-version
+returns-in-Ok-clause-version g c = λ name. asks_version name
+
+pub returns-in-Err-clause-version : goal.returns-in-Err-clause-version
+returns-in-Err-clause-version g c = λ name. asks_version name

@@ -16,6 +16,6 @@ returns c =
     c.in-Ok-subcommand-2.ensures.shape (is_local _ _ _ _ (ap plain c.in-Ok-run_command.ensures))
     ∙ ap₂ with_subcommand audits c.in-Ok-run_command.ensures in
     IfOk-weaker c.subcommand-3.result _ (λ command. app_of command ≡ eve)
-    (λ command adds. adds.shape (is_local _ _ _ _ (ap plain c.show_command.ensures))
-    ∙ ap₂ with_subcommand runs c.show_command.ensures)
+    (λ command adds. adds.shape (is_local _ _ _ _ (ap plain c.in-Ok-show_command.ensures))
+    ∙ ap₂ with_subcommand runs c.in-Ok-show_command.ensures)
     c.subcommand-3.ensures

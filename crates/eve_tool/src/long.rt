@@ -1,0 +1,285 @@
+//! The call `show --long`: the frames of a trace with their fields, a line for each.
+
+ghost use Rattle.std.specs.Prelude.{◌≡◌, ◌≢◌, ◌<◌, ◌≤◌, ◌+◌, ◌++◌, length, Some};
+ghost use Rattle.std.specs.Prelude.{IfOk, IfErr, IfSome, OnOk, OnErr};
+ghost use Rattle.std.specs.Io.KnownBytes.{Appends};
+ghost use Rattle.arrayvec.specs.ArrayVec.{array_vec_len};
+ghost use Rattle.eve_grammar.specs.Frames.{frames_of};
+ghost use Rattle.eve_streams.specs.Failures.{after_failure};
+ghost use Rattle.eve_streams.specs.Front.{AppendsFront};
+ghost use Rattle.eve_tool.specs.Calls.{WasRead, Leaves, StopsLong};
+ghost use Rattle.eve_tool.specs.Lines.{fault_line, line_feed, line_front};
+ghost use Rattle.eve_tool.specs.Long.{ShowsLong, header_front, long_fronts, front_of_view, SendsLine, StopsInLine};
+ghost use Rattle.eve_tool.specs.Long.{SendsLines, SendsUpTo, StopsInLines};
+ghost use Rattle.eve_tool.specs.Sending.{SendsSome};
+ghost use Rattle.eve_tool_arguments.specs.Arguments.{ShowLong};
+ghost use Rattle.eve_tool.specs.Writes.{WritesAll, WritesAllOf};
+
+use crate::fault::ToolFault;
+use crate::lines::push_fault_line;
+use eve_grammar::{FRAME_HEAD_LEN, HEADER_LEN, Head, MOST_BYTES, u8_at, u32_at};
+use eve_lines::{
+    FrameWords, LINE_ROOM, LONGEST_PART, Line, put, put_header, put_line_feed, put_number,
+};
+use eve_streams::{SendFault, Sink, Source, read_all, send_all};
+use eve_views::{CheckFault, Fault, FrameView, Trace};
+use std::alloc::Global;
+
+/// Appends the front of a frame's line: the byte at which it begins, its kind's name, and how many bytes its body has.
+fn put_front(line: &mut Line, offset: u64, name: &str, body_len: u64)
+    requires room { array_vec_len line.old + LONGEST_PART ≤ LINE_ROOM }
+    requires short { length name.now ≤ 8 }
+    ensures { line.new.items ≡ line.old.items ++ line_front offset name.now body_len }
+{
+    put_number(line, offset);
+    put(line, " ");
+    put(line, name);
+    put(line, " ");
+    put_number(line, body_len);
+}
+
+/// Sends the front of a frame's line.
+fn send_front<O: Sink>(
+    line: &mut Line,
+    offset: u64,
+    name: &str,
+    body_len: u64,
+    out: &mut O,
+) -> Result<(), SendFault>
+    requires { length name.now ≤ 8 }
+    ensures sent { OnOk result (Appends (O.written out.old) (O.written out.new)
+        (line_front offset name.now body_len)) }
+    ensures front { OnErr result (AppendsFront (O.written out.old) (O.written out.new)
+        (line_front offset name.now body_len)) }
+    ensures fine { OnOk result (O.failures out.new ≡ O.failures out.old) }
+    ensures counted { OnErr result (O.failures out.new ≡ after_failure (O.failures out.old)) }
+{
+    line.clear();
+    put_front(line, offset, name, body_len);
+    send_all(out, line.as_slice())
+}
+
+/// Sends the end of a line.
+fn send_end<O: Sink>(out: &mut O) -> Result<(), SendFault>
+    ensures sent { OnOk result (Appends (O.written out.old) (O.written out.new) line_feed) }
+    ensures front { OnErr result (AppendsFront (O.written out.old) (O.written out.new) line_feed) }
+    ensures fine { OnOk result (O.failures out.new ≡ O.failures out.old) }
+    ensures counted { OnErr result (O.failures out.new ≡ after_failure (O.failures out.old)) }
+{
+    send_all(out, b"\n")
+}
+
+/// Sends what frame number `number` says, in as many parts as it takes.
+fn send_words<O: Sink>(
+    line: &mut Line,
+    number: usize,
+    frame: &FrameView<'_>,
+    out: &mut O,
+) -> Result<(), SendFault>
+    ensures sent { SendsSome (O.written out.old) (O.written out.new) }
+    ensures fine { OnOk result (O.failures out.new ≡ O.failures out.old) }
+    ensures counted { OnErr result (O.failures out.new ≡ after_failure (O.failures out.old)) }
+{
+    let mut words = FrameWords::of(number, frame.bytes());
+    'parts: for _ in 0..=frame.body_len() {
+        line.clear();
+        let more = words.fill(line);
+        send_all(out, line.as_slice())?;
+        if !more {
+            break;
+        }
+    }
+    Ok(())
+}
+
+/// Sends the line of frame number `number`.
+fn send_frame<O: Sink>(
+    line: &mut Line,
+    number: usize,
+    frame: &FrameView<'_>,
+    out: &mut O,
+) -> Result<(), SendFault>
+    ensures sent { OnOk result (SendsLine (O.written out.old) (O.written out.new) (front_of_view frame.now)) }
+    ensures front { OnErr result (StopsInLine (O.written out.old) (O.written out.new) (front_of_view frame.now)) }
+    ensures fine { OnOk result (O.failures out.new ≡ O.failures out.old) }
+    ensures counted { OnErr result (O.failures out.new ≡ after_failure (O.failures out.old)) }
+{
+    send_front(
+        line,
+        frame.offset(),
+        frame.kind_name(),
+        frame.body_len() as u64,
+        out,
+    )?;
+    send_words(line, number, frame, out)?;
+    send_end(out)
+}
+
+/// Sends what a header says.
+fn send_header_words<O: Sink>(line: &mut Line, head: &Head, out: &mut O) -> Result<(), SendFault>
+    ensures sent { SendsSome (O.written out.old) (O.written out.new) }
+    ensures fine { OnOk result (O.failures out.new ≡ O.failures out.old) }
+    ensures counted { OnErr result (O.failures out.new ≡ after_failure (O.failures out.old)) }
+{
+    line.clear();
+    put_header(line, head);
+    send_all(out, line.as_slice())
+}
+
+/// Sends the line of the header.
+fn send_header<O: Sink>(line: &mut Line, head: &Head, out: &mut O) -> Result<(), SendFault>
+    ensures sent { OnOk result (SendsLine (O.written out.old) (O.written out.new) header_front) }
+    ensures front { OnErr result (StopsInLine (O.written out.old) (O.written out.new) header_front) }
+    ensures fine { OnOk result (O.failures out.new ≡ O.failures out.old) }
+    ensures counted { OnErr result (O.failures out.new ≡ after_failure (O.failures out.old)) }
+{
+    send_front(line, 0, "Header", 32, out)?;
+    send_header_words(line, head, out)?;
+    send_end(out)
+}
+
+/// Sends the lines of the header and of all frames.
+fn send_trace<O: Sink>(trace: &Trace<'_>, out: &mut O) -> Result<(), SendFault>
+    ensures sent { OnOk result (SendsLines (O.written out.old) (O.written out.new) (long_fronts (frames_of trace.now))) }
+    ensures front { OnErr result (StopsInLines (O.written out.old) (O.written out.new)
+        (long_fronts (frames_of trace.now))) }
+    ensures fine { OnOk result (O.failures out.new ≡ O.failures out.old) }
+    ensures counted { OnErr result (O.failures out.new ≡ after_failure (O.failures out.old)) }
+{
+    let mut line = Line::new();
+    send_header(&mut line, &trace.head(), out)?;
+    'frames: for i in 0..trace.frame_count() {
+        send_frame(&mut line, i, &trace.frame(i), out)?;
+    }
+    Ok(())
+}
+
+/// The frame that begins at this byte, where it lies there as a whole.
+fn frame_at(bytes: &[u8], at: usize) -> Option<FrameView<'_>>
+    ensures { IfSome result (λ frame. at + length frame.bytes.now ≤ length bytes.now) }
+{
+    if at > bytes.len() {
+        return None;
+    }
+    let frame = &bytes[at..];
+    let Some((_, rest)) = u8_at(frame) else {
+        return None;
+    };
+    let Some((body_len, body)) = u32_at(rest) else {
+        return None;
+    };
+    let body_len = body_len as usize;
+    if body.len() < body_len {
+        return None;
+    }
+    Some(FrameView {
+        offset: at as u64,
+        bytes: &frame[..FRAME_HEAD_LEN + body_len],
+    })
+}
+
+/// Sends the lines of the frames that end by this byte.
+fn send_frames_before<O: Sink>(
+    line: &mut Line,
+    bytes: &[u8],
+    until: usize,
+    out: &mut O,
+) -> Result<(), SendFault>
+    ensures sent { SendsSome (O.written out.old) (O.written out.new) }
+    ensures fine { OnOk result (O.failures out.new ≡ O.failures out.old) }
+    ensures counted { OnErr result (O.failures out.new ≡ after_failure (O.failures out.old)) }
+{
+    let mut at = HEADER_LEN;
+    'frames: for number in 0..bytes.len() {
+        if at >= until {
+            break;
+        }
+        let Some(frame) = frame_at(bytes, at) else {
+            break;
+        };
+        send_frame(line, number, &frame, out)?;
+        at += frame.bytes.len();
+    }
+    Ok(())
+}
+
+/// Sends the lines of the header and of the frames before a fault at this byte; none where the fault is the header's.
+fn send_before<O: Sink>(bytes: &[u8], until: usize, out: &mut O) -> Result<(), SendFault>
+    ensures sent { SendsSome (O.written out.old) (O.written out.new) }
+    ensures fine { OnOk result (O.failures out.new ≡ O.failures out.old) }
+    ensures counted { OnErr result (O.failures out.new ≡ after_failure (O.failures out.old)) }
+{
+    if until < HEADER_LEN || bytes.len() < HEADER_LEN {
+        return Ok(());
+    }
+    let Some(head) = Head::read(&bytes[6..24]) else {
+        return Ok(());
+    };
+    let mut line = Line::new();
+    send_header(&mut line, &head, out)?;
+    send_frames_before(&mut line, bytes, until, out)
+}
+
+/// Sends the lines of the header and of the frames before a fault, and then the line of the fault.
+fn send_faulty<O: Sink>(
+    alloc: Global,
+    bytes: &[u8],
+    fault: &Fault,
+    out: &mut O,
+) -> Result<(), ToolFault>
+    ensures sent { OnOk result (SendsUpTo (O.written out.old) (O.written out.new) (fault_line fault.now)) }
+    ensures fine { OnOk result (O.failures out.new ≡ O.failures out.old) }
+    ensures stopped { IfErr result (StopsLong O.written O.failures out.old out.new (fault_line fault.now)) }
+{
+    let mut text = String::new(alloc);
+    push_fault_line(&mut text, fault)?;
+    send_before(bytes, fault.offset as usize, out)?;
+    send_all(out, text.as_str().as_bytes())?;
+    Ok(())
+}
+
+/// Sends what there is to say of the bytes, and returns the exit status.
+fn show_long_bytes<O: Sink>(alloc: Global, bytes: &[u8], out: &mut O) -> Result<u8, ToolFault>
+    ensures all { IfOk result (WritesAll ShowsLong bytes.now (O.written out.old) (O.written out.new)) }
+    ensures status { IfOk result (λ status. status < 2) }
+    ensures fine { OnOk result (O.failures out.new ≡ O.failures out.old) }
+    ensures left { IfErr result (Leaves MOST_BYTES O.written O.failures ShowLong (Some bytes.now) ⊥ out.old out.new) }
+    ensures wrote { IfErr result (λ why. why ≢ ToolFault.Write → O.failures out.new ≡ O.failures out.old) }
+{
+    match Trace::read(alloc, bytes) {
+        Ok(trace) => {
+            send_trace(&trace, out)?;
+            Ok(0)
+        }
+        Err(CheckFault::Found(fault)) => {
+            send_faulty(alloc, bytes, &fault, out)?;
+            Ok(1)
+        }
+        Err(CheckFault::Memory) => Err(ToolFault::Memory),
+    }
+}
+
+/// Reads a trace, sends its lines with the fields of each frame and returns 0; or sends those of the frames before its
+/// first fault of form, and then the line of that fault, and returns 1. It reads at most one byte more than a trace may
+/// have: that byte is the fault then.
+pub(crate) fn show_long<I: Source, O: Sink>(
+    alloc: Global,
+    input: &mut I,
+    out: &mut O,
+) -> Result<u8, ToolFault>
+    ensures all { IfOk result (WritesAllOf ShowsLong (I.remaining input.old)
+        (O.written out.old) (O.written out.new)) }
+    ensures status { IfOk result (λ status. status < 2) }
+    ensures fine { OnOk result ((I.failures input.new ≡ I.failures input.old)
+        × (O.failures out.new ≡ O.failures out.old)) }
+    ensures left { IfErr result (Leaves MOST_BYTES O.written O.failures ShowLong (I.remaining input.old)
+        (I.failures input.new ≡ after_failure (I.failures input.old)) out.old out.new) }
+    ensures read { IfErr result (λ why. why ≢ ToolFault.Read → I.failures input.new ≡ I.failures input.old) }
+    ensures ended { IfErr result (λ why. why ≢ ToolFault.Read → why ≢ ToolFault.Memory
+        → WasRead MOST_BYTES (I.remaining input.old) (I.remaining input.new)) }
+    ensures consumed { OnOk result (WasRead MOST_BYTES (I.remaining input.old) (I.remaining input.new)) }
+    ensures wrote { IfErr result (λ why. why ≢ ToolFault.Write → O.failures out.new ≡ O.failures out.old) }
+{
+    let bytes = read_all(alloc, input, MOST_BYTES as u32)?;
+    show_long_bytes(alloc, bytes.as_slice(), out)
+}
