@@ -20,8 +20,8 @@ use Rattle.eve_streams.proofs.Joining.{AppendsFront-after, AppendsFront-more}
 use Rattle.eve_views.specs.Code.{code_name, code_number}
 use Rattle.eve_views.specs.declared.fault.Fault.{Fault}
 use Rattle.eve_tool.specs.Lines.{fault_line, line_feed, replica_text}
-use Rattle.eve_tool.specs.Long.{AreLongLines, IsLongLine, SendsLine, SendsLines, SendsUpTo, StopsBefore, StopsInLine}
-use Rattle.eve_tool.specs.Long.{StopsInLines, front_of, front_of_view, header_front, long_fronts}
+use Rattle.eve_tool.specs.Long.{AreLongLines, IsLongLine, SendsLine, SendsLines, SendsUpTo, StopsUpTo, StopsInLine}
+use Rattle.eve_tool.specs.Long.{StopsInLines, line_front_of, front_of_view, header_front, long_fronts}
 use Rattle.eve_tool.specs.Sending.{SendsSome}
 use Rattle.eve_tool.proofs.SentLines.{AppendsFront-so_far, frame_placed, length-body, placed_at}
 
@@ -168,14 +168,14 @@ up_to-sent a b c last some sent = record {
   sent = Appends-trans a b c some.text last some.appended sent;
 }
 
-pub stops-before : (a b : Option (List ℕ)) (last : List ℕ) → 0 < length last → SendsSome a b → StopsBefore a b last
+pub stops-before : (a b : Option (List ℕ)) (last : List ℕ) → 0 < length last → SendsSome a b → StopsUpTo a b last
 stops-before a b last more some = record {
   before = some.text;
   sent = AppendsFront-so_far a b some.text last more some.appended;
 }
 
 pub stops-in_last : (a b c : Option (List ℕ)) (last : List ℕ) → SendsSome a b → AppendsFront b c last
-    → StopsBefore a c last
+    → StopsUpTo a c last
 stops-in_last a b c last some front = record {
   before = some.text;
   sent = AppendsFront-after a b c some.text last some.appended front;
@@ -188,12 +188,12 @@ unfolding long_fronts
 front_at-header frames = refl
 
 pub front_at : (frames : List Frame) (i : ℕ) (p : ℕ × Frame) → slice_get (located frame_text 32 frames) i ≡ Some p
-    → slice_get (long_fronts frames) (i + 1) ≡ Some (front_of p)
+    → slice_get (long_fronts frames) (i + 1) ≡ Some (line_front_of p)
 unfolding long_fronts
 front_at frames i p at =
     let behind : i + 1 ≡ suc i = omega arith in
-    let got : slice_get (map front_of (located frame_text 32 frames)) i ≡ Some (front_of p) =
-    slice_get-map front_of (located frame_text 32 frames) i ∙ ap (option_map front_of) at in
+    let got : slice_get (map line_front_of (located frame_text 32 frames)) i ≡ Some (line_front_of p) =
+    slice_get-map line_front_of (located frame_text 32 frames) i ∙ ap (option_map line_front_of) at in
     rw behind got
 
 pub length-long_fronts : (frames : List Frame) → length (long_fronts frames) ≡ length frames + 1
@@ -201,7 +201,7 @@ unfolding long_fronts
 length-long_fronts frames =
     omega (
       arith,
-      length-map (located frame_text 32 frames) front_of,
+      length-map (located frame_text 32 frames) line_front_of,
       length-located frame_text 32 frames,
     )
 
@@ -219,7 +219,7 @@ front_of_frame frames i f view within got at text =
     ap (λ b. kind_name (slice_index b 0)) text ∙ ap (λ g. kind_name (kind_of g)) same in
     let len_is : length view.bytes.now - 5 ≡ length (body_text p.1) =
     ap (λ b. length b - 5) text ∙ length-body f ∙ ap (λ g. length (body_text g)) same in
-    let front_is : front_of_view view ≡ front_of p = rw (offset_is, name_is, len_is) refl in
+    let front_is : front_of_view view ≡ line_front_of p = rw (offset_is, name_is, len_is) refl in
     front_at frames i p placed.1 ∙ ap Some (sym front_is)
 
 -- ---- results

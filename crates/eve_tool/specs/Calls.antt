@@ -12,7 +12,7 @@ use Rattle.eve_tool.specs.Audit.{Audits}
 use Rattle.eve_tool.specs.Fault.{error_line, status_of}
 use Rattle.eve_tool.specs.Run.{Runs, IsTooLong, IsRunnable}
 use Rattle.eve_tool.specs.Show.{Shows}
-use Rattle.eve_tool.specs.Long.{ShowsLong, StopsBefore}
+use Rattle.eve_tool.specs.Long.{ShowsLong, StopsUpTo}
 use Rattle.eve_tool_arguments.specs.Arguments.{Subcommand, Audit, Run, Show, ShowLong, call_of}
 use Rattle.eve_tool.specs.Writes.{WritesFrontOf}
 
@@ -89,7 +89,7 @@ StopsInParts written failures old new text _ = ⊥
 abbrev pub StopsLong : {O : Type 0} → (O → Option (List ℕ)) → (O → ℕ) → O → O → List ℕ → ToolFault → Type 0
 StopsLong written failures old new last fault.Memory = new ≡ old
 StopsLong written failures old new last fault.Write =
-    StopsBefore (written old) (written new) last × (failures new ≡ after_failure (failures old))
+    StopsUpTo (written old) (written new) last × (failures new ≡ after_failure (failures old))
 StopsLong written failures old new last _ = ⊥
 
 -- The input was read, where its bytes are `known`: to its end, but no further than `limit + 1` bytes. `left` is what is

@@ -14,8 +14,8 @@ use Rattle.eve_views.specs.declared.fault.Fault.{Fault}
 use Rattle.eve_tool.specs.Lines.{fault_line, line_feed, line_front}
 
 -- the front of a frame's line, with the byte at which it begins
-abbrev pub front_of : ℕ × Frame → List ℕ
-front_of located = line_front located.0 (kind_name (kind_of located.1)) (length (body_text located.1))
+abbrev pub line_front_of : ℕ × Frame → List ℕ
+line_front_of located = line_front located.0 (kind_name (kind_of located.1)) (length (body_text located.1))
 
 abbrev pub header_front : List ℕ
 header_front = line_front 0 (codes "Header") 32
@@ -27,7 +27,7 @@ front_of_view view =
 
 -- the fronts of the lines of the header and of the frames after it
 unfoldable pub long_fronts : List Frame → List (List ℕ)
-long_fronts frames = header_front ∷ map front_of (located frame_text 32 frames)
+long_fronts frames = header_front ∷ map line_front_of (located frame_text 32 frames)
 
 -- a line begins with this front, has some words behind it, and ends
 pub record IsLongLine (front line : List ℕ) : Type 0 where
@@ -91,6 +91,6 @@ pub record SendsUpTo (old new : Option (List ℕ)) (last : List ℕ) : Type 0 wh
   pub sent : Appends old new (before ++ last)
 
 -- a front of some bytes and this line was sent, and not all of them
-pub record StopsBefore (old new : Option (List ℕ)) (last : List ℕ) : Type 0 where
+pub record StopsUpTo (old new : Option (List ℕ)) (last : List ℕ) : Type 0 where
   pub before : List ℕ
   pub sent : AppendsFront old new (before ++ last)
