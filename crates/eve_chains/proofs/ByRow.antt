@@ -1,14 +1,13 @@
--- Lists of notes, one for each row, and one note more.
+-- Rows that are walked along one entry more, and what is noted of records.
 use Rattle.std.proofs.Common.{◌≡◌, ◌≢◌, ℕ, ◌<◌, ◌==◌, List, [], ◌∷◌, ◌++◌, map, length, get_or}
-use Rattle.std.proofs.Common.{set, replicate, sym, subst, ap, ◌∙◌, inl, inr, append-nil, append_assoc, arith}
-use Rattle.std.proofs.Common.{◌+◌, ◌≤◌, ◌^◌, zero, suc, take, drop, flat_map, slice_get, Some, IsTrue, Vec, Global}
+use Rattle.std.proofs.Common.{set, sym, subst, ap, ◌∙◌, inl, inr, append-nil, append_assoc, arith}
+use Rattle.std.proofs.Common.{◌+◌, ◌≤◌, ◌^◌, zero, suc, take, drop, flat_map, slice_get, Some, IsTrue}
 use Rattle.std.proofs.Common.{length-append}
 use Rattle.std.specs.List.{list_all}
-use Rattle.std.specs.Prelude.{nat_lt}
-use Rattle.std.proofs.lemmas.Bool.{and_parts, ltb-true}
+use Rattle.std.proofs.lemmas.Bool.{and_parts}
 use Rattle.std.proofs.lemmas.Option.{same_Some}
 use Rattle.std.proofs.lemmas.Grind.{flat_map-append}
-use Rattle.std.proofs.lemmas.List.{length-map, length-drop, take_more}
+use Rattle.std.proofs.lemmas.List.{get_or-set_other, length-drop, length-set, map-append}
 use Rattle.eve_smallbank.specs.declared.entry.Entry.{Entry}
 use Rattle.eve_grammar.specs.Trace.{Access, Trace}
 use Rattle.eve_grammar.specs.Frames.{Frame, frames_of}
@@ -22,85 +21,60 @@ use Rattle.eve_chains.specs.Along.{AreWithin}
 use Rattle.eve_chains.proofs.Linked.{none≢some}
 use Rattle.std.proofs.lemmas.Bool.{cases_eq, eq-eqb, ne_eqb}
 use Rattle.std.proofs.lemmas.Grind.{get_or-set_at}
-use Rattle.std.proofs.lemmas.List.{get_or-set_other, get_or-replicate, length-set, length-replicate, map-append}
-use Rattle.std.proofs.lemmas.List.{get_or-map, map-set}
 use Rattle.std.proofs.lemmas.List.Elements.{filter-append}
 use Rattle.eve_grammar.proofs.Lists.{filter_kept, filter_dropped}
 use Rattle.eve_chains.specs.Rows.{Noted, of_row}
-use Rattle.eve_chains.specs.Notes.{noted_at, AreByRow}
-use Rattle.eve_chains.specs.declared.note.Note.{Note}
+use Rattle.eve_chains.specs.Visible.{opening_table}
+use Rattle.eve_chains.specs.Walked.{HasWalked, EachHasWalked}
+use Rattle.eve_chains.specs.declared.walked_row.WalkedRow.{WalkedRow}
 
--- empty lists hold nothing
-pub none_noted : (count : ℕ) (lists : List (List Note)) → lists ≡ replicate count [] → AreByRow [] lists
-none_noted count lists is row below =
-    ap (map (noted_at row)) (ap (λ (ls : List (List Note)). get_or ls row []) is
-    ∙ get_or-replicate count row [] [] less)
-  where
-    less : row < count
-    less = let same : length lists ≡ count = ap length is ∙ length-replicate count [] in omega arith
+-- an entry of another row is none of a row's
+other_same : (row : ℕ) (ns : List Noted) (n : Noted) → n.entry.row ≢ row → of_row row (ns ++ n ∷ []) ≡ of_row row ns
+other_same row ns n other =
+    filter-append (λ (m : Noted). m.entry.row == row) ns (n ∷ [])
+    ∙ ap (λ (ms : List Noted). of_row row ns ++ ms)
+    (filter_dropped (λ (m : Noted). m.entry.row == row) n [] (ne_eqb n.entry.row row other))
+    ∙ append-nil (of_row row ns)
 
-module _ (lists : List (List Note)) (k : ℕ) (ns : List Noted) (note : Note) (n : Noted) (within : k < length lists)
-    (its : n.entry.row ≡ k) (is : noted_at k note ≡ n) (known : AreByRow ns lists) where
-  abbrev more : List Note
-  more = get_or lists k [] ++ note ∷ []
+-- and its own comes behind those before
+own_more : (row : ℕ) (ns : List Noted) (n : Noted) → n.entry.row ≡ row
+    → of_row row (ns ++ n ∷ []) ≡ of_row row ns ++ n ∷ []
+own_more row ns n own =
+    filter-append (λ (m : Noted). m.entry.row == row) ns (n ∷ [])
+    ∙ ap (λ (ms : List Noted). of_row row ns ++ ms)
+    (filter_kept (λ (m : Noted). m.entry.row == row) n [] (eq-eqb n.entry.row row own))
 
-  -- the note's own row
-  own_more : map (noted_at k) more ≡ of_row k (ns ++ n ∷ [])
-  own_more =
-      map-append (noted_at k) (get_or lists k []) (note ∷ [])
-      ∙ (λ i. known k within i ++ is i ∷ [])
-      ∙ ap (λ (ms : List Noted). of_row k ns ++ ms)
-      (sym (filter_kept (λ (m : Noted). m.entry.row == k) n [] (eq-eqb n.entry.row k its)))
-      ∙ sym (filter-append (λ (m : Noted). m.entry.row == k) ns (n ∷ []))
+module _ (t : Trace) (e from : ℕ) (ns : List Noted) (n : Noted) (ws : List WalkedRow) where
+  -- none of the rows is the entry's
+  pub passed_over : ((place : ℕ) → place < length ws → from + place ≢ n.entry.row) → EachHasWalked t e from ns ws
+      → EachHasWalked t e from (ns ++ n ∷ []) ws
+  passed_over apart known place d less =
+      subst (λ (ms : List Noted). HasWalked e (opening_table t (from + place)) ms (get_or ws place d))
+      (sym (other_same (from + place) ns n (λ same. apart place less (sym same)))) (known place d less)
 
-  -- another row
-  other_same : (row : ℕ) → row ≢ k → of_row row (ns ++ n ∷ []) ≡ of_row row ns
-  other_same row other =
-      filter-append (λ (m : Noted). m.entry.row == row) ns (n ∷ [])
-      ∙ ap (λ (ms : List Noted). of_row row ns ++ ms)
-      (filter_dropped (λ (m : Noted). m.entry.row == row) n []
-      (ne_eqb n.entry.row row (λ same. other (sym same ∙ its))))
-      ∙ append-nil (of_row row ns)
-
-  pub noted_more : AreByRow (ns ++ n ∷ []) (set lists k more)
-  noted_more row below =
-      elim (cases_eq row k) [
-        | inl same ↦ ap (map (noted_at row)) (get_or-set_at lists k row more [] same within)
-            ∙ ap (λ (r : ℕ). map (noted_at r) more) same ∙ own_more
-            ∙ ap (λ (r : ℕ). of_row r (ns ++ n ∷ [])) (sym same)
-        | inr other ↦ ap (map (noted_at row)) (get_or-set_other lists k row more [] other) ∙ known row less
-            ∙ sym (other_same row other)
+  -- the row at this place has gone on along the entry
+  pub entry_met : (place : ℕ) (w : WalkedRow) → place < length ws → from + place ≡ n.entry.row
+      → HasWalked e (opening_table t (from + place)) (of_row (from + place) ns ++ n ∷ []) w
+      → EachHasWalked t e from ns ws → EachHasWalked t e from (ns ++ n ∷ []) (set ws place w)
+  entry_met place w there own walked known i d less =
+      elim (cases_eq i place) [
+        | inl same ↦ subst (After i) (sym (get_or-set_at ws place i w d same there))
+            (subst (λ (k : ℕ). After k w) (sym same) here)
+        | inr other ↦ subst (After i) (sym (get_or-set_other ws place i w d other))
+            (subst (λ (ms : List Noted). HasWalked e (opening_table t (from + i)) ms (get_or ws i d))
+            (sym (other_same (from + i) ns n (λ same. other (apart same))))
+            (known i d (subst (λ (m : ℕ). i < m) (length-set ws place w) less)))
       ]
     where
-      less : row < length lists
-      less = subst (λ (m : ℕ). row < m) (length-set lists k more) below
+      After : ℕ → WalkedRow → Type 0
+      After k x = HasWalked e (opening_table t (from + k)) (of_row (from + k) (ns ++ n ∷ [])) x
 
--- the list of a row has one note more
-pub entry_noted : (items : List (Vec Note Global)) (k : ℕ) (v u d : Vec Note Global) (ns : List Noted) (note : Note)
-    (n : Noted) → k < length items → v.items ≡ u.items ++ note ∷ [] → u ≡ get_or items k d → k ≡ n.entry.row
-    → noted_at n.entry.row note ≡ n → AreByRow ns (map (λ (w : Vec Note Global). w.items) items)
-    → AreByRow (ns ++ n ∷ []) (map (λ (w : Vec Note Global). w.items) (set items k v))
-entry_noted items k v u d ns note n within pushed value row is known =
-    subst (AreByRow (ns ++ n ∷ []))
-    (sym (map-set f items k v ∙ ap (set (map f items) k)
-    (pushed ∙ ap (λ (w : Vec Note Global). w.items ++ note ∷ []) value
-    ∙ ap (λ (l : List Note). l ++ note ∷ []) (sym (get_or-map f items k d none within)))))
-    (noted_more (map f items) k ns note n (subst (λ (m : ℕ). k < m) (sym (length-map items f)) within) (sym row)
-    (ap (λ (r : ℕ). noted_at r note) row ∙ is) known)
-  where
-    f : Vec Note Global → List Note
-    f w = w.items
+      here : After place w
+      here = subst (λ (ms : List Noted). HasWalked e (opening_table t (from + place)) ms w)
+          (sym (own_more (from + place) ns n (sym own))) walked
 
-    none : List Note
-    none = []
-
--- an entry's row has a list
-pub row_there : (items : List (Vec Note Global)) (k : ℕ) (e : Entry)
-    → IsTrue (is_entry (length (map (λ (w : Vec Note Global). w.items) items)) e) → k ≡ e.row → k < length items
-row_there items k e within is =
-    let many = length-map items (λ (w : Vec Note Global). w.items) in
-    let less = ltb-true e.row (length (map (λ (w : Vec Note Global). w.items) items)) (and_parts (nat_lt e.row _) _ within).0 in
-    omega (arith, many, less, is)
+      apart : n.entry.row ≡ from + i → i ≡ place
+      apart same = omega (arith, same, own)
 
 -- ---- a record's entries, one after another
 
@@ -121,15 +95,6 @@ one_more f ns xs k x at =
     append_assoc ns (map f (take k xs)) (f x ∷ [])
     ∙ ap (λ (ms : List Noted). ns ++ ms)
     (sym (ap (map f) (take_one_more xs k x at) ∙ map-append f (take k xs) (x ∷ [])))
-
--- the same of an item that was read at its place
-pub one_more_at : {A : Type 0} (f : A → Noted) (ns : List Noted) (xs : List A) (k : ℕ) (x : A) → k < length xs
-    → x ≡ get_or xs k x → (ns ++ map f (take k xs)) ++ f x ∷ [] ≡ ns ++ map f (take (k + 1) xs)
-one_more_at {A} f ns xs k x within is =
-    append_assoc ns (map f (take k xs)) (f x ∷ [])
-    ∙ ap (λ (ms : List Noted). ns ++ ms)
-    (sym (ap (map f) (take_more xs k x within ∙ ap (λ (y : A). take k xs ++ y ∷ []) (sym is))
-    ∙ map-append f (take k xs) (x ∷ [])))
 
 -- and of one list more
 pub list_more : {A : Type 0} (f : A → List Noted) (ns : List Noted) (xs : List A) (k : ℕ) (x : A)

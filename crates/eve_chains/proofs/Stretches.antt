@@ -1,23 +1,19 @@
 -- What is found in stretches of attempts, put together, is what is found in all of them.
-use Rattle.std.proofs.Common.{◌≡◌, ℕ, zero, suc, ◌+◌, ◌-◌, ◌<◌, ◌≤◌, ◌==◌, List, [], ◌∷◌, ◌++◌, length, take, drop, map}
-use Rattle.std.proofs.Common.{get_or, fold, slice_get, slice_index_or, Option, None, Some, refl, sym, subst, ap, ◌∙◌, arith}
+use Rattle.std.proofs.Common.{◌≡◌, ℕ, zero, suc, ◌+◌, ◌-◌, ◌<◌, ◌≤◌, List, [], ◌∷◌, ◌++◌, length, take, drop}
+use Rattle.std.proofs.Common.{fold, slice_get, Option, None, Some, refl, sym, subst, ap, ◌∙◌, arith}
 use Rattle.std.proofs.Common.{append-nil, append_assoc, drop-drop}
-use Rattle.std.proofs.lemmas.List.Elements.{All-push, All-weaker, All-nil, All-cons, filter-append}
+use Rattle.std.proofs.lemmas.List.Elements.{All-push, All-weaker}
 use Rattle.std.specs.Prelude.{All}
 use Rattle.std.specs.List.{AllZip}
 use Rattle.std.proofs.lemmas.List.{take_all}
-use Rattle.eve_grammar.specs.Trace.{Trace, head_of}
-use Rattle.eve_grammar.specs.Limits.{row_count}
+use Rattle.eve_grammar.specs.Trace.{Trace}
 use Rattle.eve_grammar.proofs.Lists.{item_within}
 use Rattle.eve_history.specs.declared.fate.Fate.{Fate}
 use Rattle.eve_history.specs.SectionHistory.{ExecutedAttempt, SectionHistory}
 use Rattle.eve_chains.specs.Unfit.{by_fates, by_fates_between, records_if_settled, records_between, IsLeastUnfit}
 use Rattle.eve_chains.specs.Unfit.{IsLeastOfAttempt, lesser}
-use Rattle.eve_chains.specs.Rows.{Noted, of_row}
-use Rattle.eve_chains.specs.Notes.{noted_at, noted_if_settled, notes_between}
-use Rattle.eve_chains.specs.Looked.{lists_of, IsLooked, row_notes}
+use Rattle.eve_chains.specs.Looked.{IsLooked}
 use Rattle.eve_chains.specs.Stretches.{IsWithin, Reaches, AreBetween}
-use Rattle.eve_chains.specs.declared.looked.Looked.{Looked}
 use Rattle.eve_chains.specs.declared.stretch.Stretch.{Stretch}
 use Rattle.eve_chains.proofs.Least.{least_append}
 use Rattle.eve_chains.proofs.Linked.{from_place}
@@ -40,28 +36,6 @@ stretch_more start from to xs up known = record {
       (λ x is. record { rising = is.rising; there = omega (arith, is.there) }) xs known.within)
       (record { rising = up; there = omega arith });
 }
-
--- where stretches that follow one another end
-abbrev pub end_of : ℕ → List Stretch → ℕ
-end_of from [] = from
-end_of from (x ∷ xs) = end_of x.to xs
-
-pub ends_there : (from to : ℕ) (xs : List Stretch) → Reaches from to xs → end_of from xs ≡ to
-ends_there from to [] reaches = reaches
-ends_there from to (x ∷ xs) reaches = ends_there x.to to xs reaches.1
-
--- the stretch at a place begins where those before it end, and they end with it
-pub begins_there : (from to k : ℕ) (d : Stretch) (xs : List Stretch) → Reaches from to xs → k < length xs
-    → (get_or xs k d).from ≡ end_of from (take k xs)
-begins_there from to k d [] reaches less = absurd (omega (arith, less))
-begins_there from to zero d (x ∷ xs) reaches less = reaches.0
-begins_there from to (suc k) d (x ∷ xs) reaches less = begins_there x.to to k d xs reaches.1 (omega (arith, less))
-
-pub ends_with : (from k : ℕ) (d : Stretch) (xs : List Stretch) → k < length xs
-    → end_of from (take (suc k) xs) ≡ (get_or xs k d).to
-ends_with from k d [] less = absurd (omega (arith, less))
-ends_with from zero d (x ∷ xs) less = refl
-ends_with from (suc k) d (x ∷ xs) less = ends_with x.to k d xs (omega (arith, less))
 
 -- ---- what attempts give, one after another
 
@@ -166,87 +140,25 @@ module _ (t : Trace) (h : SectionHistory) (names : List (List ℕ)) where
       (its a.0 f.0 a.1 f.1))
 
   -- of stretches that follow one another
-  found_all : (start from last : ℕ) (xs : List Stretch) (ls : List Looked) (first : Option ℕ) → start ≤ from
+  found_all : (start from last : ℕ) (xs : List Stretch) (ls : List (Option ℕ)) (first : Option ℕ) → start ≤ from
       → AllZip (IsLooked names t h) xs ls → Reaches from last xs → All (IsWithin last) xs
       → IsLeastUnfit names (records_between t h start from) first
-      → IsLeastUnfit names (records_between t h start last) (fold (λ least l. lesser least l.unfit) first ls)
+      → IsLeastUnfit names (records_between t h start last) (fold (λ (least l : Option ℕ). lesser least l) first ls)
   found_all start from last [] [] first low each reaches within is =
       subst (λ (n : ℕ). IsLeastUnfit names (records_between t h start n) first) reaches is
   found_all start from last [] (l ∷ ls) first low each reaches within is = absurd each
   found_all start from last (x ∷ xs) [] first low each reaches within is = absurd each
   found_all start from last (x ∷ xs) (l ∷ ls) first low each reaches within is =
-      found_all start x.to last xs ls (lesser first l.unfit) (omega (arith, low, reaches.0, rising)) each.1 reaches.1
+      found_all start x.to last xs ls (lesser first l) (omega (arith, low, reaches.0, rising)) each.1 reaches.1
       (λ i d less. within (suc i) d (omega arith))
-      (joined start x.from x.to first l.unfit (omega (arith, low, reaches.0)) rising
-      (subst (λ (n : ℕ). IsLeastUnfit names (records_between t h start n) first) (sym reaches.0) is) each.0.unfit)
+      (joined start x.from x.to first l (omega (arith, low, reaches.0)) rising
+      (subst (λ (n : ℕ). IsLeastUnfit names (records_between t h start n) first) (sym reaches.0) is) each.0)
     where
       rising : x.from ≤ x.to
       rising = (within 0 x (omega arith)).rising
 
-  pub least_in_all : (from last : ℕ) (xs : List Stretch) (ls : List Looked) → AllZip (IsLooked names t h) xs ls
+  pub least_in_all : (from last : ℕ) (xs : List Stretch) (ls : List (Option ℕ)) → AllZip (IsLooked names t h) xs ls
       → AreBetween from last xs
-      → IsLeastUnfit names (records_between t h from last) (fold (λ least l. lesser least l.unfit) None ls)
+      → IsLeastUnfit names (records_between t h from last) (fold (λ (least l : Option ℕ). lesser least l) None ls)
   least_in_all from last xs ls each cut =
       found_all from from last xs ls None (omega arith) each cut.reaches cut.within (none_judged from)
-
-  -- one more round
-  pub round_judged : (from to : ℕ) (least found : Option ℕ) → from ≤ to
-      → IsLeastUnfit names (records_between t h 0 from) least → IsLeastUnfit names (records_between t h from to) found
-      → IsLeastUnfit names (records_between t h 0 to) (lesser least found)
-  round_judged from to least found up is its = joined 0 from to least found (omega arith) up is its
-
--- ---- the notes of a row
-
-module _ (names : List (List ℕ)) (t : Trace) (h : SectionHistory) (row : ℕ) (below : row < row_count (head_of t)) where
-  notes_all : (start from last : ℕ) (xs : List Stretch) (ls : List Looked) → start ≤ from
-      → AllZip (IsLooked names t h) xs ls → Reaches from last xs → All (IsWithin last) xs
-      → of_row row (notes_between h start from) ++ row_notes row ls ≡ of_row row (notes_between h start last)
-  notes_all start from last [] [] low each reaches within =
-      append-nil (of_row row (notes_between h start from))
-      ∙ ap (λ (n : ℕ). of_row row (notes_between h start n)) reaches
-  notes_all start from last [] (l ∷ ls) low each reaches within = absurd each
-  notes_all start from last (x ∷ xs) [] low each reaches within = absurd each
-  notes_all start from last (x ∷ xs) (l ∷ ls) low each reaches within =
-      (λ i. of_row row (notes_between h start from) ++ (own i ++ row_notes row ls))
-      ∙ sym (append_assoc (of_row row (notes_between h start from)) (of_row row (notes_between h x.from x.to))
-      (row_notes row ls))
-      ∙ ap (λ (ns : List Noted). ns ++ row_notes row ls) front
-      ∙ notes_all start x.to last xs ls (omega (arith, low, reaches.0, rising)) each.1 reaches.1
-      (λ i d less. within (suc i) d (omega arith))
-    where
-      rising : x.from ≤ x.to
-      rising = (within 0 x (omega arith)).rising
-
-      own : map (noted_at row) (slice_index_or (lists_of l) row []) ≡ of_row row (notes_between h x.from x.to)
-      own = each.0.notes row (subst (λ (n : ℕ). row < n) (sym each.0.as_many) below)
-
-      front : of_row row (notes_between h start from) ++ of_row row (notes_between h x.from x.to)
-          ≡ of_row row (notes_between h start x.to)
-      front =
-          ap (λ (n : ℕ). of_row row (notes_between h start n) ++ of_row row (notes_between h x.from x.to))
-          (sym reaches.0)
-          ∙ sym (filter-append (λ (n : Noted). n.entry.row == row) (notes_between h start x.from)
-          (notes_between h x.from x.to))
-          ∙ ap (of_row row) (between_joined noted_if_settled h start x.from x.to (omega (arith, low, reaches.0)) rising)
-
-  pub row_in_all : (from last : ℕ) (xs : List Stretch) (ls : List Looked) → AllZip (IsLooked names t h) xs ls
-      → AreBetween from last xs → row_notes row ls ≡ of_row row (notes_between h from last)
-  row_in_all from last xs ls each cut =
-      ap (λ (ns : List Noted). of_row row ns ++ row_notes row ls) (sym (none_between noted_if_settled h from))
-      ∙ notes_all from from last xs ls (omega arith) each cut.reaches cut.within
-
--- one more round
-pub round_noted : (h : SectionHistory) (row from to : ℕ) → from ≤ to
-    → of_row row (notes_between h 0 from) ++ of_row row (notes_between h from to) ≡ of_row row (notes_between h 0 to)
-round_noted h row from to up =
-    sym (filter-append (λ (n : Noted). n.entry.row == row) (notes_between h 0 from) (notes_between h from to))
-    ∙ ap (of_row row) (between_joined noted_if_settled h 0 from to (omega arith) up)
-
-pub lists_in_all : (names : List (List ℕ)) (t : Trace) (h : SectionHistory) (xs : List Stretch) (ls : List Looked)
-    → AllZip (IsLooked names t h) xs ls → All (λ l. length (lists_of l) ≡ row_count (head_of t)) ls
-lists_in_all names t h [] [] each = All-nil (λ l. length (lists_of l) ≡ row_count (head_of t))
-lists_in_all names t h [] (l ∷ ls) each = absurd each
-lists_in_all names t h (x ∷ xs) [] each = absurd each
-lists_in_all names t h (x ∷ xs) (l ∷ ls) each =
-    All-cons (λ k. length (lists_of k) ≡ row_count (head_of t)) l ls each.0.as_many
-    (lists_in_all names t h xs ls each.1)

@@ -17,11 +17,7 @@ use Rattle.eve_history.specs.SectionHistory.{is_committed, ExecutedAttempt}
 use Rattle.eve_chains.specs.Along.{AreWithin}
 use Rattle.eve_chains.specs.Rows.{Fated, to_come, told_of, settles, Noted, noted_by, noted_in, all_noted, of_row}
 use Rattle.eve_chains.specs.Unfit.{is_settled, by_fates}
-use Rattle.std.proofs.Common.{get_or, append-nil}
-use Rattle.std.proofs.lemmas.List.Elements.{All-nil, All-cons}
-use Rattle.eve_chains.specs.Notes.{noted_at, AreByRow, noted_along, noted_if_settled, notes_between}
-use Rattle.eve_chains.specs.Looked.{lists_of, AreGathered}
-use Rattle.eve_chains.specs.declared.looked.Looked.{Looked}
+use Rattle.eve_chains.specs.Notes.{noted_along, noted_if_settled, notes_between}
 use Rattle.eve_chains.proofs.Stretches.{all_between}
 use Rattle.eve_chains.specs.Walked.{notes_on}
 use Rattle.eve_chains.proofs.AttemptRecords.{IsWithin, within_section}
@@ -152,19 +148,7 @@ within_told t e h i r limits is at =
     along [] all = tt
     along (x ∷ xs) all = (all.0.within, along xs all.1)
 
--- what one pass over all attempts notes
-pub gathered_alone : (t : Trace) (h : SectionHistory) (l : Looked) → length (lists_of l) ≡ row_count (head_of t)
-    → AreByRow (notes_between h 0 (length h.attempts)) (lists_of l)
-    → AreGathered t h (record { from = 0; to = length h.attempts }) (l ∷ [])
-gathered_alone t h l many noted = record {
-  as_many = All-cons (λ k. length (lists_of k) ≡ row_count (head_of t)) l [] many
-      (All-nil (λ k. length (lists_of k) ≡ row_count (head_of t)));
-  notes = λ row below.
-      append-nil (map (noted_at row) (get_or (lists_of l) row []))
-      ∙ noted row (subst (λ (n : ℕ). row < n) (sym many) below);
-}
-
--- and what all attempts note is what is noted along the section
+-- what all attempts note is what is noted along the section
 pub all_told : (t : Trace) (h : SectionHistory) → h ≡ section_history t h.replica
     → notes_between h 0 (length h.attempts) ≡ all_noted (told_of t h.replica)
 all_told t h is = all_between noted_if_settled h ∙ noted_told t h.replica h is

@@ -1,5 +1,5 @@
 -- The first fault of rows that are walked, each by itself.
-use Rattle.std.proofs.Common.{◌≡◌, ℕ, zero, suc, ◌+◌, ◌<◌, ◌≤◌, Bool, true, false, cond, List, [], ◌∷◌, ◌++◌, map}
+use Rattle.std.proofs.Common.{◌≡◌, ℕ, zero, suc, ◌+◌, ◌<◌, ◌≤◌, Bool, true, false, cond, List, [], ◌∷◌, ◌++◌}
 use Rattle.std.proofs.Common.{length, fold, Option, Some, None, refl, sym, subst, ap, ◌∙◌, inl, inr, ◌⊎◌, append_assoc}
 use Rattle.std.proofs.Common.{append-nil, arith}
 use Rattle.std.specs.Prelude.{All}
@@ -18,31 +18,20 @@ use Rattle.eve_grammar.specs.Trace.{Trace}
 use Rattle.eve_chains.specs.Visible.{opening_of, opening_table}
 use Rattle.eve_chains.specs.Along.{SeesAnother, fault_if}
 use Rattle.eve_chains.specs.Rows.{Noted, of_row, met_by, next_pair, pair_after, at_first, IsWrongOnRow, EachSees}
-use Rattle.std.proofs.lemmas.Grind.{flat_map-append}
-use Rattle.std.proofs.Common.{set}
-use Rattle.std.proofs.lemmas.Bool.{cases_eq}
-use Rattle.std.proofs.lemmas.Grind.{get_or-set_at}
-use Rattle.std.proofs.lemmas.List.{take_more, get_or-map, get_or-set_other, length-map, length-set}
-use Rattle.std.proofs.Common.{Vec, Global, get_or, take}
+use Rattle.std.proofs.Common.{get_or}
 use Rattle.std.specs.List.{AllByRecursion}
 use Rattle.std.proofs.Common.{◌==◌, ◌&&◌}
 use Rattle.std.proofs.lemmas.Bool.{eqb-true, ne_eqb}
 use Rattle.eve_smallbank.specs.Access.{is_write}
 use Rattle.eve_grammar.proofs.Lists.{all-weaker}
-use Rattle.eve_history.specs.SectionHistory.{SectionHistory}
 use Rattle.eve_chains.specs.Changes.{with_change, change_by, changes_along, changes_of_rows}
-use Rattle.eve_chains.specs.Notes.{noted_at}
-use Rattle.eve_chains.specs.Looked.{lists_of, row_notes}
-use Rattle.eve_chains.specs.declared.looked.Looked.{Looked}
-use Rattle.eve_chains.specs.declared.note.Note.{Note}
 use Rattle.eve_chains.specs.declared.changed.Changed.{Changed}
 use Rattle.eve_chains.specs.Stretches.{IsWithin, Reaches, AreStretches}
 use Rattle.eve_chains.specs.Walked.{IsFirstOrNone, IsMismatch, IsFirstOnRow, IsWrongOnSome, IsFirstOnRows}
 use Rattle.std.proofs.lemmas.List.Elements.{All-nil, All-cons}
-use Rattle.eve_chains.specs.Walked.{IsWalked, AreWalked, notes_on, IsRangeWalked, HasBegun, HasGoneOn, HasMet, HasWalked}
+use Rattle.eve_chains.specs.Walked.{IsWalked, AreWalked, notes_on, HasMet, HasWalked}
 use Rattle.eve_chains.specs.declared.walked_row.WalkedRow.{WalkedRow}
 use Rattle.std.proofs.Common.{ℤ}
-use Rattle.eve_chains.specs.declared.walked.RangeWalk.{RangeWalk}
 use Rattle.eve_chains.specs.declared.stretch.Stretch.{Stretch}
 use Rattle.eve_chains.specs.declared.walked.Walked.{Walked}
 use Rattle.eve_chains.proofs.AlongLaws.{before_up, not_before_up, split_last}
@@ -297,35 +286,6 @@ pub changes_more : (before : List Changed) (ns ms : List Noted) (now : List Chan
 changes_more before [] ms now is = ap (λ (cs : List Changed). changes_along cs ms) is
 changes_more before (n ∷ ns) ms now is = changes_more (change_by before n) ns ms now is
 
--- ---- what is noted of a row, stretch after stretch
-
-pub row_more : (number : ℕ) (ls : List Looked) (k : ℕ) (l : Looked) → k < length ls → l ≡ get_or ls k l
-    → row_notes number (take k ls) ++ map (noted_at number) (get_or (lists_of l) number [])
-    ≡ row_notes number (take (k + 1) ls)
-row_more number ls k l within is =
-    ap (λ (ms : List Noted). row_notes number (take k ls) ++ ms) (sym (append-nil (own l)))
-    ∙ sym (ap (row_notes number) (take_more ls k l within ∙ ap (λ (m : Looked). take k ls ++ m ∷ []) (sym is))
-    ∙ flat_map-append own (take k ls) (l ∷ []))
-  where
-    own : Looked → List Noted
-    own m = map (noted_at number) (get_or (lists_of m) number [])
-
--- a row's list, as it is read
-pub row_read : (row number : ℕ) (items : List (Vec Note Global)) (v : Vec Note Global) (notes : List Note) → row ≡ number
-    → number < length (map (λ (w : Vec Note Global). w.items) items) → notes ≡ v.items → v ≡ get_or items number v
-    → map (noted_at row) notes
-    ≡ map (noted_at number) (get_or (map (λ (w : Vec Note Global). w.items) items) number [])
-row_read row number items v notes is within same read =
-    (λ i. map (noted_at (is i)) (same i))
-    ∙ ap (map (noted_at number)) (ap (λ (w : Vec Note Global). w.items) read
-    ∙ sym (get_or-map f items number v none (subst (λ (m : ℕ). number < m) (length-map items f) within)))
-  where
-    f : Vec Note Global → List Note
-    f w = w.items
-
-    none : List Note
-    none = []
-
 -- ---- what rows change
 
 -- a change of a later row goes behind those of earlier ones
@@ -446,43 +406,6 @@ row_begun t row place value w met none is same e = record {
   changes = none;
 }
 
-pub begun_all : (t : Trace) (h : SectionHistory) (xs : List Stretch) (ws : List RangeWalk) → AllZip (HasBegun t) xs ws
-    → All (IsRangeWalked t h 0) ws
-begun_all t h [] [] each = All-nil (IsRangeWalked t h 0)
-begun_all t h [] (w ∷ ws) each = absurd each
-begun_all t h (x ∷ xs) [] each = absurd each
-begun_all t h (x ∷ xs) (w ∷ ws) each =
-    All-cons (IsRangeWalked t h 0) w ws (each.0.1 h) (begun_all t h xs ws each.1)
-
-pub begun_ranges : (t : Trace) (xs : List Stretch) (ws : List RangeWalk) → AllZip (HasBegun t) xs ws
-    → map (λ w. w.range) ws ≡ xs
-begun_ranges t [] [] each = refl
-begun_ranges t [] (w ∷ ws) each = absurd each
-begun_ranges t (x ∷ xs) [] each = absurd each
-begun_ranges t (x ∷ xs) (w ∷ ws) each = (λ i. each.0.0 i ∷ begun_ranges t xs ws each.1 i)
-
-pub gone_all : (t : Trace) (h : SectionHistory) (to : ℕ) (ws next : List RangeWalk) → AllZip (HasGoneOn t h to) ws next
-    → All (IsRangeWalked t h to) next
-gone_all t h to [] [] each = All-nil (IsRangeWalked t h to)
-gone_all t h to [] (n ∷ next) each = absurd each
-gone_all t h to (w ∷ ws) [] each = absurd each
-gone_all t h to (w ∷ ws) (n ∷ next) each =
-    All-cons (IsRangeWalked t h to) n next each.0.1 (gone_all t h to ws next each.1)
-
-pub gone_ranges : (t : Trace) (h : SectionHistory) (to : ℕ) (ws next : List RangeWalk)
-    → AllZip (HasGoneOn t h to) ws next → map (λ w. w.range) next ≡ map (λ w. w.range) ws
-gone_ranges t h to [] [] each = refl
-gone_ranges t h to [] (n ∷ next) each = absurd each
-gone_ranges t h to (w ∷ ws) [] each = absurd each
-gone_ranges t h to (w ∷ ws) (n ∷ next) each = (λ i. each.0.0 i ∷ gone_ranges t h to ws next each.1 i)
-
-pub walked_ranges : (t : Trace) (e : ℕ) (ws : List RangeWalk) (ds : List Walked)
-    → AllZip (λ w d. IsWalked t e w.range d) ws ds → AllZip (IsWalked t e) (map (λ w. w.range) ws) ds
-walked_ranges t e [] [] each = tt
-walked_ranges t e [] (d ∷ ds) each = absurd each
-walked_ranges t e (w ∷ ws) [] each = absurd each
-walked_ranges t e (w ∷ ws) (d ∷ ds) each = (each.0, walked_ranges t e ws ds each.1)
-
 -- ---- one range of all rows
 
 pub walked_alone : (t : Trace) (e rows : ℕ) (w : Walked) → IsWalked t e (record { from = 0; to = rows }) w
@@ -496,27 +419,3 @@ walked_alone t e rows w is = record {
   };
   each = (is, tt);
 }
-
--- ---- one item of a list set
-
-pub set_done : {A : Type 0} (P : ℕ → A → Type 0) (xs : List A) (k : ℕ) (x : A) → k < length xs
-    → ((i : ℕ) (d : A) → i < k → P i (get_or xs i d)) → P k x
-    → (i : ℕ) (d : A) → i < k + 1 → P i (get_or (set xs k x) i d)
-set_done {A} P xs k x there done own i d less =
-    elim (cases_eq i k) [
-      | inl same ↦ subst (P i) (sym (get_or-set_at xs k i x d same there)) (subst (λ (n : ℕ). P n x) (sym same) own)
-      | inr other ↦ subst (P i) (sym (get_or-set_other xs k i x d other)) (done i d (before other))
-    ]
-  where
-    before : (i ≡ k → ⊥) → i < k
-    before other = elim (cases_lt i k) [ inl lt ↦ lt | inr ge ↦ absurd (other (omega (arith, less, ge))) ]
-
-pub set_rest : {A : Type 0} (P : ℕ → A → Type 0) (xs : List A) (k : ℕ) (x : A)
-    → ((i : ℕ) (d : A) → k ≤ i → i < length xs → P i (get_or xs i d))
-    → (i : ℕ) (d : A) → k + 1 ≤ i → i < length (set xs k x) → P i (get_or (set xs k x) i d)
-set_rest P xs k x rest i d low less =
-    subst (P i) (sym (get_or-set_other xs k i x d other))
-    (rest i d (omega (arith, low)) (subst (λ (n : ℕ). i < n) (length-set xs k x) less))
-  where
-    other : i ≡ k → ⊥
-    other same = omega (arith, low, same)

@@ -1,10 +1,10 @@
--- What the records of attempts note of each row, gathered row by row. docs/MODEL.md, "What an entry must see".
-use Rattle.std.specs.Prelude.{◌≡◌, ℕ, ◌<◌, if◌then◌else◌, List, [], map, length, slice_index_or}
+-- What the records of attempts note of each row. docs/MODEL.md, "What an entry must see".
+use Rattle.std.specs.Prelude.{ℕ, if◌then◌else◌, List, []}
 use Rattle.std.specs.List.{flat_map}
 use Rattle.eve_history.specs.declared.fate.Fate.{Fate}
 use Rattle.eve_history.specs.SectionHistory.{ExecutedAttempt, SectionHistory, is_committed}
 use Rattle.eve_chains.specs.Unfit.{is_settled, by_fates_between}
-use Rattle.eve_chains.specs.Rows.{Noted, noted_by, of_row}
+use Rattle.eve_chains.specs.Rows.{Noted, noted_by}
 use Rattle.eve_chains.specs.declared.note.Note.{Note}
 
 -- a note of this row, as the row's walk meets it
@@ -16,10 +16,6 @@ noted_at row n = record {
   commits = n.commits;
   entry = record { version = n.version; seen = n.seen; after = n.after; row = row; kind = n.kind };
 }
-
--- these lists, one for each row, hold what is noted of the row, in the same order
-abbrev pub AreByRow : List Noted → List (List Note) → Type 0
-AreByRow ns lists = (row : ℕ) → row < length lists → map (noted_at row) (slice_index_or lists row []) ≡ of_row row ns
 
 -- ---- of attempts, by what becomes of them
 

@@ -3,22 +3,18 @@ use Rattle.std.specs.Prelude.{◌≡◌, ◌≢◌, ℕ, ◌+◌, ◌-◌, ◌<�
 use Rattle.std.specs.List.{AllZip}
 use Rattle.eve_smallbank.specs.declared.entry.Entry.{Entry}
 use Rattle.eve_smallbank.specs.declared.versioned.Versioned.{Versioned}
-use Rattle.eve_grammar.specs.Trace.{Trace, head_of}
-use Rattle.eve_grammar.specs.Limits.{row_count}
-use Rattle.eve_history.specs.SectionHistory.{SectionHistory}
+use Rattle.eve_grammar.specs.Trace.{Trace}
 use Rattle.eve_views.specs.declared.fault.Code.{Code}
 use Rattle.eve_views.specs.declared.fault.Code.TheVariants as code
 use Rattle.eve_views.specs.declared.fault.Fault.{Fault}
 use Rattle.eve_views.specs.Form.{IsLeast, HasNone}
 use Rattle.eve_chains.specs.Visible.{opening_table}
 use Rattle.eve_chains.specs.Rows.{Noted, Pair, told_of, all_noted, of_row, pair_after, IsWrongOnRow, EachSees}
-use Rattle.eve_chains.specs.Notes.{notes_between}
 use Rattle.eve_chains.specs.Changes.{changes_along, changes_of_rows}
-use Rattle.eve_chains.specs.Stretches.{IsWithin, AreStretches}
+use Rattle.eve_chains.specs.Stretches.{AreStretches}
 use Rattle.eve_chains.specs.declared.stretch.Stretch.{Stretch}
 use Rattle.eve_chains.specs.declared.row_walk.RowWalk.{RowWalk}
 use Rattle.eve_chains.specs.declared.walked_row.WalkedRow.{WalkedRow}
-use Rattle.eve_chains.specs.declared.walked.RangeWalk.{RangeWalk}
 use Rattle.eve_chains.specs.declared.walked.Walked.{Walked}
 
 -- all is well and none of these faults stands, or this is the first of them, by offset and then by number
@@ -53,23 +49,17 @@ pub record HasWalked (e : ℕ) (v : Versioned) (ns : List Noted) (w : WalkedRow)
   pub met : HasMet e v ns w.walk
   pub changes : w.changes.items ≡ changes_along [] ns
 
--- ---- a range of rows
+-- ---- rows from one on
 
--- each row of the range is walked along what the attempts up to this place note of it
-pub record IsRangeWalked (t : Trace) (h : SectionHistory) (to : ℕ) (w : RangeWalk) : Type 0 where
-  pub within : IsWithin (row_count (head_of t)) w.range
-  pub as_many : length w.rows.items ≡ w.range.to - w.range.from
-  pub each : (place : ℕ) (d : WalkedRow) → place < length w.rows.items
-      → HasWalked h.replica (opening_table t (w.range.from + place))
-      (of_row (w.range.from + place) (notes_between h 0 to)) (slice_index_or w.rows.items place d)
+-- each of these rows, the first of which has this number, is walked along what these entries are of it
+abbrev pub EachHasWalked : Trace → ℕ → ℕ → List Noted → List WalkedRow → Type 0
+EachHasWalked t e from ns ws = (place : ℕ) (d : WalkedRow) → place < length ws
+    → HasWalked e (opening_table t (from + place)) (of_row (from + place) ns) (slice_index_or ws place d)
 
--- the range has its opening balances
-abbrev pub HasBegun : Trace → Stretch → RangeWalk → Type 0
-HasBegun t x w = (w.range ≡ x) × ((h : SectionHistory) → IsRangeWalked t h 0 w)
-
--- the range is walked up to this place
-abbrev pub HasGoneOn : Trace → SectionHistory → ℕ → RangeWalk → RangeWalk → Type 0
-HasGoneOn t h to w next = (next.range ≡ w.range) × IsRangeWalked t h to next
+-- the place of a row among the given number of rows from one on, if it is one of them
+abbrev pub IsPlaceAmong : ℕ → ℕ → ℕ → Option ℕ → Type 0
+IsPlaceAmong row from count None = (place : ℕ) → place < count → from + place ≢ row
+IsPlaceAmong row from count (Some place) = (from + place ≡ row) × (place < count)
 
 -- ---- rows from one up to another
 

@@ -3,12 +3,12 @@
 
 mod changed;
 mod checking;
+mod entries;
 mod fitting;
 pub mod laws;
 mod looked;
 mod note;
 mod noted;
-mod noting;
 mod numbered;
 mod opening;
 mod row_walk;

@@ -1,16 +1,13 @@
-//! One row walked by itself along what was noted of it.
+//! One row walked by itself along what is noted of it.
 
-ghost use Rattle.std.specs.Prelude.{◌≡◌, ◌<◌, ◌++◌, ◌∷◌, [], All, OnOk, List, length, map};
-ghost use Rattle.eve_accounts.specs.declared.limits.TheConstants.{MOST_NAMED_ROWS};
+ghost use Rattle.std.specs.Prelude.{◌≡◌, ◌++◌, ◌∷◌, [], OnOk, List};
 ghost use Rattle.eve_smallbank.specs.declared.versioned.Versioned.{Versioned as VersionedValue};
 ghost use Rattle.eve_chains.specs.Rows.{Noted};
 ghost use Rattle.eve_chains.specs.Notes.{noted_at};
 ghost use Rattle.eve_chains.specs.Changes.{changes_along};
-ghost use Rattle.eve_chains.specs.Looked.{lists_of, row_notes};
 ghost use Rattle.eve_chains.specs.Walked.{HasWalked};
 
 use crate::changed::{Changed, add_change};
-use crate::looked::Looked;
 use crate::note::Note;
 use crate::row_walk::RowWalk;
 use eve_accounts::Row;
@@ -25,28 +22,18 @@ pub struct WalkedRow {
     pub changes: Vec<Changed>,
 }
 
-/// The row with this number.
-fn row_at(number: u32) -> Row
-    requires { number < MOST_NAMED_ROWS }
-    ensures { result ≡ number }
-{
-    let customer = number / 2;
-    if number % 2 == 0 {
-        Row::saving(customer)
-    } else {
-        Row::checking(customer)
-    }
-}
-
-/// Goes on along these notes.
-fn walk_notes(on: &mut WalkedRow, replica: u8, row: Row, notes: &[Note]) -> Result<(), AllocError>
+/// Goes on along a note, also where something is wrong: the first fault needn't be the first that the walk meets.
+pub(crate) fn walk_note(
+    on: &mut WalkedRow,
+    replica: u8,
+    row: Row,
+    note: &Note,
+) -> Result<(), AllocError>
     ensures { OnOk result ((v : VersionedValue) (ns : List Noted) → HasWalked replica v ns on.old
-        → HasWalked replica v (ns ++ map (noted_at row) notes.now) on.new) }
+        → HasWalked replica v (ns ++ noted_at row note.now ∷ []) on.new) }
 {
-    for note in notes {
-        on.walk = on.walk.meet(replica, note);
-        note_change(&mut on.changes, row, note)?;
-    }
+    on.walk = on.walk.meet(replica, note);
+    note_change(&mut on.changes, row, note)?;
     Ok(())
 }
 
@@ -63,26 +50,6 @@ fn note_change(changes: &mut Vec<Changed>, row: Row, note: &Note) -> Result<(), 
                 value: note.after,
             },
         )?;
-    }
-    Ok(())
-}
-
-/// Goes on with the row of this number along what is noted of it, stretch after stretch, to the end: the first fault
-/// needn't be the first that the walk meets.
-pub(crate) fn walk_row(
-    on: &mut WalkedRow,
-    replica: u8,
-    number: u32,
-    looked: &[Looked],
-) -> Result<(), AllocError>
-    requires row { number < MOST_NAMED_ROWS }
-    requires there { All (λ l. number < length (lists_of l)) looked.now }
-    ensures { OnOk result ((v : VersionedValue) (ns : List Noted) → HasWalked replica v ns on.old
-        → HasWalked replica v (ns ++ row_notes number looked.now) on.new) }
-{
-    let row = row_at(number);
-    for one in looked {
-        walk_notes(on, replica, row, &one.rows[number as usize])?;
     }
     Ok(())
 }

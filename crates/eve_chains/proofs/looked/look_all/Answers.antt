@@ -1,10 +1,9 @@
-use Rattle.std.proofs.Common.{Result, IfOk, subst, ap, ◌∙◌}
+use Rattle.std.proofs.Common.{ℕ, Option, Result, IfOk, subst, ap, ◌∙◌}
 use Rattle.std.specs.List.{AllZip}
 use Rattle.std.specs.declared.alloc.AllocError.{AllocError}
 use Rattle.rayon.proofs.ToStd.{slice-AllZip}
 use Rattle.eve_chains.specs.Looked.{IsLooked}
 use Rattle.eve_chains.specs.declared.stretch.Stretch.{Stretch}
-use Rattle.eve_chains.specs.declared.looked.Looked.{Looked}
 use Rattle.eve_chains.proofs.Collecting.{collected}
 use Rattle.eve_chains.proofs.looked.look_all.Goals as goal
 
@@ -18,8 +17,8 @@ returns g c =
     let chain = gave.1 in
     let slice = ap (λ it. it.base.slice.now) c.map.ensures.base ∙ ap (λ it. it.slice.now) c.with_min_len.ensures.base
     ∙ c.par_iter.ensures in
-    subst (λ (R : Stretch → Looked → Type 0). IfOk c.in_ok-collect.field-0 (λ made. AllZip R c.args.stretches.now made.items))
+    subst (λ (R : Stretch → Option ℕ → Type 0). IfOk c.in_ok-collect.field-0 (λ made. AllZip R c.args.stretches.now made.items))
     (λ i. IsLooked (names i) (trace i) (history i))
     (collected (IsLooked f.3.now.items f.2.now f.1.now) c.args.stretches.now gave.0 c.in_ok-collect.field-0 gave.2
     (slice-AllZip chain.0 c.args.stretches.now (chain.1 ∙ slice)
-    (λ x (u : Result Looked AllocError). IfOk u (IsLooked f.3.now.items f.2.now f.1.now x)) gave.0 chain.2))
+    (λ x (u : Result (Option ℕ) AllocError). IfOk u (IsLooked f.3.now.items f.2.now f.1.now x)) gave.0 chain.2))

@@ -1,4 +1,4 @@
-use Rattle.std.proofs.Common.{◌≡◌, ◌+◌, ◌-◌, ◌<◌, ◌≤◌, ℕ, [], None, List, length, get_or, sym, subst, ap, ◌∙◌, arith}
+use Rattle.std.proofs.Common.{◌≡◌, ◌+◌, ◌-◌, ◌≤◌, ℕ, [], None, List, length, get_or, sym, subst, ap, ◌∙◌, arith}
 use Rattle.eve_chains.specs.Visible.{opening_table}
 use Rattle.eve_chains.specs.Rows.{Noted, told_of, all_noted, of_row}
 use Rattle.eve_chains.specs.Notes.{notes_between}
@@ -13,11 +13,11 @@ pub loop-row-init : goal.loop-row-init
 loop-row-init c =
     let t = c.args.trace.now in
     let e = c.args.history.now.replica in
-    let from = c.args.walk.now.range.from in
+    let from = c.args.range.from in
     let start : from ≡ from + 0 = omega arith in
     record {
       first = subst (λ (n : ℕ). IsFirstOnRows t e from n None) start (none_on_rows t e from);
-      changes = c.new-changes.ensures.items;
+      changes = c.in_ok-changes.ensures.items;
     }
 
 pub loop-row-preserved : goal.loop-row-preserved
@@ -25,20 +25,16 @@ loop-row-preserved c =
     let t = c.args.trace.now in
     let h = c.args.history.now in
     let e = h.replica in
-    let from = c.args.walk.now.range.from in
+    let from = c.args.range.from in
     let k = c.loop-row.row-index in
     let row = from + k in
     let ns = all_noted (told_of t e) in
     let ms = notes_between h 0 (length h.attempts) in
     let told : ms ≡ ns = all_told t h c.requires.history in
     let item : WalkedRow = c.row-item.result in
-    let lent : c.deref-row-items.result.now ≡ c.args.walk.now.rows.items = c.deref-row-items.ensures.value in
-    let is : item ≡ get_or c.args.walk.now.rows.items k item =
-    c.row-item.is ∙ ap (λ (ws : List WalkedRow). get_or ws k item) lent in
-    let there : k < length c.args.walk.now.rows.items =
-    subst (λ (ws : List WalkedRow). k < length ws) lent c.loop-row-test.true in
+    let is : item ≡ get_or c.args.rows.now k item = c.row-item.is in
     let walked : HasWalked e (opening_table t row) (of_row row ms) item =
-    subst (HasWalked e (opening_table t row) (of_row row ms)) (sym is) (c.requires.walked.each k item there) in
+    subst (HasWalked e (opening_table t row) (of_row row ms)) (sym is) (c.requires.walked k item c.loop-row-test.true) in
     let here : IsFirstOnRow e (opening_table t row) (notes_on t e row) item.walk.first =
     subst (λ (ks : List Noted). IsFirstOnRow e (opening_table t row) (of_row row ks) item.walk.first) told
     walked.met.first in
@@ -59,17 +55,14 @@ pub returns : goal.returns
 returns c =
     let t = c.args.trace.now in
     let e = c.args.history.now.replica in
-    let x = c.args.walk.now.range in
-    let lent : c.deref-row-items.result.now ≡ c.args.walk.now.rows.items = c.deref-row-items.ensures.value in
-    let many : length c.deref-row-items.result.now ≡ x.to - x.from =
-    ap (λ (ws : List WalkedRow). length ws) lent ∙ c.requires.walked.as_many in
+    let x = c.args.range in
     let count : c.loop-row.row-index ≡ x.to - x.from = omega (
       arith,
       c.loop-row-test.false,
       c.loop-row.auto.row-index-end,
-      many,
+      c.requires.as_many,
     ) in
-    let last : x.from + c.loop-row.row-index ≡ x.to = omega (arith, count, c.requires.walked.within.rising) in
+    let last : x.from + c.loop-row.row-index ≡ x.to = omega (arith, count, c.requires.within.rising) in
     record {
       first = subst (λ (n : ℕ). IsFirstOnRows t e x.from n c.loop-row.first) last c.loop-row.invariant.first;
       changes = c.loop-row.invariant.changes

@@ -6,7 +6,7 @@ use Rattle.eve_chains.proofs.walked.finish.Given as goal
 
 abbrev pub invariant-loop-row : goal.invariant-loop-row
 invariant-loop-row l = record {
-  first : IsFirstOnRows l.trace l.history.replica l.walk.range.from (l.walk.range.from + l.row-index) l.first;
+  first : IsFirstOnRows l.trace l.history.replica l.fn.range.from (l.fn.range.from + l.row-index) l.first;
   changes : l.changes.items
-      ≡ changes_of_rows (all_noted (told_of l.trace l.history.replica)) l.walk.range.from l.row-index [];
+      ≡ changes_of_rows (all_noted (told_of l.trace l.history.replica)) l.fn.range.from l.row-index [];
 }
