@@ -125,6 +125,6 @@ pub fn check<R: Threads + Sync>(
         return Err(why);
     }
     sound_sections_have_no_fault();
-    let settled = Settled::of_walked(alloc, history, trace, opening, &walked)?;
+    let settled = Settled::of_walked(alloc, history, trace, opening, walked)?;
     Ok(settled)
 }

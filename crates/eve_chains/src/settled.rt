@@ -63,7 +63,7 @@ impl Settled {
     {
         let opening = opening_balances(alloc, trace)?;
         let walked = walk_section(alloc, history, trace, &opening)?;
-        Settled::of_walked(alloc, history, trace, opening, &walked)
+        Settled::of_walked(alloc, history, trace, opening, walked)
     }
 
     /// The same, of its opening balances and of what the walks of all rows gave.
@@ -72,11 +72,11 @@ impl Settled {
         history: &History<'_>,
         trace: &Trace<'_>,
         opening: Balances,
-        walked: &[Walked],
+        walked: Vec<Walked>,
     ) -> Result<Settled, AllocError>
         requires history { history.now ≡ section_history trace.now history.now.replica }
         requires opening { opening ≡ opening_rows trace.now.customers }
-        requires walked { AreWalked trace.now history.now.replica (row_count (head_of trace.now)) walked.now }
+        requires walked { AreWalked trace.now history.now.replica (row_count (head_of trace.now)) walked.items }
         ensures { IfOk result (λ settled. settled ≡ settling trace.now history.now.replica) }
     {
         trace.recall_limits();
@@ -210,8 +210,20 @@ impl Settled {
     }
 }
 
-/// The changes of all ranges of rows, range after range.
-fn join_all(alloc: Global, walked: &[Walked]) -> Result<Vec<Changed>, AllocError>
+/// The changes of all ranges of rows, range after range; those of a lone range as they stand.
+fn join_all(alloc: Global, mut walked: Vec<Walked>) -> Result<Vec<Changed>, AllocError>
+    ensures { IfOk result (λ changes. changes.items ≡ flat_map (λ w. w.changes.items) walked.items) }
+{
+    if walked.len() == 1 {
+        if let Some(one) = walked.pop() {
+            return Ok(one.changes);
+        }
+    }
+    join_several(alloc, &walked)
+}
+
+/// The same of several ranges.
+fn join_several(alloc: Global, walked: &[Walked]) -> Result<Vec<Changed>, AllocError>
     ensures { IfOk result (λ changes. changes.items ≡ flat_map (λ w. w.changes.items) walked.entry.now) }
 {
     let mut all = Vec::new(alloc);

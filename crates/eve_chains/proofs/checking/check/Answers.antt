@@ -3,7 +3,7 @@ use Rattle.eve_grammar.specs.Limits.{row_count}
 use Rattle.eve_grammar.specs.Trace.{head_of}
 use Rattle.eve_views.specs.First.{first_of}
 use Rattle.eve_views.specs.declared.fault.Fault.{Fault}
-use Rattle.eve_chains.specs.Walked.{IsFirstOnRows, AreWalked}
+use Rattle.eve_chains.specs.Walked.{IsFirstOnRows}
 use Rattle.eve_chains.specs.declared.walked.Walked.{Walked}
 use Rattle.eve_chains.proofs.WalkedRows.{first_of_ranges}
 use Rattle.eve_chains.proofs.checking.check.Goals as goal
@@ -19,8 +19,3 @@ chains-requires-clause-first g c =
     ∙ ap (λ (ks : List Walked). fold (λ (first : Option Fault) (one : Walked). first_of first one.first) None ks)
     c.deref.ensures.value))
     (first_of_ranges t e rows walked.ranges c.in_ok-walked.walked.items walked.each walked.cut)
-
-pub of_walked-requires-clause-walked : goal.of_walked-requires-clause-walked
-of_walked-requires-clause-walked g c =
-    subst (AreWalked c.args.trace.now c.args.history.now.replica (row_count (head_of c.args.trace.now)))
-    (sym c.deref-2.ensures.value) c.in_ok-walked.ensures

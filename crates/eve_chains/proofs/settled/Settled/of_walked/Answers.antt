@@ -18,7 +18,7 @@ of_changes-requires-clause-numbers c =
     let count = c.committed.ensures.count ∙ commits_counted t h.replica h c.requires.history in
     subst (λ (n : ℕ). All (HasNumber n) c.deref.result.now) (sym count)
     (subst (λ (cs : List Changed). All (HasNumber (length (history t h.replica).committed)) cs) (sym same)
-    (joined_numbers t h.replica right c.args.walked.now c.requires.walked))
+    (joined_numbers t h.replica right c.args.walked.items c.requires.walked))
 
 pub of_changes-requires-clause-rows : goal.of_changes-requires-clause-rows
 of_changes-requires-clause-rows c =
@@ -29,7 +29,7 @@ of_changes-requires-clause-rows c =
     let rows = ap (λ (xs : List ℤ). length xs) c.requires.opening ∙ length-opening_rows t.customers in
     subst (λ (n : ℕ). All (IsRowBelow n) c.deref.result.now) (sym rows)
     (subst (λ (cs : List Changed). All (IsRowBelow (2 * length t.customers)) cs) (sym same)
-    (joined_below t h.replica right c.args.walked.now c.requires.walked))
+    (joined_below t h.replica right c.args.walked.items c.requires.walked))
 
 pub returns : goal.returns
 unfolding settling
@@ -40,7 +40,7 @@ returns c =
     let same = c.deref.ensures.value ∙ c.in_ok-changes.ensures in
     let count = c.committed.ensures.count ∙ commits_counted t h.replica h c.requires.history in
     let numbers = (λ i. by_number (count i) (same i))
-    ∙ joined_by_number t h.replica right c.args.walked.now c.requires.walked in
+    ∙ joined_by_number t h.replica right c.args.walked.items c.requires.walked in
     let own : Settling = record { opening = c.args.opening; numbers = by_number c.committed.result c.deref.result.now } in
     let all : own ≡ settling t h.replica = λ i. record { opening = c.requires.opening i; numbers = numbers i } in
     subst (λ (s : Settling). IfOk c.of_changes.result (λ settled. settled ≡ s)) all c.of_changes.ensures
