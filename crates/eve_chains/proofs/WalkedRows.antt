@@ -12,13 +12,15 @@ use Rattle.eve_views.specs.Form.{IsLeast}
 use Rattle.eve_views.specs.declared.fault.Code.{Code}
 use Rattle.eve_views.specs.declared.fault.Code.TheVariants as code
 use Rattle.eve_views.specs.declared.fault.Fault.{Fault}
-use Rattle.std.proofs.lemmas.Bool.{cases_lt}
+use Rattle.std.proofs.lemmas.Bool.{cases_eq, cases_lt}
+use Rattle.std.proofs.lemmas.Grind.{get_or-set_at}
+use Rattle.std.proofs.lemmas.List.{get_or-set_other, length-set}
 use Rattle.eve_views.proofs.Firsts.{up_to-trans}
 use Rattle.eve_grammar.specs.Trace.{Trace}
 use Rattle.eve_chains.specs.Visible.{opening_of, opening_table}
 use Rattle.eve_chains.specs.Along.{SeesAnother, fault_if}
 use Rattle.eve_chains.specs.Rows.{Noted, of_row, met_by, next_pair, pair_after, at_first, IsWrongOnRow, EachSees}
-use Rattle.std.proofs.Common.{get_or}
+use Rattle.std.proofs.Common.{get_or, map, set}
 use Rattle.std.specs.List.{AllByRecursion}
 use Rattle.std.proofs.Common.{◌==◌, ◌&&◌}
 use Rattle.std.proofs.lemmas.Bool.{eqb-true, ne_eqb}
@@ -29,8 +31,9 @@ use Rattle.eve_chains.specs.declared.changed.Changed.{Changed}
 use Rattle.eve_chains.specs.Stretches.{IsWithin, Reaches, AreStretches}
 use Rattle.eve_chains.specs.Walked.{IsFirstOrNone, IsMismatch, IsFirstOnRow, IsWrongOnSome, IsFirstOnRows}
 use Rattle.std.proofs.lemmas.List.Elements.{All-nil, All-cons}
-use Rattle.eve_chains.specs.Walked.{IsWalked, AreWalked, notes_on, HasMet, HasWalked}
-use Rattle.eve_chains.specs.declared.walked_row.WalkedRow.{WalkedRow}
+use Rattle.eve_chains.specs.Walked.{IsWalked, AreWalked, notes_on, HasMet, HasGathered}
+use Rattle.eve_chains.specs.Notes.{noted_at}
+use Rattle.eve_chains.specs.declared.walked_row.GatheredRow.{GatheredRow}
 use Rattle.std.proofs.Common.{ℤ}
 use Rattle.eve_chains.specs.declared.stretch.Stretch.{Stretch}
 use Rattle.eve_chains.specs.declared.walked.Walked.{Walked}
@@ -397,13 +400,29 @@ each_more P (y ∷ xs) x each last zero d less = each zero d (omega arith)
 each_more P (y ∷ xs) x each last (suc i) d less =
     each_more (λ k. P (suc k)) xs x (λ k e lt. each (suc k) e (omega (arith, lt))) last i d (omega (arith, less))
 
-pub row_begun : (t : Trace) (row place : ℕ) (value : ℤ) (w : WalkedRow)
-    → ((e : ℕ) → HasMet e (record { version = 0; value = value }) [] w.walk) → w.changes.items ≡ []
-    → value ≡ opening_of t row → row ≡ place → (e : ℕ) → HasWalked e (opening_table t place) [] w
-row_begun t row place value w met none is same e = record {
-  met = subst (λ (k : ℕ). HasMet e (opening_table t k) [] w.walk) same
-      (subst (λ (z : ℤ). HasMet e (record { version = 0; value = z }) [] w.walk) is (met e));
-  changes = none;
+-- and with another item at one place
+pub each_set : {A : Type 0} (P : ℕ → A → Type 0) (xs : List A) (p : ℕ) (x : A) → p < length xs → P p x
+    → ((i : ℕ) (d : A) → i < length xs → (i ≡ p → ⊥) → P i (get_or xs i d))
+    → (i : ℕ) (d : A) → i < length (set xs p x) → P i (get_or (set xs p x) i d)
+each_set P xs p x there new each i d less =
+    elim (cases_eq i p) [
+      | inl same ↦ subst (P i) (sym (get_or-set_at xs p i x d same there)) (subst (λ (k : ℕ). P k x) (sym same) new)
+      | inr other ↦ subst (P i) (sym (get_or-set_other xs p i x d other))
+          (each i d (subst (λ (m : ℕ). i < m) (length-set xs p x) less) other)
+    ]
+
+pub row_begun : (t : Trace) (row place : ℕ) (value : ℤ) (w : GatheredRow)
+    → ((e : ℕ) → HasMet e (record { version = 0; value = value }) [] w.walked.walk) → w.walked.changes.items ≡ []
+    → w.notes.items ≡ [] → value ≡ opening_of t row → row ≡ place
+    → (e : ℕ) → HasGathered e place (opening_table t place) [] w
+row_begun t row place value w met none empty is same e = record {
+  before = [];
+  whole = ap (map (noted_at place)) empty;
+  walked = record {
+    met = subst (λ (k : ℕ). HasMet e (opening_table t k) [] w.walked.walk) same
+        (subst (λ (z : ℤ). HasMet e (record { version = 0; value = z }) [] w.walked.walk) is (met e));
+    changes = none;
+  };
 }
 
 -- ---- one range of all rows

@@ -1,4 +1,4 @@
-//! The entries of attempts, each met by the walk of its row.
+//! The entries of attempts, gathered for the walks of their rows.
 
 ghost use Rattle.std.specs.Prelude.{◌≡◌, ◌<◌, ◌^◌, ◌++◌, ◌∷◌, [], ℕ, List, IsTrue, OnOk, Some, length, slice_get};
 ghost use Rattle.std.specs.List.{list_all};
@@ -10,11 +10,11 @@ ghost use Rattle.eve_history.specs.SectionHistory.{ExecutedAttempt, section_hist
 ghost use Rattle.eve_chains.specs.Along.{AreWithin};
 ghost use Rattle.eve_chains.specs.Rows.{Noted, noted_by};
 ghost use Rattle.eve_chains.specs.Notes.{noted_if_settled};
-ghost use Rattle.eve_chains.specs.Walked.{EachHasWalked, IsPlaceAmong};
+ghost use Rattle.eve_chains.specs.Walked.{EachHasGathered, IsPlaceAmong};
 
 use crate::note::Note;
 use crate::unfit::is_settled;
-use crate::walked_row::{WalkedRow, walk_note};
+use crate::walked_row::GatheredRow;
 use eve_accounts::Row;
 use eve_frames::AccessView;
 use eve_history::{Fate, History};
@@ -22,21 +22,20 @@ use eve_smallbank::Entry;
 use eve_views::Trace;
 use std::alloc::AllocError;
 
-/// What all entries of an attempt have, and whose walks meet them.
+/// What all entries of an attempt have, and for which rows they are gathered.
 #[derive(Clone, Copy)]
 struct Noting {
-    /// The number of the first walk's row.
+    /// The number of the first row.
     from: usize,
-    replica: u8,
     view: u32,
     number: u32,
     commits: bool,
 }
 
-/// Walks these rows, from this one on, along the entries of an attempt's records, in its certificate's order; of an
-/// open attempt none is met.
-pub(crate) fn walk_attempt(
-    rows: &mut Vec<WalkedRow>,
+/// Gathers the entries of an attempt's records, in its certificate's order, each for its row, where that is one of these
+/// rows from this one on; of an open attempt none.
+pub(crate) fn note_attempt(
+    rows: &mut Vec<GatheredRow>,
     from: usize,
     history: &History<'_>,
     trace: &Trace<'_>,
@@ -48,10 +47,10 @@ pub(crate) fn walk_attempt(
     requires within { (r : ExecutedAttempt) → slice_get history.now.attempts i ≡ Some r
         → AreWithin (row_count (head_of trace.now)) r.ordered }
     ensures as_many { OnOk result (length rows.new.items ≡ length rows.old.items) }
-    ensures walked { OnOk result ((ns : List Noted) (r : ExecutedAttempt) (fate : FateValue)
+    ensures gathered { OnOk result ((ns : List Noted) (r : ExecutedAttempt) (fate : FateValue)
         → slice_get history.now.attempts i ≡ Some r → slice_get history.now.fates i ≡ Some fate
-        → EachHasWalked trace.now history.now.replica from ns rows.old.items
-        → EachHasWalked trace.now history.now.replica from (ns ++ noted_if_settled r fate) rows.new.items) }
+        → EachHasGathered trace.now history.now.replica from ns rows.old.items
+        → EachHasGathered trace.now history.now.replica from (ns ++ noted_if_settled r fate) rows.new.items) }
 {
     let _bytes = trace.bytes();
     let fate = history.fate(i);
@@ -61,14 +60,13 @@ pub(crate) fn walk_attempt(
     let attempt = history.attempt(i);
     let noting = Noting {
         from,
-        replica: history.replica(),
         view: attempt.view(),
         number: attempt.seq(),
         commits: is_committed(fate),
     };
     for place in 0..attempt.len() {
         let access = history.ordered(i, place);
-        walk_record(rows, noting, &access)?;
+        note_record(rows, noting, &access)?;
     }
     Ok(())
 }
@@ -84,40 +82,40 @@ fn is_committed(fate: Fate) -> bool
     }
 }
 
-/// Walks the rows along the entries of a record.
-fn walk_record(
-    rows: &mut Vec<WalkedRow>,
+/// Gathers the entries of a record.
+fn note_record(
+    rows: &mut Vec<GatheredRow>,
     noting: Noting,
     access: &AccessView<'_>,
 ) -> Result<(), AllocError>
     requires offset { access.now.offset < 2 ^ 32 }
     requires within { (count : ℕ) × IsTrue (list_all (is_entry count) (access_said access.now).entries) }
     ensures as_many { OnOk result (length rows.new.items ≡ length rows.old.items) }
-    ensures walked { OnOk result ((t : TraceValue) (ns : List Noted)
-        → EachHasWalked t noting.replica noting.from ns rows.old.items
-        → EachHasWalked t noting.replica noting.from
+    ensures gathered { OnOk result ((t : TraceValue) (e : ℕ) (ns : List Noted)
+        → EachHasGathered t e noting.from ns rows.old.items
+        → EachHasGathered t e noting.from
         (ns ++ noted_by noting.view noting.number noting.commits (access.now.offset, access_said access.now))
         rows.new.items) }
 {
     let at = access.offset() as u32;
     for place in 0..access.len() {
-        walk_entry(rows, noting, at, &access.entry(place))?;
+        note_entry(rows, noting, at, &access.entry(place))?;
     }
     Ok(())
 }
 
-/// Walks an entry's row along it, where it is one of the rows.
-fn walk_entry(
-    rows: &mut Vec<WalkedRow>,
+/// Gathers an entry, behind those of its row, where that is one of the rows.
+fn note_entry(
+    rows: &mut Vec<GatheredRow>,
     noting: Noting,
     at: u32,
     entry: &Entry,
 ) -> Result<(), AllocError>
     requires { (count : ℕ) × IsTrue (is_entry count entry.now) }
     ensures as_many { OnOk result (length rows.new.items ≡ length rows.old.items) }
-    ensures walked { OnOk result ((t : TraceValue) (ns : List Noted)
-        → EachHasWalked t noting.replica noting.from ns rows.old.items
-        → EachHasWalked t noting.replica noting.from (ns ++ record {
+    ensures gathered { OnOk result ((t : TraceValue) (e : ℕ) (ns : List Noted)
+        → EachHasGathered t e noting.from ns rows.old.items
+        → EachHasGathered t e noting.from (ns ++ record {
           offset = at;
           view = noting.view;
           number = noting.number;
@@ -138,7 +136,7 @@ fn walk_entry(
         commits: noting.commits,
         kind: entry.kind,
     };
-    walk_note(&mut rows[place], noting.replica, entry.row, &note)?;
+    rows[place].notes.push(note)?;
     Ok(())
 }
 

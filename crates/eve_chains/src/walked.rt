@@ -1,28 +1,34 @@
 //! Rows walked, each by itself, in ranges: the first fault of chains, and what the batches change.
 
-ghost use Rattle.std.specs.Prelude.{◌≡◌, ◌-◌, [], ℕ, All, IfOk, OnOk, None, Option, length, fold};
+ghost use Rattle.std.specs.Prelude.{◌≡◌, ◌≤◌, ◌<◌, ◌+◌, ◌-◌, [], ℕ, List, All, IfOk, OnOk, None, Option, length, fold};
 ghost use Rattle.std.specs.List.{AllZip};
-ghost use Rattle.eve_grammar.specs.Trace.{opening_rows, head_of};
+ghost use Rattle.eve_accounts.specs.declared.limits.TheConstants.{MOST_NAMED_ROWS};
+ghost use Rattle.eve_grammar.specs.Trace.{Trace as TraceValue, opening_rows, head_of};
 ghost use Rattle.eve_grammar.specs.Limits.{row_count};
 ghost use Rattle.eve_views.specs.First.{first_of};
 ghost use Rattle.eve_views.specs.declared.fault.Fault.{Fault as FaultValue};
 ghost use Rattle.eve_history.specs.SectionHistory.{section_history};
 ghost use Rattle.eve_chains.specs.Notes.{notes_between};
+ghost use Rattle.eve_chains.specs.Rows.{Noted};
 ghost use Rattle.eve_chains.specs.Stretches.{IsWithin};
-ghost use Rattle.eve_chains.specs.Walked.{EachHasWalked, IsWalked, AreWalked};
+ghost use Rattle.eve_chains.specs.Walked.{EachHasGathered, EachHasWalked, IsWalked, AreWalked};
 ghost use Rattle.eve_chains.specs.declared.walked.Walked.{Walked as WalkedValue};
 
 use crate::changed::Changed;
-use crate::entries::walk_attempt;
+use crate::entries::note_attempt;
 use crate::row_walk::RowWalk;
 use crate::stretch::Stretch;
-use crate::walked_row::WalkedRow;
-use eve_accounts::Balances;
+use crate::walked_row::{GatheredRow, WalkedRow, walk_row};
+use eve_accounts::{Balances, Row};
 use eve_history::History;
 use eve_views::{Fault, Trace, first_of};
 use rayon::prelude::*;
 use std::alloc::{AllocError, Global};
 use std::thread::Threads;
+
+/// The fewest records whose entries are gathered before the rows are walked along them. What they note, two entries or so
+/// each, stays in a processor's own memory.
+const LEAST_RECORDS: usize = 2048;
 
 /// What the walks of a range of rows give.
 #[derive(Drop)]
@@ -39,11 +45,11 @@ fn begin(
     trace: &Trace<'_>,
     opening: &Balances,
     range: Stretch,
-) -> Result<Vec<WalkedRow>, AllocError>
+) -> Result<Vec<GatheredRow>, AllocError>
     requires opening { opening.now ≡ opening_rows trace.now.customers }
     requires within { IsWithin (row_count (head_of trace.now)) range }
     ensures as_many { IfOk result (λ rows. length rows.items ≡ range.to - range.from) }
-    ensures walked { IfOk result (λ rows. (e : ℕ) → EachHasWalked trace.now e range.from [] rows.items) }
+    ensures gathered { IfOk result (λ rows. (e : ℕ) → EachHasGathered trace.now e range.from [] rows.items) }
 {
     let from = range.from;
     let to = range.to;
@@ -51,40 +57,81 @@ fn begin(
     prove!(to <= opening.len());
     let mut rows = Vec::with_capacity(alloc, to - from)?;
     for number in from..to {
-        rows.push(WalkedRow {
-            walk: RowWalk::new(opening.as_slice()[number]),
-            changes: Vec::new(alloc),
+        rows.push(GatheredRow {
+            walked: WalkedRow {
+                walk: RowWalk::new(opening.as_slice()[number]),
+                changes: Vec::new(alloc),
+            },
+            notes: Vec::new(alloc),
         })?;
     }
     Ok(rows)
 }
 
-/// Walks these rows, from this one on, along all settled attempts, in the section's order: each entry is met by the walk
-/// of its row, which knows of no other row.
+/// Walks these rows, from this one on, along all settled attempts, some of them at a time: their entries are gathered row
+/// by row, in the section's order, and then each row is walked by itself along its own. With many rows more attempts are
+/// taken at a time, so that few lists are empty.
 fn walk_rows(
-    rows: &mut Vec<WalkedRow>,
+    rows: &mut Vec<GatheredRow>,
     from: usize,
     history: &History<'_>,
     trace: &Trace<'_>,
 ) -> Result<(), AllocError>
     requires history { history.now ≡ section_history trace.now history.now.replica }
-    requires begun { EachHasWalked trace.now history.now.replica from [] rows.old.items }
+    requires rows { from + length rows.old.items ≤ row_count (head_of trace.now) }
+    requires begun { EachHasGathered trace.now history.now.replica from [] rows.old.items }
     ensures as_many { OnOk result (length rows.new.items ≡ length rows.old.items) }
     ensures walked { OnOk result (EachHasWalked trace.now history.now.replica from
         (notes_between history.now 0 (length history.now.attempts)) rows.new.items) }
 {
     trace.recall_limits();
+    let enough = rows.len().max(LEAST_RECORDS);
+    let mut records = 0usize;
     for i in 0..history.attempts() {
-        walk_attempt(rows, from, history, trace, i)?;
+        note_attempt(rows, from, history, trace, i)?;
+        records = records.saturating_add(history.attempt(i).len());
+        if enough <= records {
+            walk_each(rows, from, history.replica())?;
+            records = 0;
+        }
+    }
+    walk_each(rows, from, history.replica())?;
+    Ok(())
+}
+
+/// Walks each of these rows, from this one on, by itself along its gathered entries.
+fn walk_each(rows: &mut Vec<GatheredRow>, from: usize, replica: u8) -> Result<(), AllocError>
+    requires { from + length rows.old.items ≤ MOST_NAMED_ROWS }
+    ensures as_many { OnOk result (length rows.new.items ≡ length rows.old.items) }
+    ensures gathered { OnOk result ((t : TraceValue) (ns : List Noted)
+        → EachHasGathered t replica from ns rows.old.items → EachHasGathered t replica from ns rows.new.items) }
+    ensures walked { OnOk result ((t : TraceValue) (ns : List Noted)
+        → EachHasGathered t replica from ns rows.old.items → EachHasWalked t replica from ns rows.new.items) }
+{
+    for place in 0..rows.len() {
+        walk_row(&mut rows[place], replica, row_at((from + place) as u32))?;
     }
     Ok(())
 }
 
+/// The row with this number.
+fn row_at(number: u32) -> Row
+    requires { number < MOST_NAMED_ROWS }
+    ensures { result ≡ number }
+{
+    let customer = number / 2;
+    if number % 2 == 0 {
+        Row::saving(customer)
+    } else {
+        Row::checking(customer)
+    }
+}
+
 /// How many changes of these rows there are.
-fn count_changes(rows: &[WalkedRow]) -> usize {
+fn count_changes(rows: &[GatheredRow]) -> usize {
     let mut count = 0usize;
     for row in rows {
-        count = count.saturating_add(row.changes.len());
+        count = count.saturating_add(row.walked.changes.len());
     }
     count
 }
@@ -95,7 +142,7 @@ fn finish(
     history: &History<'_>,
     trace: &Trace<'_>,
     range: Stretch,
-    rows: &[WalkedRow],
+    rows: &[GatheredRow],
 ) -> Result<Walked, AllocError>
     requires history { history.now ≡ section_history trace.now history.now.replica }
     requires within { IsWithin (row_count (head_of trace.now)) range }
@@ -110,8 +157,8 @@ fn finish(
     let mut first = None;
     let mut changes = Vec::with_capacity(alloc, count_changes(rows))?;
     for row in rows {
-        first = first_of(first, row.walk.first);
-        changes.extend_from_slice(&row.changes)?;
+        first = first_of(first, row.walked.walk.first);
+        changes.extend_from_slice(&row.walked.changes)?;
     }
     Ok(Walked { first, changes })
 }

@@ -1,11 +1,11 @@
-//! One row walked by itself along what is noted of it.
+//! One row walked by itself along what is gathered of it.
 
-ghost use Rattle.std.specs.Prelude.{◌≡◌, ◌++◌, ◌∷◌, [], OnOk, List};
+ghost use Rattle.std.specs.Prelude.{◌≡◌, ◌++◌, ◌∷◌, [], OnOk, List, map};
 ghost use Rattle.eve_smallbank.specs.declared.versioned.Versioned.{Versioned as VersionedValue};
 ghost use Rattle.eve_chains.specs.Rows.{Noted};
 ghost use Rattle.eve_chains.specs.Notes.{noted_at};
 ghost use Rattle.eve_chains.specs.Changes.{changes_along};
-ghost use Rattle.eve_chains.specs.Walked.{HasWalked};
+ghost use Rattle.eve_chains.specs.Walked.{HasWalked, HasGathered};
 
 use crate::changed::{Changed, add_change};
 use crate::note::Note;
@@ -22,18 +22,25 @@ pub struct WalkedRow {
     pub changes: Vec<Changed>,
 }
 
-/// Goes on along a note, also where something is wrong: the first fault needn't be the first that the walk meets.
-pub(crate) fn walk_note(
-    on: &mut WalkedRow,
-    replica: u8,
-    row: Row,
-    note: &Note,
-) -> Result<(), AllocError>
+/// A row with its next entries, gathered for its walk.
+#[derive(Drop)]
+pub struct GatheredRow {
+    /// The row, walked so far.
+    pub walked: WalkedRow,
+    /// Its entries from there on, in the section's order.
+    pub notes: Vec<Note>,
+}
+
+/// Goes on along these notes to the end, also where something is wrong: the first fault needn't be the first that the
+/// walk meets.
+fn walk_notes(on: &mut WalkedRow, replica: u8, row: Row, notes: &[Note]) -> Result<(), AllocError>
     ensures { OnOk result ((v : VersionedValue) (ns : List Noted) → HasWalked replica v ns on.old
-        → HasWalked replica v (ns ++ noted_at row note.now ∷ []) on.new) }
+        → HasWalked replica v (ns ++ map (noted_at row) notes.now) on.new) }
 {
-    on.walk = on.walk.meet(replica, note);
-    note_change(&mut on.changes, row, note)?;
+    for note in notes {
+        on.walk = on.walk.meet(replica, note);
+        note_change(&mut on.changes, row, note)?;
+    }
     Ok(())
 }
 
@@ -51,5 +58,16 @@ fn note_change(changes: &mut Vec<Changed>, row: Row, note: &Note) -> Result<(), 
             },
         )?;
     }
+    Ok(())
+}
+
+/// Walks a row along its gathered entries, and empties their list, whose room is used again.
+pub(crate) fn walk_row(on: &mut GatheredRow, replica: u8, row: Row) -> Result<(), AllocError>
+    ensures walked { OnOk result ((v : VersionedValue) (ns : List Noted) → HasGathered replica row v ns on.old
+        → HasWalked replica v ns on.new.walked) }
+    ensures none { OnOk result (on.new.notes.items ≡ []) }
+{
+    walk_notes(&mut on.walked, replica, row, &on.notes)?;
+    on.notes.clear();
     Ok(())
 }
