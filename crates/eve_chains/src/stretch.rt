@@ -3,6 +3,7 @@
 ghost use Rattle.std.specs.Prelude.{◌≡◌, ◌≤◌, ◌+◌, IfOk, OnOk, length};
 ghost use Rattle.eve_chains.specs.Stretches.{AreBetween};
 
+use eve_views::part_size;
 use std::alloc::{AllocError, Global};
 
 /// The fewest items of a stretch but the last: an attempt has up to 256 records, and a row mostly many entries.
@@ -30,10 +31,9 @@ impl Stretch {
         let to = self.to;
         let mut stretches = Vec::new(alloc);
         let mut from = start;
-        for place in 0..parts - 1 {
-            let left = to - from;
-            let size = left.div_ceil(usize::from(parts - place)).max(LEAST_ITEMS);
-            if left <= size {
+        let size = part_size(to - start, usize::from(parts), LEAST_ITEMS);
+        for _ in 1..parts {
+            if to - from <= size {
                 break;
             }
             append(&mut stretches, start, from, from + size)?;

@@ -1,8 +1,8 @@
 -- Attempts that are judged whatever came before them.
 use Rattle.std.proofs.Common.{◌≡◌, ℕ, Bool, ◌^◌, ◌<◌, ◌≤◌, ◌==◌, true, List, [], ◌∷◌, ◌++◌, map, length}
 use Rattle.std.proofs.Common.{get_or, take, drop, min}
-use Rattle.std.proofs.Common.{◌+◌, ◌-◌, ◌*◌, ◌/◌}
-use Rattle.std.proofs.Common.{Option, Some, None, IfSome, Result, Ok, Vec, IsTrue, refl, sym, ap, subst}
+use Rattle.std.proofs.Common.{◌+◌, ◌-◌, ◌*◌}
+use Rattle.std.proofs.Common.{Option, Some, None, Result, Ok, Vec, IsTrue, refl, sym, ap, subst}
 use Rattle.std.proofs.Common.{◌∙◌, append_assoc, arith}
 use Rattle.std.specs.List.{AllByRecursion, flat_map, list_all, list_any}
 use Rattle.std.proofs.lemmas.Bool.{and_parts}
@@ -173,10 +173,6 @@ part_of_all P xs start most all =
 one_more_times : (i size : ℕ) → (i + 1) * size ≡ i * size + size
 one_more_times i size = omega arith
 
--- so many parts, each longer than its share, are enough
-pub covers : (count n : ℕ) → 1 ≤ n → count ≤ n * (count / n + 1)
-covers count n some = omega arith
-
 -- the next part behind those before it
 pub part_more : {A E : Type 0} (t : Trace) (e size i n : ℕ) (records after : List ℕ) (more : Vec ℕ A)
     (part : Result (Option (Vec ℕ A)) E) → n ≡ i + 1
@@ -272,7 +268,3 @@ meeting_more t e (at, Attempts b) rest ms ns a xs more is come =
     meeting_kept t e at b rest ms (record { attempt = a; accesses = xs }) is.0 is.1 is.2 come ns more
 meeting_more t e (at, Commits c) rest ms ns a xs more is come = absurd is
 meeting_more t e (at, RollsBack r) rest ms ns a xs more is come = absurd is
-
-pub where_some : {P Q : ℕ → Type 0} (o : Option ℕ) → IfSome o P → ((n : ℕ) → P n → Q n) → IfSome o Q
-where_some (Some n) p f = f n p
-where_some None p f = tt

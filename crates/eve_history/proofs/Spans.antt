@@ -19,6 +19,7 @@ use Rattle.eve_history.specs.Order.{request_ids_at, IsAskedAgain, HasDistinctReq
 use Rattle.eve_history.specs.Rising.{HaveRisen}
 use Rattle.eve_history.specs.Spans.{span_of, IsInSpan, AreInSpans, IsBehind, HaveSpans}
 use Rattle.eve_grammar.proofs.Lists.{take_one_more}
+use Rattle.eve_views.specs.Cut.{part_start}
 use Rattle.eve_history.proofs.Places.{no_place, place_split, place_push}
 use Rattle.eve_history.proofs.OrderLaws.{asking_apart}
 
@@ -241,14 +242,21 @@ stretch_more bs size i had next after behind first second =
     (spans_append (take (i * size) bs) (take size (drop (i * size) bs)) had next after behind first second)
 
 -- a stretch ends where the batches end
-pub stretch_cut : {A : Type 0} (bs : List A) (i size from count start many : ℕ) → from ≡ i * size
-    → count ≡ length bs → start ≡ min from count → many ≡ min size (count - start)
+-- how many items a part has
+pub part_many : (count size i from to : ℕ) → from ≡ part_start count size i → to ≡ part_start count size (i + 1)
+    → to - from ≡ min size (count - from)
+part_many count size i from to begins ends =
+    let next : (i + 1) * size ≡ i * size + size = omega arith in
+    omega (arith, begins, ends, next)
+
+pub stretch_cut : {A : Type 0} (bs : List A) (i size count start many : ℕ) → count ≡ length bs
+    → start ≡ min (i * size) count → many ≡ min size (count - start)
     → take many (drop start bs) ≡ take size (drop (i * size) bs)
-stretch_cut bs i size from count start many far whole begins few =
+stretch_cut bs i size count start many whole begins few =
     let left : count - start ≡ length (drop start bs) =
     ap (λ (n : ℕ). n - start) whole ∙ sym (length-drop start bs) in
     let same : start ≡ min (i * size) (length bs) =
-    begins ∙ ap (λ (n : ℕ). min n count) far ∙ ap (λ (n : ℕ). min (i * size) n) whole in
+    begins ∙ ap (λ (n : ℕ). min (i * size) n) whole in
     ap (λ (n : ℕ). take n (drop start bs)) (few ∙ ap (λ (n : ℕ). min size n) left)
     ∙ take_min size (drop start bs)
     ∙ ap (λ (n : ℕ). take size (drop n bs)) same

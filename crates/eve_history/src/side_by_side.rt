@@ -18,7 +18,7 @@ use crate::certificate::{has_every_index, is_right_certificate, read_order};
 use crate::structure::{keep_records, workers_of};
 use eve_frames::AttemptView;
 use eve_grammar::MOST_REQUESTS;
-use eve_views::{Accesses, Step, Trace};
+use eve_views::{Accesses, Step, Trace, part_at, part_size};
 use std::alloc::{AllocError, Global};
 use std::thread;
 use std::thread::Threads;
@@ -33,13 +33,6 @@ pub struct MetAttempt<'t, 'a> {
 /// The bytes at which the access records of attempts begin, each attempt's in its certificate's order; nothing where
 /// one is wrong.
 type Ordered = Result<Option<Vec<u32>>, AllocError>;
-
-/// One more than a number; nothing past the largest.
-fn one_more(count: usize) -> Option<usize>
-    ensures { IfSome result (λ n. n ≡ count + 1) }
-{
-    count.checked_add(1)
-}
 
 /// Puts the next step of a section behind the attempts that were met, where it is an attempt.
 fn meet<'t, 'a>(mets: &mut Vec<MetAttempt<'t, 'a>>, step: Step<'t, 'a>) -> Result<(), AllocError>
@@ -176,12 +169,8 @@ fn order_part(
     requires all { map placed_met mets.now ≡ attempts_among (steps_at trace.now e) }
     ensures { IsPart trace.now e size i result }
 {
-    let Some(from) = i.checked_mul(size) else {
-        return Ok(None);
-    };
-    let start = from.min(mets.len());
-    let most = size.min(mets.len() - start);
-    order_stretch(alloc, trace, &mets[start..start + most])
+    let own = part_at(mets.len(), size, i);
+    order_stretch(alloc, trace, &mets[own.from..own.to])
 }
 
 /// The access records of `parts` parts of the attempts of a replica's section, each part's in a thread of its own.
@@ -254,14 +243,6 @@ fn joined(
 /// The fewest attempts for each thread: one has up to 256 access records.
 const LEAST_ATTEMPTS: usize = 32;
 
-/// The size of each of `parts` parts, so that every element lies in one.
-pub fn part_size(count: usize, parts: usize) -> Option<usize>
-    requires { 1 ≤ parts }
-    ensures { IfSome result (λ size. count ≤ parts * size) }
-{
-    one_more(count / parts)
-}
-
 /// The access records of all attempts of a replica's section, judged in as many threads as there are jobs, or in fewer
 /// where a thread would have too little; nothing where one is wrong, or where one thread is enough.
 pub fn order_all<R: Threads + Sync>(
@@ -281,9 +262,7 @@ pub fn order_all<R: Threads + Sync>(
     if threads < 2 {
         return Ok(None);
     }
-    let Some(size) = part_size(count, threads) else {
-        return Ok(None);
-    };
+    let size = part_size(count, threads, LEAST_ATTEMPTS);
     let parts = order_parts(rt, alloc, trace, e, mets.as_slice(), size, threads)?;
     joined(alloc, trace, e, size, &parts, access_count(&mets))
 }

@@ -11,10 +11,9 @@ ghost use Rattle.eve_history.specs.Rising.{HaveRisen};
 ghost use Rattle.eve_history.specs.Spans.{span_of, AreInSpans, IsBehind, HaveSpans, IsStretch};
 
 use crate::greatest::MOST_CLIENTS;
-use crate::side_by_side::part_size;
 use crate::span::Span;
 use eve_frames::BatchView;
-use eve_views::Trace;
+use eve_views::{Trace, part_at, part_size};
 use std::alloc::{AllocError, Global};
 use std::thread;
 use std::thread::Threads;
@@ -93,13 +92,9 @@ fn spans_in(alloc: Global, trace: &Trace<'_>, from: u32, many: u32) -> Spans
 fn stretch_spans(alloc: Global, trace: &Trace<'_>, size: usize, i: usize) -> Spans
     ensures { IsStretch trace.now size i result }
 {
-    let Some(from) = i.checked_mul(size) else {
-        return Ok(None);
-    };
     let count = trace.head().batches as usize;
-    let start = from.min(count);
-    let many = size.min(count - start);
-    spans_in(alloc, trace, start as u32, many as u32)
+    let own = part_at(count, size, i);
+    spans_in(alloc, trace, own.from as u32, (own.to - own.from) as u32)
 }
 
 /// The spans of the clients in the stretches of the batches, each found in a thread of its own.
@@ -200,9 +195,7 @@ pub fn stretches_rise<R: Threads + Sync>(
     if threads < 2 {
         return Ok(false);
     }
-    let Some(size) = part_size(count, threads) else {
-        return Ok(false);
-    };
+    let size = part_size(count, threads, LEAST_BATCHES);
     let parts = spans_side_by_side(rt, alloc, trace, size, threads)?;
     rise_on(alloc, trace, size, &parts)
 }

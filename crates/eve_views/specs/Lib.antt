@@ -1,4 +1,5 @@
 pub mod Code
+pub mod Cut
 pub mod Form
 pub mod First
 pub mod Least

@@ -1,6 +1,7 @@
 //! Laws about the definitions. Each body is empty: the contract is the law.
 
-ghost use Rattle.std.specs.Prelude.{◌⊎◌, ℕ, List};
+ghost use Rattle.std.specs.Prelude.{◌≡◌, ◌≤◌, ◌+◌, ◌*◌, ◌⊎◌, ℕ, List};
+ghost use Rattle.eve_views.specs.Cut.{part_start};
 ghost use Rattle.eve_grammar.specs.Trace.{Trace};
 ghost use Rattle.eve_grammar.specs.Places.{IsBytes};
 ghost use Rattle.eve_grammar.specs.Following.{Spells};
@@ -15,4 +16,11 @@ pub fn form_is_decided()
         → ((f : Fault) × IsLeast (IsFaultOutside StandsInForm bytes) f) ⊎ ((t : Trace) × Spells bytes t) }
     ensures apart { (bytes : List ℕ) (f : Fault) (t : Trace) → IsBytes bytes → IsFaultOutside StandsInForm bytes f
         → ¬ Spells bytes t }
+{}
+
+/// Parts that `part_at` gives follow one another from 0 on; those of a size that `part_size` gives have all items.
+pub fn parts_are_all()
+    ensures first { (count size : ℕ) → part_start count size 0 ≡ 0 }
+    ensures rising { (count size place : ℕ) → part_start count size place ≤ part_start count size (place + 1) }
+    ensures last { (count size parts : ℕ) → count ≤ parts * size → part_start count size parts ≡ count }
 {}

@@ -3,6 +3,7 @@
 
 mod accesses;
 mod body;
+mod cut;
 mod fault;
 mod first;
 mod frames;
@@ -19,6 +20,7 @@ mod votes;
 mod walk;
 
 pub use accesses::Accesses;
+pub use cut::{Part, part_at, part_size};
 pub use eve_frames::{
     AccessView, AttemptView, BatchView, Certificate, CommitView, CustomerView, Entries, FrameView,
     Replies, Requests, Restores, RollbackView, SentView, VoteView,

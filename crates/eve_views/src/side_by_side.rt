@@ -9,6 +9,7 @@ ghost use Rattle.eve_views.specs.Indexing.{IsIndex};
 ghost use Rattle.eve_views.specs.SideBySide.{is_right_body, IsRightFrame, AreRightFrames};
 ghost use Rattle.eve_views.specs.SideBySide.{IsWalkedUnjudged, WalksOn};
 
+use crate::cut::{part_at, part_size};
 use crate::fault::CheckFault;
 use crate::progress::Progress;
 use crate::walk::{Index, index_of, kind_and_body};
@@ -77,7 +78,8 @@ fn are_right<R: Threads + Sync>(
     }
     let fewer = threads / 2;
     let others = threads - fewer;
-    let (front, back) = offsets.split_at(offsets.len() / threads * fewer);
+    let size = part_size(offsets.len(), threads, 1);
+    let (front, back) = offsets.split_at(part_at(offsets.len(), size, fewer).from);
     let (first, second) = thread::join(
         rt,
         || -> bool
