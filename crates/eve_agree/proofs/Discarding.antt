@@ -1,5 +1,5 @@
 -- The open attempts of a section that a rollback discards: their requests are chained from what is committed.
-use Rattle.std.proofs.Common.{◌≡◌, ℕ, List, [], ◌∷◌, ◌++◌, map, refl, sym, subst, ap, ◌∙◌, append_assoc, append-nil}
+use Rattle.std.proofs.Common.{◌≡◌, ℕ, List, [], ◌∷◌, ◌++◌, map, refl, sym, subst, ap, ◌∙◌}
 use Rattle.std.specs.List.{flat_map}
 use Rattle.std.proofs.lemmas.Grind.{flat_map-append}
 use Rattle.eve_smallbank.specs.Access.{Executed}
@@ -7,10 +7,11 @@ use Rattle.eve_smallbank.specs.Chain.{Table, table_after, table_after_all}
 use Rattle.eve_smallbank.specs.SerialOrder.{IsSound}
 use Rattle.eve_smallbank.proofs.Chains.{Follows, follows_chain, chained_by_rows}
 use Rattle.eve_smallbank.proofs.Members.{In, here, there, all_in, in_front}
-use Rattle.eve_grammar.specs.Trace.{Attempt, Rollback, Step, Attempts, Commits, RollsBack, Trace}
+use Rattle.eve_grammar.specs.Trace.{Rollback, Step, Attempts, Commits, RollsBack, Trace}
 use Rattle.eve_grammar.specs.Spelling.{steps_at, accesses_at}
 use Rattle.eve_grammar.specs.Limits.{HasLimits}
-use Rattle.eve_history.specs.Section.{Placed, SectionState, start, path_of, committing, next, state_after, settled}
+use Rattle.eve_history.specs.Section.{Came, Ran, Placed, came_by, attempts_by, SectionState, start, path_of, committing}
+use Rattle.eve_history.specs.Section.{next, state_after, settled}
 use Rattle.eve_history.specs.SectionHistory.{ExecutedAttempt, executed_attempt, ordered, access_with, history, names_of}
 use Rattle.eve_history.specs.SectionHistory.{placed_at, IsRightSection}
 use Rattle.eve_history.proofs.StructureLaws.{state_after-append}
@@ -21,37 +22,25 @@ use Rattle.eve_chains.specs.Along.{entries_along}
 use Rattle.eve_chains.proofs.Linked.{placed_push, ArePlaced}
 use Rattle.eve_chains.proofs.Distinct.{in_right}
 use Rattle.eve_chains.proofs.LeftByRecords.{rows_after-push, record_at, same_entries, right_one, complete_one}
+use Rattle.eve_agree.proofs.SectionPaths.{came_by_push}
 use Rattle.eve_agree.specs.Tables.{committed_rows, entries_of, open_entries}
 
 -- ---- paths
 
-placed-front : (before : List Attempt) (ps qs : List Placed) → ArePlaced before (ps ++ qs) → ArePlaced before ps
-placed-front before [] qs placed = tt
-placed-front before (p ∷ ps) qs placed = (placed.0, placed-front (before ++ p.attempt ∷ []) ps qs placed.1)
-
-placed-behind : (before : List Attempt) (ps qs : List Placed) → ArePlaced before (ps ++ qs)
-    → ArePlaced (before ++ attempts_of ps) qs
-placed-behind before [] qs placed = subst (λ (path : List Attempt). ArePlaced path qs) (sym (append-nil before)) placed
-placed-behind before (p ∷ ps) qs placed =
-    subst (λ (path : List Attempt). ArePlaced path qs) (append_assoc before (p.attempt ∷ []) (attempts_of ps))
-    (placed-behind (before ++ p.attempt ∷ []) ps qs placed.1)
-
+-- each open attempt stands on what came by the numbers that were reached, and on the open ones before it
 abbrev IsPlaced : SectionState → Type 0
-IsPlaced s = ArePlaced [] (s.committed ++ s.pending)
+IsPlaced s = ArePlaced (flat_map came_by s.landings) s.pending
 
 placed_next : (s : SectionState) (step : ℕ × Step) → IsPlaced s → IsPlaced (next s step)
-placed_next s (at, Attempts a) placed =
-    subst (ArePlaced []) (append_assoc s.committed s.pending
-    (record { offset = at; attempt = a; path = path_of s } ∷ []))
-    (placed_push [] (s.committed ++ s.pending) (record { offset = at; attempt = a; path = path_of s }) placed refl)
+placed_next s (at, Attempts a) placed = placed_push (flat_map came_by s.landings) s.pending
+    (record { offset = at; attempt = a; path = path_of s }) placed refl
 placed_next s (at, Commits c) placed = by s.pending refl
   where
     by : (pending : List Placed) → s.pending ≡ pending → IsPlaced (committing s pending)
     by [] e = placed
-    by (p ∷ ps) e = subst (ArePlaced []) (ap (λ (qs : List Placed). s.committed ++ qs) e
-        ∙ sym (append_assoc s.committed (p ∷ []) ps)) placed
-placed_next s (at, RollsBack r) placed = subst (ArePlaced []) (sym (append-nil s.committed))
-    (placed-front [] s.committed s.pending placed)
+    by (p ∷ ps) e = subst (λ (path : List Came). ArePlaced path ps) (sym (came_by_push s.landings p))
+        (subst (ArePlaced (flat_map came_by s.landings)) e placed).1
+placed_next s (at, RollsBack r) placed = tt
 
 placed_after : (s : SectionState) (steps : List (ℕ × Step)) → IsPlaced s → IsPlaced (state_after s steps)
 placed_after s [] placed = placed
@@ -64,17 +53,17 @@ follows-append : (table : Table) (xs ys : List Executed) → Follows table xs �
 follows-append table [] ys first rest = rest
 follows-append table (x ∷ xs) ys first rest = (first.0, follows-append (table_after table x.entries) xs ys first.1 rest)
 
-follows_path : (t : Trace) (before : List Attempt) (ps : List Placed) → ArePlaced before ps
+follows_path : (t : Trace) (before : List Came) (ps : List Placed) → ArePlaced before ps
     → ((p : Placed) → In p ps → IsSoundAlong t p) → Follows (rows_after t before) (executions t (attempts_of ps))
 follows_path t before [] placed sound = tt
 follows_path t before (p ∷ ps) placed sound =
     follows-append (rows_after t before) (execution t p.attempt) (executions t (attempts_of ps))
     (follows_chain (rows_after t before) [] (execution t p.attempt)
     (chained_by_rows (rows_after t before) [] (execution t p.attempt)
-    (subst (λ (path : List Attempt). IsSound (names_of t) (rows_after t path) [] (execution t p.attempt)) placed.0
+    (subst (λ (path : List Came). IsSound (names_of t) (rows_after t path) [] (execution t p.attempt)) placed.0
     (sound p here)).chained))
     (subst (λ (table : Table). Follows table (executions t (attempts_of ps))) (rows_after-push t before p.attempt)
-    (follows_path t (before ++ p.attempt ∷ []) ps placed.1 (λ q i. sound q (there i))))
+    (follows_path t (before ++ Ran p.attempt ∷ []) ps placed.1 (λ q i. sound q (there i))))
 
 -- ---- what is discarded
 
@@ -98,7 +87,7 @@ module _ (t : Trace) (e : ℕ) (front : List (ℕ × Step)) (at : ℕ) (r : Roll
   unfolding history
   gets_settled p i =
       let s = state_after start front in
-      in_right (history t e).committed _
+      in_right (attempts_by (history t e).landings) _
       (subst (λ (o : SectionState). In p o.discarded)
       (sym (ap (state_after start) split ∙ state_after-append start front ((at, RollsBack r) ∷ rest)))
       (stays_discarded (next s (at, RollsBack r)) rest p (in_right s.discarded _ i)))
@@ -107,8 +96,7 @@ module _ (t : Trace) (e : ℕ) (front : List (ℕ × Step)) (at : ℕ) (r : Roll
       (executions t (attempts_of (state_after start front).pending))
   follows_committed sound =
       let s = state_after start front in
-      follows_path t (attempts_of s.committed) s.pending
-      (placed-behind [] s.committed s.pending (placed_after start front tt))
+      follows_path t (flat_map came_by s.landings) s.pending (placed_after start front tt)
       (λ p i. all_in (IsSoundAlong t) sound (gets_settled p i))
 
   -- ---- what is read of them

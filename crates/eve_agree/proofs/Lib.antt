@@ -5,6 +5,7 @@ pub mod Agreeing
 mod SameBefore
 pub mod Marking
 pub mod Noting
+pub mod SectionPaths
 pub mod Discarding
 pub mod RestoresInOrder
 pub mod Restoring

@@ -1,12 +1,11 @@
 -- After a rollback that restores what it must a replica works on what is committed.
-use Rattle.std.proofs.Common.{◌≡◌, ℕ, zero, suc, true, false, cond, ◌==◌, List, [], ◌∷◌, ◌++◌, take, slice_get}
-use Rattle.std.proofs.Common.{Some, refl, sym, ap, ◌∙◌, inl, inr, append_assoc, append-nil}
+use Rattle.std.proofs.Common.{◌≡◌, ℕ, zero, suc, true, false, cond, ◌==◌, List, [], ◌∷◌, ◌++◌, map, take, slice_get}
+use Rattle.std.proofs.Common.{Some, refl, sym, ap, ◌∙◌, inl, inr, append-nil}
 use mathlib.Core.Path.{fun_ext}
-use Rattle.std.specs.List.{list_all, list_any}
+use Rattle.std.specs.List.{list_all, list_any, flat_map}
 use Rattle.std.specs.Ordering.{int_eq}
 use Rattle.std.proofs.lemmas.Bool.{cases_Bool, and_parts, or_cases, or_parts, eqb-true, false≢true}
 use Rattle.std.proofs.lemmas.Bool.Decides.{Decides-int_eq}
-use Rattle.std.proofs.lemmas.List.{map-append}
 use Rattle.std.proofs.lemmas.Option.{same_Some, none-some}
 use Rattle.std.proofs.lemmas.List.Folds.{list_any-append}
 use Rattle.eve_smallbank.specs.Access.{Executed, writes_row}
@@ -17,15 +16,17 @@ use Rattle.eve_smallbank.specs.declared.versioned.Versioned.{Versioned}
 use Rattle.eve_grammar.specs.Trace.{Attempt, Commit, Rollback, Step, Attempts, Commits, RollsBack, Trace}
 use Rattle.eve_grammar.specs.Spelling.{steps_at}
 use Rattle.eve_grammar.specs.declared.restore.Restore.{Restore}
-use Rattle.eve_history.specs.Section.{Placed, SectionState, start, path_of, committing, next, state_after}
+use Rattle.eve_history.specs.Section.{Ran, Placed, came_by, SectionState, start, path_of}
+use Rattle.eve_history.specs.Section.{committing, next, state_after}
 use Rattle.eve_chains.specs.Visible.{opening_table, execution, executions, rows_after}
 use Rattle.eve_chains.specs.Committed.{attempts_of}
 use Rattle.eve_agree.specs.Marking.{restores_row}
 use Rattle.eve_agree.specs.Tables.{restored, worked, committed_rows, working_table, committed_table, IsRestored}
 use Rattle.eve_agree.specs.Tables.{entries_of, open_entries, is_written_in, are_right_restores, all_restore_rightly}
 use Rattle.eve_agree.specs.Tables.{RestoresAreRight}
-use Rattle.eve_chains.proofs.LeftByRecords.{rows_after-append}
+use Rattle.eve_chains.proofs.LeftByRecords.{rows_after-push, rows_after-placed}
 use Rattle.eve_agree.proofs.Marking.{is_covered, not_covered}
+use Rattle.eve_agree.proofs.SectionPaths.{path_committed, path_attempted}
 
 -- ---- one rollback
 
@@ -113,36 +114,27 @@ module _ (t : Trace) (s : SectionState) (rs : List Restore) (right : are_right_r
 
 -- ---- along a section
 
--- what the attempts leave that are not discarded
-abbrev line_rows : Trace → List Placed → Table
-line_rows t ps = rows_after t (attempts_of ps)
-
-line_rows-append : (t : Trace) (ps qs : List Placed) → line_rows t (ps ++ qs)
-    ≡ table_after_all (line_rows t ps) (executions t (attempts_of qs))
-line_rows-append t ps qs =
-    ap (rows_after t) (map-append (λ (p : Placed). p.attempt) ps qs)
-    ∙ rows_after-append t (attempts_of ps) (attempts_of qs)
-
+-- what is left of all that came, but for what was discarded
 abbrev along : Trace → SectionState → Table
-along t s = line_rows t (s.committed ++ s.pending)
+along t s = rows_after t (path_of s)
 
 along_committing : (t : Trace) (s : SectionState) (pending : List Placed) → s.pending ≡ pending → along t s
     ≡ along t (committing s pending)
 along_committing t s [] e = refl
-along_committing t s (p ∷ ps) e =
-    ap (line_rows t) (ap (λ qs. s.committed ++ qs) e ∙ sym (append_assoc s.committed (p ∷ []) ps))
+along_committing t s (p ∷ ps) e = ap (rows_after t)
+    (ap (λ (qs : List Placed). flat_map came_by s.landings ++ map (λ q. Ran q.attempt) qs) e
+    ∙ path_committed s.landings p ps)
 
 along_pushed : (t : Trace) (s : SectionState) (at : ℕ) (a : Attempt) → table_after_all (along t s) (execution t a)
     ≡ along t (next s (at, Attempts a))
 along_pushed t s at a =
-    let placed : Placed = record { offset = at; attempt = a; path = path_of s } in
-    sym (ap (line_rows t) (sym (append_assoc s.committed s.pending (placed ∷ [])))
-    ∙ line_rows-append t (s.committed ++ s.pending) (placed ∷ [])
-    ∙ ap (table_after_all (along t s)) (append-nil (execution t a)))
+    sym (ap (rows_after t) (path_attempted s.landings s.pending (record { offset = at; attempt = a; path = path_of s }))
+    ∙ rows_after-push t (path_of s) a)
 
 along_restored : (t : Trace) (s : SectionState) (rs : List Restore) → are_right_restores t s rs ≡ true
-    → restored (along t s) rs ≡ line_rows t s.committed
-along_restored t s rs right = ap (λ (table : Table). restored table rs) (line_rows-append t s.committed s.pending)
+    → restored (along t s) rs ≡ committed_rows t s
+along_restored t s rs right =
+    ap (λ (table : Table). restored table rs) (rows_after-placed t (flat_map came_by s.landings) s.pending)
     ∙ restored_rows t s rs right
 
 found_step : (x y : ℕ × Step) → Some x ≡ Some y → x.1 ≡ y.1
@@ -178,7 +170,7 @@ works_along t s table ((o, RollsBack q) ∷ steps) (suc k) at r right e found =
     right in
     works_along t (next s (o, RollsBack q)) (restored table q.restores) steps k at r parts.1
     (ap (λ (old : Table). restored old q.restores) e ∙ along_restored t s q.restores parts.0
-    ∙ ap (line_rows t) (sym (append-nil s.committed))) found
+    ∙ ap (rows_after t) (sym (append-nil (flat_map came_by s.landings)))) found
 
 pub restored_after : (t : Trace) (e : ℕ) → RestoresAreRight t e → (k : ℕ) → IsRestored t e k
 unfolding working_table committed_table

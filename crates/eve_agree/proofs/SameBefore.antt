@@ -16,7 +16,7 @@ use Rattle.eve_chains.specs.Settling.{Settling, settling, settlings, values_in, 
 use Rattle.eve_agree.specs.Agreement.{first_to_commit, HaveSameOutcome}
 use Rattle.eve_agree.specs.Judging.{IsAfter, AgreesOrIsFound, AllHaveSame}
 use Rattle.eve_agree.proofs.TokensInOrder.{rows_told}
-use Rattle.eve_agree.proofs.ByNumber.{some_there, reached_before}
+use Rattle.eve_agree.proofs.ByNumber.{reached_item, reached_before}
 use Rattle.eve_agree.proofs.Outcomes.{settling_at, settlings_count, first_there}
 use Rattle.eve_agree.proofs.Reaching.{push_left, push_here}
 use Rattle.eve_agree.proofs.Agreeing.{Judged}
@@ -95,8 +95,8 @@ module _ (t : Trace) (law : (e n : ℕ) → values_in (settling t e) n ≡ value
   have_same : (n : ℕ) → Judged t n None → AllHaveSame t n
   have_same zero known e f own its = same_opening t e f (settling t e) (settling t f) refl refl
   have_same (suc n) known e f own its =
-      let p = some_there (committed_at t e (suc n)) own in
-      let q = some_there (committed_at t f (suc n)) its in
+      let p = reached_item t e n own in
+      let q = reached_item t f n its in
       let mine = with_first e (suc n) p.0 (known.judged e (suc n) (omega arith) (omega arith)) p.1 in
       let yours = with_first f (suc n) q.0 (known.judged f (suc n) (omega arith) (omega arith)) q.1 in
       let one : mine.0 ≡ yours.0 = same_Some mine.0 yours.0 (sym mine.1 ∙ yours.1) in

@@ -7,9 +7,9 @@ use Rattle.eve_views.specs.declared.fault.Code.TheVariants as code
 use Rattle.eve_views.specs.declared.fault.Fault.{Fault}
 use Rattle.eve_views.specs.Form.{IsFaultSomewhere}
 use Rattle.eve_history.specs.Section.{Placed}
-use Rattle.eve_history.specs.SectionHistory.{SectionHistory, committed_at}
+use Rattle.eve_history.specs.SectionHistory.{SectionHistory, committed_at, is_reached}
 use Rattle.eve_chains.specs.Settling.{Settling, settling, values_in, HaveSameBalances}
-use Rattle.eve_agree.specs.ByNumber.{told_at, is_reached}
+use Rattle.eve_agree.specs.ByNumber.{told_at}
 use Rattle.eve_agree.specs.Agreement.{first_to_commit, HaveSameOutcome, StandsInAgreement}
 
 -- the balances are those after the first n batches of the replica, or after all where it has fewer

@@ -10,7 +10,7 @@ use Rattle.eve_smallbank.specs.Chain.{Table, table_after_all}
 use Rattle.eve_grammar.specs.Trace.{Rollback, Step, Attempts, Commits, RollsBack, Trace}
 use Rattle.eve_grammar.specs.Spelling.{steps_at}
 use Rattle.eve_grammar.specs.declared.restore.Restore.{Restore}
-use Rattle.eve_history.specs.Section.{SectionState, start, next, state_after}
+use Rattle.eve_history.specs.Section.{came_by, SectionState, start, next, state_after}
 use Rattle.eve_chains.specs.Visible.{opening_table, execution, executions, rows_after}
 use Rattle.eve_chains.specs.Committed.{attempts_of}
 
@@ -28,9 +28,9 @@ worked t table ((at, Attempts a) ∷ steps) = worked t (table_after_all table (e
 worked t table ((at, Commits c) ∷ steps) = worked t table steps
 worked t table ((at, RollsBack r) ∷ steps) = worked t (restored table r.restores) steps
 
--- what the committed attempts leave
+-- what came by the numbers that were reached leaves
 abbrev pub committed_rows : Trace → SectionState → Table
-committed_rows t s = rows_after t (attempts_of s.committed)
+committed_rows t s = rows_after t (flat_map came_by s.landings)
 
 -- after the first k steps of replica e: what it works on
 unfoldable pub working_table : Trace → ℕ → ℕ → Table

@@ -188,7 +188,7 @@ fn first_to_commit(histories: &[History<'_>], n: u32) -> Option<usize>
 pub(crate) fn has_committed(history: &History<'_>, n: u32) -> bool
     ensures { result ≡ is_some (told_at history.now n) }
 {
-    1 <= n && n <= history.committed()
+    1 <= n && n <= history.committed() && history.by_attempt(n)
 }
 
 /// The attempt by which a replica committed batch n.

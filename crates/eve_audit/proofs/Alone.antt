@@ -1,7 +1,8 @@
 -- A replica's own faults are judged by the header, the customers, the batches and its section alone.
-use Rattle.std.proofs.Common.{◌≡◌, ◌≢◌, ℕ, zero, suc, ◌*◌, ◌+◌, ℤ, List, [], length, take, slice_get, refl, sym, ap, subst}
-use Rattle.std.proofs.Common.{◌∙◌, IsTrue}
+use Rattle.std.proofs.Common.{◌≡◌, ◌≢◌, ℕ, zero, suc, ◌*◌, ◌+◌, ℤ, List, [], length, take, slice_get, refl, sym, ap}
+use Rattle.std.proofs.Common.{subst, ◌∙◌, IsTrue}
 use Rattle.std.specs.Prelude.{IsFalse}
+use Rattle.std.specs.List.{flat_map}
 use Rattle.eve_smallbank.specs.Access.{Fits}
 use Rattle.eve_grammar.specs.Trace.{Access, Attempt, Sent, Step, Trace, Vote}
 use Rattle.eve_grammar.specs.Frames.{OfReplica}
@@ -11,13 +12,14 @@ use Rattle.eve_views.specs.declared.fault.Code.{Code}
 use Rattle.eve_views.specs.declared.fault.Code.TheVariants as code
 use Rattle.eve_views.specs.declared.fault.Fault.{Fault}
 use Rattle.eve_views.specs.Form.{SomePlace}
-use Rattle.eve_history.specs.Section.{Placed, SectionState, start, state_after, settled, are_right, is_right_attempt}
+use Rattle.eve_history.specs.Section.{Placed, came_by, SectionState, start, state_after, settled, are_right}
+use Rattle.eve_history.specs.Section.{is_right_attempt}
 use Rattle.eve_history.specs.Section.{is_right_certificate, is_right_access, is_right_commit, is_right_rollback}
 use Rattle.eve_history.specs.Section.{are_right_accesses}
-use Rattle.eve_history.specs.SectionHistory.{history, committed_at, names_of}
+use Rattle.eve_history.specs.SectionHistory.{history, attempt_by, committed_at, names_of}
 use Rattle.eve_history.specs.Structure.{StandsInStructure, OfAttempt, OfCommit, OfRollback, accesses_of}
 use Rattle.eve_chains.specs.Visible.{executed_by, visible_to, rows_after}
-use Rattle.eve_chains.specs.Committed.{attempts_of, first_rows, balances_to}
+use Rattle.eve_chains.specs.Committed.{first_rows, balances_to}
 use Rattle.eve_chains.specs.Faults.{StandsInRecords, StandsInChains}
 use Rattle.eve_agree.specs.Tables.{are_right_restores}
 use Rattle.eve_agree.specs.Restores.{StandsInRestores}
@@ -103,11 +105,11 @@ module _ (t : Trace) (sections : List (List Step)) (verifiers : List (List Vote)
 
   committed_alone : (n : ℕ) → committed_at t e n ≡ committed_at (besides t sections verifiers sent) e n
   committed_alone zero = refl
-  committed_alone (suc n) = ap (λ (s : SectionState). slice_get s.committed n) same_history
+  committed_alone (suc n) = ap (λ (s : SectionState). attempt_by (slice_get s.landings n)) same_history
 
   balances_alone : (n : ℕ) → balances_to t e n ≡ balances_to (besides t sections verifiers sent) e n
   balances_alone n = ap (λ (s : SectionState). first_rows (2 * length t.customers)
-      (λ row. (rows_after t (attempts_of (take n s.committed)) row).value)) same_history
+      (λ row. (rows_after t (flat_map came_by (take n s.landings)) row).value)) same_history
 
   tokens_alone : (c : Code) (at : ℕ) → StandsInTokens c t e at
       → StandsInTokens c (besides t sections verifiers sent) e at

@@ -8,32 +8,33 @@ use Rattle.std.proofs.lemmas.Bool.{and_parts, eqb-true}
 use Rattle.std.proofs.lemmas.Option.{same_Some}
 use Rattle.eve_grammar.specs.Trace.{Commit, Rollback, Step, Attempts, Commits, RollsBack, Trace}
 use Rattle.eve_grammar.specs.Spelling.{steps_at}
-use Rattle.eve_history.specs.Section.{Placed, SectionState, start, committing, next, state_after}
+use Rattle.eve_history.specs.Section.{Placed, Landing, ByAttempt, SectionState, start, committing, next, state_after}
 use Rattle.eve_history.specs.Section.{commits_first, is_right, are_right}
-use Rattle.eve_history.specs.SectionHistory.{history, committed_at, IsRightSection}
+use Rattle.eve_history.specs.SectionHistory.{history, attempt_by, committed_at, IsRightSection}
 use Rattle.eve_votes.specs.Votes.{IsDecided, IsRolledBack}
 use Rattle.eve_chains.proofs.Linked.{none≢some}
 use Rattle.eve_agree.specs.Majority.{IsBacked}
 
 -- ---- along a section
 
--- the view and token of each attempt by which a number was committed are decided for that number
-abbrev AreDecided : Trace → List Placed → Type 0
-AreDecided t ps = (n : ℕ) (p : Placed) → slice_get ps n ≡ Some p
+-- the view and token of each attempt by which a number was reached are decided for that number
+abbrev AreDecided : Trace → List Landing → Type 0
+AreDecided t ls = (n : ℕ) (p : Placed) → attempt_by (slice_get ls n) ≡ Some p
     → IsDecided t (suc n) p.attempt.view p.attempt.token
 
 -- what stands in a list with one more at its end
-pushed : (ps : List Placed) (q : Placed) (n : ℕ) (p : Placed) → slice_get (ps ++ q ∷ []) n ≡ Some p
-    → (slice_get ps n ≡ Some p) ⊎ ((length ps ≡ n) × (q ≡ p))
+pushed : (ls : List Landing) (q : Placed) (n : ℕ) (p : Placed)
+    → attempt_by (slice_get (ls ++ ByAttempt q ∷ []) n) ≡ Some p
+    → (attempt_by (slice_get ls n) ≡ Some p) ⊎ ((length ls ≡ n) × (q ≡ p))
 pushed [] q zero p at = inr (refl, same_Some q p at)
 pushed [] q (suc n) p at = none≢some p at
-pushed (x ∷ ps) q zero p at = inl at
-pushed (x ∷ ps) q (suc n) p at =
-    elim (pushed ps q n p at) [ inl there ↦ inl there | inr here ↦ inr (ap suc here.0, here.1) ]
+pushed (l ∷ ls) q zero p at = inl at
+pushed (l ∷ ls) q (suc n) p at =
+    elim (pushed ls q n p at) [ inl there ↦ inl there | inr here ↦ inr (ap suc here.0, here.1) ]
 
-decided-push : (t : Trace) (ps : List Placed) (q : Placed) → AreDecided t ps
-    → IsDecided t (suc (length ps)) q.attempt.view q.attempt.token → AreDecided t (ps ++ q ∷ [])
-decided-push t ps q decided last n p at = elim (pushed ps q n p at) [
+decided-push : (t : Trace) (ls : List Landing) (q : Placed) → AreDecided t ls
+    → IsDecided t (suc (length ls)) q.attempt.view q.attempt.token → AreDecided t (ls ++ ByAttempt q ∷ [])
+decided-push t ls q decided last n p at = elim (pushed ls q n p at) [
   | inl there ↦ decided n p there
   | inr here ↦
       subst (λ (x : Placed). IsDecided t (suc n) x.attempt.view x.attempt.token) here.1
@@ -41,8 +42,8 @@ decided-push t ps q decided last n p at = elim (pushed ps q n p at) [
 ]
 
 record IsDecidedTo (t : Trace) (s : SectionState) : Type 0 where
-  decided : AreDecided t s.committed
-  last : s.last ≡ length s.committed
+  decided : AreDecided t s.landings
+  last : s.last ≡ length s.landings
 
 decided_committing : (t : Trace) (s : SectionState) (c : Commit) (pending : List Placed) → c.seq ≡ s.last + 1
     → commits_first pending c ≡ true → IsDecided t c.seq c.view c.token
@@ -53,19 +54,19 @@ decided_committing t s c (p ∷ ps) number first by holds =
     let view = eqb-true p.attempt.view c.view parts.0 in
     let token = same_text p.attempt.token c.token (sym parts.1) in
     record {
-      decided = decided-push t s.committed p holds.decided
+      decided = decided-push t s.landings p holds.decided
           (subst (λ n. IsDecided t n p.attempt.view p.attempt.token)
-          (number ∙ place s.last (length s.committed) holds.last)
+          (number ∙ place s.last (length s.landings) holds.last)
           (subst (λ v. IsDecided t c.seq v p.attempt.token) (sym view)
           (subst (IsDecided t c.seq c.view) (sym token) by)));
-      last = one_more s.last s.committed holds.last;
+      last = one_more s.last s.landings holds.last;
     }
   where
     place : (n m : ℕ) → n ≡ m → n + 1 ≡ suc m
     place n m e = omega arith
 
-    one_more : (n : ℕ) (qs : List Placed) → n ≡ length qs → n + 1 ≡ length (qs ++ p ∷ [])
-    one_more n qs h = simp length-append (omega arith)
+    one_more : (n : ℕ) (ls : List Landing) → n ≡ length ls → n + 1 ≡ length (ls ++ ByAttempt p ∷ [])
+    one_more n ls h = simp length-append (omega arith)
 
 decided_next : (t : Trace) (s : SectionState) (step : ℕ × Step) → is_right t s step.1 ≡ true → IsBacked t step.1
     → IsDecidedTo t s → IsDecidedTo t (next s step)

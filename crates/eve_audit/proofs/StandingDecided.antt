@@ -14,7 +14,8 @@ use Rattle.eve_grammar.specs.Spelling.{customers_at, batches_at, steps_at, acces
 use Rattle.eve_views.specs.Form.{SomePlace}
 use Rattle.eve_views.specs.declared.fault.Code.{Code}
 use Rattle.eve_views.specs.declared.fault.Code.TheVariants as code
-use Rattle.eve_history.specs.Section.{Placed, SectionState, start, state_after, settled, is_right_attempt}
+use Rattle.eve_history.specs.Section.{Placed, Landing, ByAttempt, ByTransfer, Skipped, SectionState, start, state_after}
+use Rattle.eve_history.specs.Section.{settled, is_right_attempt}
 use Rattle.eve_history.specs.Section.{is_right_certificate, is_right_access, is_right_commit, is_right_rollback}
 use Rattle.eve_history.specs.Section.{are_right_accesses, are_right}
 use Rattle.eve_history.specs.SectionHistory.{history, names_of}
@@ -33,7 +34,7 @@ use Rattle.eve_votes.proofs.Counting.{decided_backs}
 use Rattle.eve_agree.specs.Majority.{StandsInMajorities}
 use Rattle.eve_agree.specs.Agreement.{first_to_commit, HaveSameOutcome, StandsInAgreement}
 use Rattle.eve_agree.specs.ByNumber.{SomeCommitted}
-use Rattle.eve_agree.proofs.ByNumber.{some_from_place, place_from_some}
+use Rattle.eve_agree.proofs.ByNumber.{IsBy, some_from_place, place_from_some}
 use Rattle.eve_agree.specs.SentReplies.{StandsInReplies}
 use Rattle.eve_audit.proofs.Deciding.{Decided, HasEquality, decided_both, decided_not, decided_as, some_if}
 use Rattle.eve_audit.proofs.Deciding.{below_or_none, numbers, integers, lists, pairs}
@@ -68,7 +69,7 @@ contains_decided : {A : Type 0} → HasEquality A → (xs : List A) (x : A) → 
 contains_decided equal xs x = below_or_none (λ k. slice_index_or xs k x ≡ x) (λ k. equal (slice_index_or xs k x) x)
     (length xs)
 
--- ---- kinds of steps
+-- ---- kinds of steps and of landings
 
 of_attempt : (step : Step) (P : Attempt → Type 0) → ((a : Attempt) → Decided (P a)) → Decided (OfAttempt step P)
 of_attempt (Attempts a) P decided = decided a
@@ -84,6 +85,11 @@ of_rollback : (step : Step) (P : Rollback → Type 0) → ((r : Rollback) → De
 of_rollback (Attempts a) P decided = inr (λ is. is)
 of_rollback (Commits c) P decided = inr (λ is. is)
 of_rollback (RollsBack r) P decided = decided r
+
+of_landing : (l : Landing) (P : Placed → Type 0) → ((p : Placed) → Decided (P p)) → Decided (IsBy P l)
+of_landing (ByAttempt p) P decided = decided p
+of_landing (ByTransfer at x) P decided = inr (λ is. is)
+of_landing Skipped P decided = inr (λ is. is)
 
 -- ---- two decisions
 
@@ -290,8 +296,8 @@ module _ (t : Trace) (at : ℕ) where
     committed_somewhere : (Q : ℕ → Placed → Type 0) → ((n : ℕ) (p : Placed) → Decided (Q n p))
         → Decided (SomeCommitted t e at Q)
     committed_somewhere Q decided = decided_as (some_from_place t e at Q) (place_from_some t e at Q)
-        (place_decided _ (λ before p. decided_both (numbers p.offset at) (decided (suc (length before)) p))
-        (history t e).committed)
+        (place_decided _ (λ before l. of_landing l _ (λ p.
+        decided_both (numbers p.offset at) (decided (suc (length before)) p))) (history t e).landings)
 
     pub tokens_decided : (c : Code) → Decided (StandsInTokens c t e at)
     tokens_decided code.Token =

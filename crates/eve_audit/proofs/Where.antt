@@ -14,7 +14,7 @@ use Rattle.eve_grammar.specs.Spelling.{body_text, frame_text, frames_text, locat
 use Rattle.eve_grammar.specs.Spelling.{section_start, steps_of, steps_at, accesses_at}
 use Rattle.eve_grammar.proofs.Lists.{all-append, all-weaker, all_unmapped}
 use Rattle.eve_views.proofs.Locating.{section_is}
-use Rattle.eve_history.specs.Section.{settled}
+use Rattle.eve_history.specs.Section.{attempts_by, settled}
 use Rattle.eve_history.specs.SectionHistory.{attempts_among, placed_at, is_committed, is_discarded, history}
 use Rattle.eve_history.specs.Fates.{fates_from}
 use Rattle.eve_audit.proofs.Sections.{LiesIn, FatesAreAsItEnds}
@@ -206,8 +206,9 @@ module _ (t : Trace) (e : ℕ) where
 
   module _ (law : FatesAreAsItEnds t e) where
     -- an attempt that was committed or discarded is one of the steps
-    pub committed_in : AllByRecursion (λ p. StepIn t e (p.offset, Attempts p.attempt)) (history t e).committed
-    committed_in = all_unmapped (λ x. StepIn t e (x.0, Attempts x.1)) placed_at (history t e).committed
+    pub committed_in : AllByRecursion (λ p. StepIn t e (p.offset, Attempts p.attempt))
+        (attempts_by (history t e).landings)
+    committed_in = all_unmapped (λ x. StepIn t e (x.0, Attempts x.1)) placed_at (attempts_by (history t e).landings)
         (subst (AllByRecursion (λ x. StepIn t e (x.0, Attempts x.1))) (sym law.0)
         (all_picked (λ x. StepIn t e (x.0, Attempts x.1)) is_committed (attempts_among (steps_at t e))
         (fates_from 0 (steps_at t e)) (attempts_in (StepIn t e) (steps_at t e) steps_in)))
@@ -219,5 +220,5 @@ module _ (t : Trace) (e : ℕ) where
         (fates_from 0 (steps_at t e)) (attempts_in (StepIn t e) (steps_at t e) steps_in)))
 
     pub settled_in : AllByRecursion (λ p. StepIn t e (p.offset, Attempts p.attempt)) (settled (history t e))
-    settled_in = all-append (λ p. StepIn t e (p.offset, Attempts p.attempt)) (history t e).committed
+    settled_in = all-append (λ p. StepIn t e (p.offset, Attempts p.attempt)) (attempts_by (history t e).landings)
         (history t e).discarded committed_in discarded_in

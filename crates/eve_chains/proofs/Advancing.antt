@@ -1,18 +1,18 @@
 -- From the balances after one committed batch to those after the next, record after record.
-use Rattle.std.proofs.Common.{◌≡◌, ℕ, suc, Some, ap, ◌∙◌}
+use Rattle.std.proofs.Common.{◌≡◌, ℕ, suc, Some, slice_get, ap, ◌∙◌}
 use Rattle.eve_smallbank.specs.Access.{values_after}
 use Rattle.eve_smallbank.specs.Chain.{values_of}
 use Rattle.eve_smallbank.proofs.Chains.{values_of-table_after}
 use Rattle.eve_smallbank.proofs.Members.{In, in_front}
 use Rattle.eve_grammar.specs.Trace.{Trace}
 use Rattle.eve_grammar.specs.Limits.{HasLimits}
-use Rattle.eve_history.specs.Section.{Placed, settled}
+use Rattle.eve_history.specs.Section.{Placed, ByAttempt, settled}
 use Rattle.eve_history.specs.SectionHistory.{ordered, history, committed_at, IsRightSection}
 use Rattle.eve_chains.specs.Visible.{rows_after}
-use Rattle.eve_chains.specs.Committed.{committed_to, values_to}
+use Rattle.eve_chains.specs.Committed.{path_to, values_to}
 use Rattle.eve_chains.specs.Along.{entries_along}
 use Rattle.eve_chains.proofs.AttemptRecords.{own}
-use Rattle.eve_chains.proofs.Linked.{in_at}
+use Rattle.eve_chains.proofs.Linked.{landing_by, in_attempts}
 use Rattle.eve_chains.proofs.SerialSections.{rows_next}
 use Rattle.eve_chains.proofs.LeftByRecords.{left_by_records, right_one, complete_one}
 
@@ -20,8 +20,9 @@ pub advance_along : (t : Trace) (e n : ℕ) (p : Placed) → HasLimits t → IsR
     ≡ Some p
     → values_to t e (suc n) ≡ values_after (values_to t e n) (entries_along (ordered p.offset p.attempt))
 advance_along t e n p limits right at =
+    let landing = landing_by (slice_get (history t e).landings n) p at in
     let i : In p (settled (history t e)) = in_front (history t e).discarded
-    (in_at (history t e).committed n p at) in
-    ap values_of (rows_next t (history t e).committed n p at
-    ∙ left_by_records t p (right_one t e p right i) (complete_one t e p limits i) (rows_after t (committed_to t e n)))
-    ∙ values_of-table_after (rows_after t (committed_to t e n)) (entries_along (own p))
+    (in_attempts (history t e).landings n p landing) in
+    ap values_of (rows_next t (history t e).landings n (ByAttempt p) landing
+    ∙ left_by_records t p (right_one t e p right i) (complete_one t e p limits i) (rows_after t (path_to t e n)))
+    ∙ values_of-table_after (rows_after t (path_to t e n)) (entries_along (own p))

@@ -1,8 +1,11 @@
 -- From the balances after one batch to those after the next.
 use Rattle.std.proofs.Common.{◌≡◌, ℕ, ℤ, zero, suc, ◌-◌, ◌*◌, ◌<◌, ◌≤◌, nat_lt, true, List, [], ◌∷◌, ◌++◌, map}
+use Rattle.std.proofs.Common.{flat_map, pos}
 use Rattle.std.proofs.Common.{take, fold, length, slice_get, Option, Some, None, refl, sym, ap, ◌∙◌, arith}
 use Rattle.std.specs.List.{AllByRecursion, list_all}
-use Rattle.std.proofs.lemmas.Bool.{and_parts, ltb-true}
+use Rattle.std.proofs.lemmas.Bool.{and_parts, ltb-true, le-leb}
+use Rattle.std.proofs.Math.Dec.{leb-suc-suc, leb-suc-zero}
+use Rattle.std.specs.Prelude.{nat_le}
 use Rattle.std.proofs.lemmas.List.Sums.{fold-append}
 use Rattle.std.specs.Prelude.{option_map}
 use Rattle.std.proofs.lemmas.Option.{slice_get-map}
@@ -10,40 +13,44 @@ use Rattle.eve_smallbank.specs.declared.entry.Entry.{Entry}
 use Rattle.eve_smallbank.specs.Access.{balance_of_row, bank_of, values_after}
 use Rattle.eve_grammar.specs.Trace.{Access, Trace, opening_rows, head_of}
 use Rattle.eve_grammar.specs.Limits.{HasLimits, is_entry, row_count}
-use Rattle.eve_grammar.proofs.Lists.{all-slice_get}
-use Rattle.eve_history.specs.Section.{Placed}
-use Rattle.eve_history.specs.SectionHistory.{ordered, history, names_of, IsRightSection}
+use Rattle.eve_smallbank.specs.Chain.{values_of}
+use Rattle.eve_smallbank.specs.declared.versioned.Versioned.{Versioned}
+use Rattle.eve_smallbank.proofs.Members.{all_in}
+use Rattle.std.proofs.Math.ListN.{get_or-map}
+use Rattle.eve_history.specs.Section.{Placed, Landing, ByAttempt, ByTransfer, Skipped, came_by}
+use Rattle.eve_history.specs.SectionHistory.{ordered, history, names_of, IsRightSection, attempt_by, is_landing, is_reached}
 use Rattle.eve_history.proofs.Finding.{get_mapped}
-use Rattle.eve_chains.specs.Visible.{rows_after}
-use Rattle.eve_chains.specs.Committed.{attempts_of, values_to, bank_after}
+use Rattle.eve_chains.specs.Visible.{taken_table, rows_after}
+use Rattle.eve_chains.specs.Committed.{values_to, bank_after}
 use Rattle.eve_chains.specs.Along.{entries_along, AreWithin}
-use Rattle.eve_chains.specs.Changes.{changes_below, values_changed}
+use Rattle.eve_chains.specs.Changes.{values_changed}
 use Rattle.eve_chains.proofs.ChangedRows.{values_same}
 use Rattle.eve_chains.proofs.CommittedBatches.{batches_within}
-use Rattle.eve_chains.proofs.SerialSections.{take_one_more, take_no_more}
+use Rattle.eve_chains.proofs.Linked.{in_attempts}
+use Rattle.eve_chains.proofs.SerialSections.{take_one_more, take_no_more, rows_next}
 use Rattle.eve_chains.proofs.Advancing.{advance_along}
-use Rattle.eve_chains.specs.Settling.{Settling, settling, values_in, AreBankAfter}
+use Rattle.eve_chains.specs.Settling.{Change, Wrote, Settling, change_at, settling, values_with, values_in, is_change}
+use Rattle.eve_chains.specs.Settling.{defined, AreBankAfter}
 
--- ---- one batch
+-- ---- one number
 
-one_more : (values : ℕ → ℤ) (numbers : List (List (ℕ × ℤ))) (n : ℕ) (cs : List (ℕ × ℤ)) → slice_get numbers n ≡ Some cs
-    → fold values_changed values (take (suc n) numbers)
-    ≡ values_changed (fold values_changed values (take n numbers)) cs
-one_more values numbers n cs at = ap (fold values_changed values) (take_one_more numbers n cs at)
-    ∙ fold-append values_changed values (take n numbers) (cs ∷ [])
+one_more : (values : ℕ → ℤ) (numbers : List Change) (n : ℕ) (c : Change) → slice_get numbers n ≡ Some c
+    → fold values_with values (take (suc n) numbers) ≡ values_with (fold values_with values (take n numbers)) c
+one_more values numbers n c at = ap (fold values_with values) (take_one_more numbers n c at)
+    ∙ fold-append values_with values (take n numbers) (c ∷ [])
 
-pub values_next : (s : Settling) (n : ℕ) (cs : List (ℕ × ℤ)) → slice_get s.numbers n ≡ Some cs
-    → values_in s (suc n) ≡ values_changed (values_in s n) cs
+pub values_next : (s : Settling) (n : ℕ) (c : Change) → slice_get s.numbers n ≡ Some c
+    → values_in s (suc n) ≡ values_with (values_in s n) c
 unfolding values_in
-values_next s n cs at = one_more (balance_of_row s.opening) s.numbers n cs at
+values_next s n c at = one_more (balance_of_row s.opening) s.numbers n c at
 
--- the same, where the number is that of the batch
+-- the same, where the number is that of a batch
 pub values_then : (s : Settling) (n : ℕ) (cs : List (ℕ × ℤ)) (old new : ℕ → ℤ) → 1 ≤ n
-    → slice_get s.numbers (n - 1) ≡ Some cs → old ≡ values_in s (n - 1) → new ≡ values_changed old cs
+    → slice_get s.numbers (n - 1) ≡ Some (Wrote cs) → old ≡ values_in s (n - 1) → new ≡ values_changed old cs
     → new ≡ values_in s n
 values_then s n cs old new le at so step =
     let is : suc (n - 1) ≡ n = omega arith in
-    step ∙ ap (λ (values : ℕ → ℤ). values_changed values cs) so ∙ sym (values_next s (n - 1) cs at)
+    step ∙ ap (λ (values : ℕ → ℤ). values_changed values cs) so ∙ sym (values_next s (n - 1) (Wrote cs) at)
     ∙ ap (values_in s) is
 
 pub values_opening : (s : Settling) → balance_of_row s.opening ≡ values_in s 0
@@ -56,12 +63,9 @@ map_no_more : {A B : Type 0} (f : A → B) (xs : List A) (n : ℕ) → slice_get
     ≡ take n (map f xs)
 map_no_more f xs n none = take_no_more (map f xs) n (slice_get-map f xs n ∙ ap (option_map f) none)
 
-abbrev changes_of : Trace → Placed → List (ℕ × ℤ)
-changes_of t p = changes_below (2 * length t.customers) (entries_along (ordered p.offset p.attempt))
-
 abbrev values_settled : Trace → ℕ → ℕ → ℕ → ℤ
-values_settled t e n = fold values_changed (balance_of_row (opening_rows t.customers))
-    (take n (map (changes_of t) (history t e).committed))
+values_settled t e n = fold values_with (balance_of_row (opening_rows t.customers))
+    (take n (map (change_at t) (history t e).landings))
 
 -- entries that lie within the rows that there are
 rows_below : (rows : ℕ) (es : List Entry) → list_all (is_entry rows) es ≡ true → AllByRecursion (λ e. e.row < rows) es
@@ -86,36 +90,75 @@ all_below rows (x ∷ xs) all =
 
 -- what a committed batch changes is what its entries write
 changed_is_written : (t : Trace) (e n : ℕ) (p : Placed) (values : ℕ → ℤ) → HasLimits t
-    → slice_get (history t e).committed n ≡ Some p
-    → values_changed values (changes_of t p) ≡ values_after values (entries_along (ordered p.offset p.attempt))
+    → slice_get (history t e).landings n ≡ Some (ByAttempt p)
+    → values_with values (change_at t (ByAttempt p))
+    ≡ values_after values (entries_along (ordered p.offset p.attempt))
 changed_is_written t e n p values limits at =
     values_same values (entries_along (ordered p.offset p.attempt)) (2 * length t.customers)
     (all_below (2 * length t.customers) (ordered p.offset p.attempt)
-    (all-slice_get (AreWithin (row_count (head_of t))) (map (λ q. ordered q.offset q.attempt) (history t e).committed)
-    n (ordered p.offset p.attempt) (batches_within t e limits)
-    (get_mapped (λ q. ordered q.offset q.attempt) (history t e).committed n p at)))
+    (all_in (λ q. AreWithin (row_count (head_of t)) (ordered q.offset q.attempt)) (batches_within t e limits)
+    (in_attempts (history t e).landings n p at)))
 
-stays : (t : Trace) (e n : ℕ) → slice_get (history t e).committed n ≡ None → values_to t e (suc n) ≡ values_to t e n
+-- a state that was taken over has the values of its rows
+values_taken : (rows : List Versioned) → balance_of_row (map (λ v. v.value) rows) ≡ values_of (taken_table rows)
+values_taken rows = λ i row. get_or-map (λ (v : Versioned). v.value) rows row (record { version = 0; value = pos 0 }) i
+
+stays : (t : Trace) (e n : ℕ) → slice_get (history t e).landings n ≡ None → values_to t e (suc n) ≡ values_to t e n
 stays t e n none =
-    let values : List Placed → ℕ → ℤ = λ ps row. (rows_after t (attempts_of ps) row).value in
-    ap values (take_no_more (history t e).committed n none)
+    let values : List Landing → ℕ → ℤ = λ ls row. (rows_after t (flat_map came_by ls) row).value in
+    ap values (take_no_more (history t e).landings n none)
 
-one_settled : (t : Trace) (e n : ℕ) → HasLimits t → IsRightSection t e → values_settled t e n ≡ values_to t e n
-    → (o : Option Placed) → slice_get (history t e).committed n ≡ o
-    → values_settled t e (suc n) ≡ values_to t e (suc n)
-one_settled t e n limits right before None none =
-    ap (fold values_changed (balance_of_row (opening_rows t.customers)))
-    (map_no_more (changes_of t) (history t e).committed n none) ∙ before ∙ sym (stays t e n none)
-one_settled t e n limits right before (Some p) at =
-    one_more (balance_of_row (opening_rows t.customers)) (map (changes_of t) (history t e).committed) n (changes_of t p)
-    (get_mapped (changes_of t) (history t e).committed n p at)
-    ∙ ap (λ (values : ℕ → ℤ). values_changed values (changes_of t p)) before
-    ∙ changed_is_written t e n p (values_to t e n) limits at ∙ sym (advance_along t e n p limits right at)
+module _ (t : Trace) (e n : ℕ) (limits : HasLimits t) (right : IsRightSection t e)
+    (before : values_settled t e n ≡ values_to t e n) where
+  changed_next : (l : Landing) → slice_get (history t e).landings n ≡ Some l
+      → values_settled t e (suc n) ≡ values_with (values_to t e n) (change_at t l)
+  changed_next l at =
+      one_more (balance_of_row (opening_rows t.customers)) (map (change_at t) (history t e).landings) n (change_at t l)
+      (get_mapped (change_at t) (history t e).landings n l at)
+      ∙ ap (λ (values : ℕ → ℤ). values_with values (change_at t l)) before
+
+  one_settled : (o : Option Landing) → slice_get (history t e).landings n ≡ o
+      → values_settled t e (suc n) ≡ values_to t e (suc n)
+  one_settled None none =
+      ap (fold values_with (balance_of_row (opening_rows t.customers)))
+      (map_no_more (change_at t) (history t e).landings n none) ∙ before ∙ sym (stays t e n none)
+  one_settled (Some (ByAttempt p)) at =
+      changed_next (ByAttempt p) at ∙ changed_is_written t e n p (values_to t e n) limits at
+      ∙ sym (advance_along t e n p limits right (ap attempt_by at))
+  one_settled (Some (ByTransfer offset x)) at =
+      changed_next (ByTransfer offset x) at ∙ values_taken x.rows
+      ∙ ap values_of (sym (rows_next t (history t e).landings n (ByTransfer offset x) at))
+  one_settled (Some Skipped) at =
+      changed_next Skipped at ∙ ap values_of (sym (rows_next t (history t e).landings n Skipped at))
 
 settled_are : (t : Trace) (e n : ℕ) → HasLimits t → IsRightSection t e → values_settled t e n ≡ values_to t e n
 settled_are t e zero limits right = refl
 settled_are t e (suc n) limits right = one_settled t e n limits right (settled_are t e n limits right)
-    (slice_get (history t e).committed n) refl
+    (slice_get (history t e).landings n) refl
+
+-- where each number is a batch's, there are balances after each up to the last
+pub wrote_defined : (s : Settling) (ns : List (List (ℕ × ℤ))) (n : ℕ) → s.numbers ≡ map Wrote ns
+    → nat_le n (length ns) ≡ defined s n
+wrote_defined s ns zero is = le-leb 0 (length ns) (omega arith)
+wrote_defined s ns (suc n) is = sym (ap (λ (cs : List Change). is_change (slice_get cs n)) is ∙ there ns n)
+  where
+    there : (xs : List (List (ℕ × ℤ))) (n : ℕ) → is_change (slice_get (map Wrote xs) n) ≡ nat_le (suc n) (length xs)
+    there [] n = sym (leb-suc-zero n)
+    there (x ∷ xs) zero = sym (le-leb 1 (suc (length xs)) (omega arith))
+    there (x ∷ xs) (suc n) = there xs n ∙ sym (leb-suc-suc (suc n) (length xs))
+
+-- there are balances after a number that was reached
+pub reached_is_defined : (t : Trace) (e n : ℕ) → defined (settling t e) n ≡ is_reached t e n
+unfolding settling
+reached_is_defined t e zero = refl
+reached_is_defined t e (suc n) =
+    ap is_change (slice_get-map (change_at t) (history t e).landings n) ∙ by (slice_get (history t e).landings n)
+  where
+    by : (o : Option Landing) → is_change (option_map (change_at t) o) ≡ is_landing o
+    by (Some (ByAttempt p)) = refl
+    by (Some (ByTransfer at x)) = refl
+    by (Some Skipped) = refl
+    by None = refl
 
 pub settled_values : (t : Trace) (e n : ℕ) → HasLimits t → IsRightSection t e → values_in (settling t e) n
     ≡ values_to t e n

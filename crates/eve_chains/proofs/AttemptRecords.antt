@@ -94,6 +94,6 @@ within_section t e limits =
     (all_in (λ y. IsTrue (is_whole_attempt rows y.1)) (whole_section t e limits) i))
 
 pub within_own : (rows : ℕ) (ps : List Placed) → AllByRecursion (λ p. IsWithin rows (placed_at p)) ps
-    → AllByRecursion (AreWithin rows) (map own ps)
+    → AllByRecursion (λ p. AreWithin rows (own p)) ps
 within_own rows [] all = tt
 within_own rows (p ∷ ps) all = (all.0.within, within_own rows ps all.1)

@@ -9,7 +9,7 @@ use Rattle.eve_grammar.specs.Trace.{Access, Attempt, Step, Attempts, Commits, Ro
 use Rattle.eve_grammar.specs.Frames.{OfAccess, OfAttempt}
 use Rattle.eve_grammar.specs.Spelling.{frame_text, located, steps_at, accesses_at}
 use Rattle.eve_history.specs.declared.fate.Fate.{Fate}
-use Rattle.eve_history.specs.Section.{Placed, SectionState, start, next, settled, request_count, is_due}
+use Rattle.eve_history.specs.Section.{attempts_by, Placed, SectionState, start, next, settled, request_count, is_due}
 use Rattle.eve_history.specs.Section.{is_right_attempt, is_right_certificate, are_right_accesses, is_right, are_right}
 use Rattle.eve_history.specs.Fates.{fates_from}
 use Rattle.eve_history.specs.SectionHistory.{access_with, ordered, attempts_among, history, IsRightSection, placed_at}
@@ -138,7 +138,7 @@ pub as_settled : (t : Trace) (e : ℕ) (x : ℕ × Attempt)
     ⊎ In x (picked is_discarded (attempts_among (steps_at t e)) (fates_from 0 (steps_at t e)))
     → SettledAs t e x
 as_settled t e x (inl i) =
-    let s = in_source placed_at (history t e).committed
+    let s = in_source placed_at (attempts_by (history t e).landings)
     (subst (λ (xs : List (ℕ × Attempt)). In x xs) (sym (committed_are_picked t e)) i) in
     record { placed = s.item; there_is = in_front (history t e).discarded s.there_is; is = s.is }
 as_settled t e x (inr i) =
@@ -146,7 +146,7 @@ as_settled t e x (inr i) =
     (subst (λ (xs : List (ℕ × Attempt)). In x xs) (sym (discarded_are_picked t e)) i) in
     record {
       placed = s.item;
-      there_is = in_right (history t e).committed (history t e).discarded s.there_is;
+      there_is = in_right (attempts_by (history t e).landings) (history t e).discarded s.there_is;
       is = s.is;
     }
 
@@ -154,9 +154,9 @@ pub from_settled : (t : Trace) (e : ℕ) (p : Placed) → In p (settled (history
     → In (placed_at p) (picked is_committed (attempts_among (steps_at t e)) (fates_from 0 (steps_at t e)))
     ⊎ In (placed_at p) (picked is_discarded (attempts_among (steps_at t e)) (fates_from 0 (steps_at t e)))
 from_settled t e p i =
-    elim (in_split (history t e).committed (history t e).discarded i) [
+    elim (in_split (attempts_by (history t e).landings) (history t e).discarded i) [
       | inl j ↦ inl (subst (λ (xs : List (ℕ × Attempt)). In (placed_at p) xs) (committed_are_picked t e)
-          (in_map placed_at (history t e).committed j))
+          (in_map placed_at (attempts_by (history t e).landings) j))
       | inr j ↦ inr (subst (λ (xs : List (ℕ × Attempt)). In (placed_at p) xs) (discarded_are_picked t e)
           (in_map placed_at (history t e).discarded j))
     ]

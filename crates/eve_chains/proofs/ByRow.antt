@@ -24,7 +24,7 @@ use Rattle.std.proofs.lemmas.Grind.{get_or-set_at}
 use Rattle.std.proofs.lemmas.List.Elements.{filter-append}
 use Rattle.eve_grammar.proofs.Lists.{filter_kept, filter_dropped}
 use Rattle.eve_chains.specs.Rows.{Noted, of_row}
-use Rattle.eve_chains.specs.Visible.{opening_table}
+use Rattle.eve_chains.specs.Rows.{bases_of}
 use Rattle.eve_smallbank.specs.declared.versioned.Versioned.{Versioned}
 use Rattle.eve_chains.specs.Notes.{noted_at}
 use Rattle.eve_chains.specs.Walked.{HasWalked, HasGathered, EachHasGathered}
@@ -48,7 +48,7 @@ own_more row ns n own =
     (filter_kept (λ (m : Noted). m.entry.row == row) n [] (eq-eqb n.entry.row row own))
 
 -- a row with one entry more in its list
-pub gathered_more : (e row : ℕ) (v : Versioned) (ns : List Noted) (n : Noted) (note : Note) (u w : GatheredRow)
+pub gathered_more : (e row : ℕ) (v : ℕ → Versioned) (ns : List Noted) (n : Noted) (note : Note) (u w : GatheredRow)
     → w.walked ≡ u.walked → w.notes.items ≡ u.notes.items ++ note ∷ [] → row ≡ n.entry.row
     → noted_at n.entry.row note ≡ n → HasGathered e row v ns u → HasGathered e row v (ns ++ n ∷ []) w
 gathered_more e row v ns n note u w same pushed own is known = record {
@@ -64,7 +64,7 @@ gathered_more e row v ns n note u w same pushed own is known = record {
     f = noted_at row
 
 -- and with none left in it
-pub all_walked : (e row : ℕ) (v : Versioned) (ns : List Noted) (w : GatheredRow) → HasWalked e v ns w.walked
+pub all_walked : (e row : ℕ) (v : ℕ → Versioned) (ns : List Noted) (w : GatheredRow) → HasWalked e v ns w.walked
     → w.notes.items ≡ [] → HasGathered e row v ns w
 all_walked e row v ns w walked none = record {
   before = ns;
@@ -77,28 +77,28 @@ module _ (t : Trace) (e from : ℕ) (ns : List Noted) (n : Noted) (ws : List Gat
   pub passed_over : ((place : ℕ) → place < length ws → from + place ≢ n.entry.row) → EachHasGathered t e from ns ws
       → EachHasGathered t e from (ns ++ n ∷ []) ws
   passed_over apart known place d less =
-      subst (λ (ms : List Noted). HasGathered e (from + place) (opening_table t (from + place)) ms (get_or ws place d))
+      subst (λ (ms : List Noted). HasGathered e (from + place) (bases_of t e (from + place)) ms (get_or ws place d))
       (sym (other_same (from + place) ns n (λ same. apart place less (sym same)))) (known place d less)
 
   -- the row at this place has the entry in its list
   pub entry_gathered : (place : ℕ) (w : GatheredRow) → place < length ws → from + place ≡ n.entry.row
-      → HasGathered e (from + place) (opening_table t (from + place)) (of_row (from + place) ns ++ n ∷ []) w
+      → HasGathered e (from + place) (bases_of t e (from + place)) (of_row (from + place) ns ++ n ∷ []) w
       → EachHasGathered t e from ns ws → EachHasGathered t e from (ns ++ n ∷ []) (set ws place w)
   entry_gathered place w there own more known i d less =
       elim (cases_eq i place) [
         | inl same ↦ subst (After i) (sym (get_or-set_at ws place i w d same there))
             (subst (λ (k : ℕ). After k w) (sym same) here)
         | inr other ↦ subst (After i) (sym (get_or-set_other ws place i w d other))
-            (subst (λ (ms : List Noted). HasGathered e (from + i) (opening_table t (from + i)) ms (get_or ws i d))
+            (subst (λ (ms : List Noted). HasGathered e (from + i) (bases_of t e (from + i)) ms (get_or ws i d))
             (sym (other_same (from + i) ns n (λ same. other (apart same))))
             (known i d (subst (λ (m : ℕ). i < m) (length-set ws place w) less)))
       ]
     where
       After : ℕ → GatheredRow → Type 0
-      After k x = HasGathered e (from + k) (opening_table t (from + k)) (of_row (from + k) (ns ++ n ∷ [])) x
+      After k x = HasGathered e (from + k) (bases_of t e (from + k)) (of_row (from + k) (ns ++ n ∷ [])) x
 
       here : After place w
-      here = subst (λ (ms : List Noted). HasGathered e (from + place) (opening_table t (from + place)) ms w)
+      here = subst (λ (ms : List Noted). HasGathered e (from + place) (bases_of t e (from + place)) ms w)
           (sym (own_more (from + place) ns n (sym own))) more
 
       apart : n.entry.row ≡ from + i → i ≡ place

@@ -75,19 +75,19 @@ module _ (k row : ℕ) (cs : List Changed) (earlier : AllByRecursion (IsEarlier 
       changed_behind k row cs o (record { number = k; row = e.row; value = e.after }) earlier refl at
       ∙ ap (λ (r : ℕ). cs ++ record { number = k; row = r; value = e.after } ∷ []) at
 
-  along_entries : (offset view : ℕ) (o : Option ℤ) (es : List Entry)
+  along_entries : (offset taken view : ℕ) (o : Option ℤ) (es : List Entry)
       → changes_along (cs ++ change_in k row o)
-      (of_row row (map (λ e. record { offset = offset; view = view; number = k; commits = true; entry = e }) es))
+      (of_row row (map (λ e. record { offset = offset; taken = taken; view = view; number = k; commits = true; entry = e }) es))
       ≡ cs ++ change_in k row (fold (written_next row) o es)
-  along_entries offset view o [] = refl
-  along_entries offset view o (e ∷ es) =
-      by (e.row == row) refl (λ (last : Option ℤ). along_entries offset view last es)
+  along_entries offset taken view o [] = refl
+  along_entries offset taken view o (e ∷ es) =
+      by (e.row == row) refl (λ (last : Option ℤ). along_entries offset taken view last es)
     where
       rest : List Noted
-      rest = of_row row (map (λ e. record { offset = offset; view = view; number = k; commits = true; entry = e }) es)
+      rest = of_row row (map (λ e. record { offset = offset; taken = taken; view = view; number = k; commits = true; entry = e }) es)
 
       here : Noted
-      here = record { offset = offset; view = view; number = k; commits = true; entry = e }
+      here = record { offset = offset; taken = taken; view = view; number = k; commits = true; entry = e }
 
       by : (b : Bool) → (e.row == row) ≡ b
           → ((last : Option ℤ) → changes_along (cs ++ change_in k row last) rest
@@ -104,27 +104,27 @@ module _ (k row : ℕ) (cs : List Changed) (earlier : AllByRecursion (IsEarlier 
           (sym (and-false (is_write e.kind)))
           ∙ next (cond (is_write e.kind && false) (Some e.after) o)
 
-  along_records : (view : ℕ) (o : Option ℤ) (xs : List (ℕ × Access))
-      → changes_along (cs ++ change_in k row o) (of_row row (flat_map (noted_by view k true) xs))
+  along_records : (taken view : ℕ) (o : Option ℤ) (xs : List (ℕ × Access))
+      → changes_along (cs ++ change_in k row o) (of_row row (flat_map (noted_by taken view k true) xs))
       ≡ cs ++ change_in k row (fold (written_next row) o (entries_along xs))
-  along_records view o [] = refl
-  along_records view o (x ∷ xs) =
+  along_records taken view o [] = refl
+  along_records taken view o (x ∷ xs) =
       ap (changes_along (cs ++ change_in k row o))
-      (filter-append (λ (n : Noted). n.entry.row == row) (noted_by view k true x) (flat_map (noted_by view k true) xs))
-      ∙ fold-append change_by (cs ++ change_in k row o) (of_row row (noted_by view k true x))
-      (of_row row (flat_map (noted_by view k true) xs))
-      ∙ ap (λ (ds : List Changed). changes_along ds (of_row row (flat_map (noted_by view k true) xs)))
-      (along_entries x.0 view o x.1.entries)
-      ∙ along_records view (fold (written_next row) o x.1.entries) xs
+      (filter-append (λ (n : Noted). n.entry.row == row) (noted_by taken view k true x) (flat_map (noted_by taken view k true) xs))
+      ∙ fold-append change_by (cs ++ change_in k row o) (of_row row (noted_by taken view k true x))
+      (of_row row (flat_map (noted_by taken view k true) xs))
+      ∙ ap (λ (ds : List Changed). changes_along ds (of_row row (flat_map (noted_by taken view k true) xs)))
+      (along_entries x.0 taken view o x.1.entries)
+      ∙ along_records taken view (fold (written_next row) o x.1.entries) xs
       ∙ ap (λ (last : Option ℤ). cs ++ change_in k row last)
       (sym (fold-append (written_next row) o x.1.entries (entries_along xs)))
 
   -- what a committed batch changes of the row
-  pub along_batch : (view : ℕ) (xs : List (ℕ × Access))
-      → changes_along cs (of_row row (flat_map (noted_by view k true) xs))
+  pub along_batch : (taken view : ℕ) (xs : List (ℕ × Access))
+      → changes_along cs (of_row row (flat_map (noted_by taken view k true) xs))
       ≡ cs ++ change_in k row (last_written row (entries_along xs))
-  along_batch view xs = ap (λ (ds : List Changed). changes_along ds (of_row row (flat_map (noted_by view k true) xs)))
-      (sym (append-nil cs)) ∙ along_records view None xs
+  along_batch taken view xs = ap (λ (ds : List Changed). changes_along ds (of_row row (flat_map (noted_by taken view k true) xs)))
+      (sym (append-nil cs)) ∙ along_records taken view None xs
 
 -- ---- all rows, all batches
 

@@ -4,7 +4,7 @@ use Rattle.std.specs.List.{AllByRecursion}
 use Rattle.eve_grammar.specs.Trace.{Attempt, Trace, head_of}
 use Rattle.eve_grammar.specs.Spelling.{steps_at}
 use Rattle.eve_grammar.specs.Limits.{row_count, HasLimits}
-use Rattle.eve_history.specs.Section.{Placed}
+use Rattle.eve_history.specs.Section.{Placed, attempts_by}
 use Rattle.eve_history.specs.Fates.{fates_from}
 use Rattle.eve_history.specs.SectionHistory.{placed_at, ordered}
 use Rattle.eve_history.specs.SectionHistory.{attempts_among, history, is_committed}
@@ -20,11 +20,12 @@ all_placed P (p ∷ ps) all = (all.0, all_placed P ps all.1)
 
 -- they are of the rows that the customers have
 pub batches_within : (t : Trace) (e : ℕ) → HasLimits t
-    → AllByRecursion (AreWithin (row_count (head_of t))) (map (λ p. ordered p.offset p.attempt) (history t e).committed)
+    → AllByRecursion (λ p. AreWithin (row_count (head_of t)) (ordered p.offset p.attempt))
+    (attempts_by (history t e).landings)
 batches_within t e limits =
     let rows = row_count (head_of t) in
-    within_own rows (history t e).committed
-    (all_placed (IsWithin rows) (history t e).committed
+    within_own rows (attempts_by (history t e).landings)
+    (all_placed (IsWithin rows) (attempts_by (history t e).landings)
     (subst (AllByRecursion (IsWithin rows)) (sym (committed_are_picked t e))
     (all_picked (IsWithin rows) is_committed (attempts_among (steps_at t e)) (fates_from 0 (steps_at t e))
     (within_section t e limits))))

@@ -8,11 +8,13 @@ use Rattle.std.proofs.lemmas.List.Elements.{filter-append, All-from_recursion, A
 use Rattle.std.proofs.lemmas.List.Sums.{fold-append}
 use Rattle.eve_smallbank.specs.declared.entry.Entry.{Entry}
 use Rattle.eve_smallbank.specs.Access.{is_write}
-use Rattle.eve_grammar.specs.Trace.{Access, Attempt, Trace, head_of}
+use Rattle.eve_grammar.specs.Trace.{Access, Trace, head_of}
 use Rattle.eve_grammar.specs.Limits.{row_count}
+use Rattle.eve_grammar.proofs.Lists.{same_first, same_others, no_item}
 use Rattle.eve_history.specs.declared.fate.Fate.{Fate}
 use Rattle.eve_history.specs.declared.fate.Fate.TheVariants.{Committed, Discarded, Open}
-use Rattle.eve_history.specs.Section.{Placed}
+use Rattle.eve_history.specs.Section.{Placed, Landing, ByAttempt, ByTransfer, Skipped, attempts_by}
+use Rattle.eve_history.proofs.AttemptsAlone.{IsByAttempt, all_by_attempts}
 use Rattle.eve_history.specs.SectionHistory.{SectionHistory, section_history, ordered, history, IsRightSection}
 use Rattle.eve_chains.specs.Along.{entries_along}
 use Rattle.eve_chains.specs.Rows.{Fated, Noted, told_of, noted_by, all_noted, of_row}
@@ -23,9 +25,9 @@ use Rattle.eve_chains.specs.declared.walked.Walked.{Walked}
 use Rattle.eve_chains.specs.Changes.{last_written, changes_below, with_change, change_by, changes_along, changes_of_rows}
 use Rattle.eve_chains.specs.Changes.{by_number}
 use Rattle.eve_chains.specs.Numbered.{HasNumber, IsRowBelow}
-use Rattle.eve_chains.specs.Settling.{settling}
+use Rattle.eve_chains.specs.Settling.{Change, Wrote, change_at, settling}
 use Rattle.eve_chains.specs.Walked.{IsWalked, AreWalked}
-use Rattle.eve_chains.proofs.Linked.{AreLinked, linked_history}
+use Rattle.eve_chains.proofs.Linked.{AreLinked, linked_history, last_committed}
 use Rattle.eve_chains.proofs.Paths.{all_placed, will_commit, committed_told}
 use Rattle.eve_chains.proofs.ChangedRows.{IsEarlier, change_in, row_changes, rows_changes, rows_more, rows_earlier}
 use Rattle.eve_chains.proofs.ChangedRows.{along_batch, numbers_are, IsOneOf, ones_of_rows}
@@ -52,37 +54,38 @@ committed_only cs (n ∷ ns) = by n.commits refl (λ (ds : List Changed). commit
     by false is next = next cs
 
 module _ (row : ℕ) where
-  -- what is noted of the row in a committed attempt
-  abbrev chunk : Placed → List Noted
-  chunk p = of_row row (flat_map (noted_by p.attempt.view p.attempt.seq true) (ordered p.offset p.attempt))
+  -- what is noted of the row in an attempt that is committed
+  abbrev chunk : Fated → List Noted
+  chunk y = of_row row (flat_map (noted_by y.taken y.placed.attempt.view y.placed.attempt.seq true)
+      (ordered y.placed.offset y.placed.attempt))
 
-  kept_of : (offset view number : ℕ) (b : Bool) (es : List Entry)
+  kept_of : (offset taken view number : ℕ) (b : Bool) (es : List Entry)
       → filter (λ (n : Noted). n.commits) (of_row row
-      (map (λ e. record { offset = offset; view = view; number = number; commits = b; entry = e }) es))
+      (map (λ e. record { offset = offset; taken = taken; view = view; number = number; commits = b; entry = e }) es))
       ≡ cond b (of_row row
-      (map (λ e. record { offset = offset; view = view; number = number; commits = b; entry = e }) es)) []
-  kept_of offset view number true [] = refl
-  kept_of offset view number false [] = refl
-  kept_of offset view number true (e ∷ es) = by (e.row == row) (kept_of offset view number true es)
+      (map (λ e. record { offset = offset; taken = taken; view = view; number = number; commits = b; entry = e }) es)) []
+  kept_of offset taken view number true [] = refl
+  kept_of offset taken view number false [] = refl
+  kept_of offset taken view number true (e ∷ es) = by (e.row == row) (kept_of offset taken view number true es)
     where
       here : Noted
-      here = record { offset = offset; view = view; number = number; commits = true; entry = e }
+      here = record { offset = offset; taken = taken; view = view; number = number; commits = true; entry = e }
 
       rest : List Noted
-      rest = of_row row (map (λ e. record { offset = offset; view = view; number = number; commits = true; entry = e }) es)
+      rest = of_row row (map (λ e. record { offset = offset; taken = taken; view = view; number = number; commits = true; entry = e }) es)
 
       by : (b : Bool) → filter (λ (n : Noted). n.commits) rest ≡ rest
           → filter (λ (n : Noted). n.commits) (cond b (here ∷ rest) rest) ≡ cond b (here ∷ rest) rest
       by true next = ap (λ (ns : List Noted). here ∷ ns) next
       by false next = next
-  kept_of offset view number false (e ∷ es) = by (e.row == row) (kept_of offset view number false es)
+  kept_of offset taken view number false (e ∷ es) = by (e.row == row) (kept_of offset taken view number false es)
     where
       here : Noted
-      here = record { offset = offset; view = view; number = number; commits = false; entry = e }
+      here = record { offset = offset; taken = taken; view = view; number = number; commits = false; entry = e }
 
       rest : List Noted
       rest = of_row row
-          (map (λ e. record { offset = offset; view = view; number = number; commits = false; entry = e }) es)
+          (map (λ e. record { offset = offset; taken = taken; view = view; number = number; commits = false; entry = e }) es)
 
       by : (b : Bool) → filter (λ (n : Noted). n.commits) rest ≡ []
           → filter (λ (n : Noted). n.commits) (cond b (here ∷ rest) rest) ≡ []
@@ -94,47 +97,53 @@ module _ (row : ℕ) where
   rows_apart xs ys = ap (filter (λ (n : Noted). n.commits)) (filter-append (λ (n : Noted). n.entry.row == row) xs ys)
       ∙ filter-append (λ (n : Noted). n.commits) (of_row row xs) (of_row row ys)
 
-  kept_all : (view number : ℕ) (xs : List (ℕ × Access))
-      → filter (λ (n : Noted). n.commits) (of_row row (flat_map (noted_by view number true) xs))
-      ≡ of_row row (flat_map (noted_by view number true) xs)
-  kept_all view number [] = refl
-  kept_all view number (x ∷ xs) =
-      rows_apart (noted_by view number true x) (flat_map (noted_by view number true) xs)
-      ∙ (λ i. kept_of x.0 view number true x.1.entries i ++ kept_all view number xs i)
-      ∙ sym (filter-append (λ (n : Noted). n.entry.row == row) (noted_by view number true x)
-      (flat_map (noted_by view number true) xs))
+  kept_all : (taken view number : ℕ) (xs : List (ℕ × Access))
+      → filter (λ (n : Noted). n.commits) (of_row row (flat_map (noted_by taken view number true) xs))
+      ≡ of_row row (flat_map (noted_by taken view number true) xs)
+  kept_all taken view number [] = refl
+  kept_all taken view number (x ∷ xs) =
+      rows_apart (noted_by taken view number true x) (flat_map (noted_by taken view number true) xs)
+      ∙ (λ i. kept_of x.0 taken view number true x.1.entries i ++ kept_all taken view number xs i)
+      ∙ sym (filter-append (λ (n : Noted). n.entry.row == row) (noted_by taken view number true x)
+      (flat_map (noted_by taken view number true) xs))
 
-  kept_none : (view number : ℕ) (xs : List (ℕ × Access))
-      → filter (λ (n : Noted). n.commits) (of_row row (flat_map (noted_by view number false) xs)) ≡ []
-  kept_none view number [] = refl
-  kept_none view number (x ∷ xs) =
-      rows_apart (noted_by view number false x) (flat_map (noted_by view number false) xs)
-      ∙ (λ i. kept_of x.0 view number false x.1.entries i ++ kept_none view number xs i)
+  kept_none : (taken view number : ℕ) (xs : List (ℕ × Access))
+      → filter (λ (n : Noted). n.commits) (of_row row (flat_map (noted_by taken view number false) xs)) ≡ []
+  kept_none taken view number [] = refl
+  kept_none taken view number (x ∷ xs) =
+      rows_apart (noted_by taken view number false x) (flat_map (noted_by taken view number false) xs)
+      ∙ (λ i. kept_of x.0 taken view number false x.1.entries i ++ kept_none taken view number xs i)
 
   committed_notes : (ys : List Fated) → filter (λ (n : Noted). n.commits) (of_row row (all_noted ys))
-      ≡ flat_map chunk (all_placed (filter will_commit ys))
+      ≡ flat_map chunk (filter will_commit ys)
   committed_notes [] = refl
-  committed_notes (y ∷ ys) = by y.placed y.fate (committed_notes ys)
+  committed_notes (y ∷ ys) = by y.placed y.taken y.fate (committed_notes ys)
     where
-      by : (p : Placed) (fate : Fate)
-          → filter (λ (n : Noted). n.commits) (of_row row (all_noted ys))
-          ≡ flat_map chunk (all_placed (filter will_commit ys))
-          → filter (λ (n : Noted). n.commits) (of_row row (all_noted (record { placed = p; fate = fate } ∷ ys)))
-          ≡ flat_map chunk (all_placed (filter will_commit (record { placed = p; fate = fate } ∷ ys)))
-      by p Committed next =
-          rows_apart (flat_map (noted_by p.attempt.view p.attempt.seq true) (ordered p.offset p.attempt)) (all_noted ys)
-          ∙ (λ i. kept_all p.attempt.view p.attempt.seq (ordered p.offset p.attempt) i ++ next i)
-      by p Discarded next =
-          rows_apart (flat_map (noted_by p.attempt.view p.attempt.seq false) (ordered p.offset p.attempt))
+      by : (p : Placed) (taken : ℕ) (fate : Fate)
+          → filter (λ (n : Noted). n.commits) (of_row row (all_noted ys)) ≡ flat_map chunk (filter will_commit ys)
+          → filter (λ (n : Noted). n.commits)
+          (of_row row (all_noted (record { placed = p; taken = taken; fate = fate } ∷ ys)))
+          ≡ flat_map chunk (filter will_commit (record { placed = p; taken = taken; fate = fate } ∷ ys))
+      by p taken Committed next =
+          rows_apart (flat_map (noted_by taken p.attempt.view p.attempt.seq true) (ordered p.offset p.attempt))
           (all_noted ys)
-          ∙ (λ i. kept_none p.attempt.view p.attempt.seq (ordered p.offset p.attempt) i ++ next i)
-      by p Open next = next
+          ∙ (λ i. kept_all taken p.attempt.view p.attempt.seq (ordered p.offset p.attempt) i ++ next i)
+      by p taken Discarded next =
+          rows_apart (flat_map (noted_by taken p.attempt.view p.attempt.seq false) (ordered p.offset p.attempt))
+          (all_noted ys)
+          ∙ (λ i. kept_none taken p.attempt.view p.attempt.seq (ordered p.offset p.attempt) i ++ next i)
+      by p taken Open next = next
 
--- ---- a row, batch after batch
+-- ---- a row, number after number
 
--- the entries of attempts, of each in its certificate's order
-abbrev pub entries_of_all : List Placed → List (List Entry)
-entries_of_all ps = map (λ p. entries_along (ordered p.offset p.attempt)) ps
+-- the entries of the attempt by which a number was reached, in its certificate's order
+abbrev entries_by : Landing → List Entry
+entries_by (ByAttempt p) = entries_along (ordered p.offset p.attempt)
+entries_by (ByTransfer at x) = []
+entries_by Skipped = []
+
+abbrev pub entries_of_all : List Landing → List (List Entry)
+entries_of_all ls = map entries_by ls
 
 later : (m row : ℕ) (cs : List Changed) → AllByRecursion (IsEarlier m row) cs → AllByRecursion (IsEarlier (suc m) row) cs
 later m row [] all = tt
@@ -150,30 +159,48 @@ all_append : {A : Type 0} (P : A → Type 0) (xs ys : List A) → AllByRecursion
 all_append P [] ys xs-all ys-all = ys-all
 all_append P (x ∷ xs) ys xs-all ys-all = (xs-all.0, all_append P xs ys xs-all.1 ys-all)
 
-along_batches : (t : Trace) (row m : ℕ) (before : List Attempt) (ps : List Placed) (cs : List Changed)
-    → AreLinked t before ps → length before ≡ m → AllByRecursion (IsEarlier (suc m) row) cs
-    → changes_along cs (flat_map (chunk row) ps) ≡ cs ++ row_changes row (suc m) (entries_of_all ps)
-along_batches t row m before [] cs linked many all = sym (append-nil cs)
-along_batches t row m before (p ∷ ps) cs linked many all =
-    let number : p.attempt.seq ≡ suc m = linked.0.number ∙ ap suc many in
+one_longer : (before : List Landing) (l : Landing) (m : ℕ) → length before ≡ m → length (before ++ l ∷ []) ≡ suc m
+one_longer before l m many = length-append before (l ∷ []) ∙ omega (arith, many)
+
+-- a number that no attempt reached changes nothing here
+along_batches : (t : Trace) (row m : ℕ) (before ls : List Landing) (ys : List Fated) (cs : List Changed)
+    → AreLinked t before ls → length before ≡ m → all_placed ys ≡ attempts_by ls
+    → AllByRecursion (IsEarlier (suc m) row) cs
+    → changes_along cs (flat_map (chunk row) ys) ≡ cs ++ row_changes row (suc m) (entries_of_all ls)
+along_batches t row m before [] [] cs linked many are all = sym (append-nil cs)
+along_batches t row m before [] (y ∷ ys) cs linked many are all = absurd (no_item [] y.placed (all_placed ys) (sym are))
+along_batches t row m before (ByAttempt p ∷ ls) [] cs linked many are all =
+    absurd (no_item [] p (attempts_by ls) are)
+along_batches t row m before (ByAttempt p ∷ ls) (y ∷ ys) cs linked many are all =
+    let q = y.placed in
+    let first : q ≡ p = same_first q p (all_placed ys) (attempts_by ls) are in
+    let number : q.attempt.seq ≡ suc m = ap (λ (x : Placed). x.attempt.seq) first ∙ linked.0.number ∙ ap suc many in
     let own = change_in (suc m) row (last_written row (entries_along (ordered p.offset p.attempt))) in
-    fold-append change_by cs (chunk row p) (flat_map (chunk row) ps)
-    ∙ ap (λ (ds : List Changed). changes_along ds (flat_map (chunk row) ps))
+    fold-append change_by cs (chunk row y) (flat_map (chunk row) ys)
+    ∙ ap (λ (ds : List Changed). changes_along ds (flat_map (chunk row) ys))
     (ap (λ (k : ℕ). changes_along cs
-    (of_row row (flat_map (noted_by p.attempt.view k true) (ordered p.offset p.attempt)))) number
-    ∙ along_batch (suc m) row cs all p.attempt.view (ordered p.offset p.attempt))
-    ∙ along_batches t row (suc m) (before ++ p.attempt ∷ []) ps (cs ++ own) linked.1
-    (length-append before (p.attempt ∷ []) ∙ omega (arith, many))
+    (of_row row (flat_map (noted_by y.taken q.attempt.view k true) (ordered q.offset q.attempt)))) number
+    ∙ along_batch (suc m) row cs all y.taken q.attempt.view (ordered q.offset q.attempt)
+    ∙ ap (λ (x : Placed). cs ++ change_in (suc m) row (last_written row (entries_along (ordered x.offset x.attempt))))
+    first)
+    ∙ along_batches t row (suc m) (before ++ ByAttempt p ∷ []) ls ys (cs ++ own) linked.1
+    (one_longer before (ByAttempt p) m many) (same_others q p (all_placed ys) (attempts_by ls) are)
     (all_append (IsEarlier (suc (suc m)) row) cs own (later (suc m) row cs all)
     (later_in (suc m) row (last_written row (entries_along (ordered p.offset p.attempt)))))
-    ∙ append_assoc cs own (row_changes row (suc (suc m)) (entries_of_all ps))
+    ∙ append_assoc cs own (row_changes row (suc (suc m)) (entries_of_all ls))
+along_batches t row m before (ByTransfer at x ∷ ls) ys cs linked many are all =
+    along_batches t row (suc m) (before ++ ByTransfer at x ∷ []) ls ys cs linked.1
+    (one_longer before (ByTransfer at x) m many) are (later (suc m) row cs all)
+along_batches t row m before (Skipped ∷ ls) ys cs linked many are all =
+    along_batches t row (suc m) (before ++ Skipped ∷ []) ls ys cs linked.1 (one_longer before Skipped m many) are
+    (later (suc m) row cs all)
 
 -- ---- all rows
 
 module _ (t : Trace) (e : ℕ) (right : IsRightSection t e) where
-  -- the entries of each committed batch
+  -- the entries of the attempt by which each number was reached
   abbrev pub batch_entries : List (List Entry)
-  batch_entries = entries_of_all (history t e).committed
+  batch_entries = entries_of_all (history t e).landings
 
   along_row : (from count : ℕ)
       → changes_along (rows_changes from count batch_entries) (of_row (from + count) (all_noted (told_of t e)))
@@ -182,10 +209,9 @@ module _ (t : Trace) (e : ℕ) (right : IsRightSection t e) where
       let row = from + count in
       let cs = rows_changes from count batch_entries in
       committed_only cs (of_row row (all_noted (told_of t e)))
-      ∙ ap (changes_along cs) (committed_notes row (told_of t e)
-      ∙ ap (flat_map (chunk row)) (committed_told t e right))
-      ∙ along_batches t row 0 [] (history t e).committed cs (linked_history t e right) refl
-      (rows_earlier 1 from count batch_entries)
+      ∙ ap (changes_along cs) (committed_notes row (told_of t e))
+      ∙ along_batches t row 0 [] (history t e).landings (filter will_commit (told_of t e)) cs
+      (linked_history t e right) refl (committed_told t e right) (rows_earlier 1 from count batch_entries)
 
   pub along_rows : (from count : ℕ)
       → changes_of_rows (all_noted (told_of t e)) from count [] ≡ rows_changes from count batch_entries
@@ -238,11 +264,11 @@ module _ (t : Trace) (e : ℕ) (right : IsRightSection t e) where
         along_ranges (2 * length t.customers) 0 (2 * length t.customers) walked.ranges ws walked.cut.reaches
         walked.cut.within walked.each ∙ ap (λ (n : ℕ). rows_changes 0 n batch_entries) all
 
-    counted : length batch_entries ≡ length (history t e).committed
-    counted = length-map (history t e).committed _
+    counted : length batch_entries ≡ length (history t e).landings
+    counted = length-map (history t e).landings _
 
-    ones : AllByRecursion (IsOneOf (2 * length t.customers) (length (history t e).committed)) joined
-    ones = subst (AllByRecursion (IsOneOf (2 * length t.customers) (length (history t e).committed))) (sym joined_are)
+    ones : AllByRecursion (IsOneOf (2 * length t.customers) (length (history t e).landings)) joined
+    ones = subst (AllByRecursion (IsOneOf (2 * length t.customers) (length (history t e).landings))) (sym joined_are)
         (subst (λ (n : ℕ). AllByRecursion (IsOneOf (2 * length t.customers) n)
         (rows_changes 0 (2 * length t.customers) batch_entries)) counted
         (ones_of_rows (2 * length t.customers) batch_entries (2 * length t.customers) (omega arith)))
@@ -252,32 +278,40 @@ module _ (t : Trace) (e : ℕ) (right : IsRightSection t e) where
     weaker P Q step [] all = tt
     weaker P Q step (x ∷ xs) all = (step x all.0, weaker P Q step xs all.1)
 
-    pub joined_numbers : All (HasNumber (length (history t e).committed)) joined
-    joined_numbers = All-from_recursion (HasNumber (length (history t e).committed)) joined
-        (weaker (IsOneOf (2 * length t.customers) (length (history t e).committed))
-        (HasNumber (length (history t e).committed)) (λ x is. record { one = is.one; there = is.there }) joined ones)
+    pub joined_numbers : All (HasNumber (length (history t e).landings)) joined
+    joined_numbers = All-from_recursion (HasNumber (length (history t e).landings)) joined
+        (weaker (IsOneOf (2 * length t.customers) (length (history t e).landings))
+        (HasNumber (length (history t e).landings)) (λ x is. record { one = is.one; there = is.there }) joined ones)
 
     pub joined_below : All (IsRowBelow (2 * length t.customers)) joined
     joined_below = All-from_recursion (IsRowBelow (2 * length t.customers)) joined
-        (weaker (IsOneOf (2 * length t.customers) (length (history t e).committed)) (IsRowBelow (2 * length t.customers))
+        (weaker (IsOneOf (2 * length t.customers) (length (history t e).landings)) (IsRowBelow (2 * length t.customers))
         (λ x is. is.row) joined ones)
 
-    map_map : {A B C : Type 0} (f : A → B) (g : B → C) (xs : List A) → map g (map f xs) ≡ map (λ x. g (f x)) xs
-    map_map f g [] = refl
-    map_map f g (x ∷ xs) = ap (λ zs. g (f x) ∷ zs) (map_map f g xs)
+    -- where each number was reached by an attempt, what the rows' walks give is all that it changed
+    wrote_all : (ls : List Landing) → AllByRecursion IsByAttempt ls
+        → map Wrote (map (changes_below (2 * length t.customers)) (entries_of_all ls)) ≡ map (change_at t) ls
+    wrote_all [] by = refl
+    wrote_all (ByAttempt p ∷ ls) by = ap (λ (cs : List Change). change_at t (ByAttempt p) ∷ cs) (wrote_all ls by.1)
+    wrote_all (ByTransfer at x ∷ ls) by = absurd by.0
+    wrote_all (Skipped ∷ ls) by = absurd by.0
 
-    pub joined_by_number : by_number (length (history t e).committed) joined ≡ (settling t e).numbers
+    pub joined_by_number : map Wrote (by_number (length (history t e).landings) joined) ≡ (settling t e).numbers
     unfolding settling
     joined_by_number =
-        (λ i. by_number (sym counted i) (joined_are i))
-        ∙ numbers_are (2 * length t.customers) batch_entries (length batch_entries) (omega arith)
+        (λ i. map Wrote (by_number (sym counted i) (joined_are i)))
+        ∙ ap (map Wrote) (numbers_are (2 * length t.customers) batch_entries (length batch_entries) (omega arith)
         ∙ ap (map (changes_below (2 * length t.customers)))
-        (take_all (length batch_entries) batch_entries (omega arith))
-        ∙ map_map (λ p. entries_along (ordered p.offset p.attempt)) (changes_below (2 * length t.customers))
-        (history t e).committed
+        (take_all (length batch_entries) batch_entries (omega arith)))
+        ∙ wrote_all (history t e).landings (all_by_attempts t e)
 
--- as many attempts as the history tells to be committed
-pub commits_counted : (t : Trace) (e : ℕ) (h : SectionHistory) → h ≡ section_history t e
-    → length h.commits ≡ length (history t e).committed
+last_told : (t : Trace) (e : ℕ) → (section_history t e).committed ≡ (history t e).last
 unfolding section_history history
-commits_counted t e h is = ap (λ (v : SectionHistory). length v.commits) is ∙ length-map (history t e).committed _
+last_told t e = refl
+
+-- as many numbers as the history tells
+pub landings_counted : (t : Trace) (e : ℕ) (h : SectionHistory) → IsRightSection t e
+    → ((u : Trace) (f : ℕ) → IsRightSection u f → length (section_history u f).landings ≡ (section_history u f).committed)
+    → h ≡ section_history t e → length h.landings ≡ length (history t e).landings
+landings_counted t e h right count is =
+    ap (λ (v : SectionHistory). length v.landings) is ∙ count t e right ∙ last_told t e ∙ last_committed t e right

@@ -6,6 +6,7 @@ use Rattle.std.proofs.lemmas.Bool.{eq-eqb, ne_eqb, cond-true, cond-false}
 use Rattle.std.proofs.lemmas.List.Sums.{fold-append}
 use Rattle.eve_smallbank.specs.declared.entry.Entry.{Entry}
 use Rattle.eve_smallbank.specs.Access.{Executed}
+use Rattle.eve_smallbank.specs.declared.versioned.Versioned.{Versioned}
 use Rattle.eve_smallbank.specs.Chain.{Table, table_after, table_after_all}
 use Rattle.eve_smallbank.proofs.Members.{In, here, there, all_in, in_front, in_middle}
 use Rattle.eve_smallbank.proofs.Chains.{table_after-append}
@@ -13,10 +14,11 @@ use Rattle.eve_grammar.specs.Trace.{Access, Attempt, Trace}
 use Rattle.eve_grammar.specs.Limits.{HasLimits}
 use Rattle.eve_grammar.specs.Frames.{OfAccess, OfAttempt}
 use Rattle.eve_grammar.specs.Spelling.{frame_text, accesses_at}
-use Rattle.eve_history.specs.Section.{Placed, settled, request_count}
+use Rattle.eve_history.specs.Section.{Came, Ran, TookOver, Placed, settled, request_count}
 use Rattle.eve_history.specs.SectionHistory.{access_with, history, IsRightSection}
-use Rattle.eve_chains.specs.Visible.{opening_table, entries_with, executed_at, execution, executions, with_attempt}
-use Rattle.eve_chains.specs.Visible.{rows_after, before_index, visible_to}
+use Rattle.eve_chains.specs.Visible.{opening_table, entries_with, executed_at, execution, executions}
+use Rattle.eve_chains.specs.Visible.{taken_table, with_came, rows_after, before_index, visible_to}
+use Rattle.eve_chains.specs.Committed.{attempts_of}
 use Rattle.eve_chains.specs.Along.{entries_along}
 use Rattle.eve_chains.proofs.AlongLaws.{table_after_all-append}
 use Rattle.eve_chains.proofs.Attempts.{found_in, located_in}
@@ -29,22 +31,40 @@ use Rattle.eve_chains.proofs.Soundness.{permutes, distinct_indexes, its_record, 
 
 -- ---- the rows after a longer path
 
-pub rows_after-push : (t : Trace) (path : List Attempt) (a : Attempt) → rows_after t (path ++ a ∷ [])
+pub rows_after-push : (t : Trace) (path : List Came) (a : Attempt) → rows_after t (path ++ Ran a ∷ [])
     ≡ table_after_all (rows_after t path) (execution t a)
-rows_after-push t path a = fold-append (with_attempt t) (opening_table t) path (a ∷ [])
+rows_after-push t path a = fold-append (with_came t) (opening_table t) path (Ran a ∷ [])
 
-with_attempts : (t : Trace) (table : Table) (path : List Attempt) → fold (with_attempt t) table path
-    ≡ table_after_all table (executions t path)
+-- what stands before a state that was taken over doesn't matter
+pub rows_after-taken : (t : Trace) (before : List Came) (rows : List Versioned) (path : List Came)
+    → rows_after t (before ++ TookOver rows ∷ path) ≡ fold (with_came t) (taken_table rows) path
+rows_after-taken t before rows path = fold-append (with_came t) (opening_table t) before (TookOver rows ∷ path)
+
+pub with_attempts : (t : Trace) (table : Table) (attempts : List Attempt) → fold (with_came t) table (map Ran attempts)
+    ≡ table_after_all table (executions t attempts)
 with_attempts t table [] = refl
-with_attempts t table (a ∷ path) =
-    with_attempts t (with_attempt t table a) path
-    ∙ sym (table_after_all-append table (execution t a) (executions t path))
+with_attempts t table (a ∷ attempts) =
+    with_attempts t (table_after_all table (execution t a)) attempts
+    ∙ sym (table_after_all-append table (execution t a) (executions t attempts))
+
+-- attempts, as what happened to the rows
+pub ran_attempts : (ps : List Placed) → map (λ p. Ran p.attempt) ps ≡ map Ran (attempts_of ps)
+ran_attempts [] = refl
+ran_attempts (p ∷ ps) = ap (λ (cs : List Came). Ran p.attempt ∷ cs) (ran_attempts ps)
 
 -- by more attempts
-pub rows_after-append : (t : Trace) (path more : List Attempt) → rows_after t (path ++ more)
-    ≡ table_after_all (rows_after t path) (executions t more)
-rows_after-append t path more =
-    fold-append (with_attempt t) (opening_table t) path more ∙ with_attempts t (rows_after t path) more
+pub rows_after-append : (t : Trace) (path : List Came) (attempts : List Attempt) → rows_after t (path ++ map Ran attempts)
+    ≡ table_after_all (rows_after t path) (executions t attempts)
+rows_after-append t path attempts =
+    fold-append (with_came t) (opening_table t) path (map Ran attempts)
+    ∙ with_attempts t (rows_after t path) attempts
+
+-- by placed ones
+pub rows_after-placed : (t : Trace) (path : List Came) (ps : List Placed)
+    → rows_after t (path ++ map (λ p. Ran p.attempt) ps)
+    ≡ table_after_all (rows_after t path) (executions t (attempts_of ps))
+rows_after-placed t path ps = ap (λ (cs : List Came). rows_after t (path ++ cs)) (ran_attempts ps)
+    ∙ rows_after-append t path (attempts_of ps)
 
 -- ---- the table between the records
 
@@ -136,12 +156,12 @@ complete_one t e p limits i = all_in (λ q. IsComplete q.attempt) (settled_compl
 -- one after another they leave what all their records leave
 pub left_by_all : (t : Trace) (e : ℕ) (table : Table) (ps : List Placed) → HasLimits t → IsRightSection t e
     → ((p : Placed) → In p ps → In p (settled (history t e)))
-    → fold (with_attempt t) table (map (λ p. p.attempt) ps)
+    → fold (with_came t) table (map (λ p. Ran p.attempt) ps)
     ≡ table_after table (flat_map (λ p. entries_along (own p)) ps)
 left_by_all t e table [] limits right settles = refl
 left_by_all t e table (p ∷ ps) limits right settles =
     let i = settles p here in
-    ap (λ (now : Table). fold (with_attempt t) now (map (λ q. q.attempt) ps))
+    ap (λ (now : Table). fold (with_came t) now (map (λ q. Ran q.attempt) ps))
     (left_by_records t p (right_one t e p right i) (complete_one t e p limits i) table)
     ∙ left_by_all t e (table_after table (entries_along (own p))) ps limits right (λ q j. settles q (there j))
     ∙ sym (table_after-append table (entries_along (own p)) (flat_map (λ q. entries_along (own q)) ps))

@@ -23,6 +23,7 @@ pub mod AlongLaws
 pub mod LeftByRecords
 pub mod Advancing
 mod WorkedCases
+mod WorkedNumbers
 pub mod Nearest
 pub mod Least
 pub mod Attempts

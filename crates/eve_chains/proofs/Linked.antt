@@ -1,93 +1,116 @@
--- Public: other crates cite these lemmas. What a section committed is linked by its paths: each committed attempt
--- stands on the path of those before it.
+-- Public: other crates cite these lemmas. A section's landings are linked by paths: each attempt by which a number was
+-- reached stands on what came by the landings before it.
 use Rattle.std.proofs.Common.{◌≡◌, ℕ, zero, suc, ◌+◌, ◌≤◌, ◌==◌, nat_le, length, length-append, arith, ◌&&◌, List}
-use Rattle.std.proofs.Common.{[], ◌∷◌, ◌++◌, take, drop, slice_get, Option, Some, None, refl, sym, subst, ap, ◌∙◌}
+use Rattle.std.proofs.Common.{[], ◌∷◌, ◌++◌, map, flat_map, take, drop, slice_get, Option, Some, None, refl, sym, subst, ap, ◌∙◌}
 use Rattle.std.proofs.Common.{append_assoc, append-nil, IsTrue}
 use Rattle.std.proofs.lemmas.Bool.{and_parts, eqb-true, leb-true}
-use Rattle.std.proofs.lemmas.List.{length-map}
+use Rattle.std.specs.Prelude.{⊤}
+use Rattle.std.proofs.lemmas.List.{length-map, map-append}
+use Rattle.std.proofs.lemmas.Grind.{flat_map-append}
 use Rattle.std.proofs.lemmas.Option.{same_Some}
 use Rattle.eve_grammar.specs.Trace.{Attempt, Step, Attempts, Commits, RollsBack, Trace}
 use Rattle.eve_grammar.specs.Spelling.{steps_at}
-use Rattle.eve_history.specs.Section.{Placed, SectionState, start, path_of, committing, next, state_after, is_due}
+use Rattle.eve_history.specs.Section.{Came, Ran, Placed, Landing, ByAttempt, ByTransfer, Skipped, came_by, attempts_by}
+use Rattle.eve_history.specs.Section.{SectionState, start, path_of, committing, next, state_after, is_due}
 use Rattle.eve_history.specs.Section.{is_right_attempt, is_right_certificate, are_right_accesses, is_right, are_right}
-use Rattle.eve_history.specs.SectionHistory.{history, committed_at, IsRightSection}
+use Rattle.eve_history.specs.SectionHistory.{history, attempt_by, committed_at, IsRightSection}
 use Rattle.eve_smallbank.proofs.Members.{In, here, there}
-use Rattle.eve_chains.specs.Committed.{attempts_of}
 use Rattle.eve_chains.specs.Settling.{settling}
 
--- The attempt's path is what stands before it, its number is the next, and its certificate is right.
-pub record IsLinked (t : Trace) (before : List Attempt) (p : Placed) : Type 0 where
-  pub path : p.path ≡ before
+-- The attempt's path is what came by the landings before it, its number is the next, and its certificate is right.
+pub record IsLinked (t : Trace) (before : List Landing) (p : Placed) : Type 0 where
+  pub path : p.path ≡ flat_map came_by before
   pub number : p.attempt.seq ≡ suc (length before)
   pub there : p.attempt.seq ≤ length t.batches
   pub certificate : IsTrue (is_right_certificate t p.attempt)
 
-abbrev pub AreLinked : Trace → List Attempt → List Placed → Type 0
-AreLinked t before [] = Unit {0}
-AreLinked t before (p ∷ ps) = IsLinked t before p × AreLinked t (before ++ p.attempt ∷ []) ps
+-- the same of a landing, where it is by an attempt
+abbrev pub IfLinked : Trace → List Landing → Landing → Type 0
+IfLinked t before (ByAttempt p) = IsLinked t before p
+IfLinked t before (ByTransfer at x) = ⊤
+IfLinked t before Skipped = ⊤
 
-linked-push : (t : Trace) (before : List Attempt) (ps : List Placed) (q : Placed) → AreLinked t before ps
-    → IsLinked t (before ++ attempts_of ps) q
-    → AreLinked t before (ps ++ q ∷ [])
-linked-push t before [] q linked last = (subst (λ path. IsLinked t path q) (append-nil before) last, tt)
-linked-push t before (p ∷ ps) q linked last = (
+-- each attempt by which a number was reached stands on what came before
+abbrev pub AreLinked : Trace → List Landing → List Landing → Type 0
+AreLinked t before [] = ⊤
+AreLinked t before (l ∷ ls) = IfLinked t before l × AreLinked t (before ++ l ∷ []) ls
+
+linked-push : (t : Trace) (before ls : List Landing) (last : Landing) → AreLinked t before ls
+    → IfLinked t (before ++ ls) last → AreLinked t before (ls ++ last ∷ [])
+linked-push t before [] last linked is = (subst (λ path. IfLinked t path last) (append-nil before) is, tt)
+linked-push t before (l ∷ ls) last linked is = (
   linked.0,
-  linked-push t (before ++ p.attempt ∷ []) ps q linked.1
-      (subst (λ path. IsLinked t path q) (sym (append_assoc before (p.attempt ∷ []) (attempts_of ps))) last),
+  linked-push t (before ++ l ∷ []) ls last linked.1
+      (subst (λ path. IfLinked t path last) (sym (append_assoc before (l ∷ []) ls)) is),
 )
 
-linked-front : (t : Trace) (before : List Attempt) (ps qs : List Placed) → AreLinked t before (ps ++ qs)
-    → AreLinked t before ps
-linked-front t before [] qs linked = tt
-linked-front t before (p ∷ ps) qs linked = (linked.0, linked-front t (before ++ p.attempt ∷ []) ps qs linked.1)
+linked-front : (t : Trace) (before ls ms : List Landing) → AreLinked t before (ls ++ ms) → AreLinked t before ls
+linked-front t before [] ms linked = tt
+linked-front t before (l ∷ ls) ms linked = (linked.0, linked-front t (before ++ l ∷ []) ls ms linked.1)
 
 -- each attempt's path is what stands before it
-abbrev pub ArePlaced : List Attempt → List Placed → Type 0
+abbrev pub ArePlaced : List Came → List Placed → Type 0
 ArePlaced before [] = Unit {0}
-ArePlaced before (p ∷ ps) = (p.path ≡ before) × ArePlaced (before ++ p.attempt ∷ []) ps
+ArePlaced before (p ∷ ps) = (p.path ≡ before) × ArePlaced (before ++ Ran p.attempt ∷ []) ps
 
 -- of paths alone: an attempt more, which stands on the path of those before it
-pub placed_push : (before : List Attempt) (ps : List Placed) (q : Placed) → ArePlaced before ps
-    → q.path ≡ before ++ attempts_of ps → ArePlaced before (ps ++ q ∷ [])
+pub placed_push : (before : List Came) (ps : List Placed) (q : Placed) → ArePlaced before ps
+    → q.path ≡ before ++ map (λ p. Ran p.attempt) ps → ArePlaced before (ps ++ q ∷ [])
 placed_push before [] q placed is = (is ∙ append-nil before, tt)
 placed_push before (p ∷ ps) q placed is = (
   placed.0,
-  placed_push (before ++ p.attempt ∷ []) ps q placed.1
-      (is ∙ sym (append_assoc before (p.attempt ∷ []) (attempts_of ps))),
+  placed_push (before ++ Ran p.attempt ∷ []) ps q placed.1
+      (is ∙ sym (append_assoc before (Ran p.attempt ∷ []) (map (λ p. Ran p.attempt) ps))),
 )
+
+-- ---- while all steps are right
+
+-- the landings that there will be, where all open attempts are committed
+abbrev landing_so : SectionState → List Landing
+landing_so s = s.landings ++ map ByAttempt s.pending
+
+-- and what comes by them
+came_so : (ls : List Landing) (ps : List Placed) → flat_map came_by (ls ++ map ByAttempt ps)
+    ≡ flat_map came_by ls ++ map (λ p. Ran p.attempt) ps
+came_so ls ps = flat_map-append came_by ls (map ByAttempt ps) ∙ ap (λ (cs : List Came). flat_map came_by ls ++ cs)
+    (open_ones ps)
+  where
+    open_ones : (qs : List Placed) → flat_map came_by (map ByAttempt qs) ≡ map (λ p. Ran p.attempt) qs
+    open_ones [] = refl
+    open_ones (q ∷ qs) = ap (λ (cs : List Came). Ran q.attempt ∷ cs) (open_ones qs)
 
 -- what holds of a section's state while all steps are right
 record IsOrdered (t : Trace) (s : SectionState) : Type 0 where
-  linked : AreLinked t [] (s.committed ++ s.pending)
-  last : s.last ≡ length s.committed
+  linked : AreLinked t [] (landing_so s)
+  last : s.last ≡ length s.landings
 
 ordered_committing : (t : Trace) (s : SectionState) (pending : List Placed) → s.pending ≡ pending → IsOrdered t s
     → IsOrdered t (committing s pending)
 ordered_committing t s [] e ordered = ordered
 ordered_committing t s (p ∷ ps) e ordered = record {
-  linked = subst (AreLinked t []) (ap (λ qs. s.committed ++ qs) e ∙ sym (append_assoc s.committed (p ∷ []) ps))
-      ordered.linked;
-  last = one_more s.last s.committed ordered.last;
+  linked = subst (AreLinked t []) (ap (λ (qs : List Placed). s.landings ++ map ByAttempt qs) e
+      ∙ sym (append_assoc s.landings (ByAttempt p ∷ []) (map ByAttempt ps))) ordered.linked;
+  last = one_more s.last s.landings ordered.last;
 }
   where
-    one_more : (n : ℕ) (qs : List Placed) → n ≡ length qs → n + 1 ≡ length (qs ++ p ∷ [])
-    one_more n qs h = simp length-append (omega arith)
+    one_more : (n : ℕ) (ls : List Landing) → n ≡ length ls → n + 1 ≡ length (ls ++ ByAttempt p ∷ [])
+    one_more n ls h = simp length-append (omega arith)
 
 counted : (n m k seq : ℕ) → seq ≡ n + 1 + m → n ≡ k → seq ≡ suc (k + m)
 counted n m k seq e h = omega arith
 
 linked_attempt : (t : Trace) (s : SectionState) (at : ℕ) (a : Attempt) → IsOrdered t s → IsTrue (is_due t s a)
     → IsTrue (is_right_certificate t a)
-    → IsLinked t (attempts_of (s.committed ++ s.pending)) (record { offset = at; attempt = a; path = path_of s })
+    → IsLinked t (landing_so s) (record { offset = at; attempt = a; path = path_of s })
 linked_attempt t s at a ordered due certificate =
     let first = and_parts (a.seq == s.last + 1 + length s.pending) _ due in
     let second = and_parts (nat_le a.seq (length t.batches)) _ first.1 in
     record {
-      path = refl;
-      number = counted s.last (length s.pending) (length s.committed) a.seq
+      path = sym (came_so s.landings s.pending);
+      number = counted s.last (length s.pending) (length s.landings) a.seq
           (eqb-true a.seq (s.last + 1 + length s.pending) first.0) ordered.last
-          ∙ ap suc (sym (length-map (s.committed ++ s.pending) (λ (p : Placed). p.attempt)
-          ∙ length-append s.committed s.pending));
+          ∙ ap suc (sym (length-append s.landings (map ByAttempt s.pending)
+          ∙ ap (λ (n : ℕ). length s.landings + n) (length-map s.pending ByAttempt)));
       there = leb-true a.seq (length t.batches) second.0;
       certificate = certificate;
     }
@@ -101,15 +124,16 @@ ordered_next t s (at, Attempts a) right ordered =
     let due = (and_parts (is_due t s a) _ parts.0).0 in
     let placed : Placed = record { offset = at; attempt = a; path = path_of s } in
     record {
-      linked = subst (AreLinked t []) (append_assoc s.committed s.pending (placed ∷ []))
-          (linked-push t [] (s.committed ++ s.pending) placed ordered.linked
+      linked = subst (AreLinked t []) (append_assoc s.landings (map ByAttempt s.pending) (ByAttempt placed ∷ [])
+          ∙ ap (λ (ls : List Landing). s.landings ++ ls) (sym (map-append ByAttempt s.pending (placed ∷ []))))
+          (linked-push t [] (landing_so s) (ByAttempt placed) ordered.linked
           (linked_attempt t s at a ordered due certificate));
       last = ordered.last;
     }
 ordered_next t s (at, Commits c) right ordered = ordered_committing t s s.pending refl ordered
 ordered_next t s (at, RollsBack r) right ordered = record {
-  linked = subst (AreLinked t []) (sym (append-nil s.committed))
-      (linked-front t [] s.committed s.pending ordered.linked);
+  linked = subst (AreLinked t []) (sym (append-nil s.landings))
+      (linked-front t [] s.landings (map ByAttempt s.pending) ordered.linked);
   last = ordered.last;
 }
 
@@ -124,30 +148,56 @@ ordered_history : (t : Trace) (e : ℕ) → IsRightSection t e → IsOrdered t (
 unfolding history
 ordered_history t e right = ordered_after t start (steps_at t e) right (record { linked = tt; last = refl })
 
-pub linked_history : (t : Trace) (e : ℕ) → IsRightSection t e → AreLinked t [] (history t e).committed
-linked_history t e right = linked-front t [] (history t e).committed (history t e).pending
+pub linked_history : (t : Trace) (e : ℕ) → IsRightSection t e → AreLinked t [] (history t e).landings
+linked_history t e right = linked-front t [] (history t e).landings (map ByAttempt (history t e).pending)
     (ordered_history t e right).linked
 
--- the last committed number is how many are committed
-pub last_committed : (t : Trace) (e : ℕ) → IsRightSection t e → (history t e).last ≡ length (history t e).committed
+-- each number up to the last has its landing
+pub last_committed : (t : Trace) (e : ℕ) → IsRightSection t e → (history t e).last ≡ length (history t e).landings
 last_committed t e right = (ordered_history t e right).last
 
 -- ---- one committed attempt
+
+same_attempt : (p q : Placed) → ByAttempt p ≡ ByAttempt q → p ≡ q
+same_attempt p q e = cc
 
 pub none≢some : {A B : Type 0} (x : A) → ◌≡◌ {A = Option A} None (Some x) → B
 none≢some x e = absurd (cc)
 
 -- what is linked at a place
-pub linked_at : (t : Trace) (before : List Attempt) (ps : List Placed) (n : ℕ) (p : Placed) → AreLinked t before ps
-    → slice_get ps n ≡ Some p
-    → IsLinked t (before ++ attempts_of (take n ps)) p
-linked_at t before [] n p linked e = none≢some p e
-linked_at t before (q ∷ ps) zero p linked e =
+pub linked_at : (t : Trace) (before ls : List Landing) (n : ℕ) (p : Placed) → AreLinked t before ls
+    → slice_get ls n ≡ Some (ByAttempt p) → IsLinked t (before ++ take n ls) p
+linked_at t before [] n p linked e = none≢some (ByAttempt p) e
+linked_at t before (l ∷ ls) zero p linked e =
     subst (λ path. IsLinked t path p) (sym (append-nil before))
-    (subst (IsLinked t before) (same_Some q p e) linked.0)
-linked_at t before (q ∷ ps) (suc n) p linked e =
-    subst (λ path. IsLinked t path p) (append_assoc before (q.attempt ∷ []) (attempts_of (take n ps)))
-    (linked_at t (before ++ q.attempt ∷ []) ps n p linked.1 e)
+    (subst (IfLinked t before) (same_Some l (ByAttempt p) e) linked.0)
+linked_at t before (l ∷ ls) (suc n) p linked e =
+    subst (λ path. IsLinked t path p) (append_assoc before (l ∷ []) (take n ls))
+    (linked_at t (before ++ l ∷ []) ls n p linked.1 e)
+
+-- the landing of a number that was reached by an attempt
+pub landing_by : (o : Option Landing) (p : Placed) → attempt_by o ≡ Some p → o ≡ Some (ByAttempt p)
+landing_by (Some (ByAttempt q)) p e = ap (λ (x : Placed). Some (ByAttempt x)) (same_Some q p e)
+landing_by (Some (ByTransfer at x)) p e = none≢some p e
+landing_by (Some Skipped) p e = none≢some p e
+landing_by None p e = none≢some p e
+
+-- what a committed attempt is linked to
+pub linked_number : (t : Trace) (e n : ℕ) (p : Placed) → IsRightSection t e → committed_at t e (suc n) ≡ Some p
+    → IsLinked t (take n (history t e).landings) p
+linked_number t e n p right at = linked_at t [] (history t e).landings n p (linked_history t e right)
+    (landing_by (slice_get (history t e).landings n) p at)
+
+-- it is among the attempts by which numbers were reached
+pub in_attempts : (ls : List Landing) (n : ℕ) (p : Placed) → slice_get ls n ≡ Some (ByAttempt p) → In p (attempts_by ls)
+in_attempts [] n p e = none≢some (ByAttempt p) e
+in_attempts (ByAttempt q ∷ ls) zero p e = subst (λ (x : Placed). In x (q ∷ attempts_by ls))
+    (same_attempt q p (same_Some (ByAttempt q) (ByAttempt p) e)) here
+in_attempts (ByTransfer at x ∷ ls) zero p e = absurd (cc)
+in_attempts (Skipped ∷ ls) zero p e = absurd (cc)
+in_attempts (ByAttempt q ∷ ls) (suc n) p e = there (in_attempts ls n p e)
+in_attempts (ByTransfer at x ∷ ls) (suc n) p e = in_attempts ls n p e
+in_attempts (Skipped ∷ ls) (suc n) p e = in_attempts ls n p e
 
 -- what stands from a place on
 pub from_place : {A : Type 0} (xs : List A) (n : ℕ) (x : A) → slice_get xs n ≡ Some x → drop n xs ≡ x ∷ drop (suc n) xs
@@ -165,16 +215,16 @@ take_length [] n x e = none≢some x e
 take_length (y ∷ xs) zero x e = refl
 take_length (y ∷ xs) (suc n) x e = ap suc (take_length xs n x e)
 
--- as many batches are kept as were committed
-pub batches_counted : (t : Trace) (e : ℕ) → length (settling t e).numbers ≡ length (history t e).committed
+-- of each number what it changed is kept
+pub batches_counted : (t : Trace) (e : ℕ) → length (settling t e).numbers ≡ length (history t e).landings
 unfolding settling
-batches_counted t e = length-map (history t e).committed _
+batches_counted t e = length-map (history t e).landings _
 
 -- the attempt by which batch n was committed has that number
 pub committed_number : (t : Trace) (e n : ℕ) (p : Placed) → IsRightSection t e → committed_at t e n ≡ Some p
     → p.attempt.seq ≡ n
 committed_number t e zero p right at = none≢some p at
 committed_number t e (suc n) p right at =
-    (linked_at t [] (history t e).committed n p (linked_history t e right) at).number
-    ∙ ap suc (length-map (take n (history t e).committed) (λ (q : Placed). q.attempt)
-    ∙ take_length (history t e).committed n p at)
+    (linked_number t e n p right at).number
+    ∙ ap suc (take_length (history t e).landings n (ByAttempt p)
+    (landing_by (slice_get (history t e).landings n) p at))

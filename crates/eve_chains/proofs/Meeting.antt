@@ -1,5 +1,5 @@
 -- What a row's walk meets at an entry is what the path and the records before it leave.
-use Rattle.std.proofs.Common.{◌≡◌, inl, inr, ℕ, ◌≤◌, ◌==◌, Bool, true, false, cond, ◌||◌, List, [], ◌∷◌, ◌++◌, map}
+use Rattle.std.proofs.Common.{◌≡◌, inl, inr, ℕ, ◌≤◌, ◌==◌, ◌&&◌, Bool, true, false, cond, ◌||◌, List, [], ◌∷◌, ◌++◌, map}
 use Rattle.std.proofs.Common.{filter, flat_map, refl, sym, subst, ap, ◌∙◌, append_assoc, append-nil, arith}
 use Rattle.std.specs.List.{AllByRecursion}
 use Rattle.std.proofs.lemmas.Bool.{eq-eqb, false≢true}
@@ -14,18 +14,19 @@ use Rattle.eve_grammar.specs.Trace.{Access, Trace}
 use Rattle.eve_grammar.proofs.Lists.{all-append, all-filter, filter_kept, filter_dropped}
 use Rattle.eve_history.specs.declared.fate.Fate.{Fate}
 use Rattle.eve_history.specs.declared.fate.Fate.TheVariants.{Committed, Discarded, Open}
-use Rattle.eve_history.specs.Section.{Placed, settled}
+use Rattle.eve_history.specs.Section.{Placed, attempts_by, settled}
 use Rattle.eve_history.specs.SectionHistory.{history, IsRightSection, is_committed, is_discarded}
-use Rattle.eve_chains.specs.Visible.{opening_table, rows_after}
+use Rattle.eve_chains.specs.Visible.{rows_after}
 use Rattle.eve_chains.specs.Along.{entries_along}
 use Rattle.eve_chains.proofs.Distinct.{in_map, in_right}
 use Rattle.eve_chains.specs.Rows.{Fated, told_of, settles, Noted, noted_by, noted_in, all_noted}
-use Rattle.eve_chains.specs.Rows.{of_row, met_by, pair_after}
+use Rattle.eve_chains.specs.Rows.{bases_of, of_row, met_by, pair_after}
 use Rattle.eve_chains.proofs.AttemptRecords.{own}
 use Rattle.eve_chains.proofs.LeftByRecords.{left_by_all}
 use Rattle.eve_chains.proofs.Paths.{all_placed, counts_in, counting, will_commit, will_fall, view_of, number_of}
-use Rattle.eve_chains.proofs.Paths.{AreCounting, counting_told, committed_told, discarded_told}
-use Rattle.eve_chains.proofs.RowWalks.{counts, entries, after_all, AreRising, own_of, table_row, meets_what_counts}
+use Rattle.eve_chains.proofs.Paths.{IsNoLater, AreCounting, rows_of, counting_told, committed_told, discarded_told}
+use Rattle.eve_chains.proofs.RowWalks.{counts, entries, after_all, IsUpTo, AreRising, IsWithin, own_of, table_row}
+use Rattle.eve_chains.proofs.RowWalks.{meets_what_counts}
 
 -- ---- lists
 
@@ -61,77 +62,98 @@ from_filter {A} {y} test (x ∷ xs) i = by (test x) (λ j. from_filter test xs j
 
 -- ---- the entries that were noted
 
-entries_noted : (at view number : ℕ) (commits : Bool) (es : List Entry)
+entries_noted : (at taken view number : ℕ) (commits : Bool) (es : List Entry)
     → map (λ (n : Noted). n.entry)
-    (map (λ (e : Entry). record { offset = at; view = view; number = number; commits = commits; entry = e }) es) ≡ es
-entries_noted at view number commits [] = refl
-entries_noted at view number commits (e ∷ es) = ap (λ ys. e ∷ ys) (entries_noted at view number commits es)
+    (map (λ (e : Entry). record {
+      offset = at;
+      taken = taken;
+      view = view;
+      number = number;
+      commits = commits;
+      entry = e;
+    }) es) ≡ es
+entries_noted at taken view number commits [] = refl
+entries_noted at taken view number commits (e ∷ es) =
+    ap (λ ys. e ∷ ys) (entries_noted at taken view number commits es)
 
-entries_are : (view number : ℕ) (commits : Bool) (xs : List (ℕ × Access)) → entries (flat_map (noted_by view number commits) xs)
-    ≡ entries_along xs
-entries_are view number commits [] = refl
-entries_are view number commits (x ∷ xs) =
-    map-append (λ (n : Noted). n.entry) (noted_by view number commits x) (flat_map (noted_by view number commits) xs)
-    ∙ (λ i. entries_noted x.0 view number commits x.1.entries i ++ entries_are view number commits xs i)
+entries_are : (taken view number : ℕ) (commits : Bool) (xs : List (ℕ × Access))
+    → entries (flat_map (noted_by taken view number commits) xs) ≡ entries_along xs
+entries_are taken view number commits [] = refl
+entries_are taken view number commits (x ∷ xs) =
+    map-append (λ (n : Noted). n.entry) (noted_by taken view number commits x)
+    (flat_map (noted_by taken view number commits) xs)
+    ∙ (λ i. entries_noted x.0 taken view number commits x.1.entries i ++ entries_are taken view number commits xs i)
 
-abbrev IsAlike : ℕ → Bool → Noted → Type 0
-IsAlike view commits n = (n.view ≡ view) × (n.commits ≡ commits)
+abbrev IsAlike : ℕ → ℕ → Bool → Noted → Type 0
+IsAlike taken view commits n = (n.taken ≡ taken) × (n.view ≡ view) × (n.commits ≡ commits)
 
-alike_by : (at view number : ℕ) (commits : Bool) (es : List Entry)
-    → AllByRecursion (IsAlike view commits)
-    (map (λ (e : Entry). record { offset = at; view = view; number = number; commits = commits; entry = e }) es)
-alike_by at view number commits [] = tt
-alike_by at view number commits (e ∷ es) = ((refl, refl), alike_by at view number commits es)
+alike_by : (at taken view number : ℕ) (commits : Bool) (es : List Entry)
+    → AllByRecursion (IsAlike taken view commits)
+    (map (λ (e : Entry). record {
+      offset = at;
+      taken = taken;
+      view = view;
+      number = number;
+      commits = commits;
+      entry = e;
+    }) es)
+alike_by at taken view number commits [] = tt
+alike_by at taken view number commits (e ∷ es) = ((refl, refl, refl), alike_by at taken view number commits es)
 
-alike : (view number : ℕ) (commits : Bool) (xs : List (ℕ × Access))
-    → AllByRecursion (IsAlike view commits) (flat_map (noted_by view number commits) xs)
-alike view number commits [] = tt
-alike view number commits (x ∷ xs) = all-append (IsAlike view commits) (noted_by view number commits x)
-    (flat_map (noted_by view number commits) xs) (alike_by x.0 view number commits x.1.entries) (alike view number commits xs)
+alike : (taken view number : ℕ) (commits : Bool) (xs : List (ℕ × Access))
+    → AllByRecursion (IsAlike taken view commits) (flat_map (noted_by taken view number commits) xs)
+alike taken view number commits [] = tt
+alike taken view number commits (x ∷ xs) =
+    all-append (IsAlike taken view commits) (noted_by taken view number commits x)
+    (flat_map (noted_by taken view number commits) xs) (alike_by x.0 taken view number commits x.1.entries)
+    (alike taken view number commits xs)
 
-counts_alike : (w view : ℕ) (commits b : Bool) (ns : List Noted) → (commits || (view == w)) ≡ b
-    → AllByRecursion (IsAlike view commits) ns → AllByRecursion (λ n. counts w n ≡ b) ns
-counts_alike w view commits b [] e all = tt
-counts_alike w view commits b (n ∷ ns) e all =
-    ((λ i. all.0.1 i || (all.0.0 i == w)) ∙ e, counts_alike w view commits b ns e all.1)
+-- those of an attempt
+alike_in : (y : Fated) → AllByRecursion (IsAlike y.taken (view_of y) (is_committed y.fate)) (noted_in y)
+alike_in y = alike y.taken (view_of y) (number_of y) (is_committed y.fate) (own y.placed)
+
+counts_alike : (k w taken view : ℕ) (commits b : Bool) (ns : List Noted)
+    → ((taken == k) && (commits || (view == w))) ≡ b
+    → AllByRecursion (IsAlike taken view commits) ns → AllByRecursion (λ n. counts k w n ≡ b) ns
+counts_alike k w taken view commits b [] e all = tt
+counts_alike k w taken view commits b (n ∷ ns) e all = (
+  (λ i. (all.0.0 i == k) && (all.0.2 i || (all.0.1 i == w))) ∙ e,
+  counts_alike k w taken view commits b ns e all.1,
+)
 
 -- of attempts that settle, those that count in a view
-counting_noted : (w : ℕ) (ys : List Fated) → AllByRecursion (λ y. settles y ≡ true) (counting w ys)
-    → filter (counts w) (all_noted ys) ≡ flat_map noted_in (counting w ys)
-counting_noted w [] all = refl
-counting_noted w (y ∷ ys) all = by (settles y) (counts_in w y) refl refl (λ h. counting_noted w ys h) all
+counting_noted : (k w : ℕ) (ys : List Fated) → AllByRecursion (λ y. settles y ≡ true) (counting k w ys)
+    → filter (counts k w) (all_noted ys) ≡ flat_map noted_in (counting k w ys)
+counting_noted k w [] all = refl
+counting_noted k w (y ∷ ys) all =
+    by (settles y) (counts_in k w y) refl refl (λ h. counting_noted k w ys h) all
   where
-    rest : List Fated
-    rest = counting w ys
-
     own_noted : List Noted
     own_noted = noted_in y
 
-    by : (s k : Bool) → settles y ≡ s → counts_in w y ≡ k
-        → (AllByRecursion (λ z. settles z ≡ true) (counting w ys) → filter (counts w) (all_noted ys)
-        ≡ flat_map noted_in (counting w ys))
-        → AllByRecursion (λ z. settles z ≡ true) (cond k (y ∷ counting w ys) (counting w ys))
-        → filter (counts w) (flat_map noted_in (cond s (y ∷ filter settles ys) (filter settles ys)))
-        ≡ flat_map noted_in (cond k (y ∷ counting w ys) (counting w ys))
-    by true true s k more h =
-        filter-append (counts w) own_noted (all_noted ys)
-        ∙ (λ i. filter_all (counts w) own_noted
-        (counts_alike w (view_of y) (is_committed y.fate) true own_noted k
-        (alike (view_of y) (number_of y) (is_committed y.fate) (own y.placed))) i ++ more h.1 i)
-    by true false s k more h =
-        filter-append (counts w) own_noted (all_noted ys)
-        ∙ (λ i. filter_none (counts w) own_noted
-        (counts_alike w (view_of y) (is_committed y.fate) false own_noted k
-        (alike (view_of y) (number_of y) (is_committed y.fate) (own y.placed))) i ++ more h i)
-    by false true s k more h = absurd (false≢true (sym s ∙ h.0))
-    by false false s k more h = more h
+    by : (s b : Bool) → settles y ≡ s → counts_in k w y ≡ b
+        → (AllByRecursion (λ z. settles z ≡ true) (counting k w ys) → filter (counts k w) (all_noted ys)
+        ≡ flat_map noted_in (counting k w ys))
+        → AllByRecursion (λ z. settles z ≡ true) (cond b (y ∷ counting k w ys) (counting k w ys))
+        → filter (counts k w) (flat_map noted_in (cond s (y ∷ filter settles ys) (filter settles ys)))
+        ≡ flat_map noted_in (cond b (y ∷ counting k w ys) (counting k w ys))
+    by true true s b more h =
+        filter-append (counts k w) own_noted (all_noted ys)
+        ∙ (λ i. filter_all (counts k w) own_noted
+        (counts_alike k w y.taken (view_of y) (is_committed y.fate) true own_noted b (alike_in y)) i ++ more h.1 i)
+    by true false s b more h =
+        filter-append (counts k w) own_noted (all_noted ys)
+        ∙ (λ i. filter_none (counts k w) own_noted
+        (counts_alike k w y.taken (view_of y) (is_committed y.fate) false own_noted b (alike_in y)) i ++ more h i)
+    by false true s b more h = absurd (false≢true (sym s ∙ h.0))
+    by false false s b more h = more h
 
 entries_of_all : (ys : List Fated) → entries (flat_map noted_in ys) ≡ flat_map (λ p. entries_along (own p))
     (all_placed ys)
 entries_of_all [] = refl
 entries_of_all (y ∷ ys) =
     map-append (λ (n : Noted). n.entry) (noted_in y) (flat_map noted_in ys)
-    ∙ (λ i. entries_are (view_of y) (number_of y) (is_committed y.fate) (own y.placed) i ++ entries_of_all ys i)
+    ∙ (λ i. entries_are y.taken (view_of y) (number_of y) (is_committed y.fate) (own y.placed) i ++ entries_of_all ys i)
 
 -- the row's own, of those that pass
 entries_filter : (test : Noted → Bool) (row : ℕ) (ns : List Noted) → entries (filter test (of_row row ns))
@@ -151,114 +173,141 @@ entries_filter test row (n ∷ ns) = by (n.entry.row == row) (test n) refl refl 
         ∙ sym (filter_dropped (λ (e : Entry). e.row == row) n.entry (entries (filter test ns)) r)
     by false false r k rest = rest
 
--- ---- views rise
+-- ---- the numbers rise
 
-later_views : {d : Fated} (done ys : List Fated) → AreCounting done ys → In d done
-    → AllByRecursion (λ y. view_of d ≤ view_of y) ys
-later_views done [] known i = tt
-later_views {d} done (y ∷ ys) known i =
-    (all_in (λ z. view_of z ≤ view_of y) known.1 i, later_views (done ++ y ∷ []) ys known.3 (in_front (y ∷ []) i))
+later_ones : (t : Trace) (bases : ℕ → Table) (d : Fated) (done ys : List Fated) → AreCounting t bases done ys
+    → In d done → AllByRecursion (λ y. IsNoLater y.taken (view_of y) d) ys
+later_ones t bases d done [] known i = tt
+later_ones t bases d done (y ∷ ys) known i = (
+  all_in (IsNoLater y.taken (view_of y)) known.1 i,
+  later_ones t bases d (done ++ y ∷ []) ys known.3 (in_front (y ∷ []) i),
+)
 
 abbrev AreInOrder : List Fated → Type 0
 AreInOrder [] = Unit {0}
-AreInOrder (y ∷ ys) = AllByRecursion (λ z. view_of y ≤ view_of z) ys × AreInOrder ys
+AreInOrder (y ∷ ys) = AllByRecursion (λ z. IsNoLater z.taken (view_of z) y) ys × AreInOrder ys
 
-in_order : (done ys : List Fated) → AreCounting done ys → AreInOrder ys
-in_order done [] known = tt
-in_order done (y ∷ ys) known =
-    (later_views (done ++ y ∷ []) ys known.3 (in_right done (y ∷ []) here), in_order (done ++ y ∷ []) ys known.3)
+in_order : (t : Trace) (bases : ℕ → Table) (done ys : List Fated) → AreCounting t bases done ys → AreInOrder ys
+in_order t bases done [] known = tt
+in_order t bases done (y ∷ ys) known = (
+  later_ones t bases y (done ++ y ∷ []) ys known.3 (in_right done (y ∷ []) here),
+  in_order t bases (done ++ y ∷ []) ys known.3,
+)
 
 rising_append : (xs ys : List Noted) → AreRising xs → AreRising ys
-    → AllByRecursion (λ n. AllByRecursion (λ m. n.view ≤ m.view) ys) xs → AreRising (xs ++ ys)
+    → AllByRecursion (λ n. AllByRecursion (IsUpTo n) ys) xs → AreRising (xs ++ ys)
 rising_append [] ys first second all = second
 rising_append (x ∷ xs) ys first second all =
-    (all-append (λ m. x.view ≤ m.view) xs ys first.0 all.0, rising_append xs ys first.1 second all.1)
+    (all-append (IsUpTo x) xs ys first.0 all.0, rising_append xs ys first.1 second all.1)
 
-rising_alike : (view : ℕ) (commits : Bool) (ns : List Noted) → AllByRecursion (IsAlike view commits) ns → AreRising ns
-rising_alike view commits [] all = tt
-rising_alike view commits (n ∷ ns) all = (same ns all.1, rising_alike view commits ns all.1)
+up_alike : (taken view : ℕ) (commits : Bool) (n m : Noted) → IsAlike taken view commits n → IsAlike taken view commits m
+    → IsUpTo n m
+up_alike taken view commits n m one other = (omega (arith, one.0, other.0), omega (arith, one.1, other.1))
+
+rising_alike : (taken view : ℕ) (commits : Bool) (ns : List Noted) → AllByRecursion (IsAlike taken view commits) ns
+    → AreRising ns
+rising_alike taken view commits [] all = tt
+rising_alike taken view commits (n ∷ ns) all = (same ns all.1, rising_alike taken view commits ns all.1)
   where
-    same : (ms : List Noted) → AllByRecursion (IsAlike view commits) ms → AllByRecursion (λ m. n.view ≤ m.view) ms
+    same : (ms : List Noted) → AllByRecursion (IsAlike taken view commits) ms → AllByRecursion (IsUpTo n) ms
     same [] h = tt
-    same (m ∷ ms) h = (omega (arith, all.0.0, h.0.0), same ms h.1)
+    same (m ∷ ms) h = (up_alike taken view commits n m all.0 h.0, same ms h.1)
 
 rising_filter : (test : Noted → Bool) (ns : List Noted) → AreRising ns → AreRising (filter test ns)
 rising_filter test [] rising = tt
 rising_filter test (n ∷ ns) rising = by (test n) (rising_filter test ns rising.1)
   where
     by : (b : Bool) → AreRising (filter test ns) → AreRising (cond b (n ∷ filter test ns) (filter test ns))
-    by true rest = (all-filter (λ m. n.view ≤ m.view) test ns rising.0, rest)
+    by true rest = (all-filter (IsUpTo n) test ns rising.0, rest)
     by false rest = rest
 
 -- bounds of what attempts note
-noted_from : (view : ℕ) (ys : List Fated) → AllByRecursion (λ y. view ≤ view_of y) ys
-    → AllByRecursion (λ n. view ≤ n.view) (flat_map noted_in ys)
-noted_from view [] all = tt
-noted_from view (y ∷ ys) all =
-    all-append (λ n. view ≤ n.view) (noted_in y) (flat_map noted_in ys)
-    (up (noted_in y) (alike (view_of y) (number_of y) (is_committed y.fate) (own y.placed))) (noted_from view ys all.1)
+noted_from : (y : Fated) (ys : List Fated) → AllByRecursion (λ z. IsNoLater z.taken (view_of z) y) ys
+    → AllByRecursion (λ n. (y.taken ≤ n.taken) × (view_of y ≤ n.view)) (flat_map noted_in ys)
+noted_from y [] all = tt
+noted_from y (z ∷ zs) all =
+    all-append (λ n. (y.taken ≤ n.taken) × (view_of y ≤ n.view)) (noted_in z) (flat_map noted_in zs)
+    (up (noted_in z) (alike_in z)) (noted_from y zs all.1)
   where
-    up : (ns : List Noted) → AllByRecursion (IsAlike (view_of y) (is_committed y.fate)) ns
-        → AllByRecursion (λ n. view ≤ n.view) ns
+    up : (ns : List Noted) → AllByRecursion (IsAlike z.taken (view_of z) (is_committed z.fate)) ns
+        → AllByRecursion (λ n. (y.taken ≤ n.taken) × (view_of y ≤ n.view)) ns
     up [] h = tt
-    up (n ∷ ns) h = (omega (arith, h.0.0, all.0), up ns h.1)
+    up (n ∷ ns) h = ((omega (arith, h.0.0, all.0.0), omega (arith, h.0.1, all.0.1)), up ns h.1)
 
-noted_up : (view : ℕ) (ys : List Fated) → AllByRecursion (λ y. view_of y ≤ view) ys
-    → AllByRecursion (λ n. n.view ≤ view) (flat_map noted_in ys)
-noted_up view [] all = tt
-noted_up view (y ∷ ys) all =
-    all-append (λ n. n.view ≤ view) (noted_in y) (flat_map noted_in ys)
-    (up (noted_in y) (alike (view_of y) (number_of y) (is_committed y.fate) (own y.placed))) (noted_up view ys all.1)
+noted_up : (taken view : ℕ) (ys : List Fated) → AllByRecursion (IsNoLater taken view) ys
+    → AllByRecursion (IsWithin taken view) (flat_map noted_in ys)
+noted_up taken view [] all = tt
+noted_up taken view (y ∷ ys) all =
+    all-append (IsWithin taken view) (noted_in y) (flat_map noted_in ys)
+    (up (noted_in y) (alike_in y)) (noted_up taken view ys all.1)
   where
-    up : (ns : List Noted) → AllByRecursion (IsAlike (view_of y) (is_committed y.fate)) ns
-        → AllByRecursion (λ n. n.view ≤ view) ns
+    up : (ns : List Noted) → AllByRecursion (IsAlike y.taken (view_of y) (is_committed y.fate)) ns
+        → AllByRecursion (IsWithin taken view) ns
     up [] h = tt
-    up (n ∷ ns) h = (omega (arith, h.0.0, all.0), up ns h.1)
+    up (n ∷ ns) h = ((omega (arith, h.0.0, all.0.0), omega (arith, h.0.1, all.0.1)), up ns h.1)
+
+-- the entries of these numbers are up to each of those
+up_to_all : (taken view : ℕ) (n : Noted) (ms : List Noted) → IsWithin taken view n
+    → AllByRecursion (λ m. (taken ≤ m.taken) × (view ≤ m.view)) ms → AllByRecursion (IsUpTo n) ms
+up_to_all taken view n [] up all = tt
+up_to_all taken view n (m ∷ ms) up all = (
+  (omega (arith, up.0, all.0.0), omega (arith, up.1, all.0.1)),
+  up_to_all taken view n ms up all.1,
+)
+
+all_up_to : (taken view : ℕ) (ns ms : List Noted) → AllByRecursion (IsWithin taken view) ns
+    → AllByRecursion (λ m. (taken ≤ m.taken) × (view ≤ m.view)) ms
+    → AllByRecursion (λ n. AllByRecursion (IsUpTo n) ms) ns
+all_up_to taken view [] ms up all = tt
+all_up_to taken view (n ∷ ns) ms up all =
+    (up_to_all taken view n ms up.0 all, all_up_to taken view ns ms up.1 all)
+
+within_alike : (taken view : ℕ) (commits : Bool) (ns : List Noted) → AllByRecursion (IsAlike taken view commits) ns
+    → AllByRecursion (IsWithin taken view) ns
+within_alike taken view commits [] all = tt
+within_alike taken view commits (n ∷ ns) all =
+    ((omega (arith, all.0.0), omega (arith, all.0.1)), within_alike taken view commits ns all.1)
+
+from_alike : (taken view : ℕ) (commits : Bool) (ns : List Noted) → AllByRecursion (IsAlike taken view commits) ns
+    → AllByRecursion (λ m. (taken ≤ m.taken) × (view ≤ m.view)) ns
+from_alike taken view commits [] all = tt
+from_alike taken view commits (n ∷ ns) all =
+    ((omega (arith, all.0.0), omega (arith, all.0.1)), from_alike taken view commits ns all.1)
 
 noted_rising : (ys : List Fated) → AreInOrder ys → AreRising (flat_map noted_in ys)
 noted_rising [] order = tt
 noted_rising (y ∷ ys) order =
     rising_append (noted_in y) (flat_map noted_in ys)
-    (rising_alike (view_of y) (is_committed y.fate) (noted_in y) alike_own) (noted_rising ys order.1)
-    (below (noted_in y) alike_own)
-  where
-    alike_own : AllByRecursion (IsAlike (view_of y) (is_committed y.fate)) (noted_in y)
-    alike_own = alike (view_of y) (number_of y) (is_committed y.fate) (own y.placed)
-
-    below : (ns : List Noted) → AllByRecursion (IsAlike (view_of y) (is_committed y.fate)) ns
-        → AllByRecursion (λ n. AllByRecursion (λ m. n.view ≤ m.view) (flat_map noted_in ys)) ns
-    below [] h = tt
-    below (n ∷ ns) h = (
-      subst (λ (v : ℕ). AllByRecursion (λ m. v ≤ m.view) (flat_map noted_in ys)) (sym h.0.0)
-          (noted_from (view_of y) ys order.0),
-      below ns h.1,
-    )
+    (rising_alike y.taken (view_of y) (is_committed y.fate) (noted_in y) (alike_in y)) (noted_rising ys order.1)
+    (all_up_to y.taken (view_of y) (noted_in y) (flat_map noted_in ys)
+    (within_alike y.taken (view_of y) (is_committed y.fate) (noted_in y) (alike_in y)) (noted_from y ys order.0))
 
 order_filter : (test : Fated → Bool) (ys : List Fated) → AreInOrder ys → AreInOrder (filter test ys)
 order_filter test [] order = tt
 order_filter test (y ∷ ys) order = by (test y) (order_filter test ys order.1)
   where
     by : (b : Bool) → AreInOrder (filter test ys) → AreInOrder (cond b (y ∷ filter test ys) (filter test ys))
-    by true rest = (all-filter (λ z. view_of y ≤ view_of z) test ys order.0, rest)
+    by true rest = (all-filter (λ z. IsNoLater z.taken (view_of z) y) test ys order.0, rest)
     by false rest = rest
 
 order_front : (xs ys : List Fated) → AreInOrder (xs ++ ys) → AreInOrder xs
 order_front [] ys order = tt
 order_front (x ∷ xs) ys order = (front xs order.0, order_front xs ys order.1)
   where
-    front : (zs : List Fated) → AllByRecursion (λ z. view_of x ≤ view_of z) (zs ++ ys)
-        → AllByRecursion (λ z. view_of x ≤ view_of z) zs
+    front : (zs : List Fated) → AllByRecursion (λ z. IsNoLater z.taken (view_of z) x) (zs ++ ys)
+        → AllByRecursion (λ z. IsNoLater z.taken (view_of z) x) zs
     front [] h = tt
     front (z ∷ zs) h = (h.0, front zs h.1)
 
 -- ---- an attempt among those told
 
 -- what is known of the one after these
-pub counting_at : (done before : List Fated) (x : Fated) (after : List Fated) → AreCounting done (before ++ x ∷ after)
-    → AreCounting (done ++ before) (x ∷ after)
-counting_at done [] x after known = subst (λ ys. AreCounting ys (x ∷ after)) (sym (append-nil done)) known
-counting_at done (y ∷ before) x after known = subst (λ ys. AreCounting ys (x ∷ after))
-    (append_assoc done (y ∷ []) before) (counting_at (done ++ y ∷ []) before x after known.3)
+pub counting_at : (t : Trace) (bases : ℕ → Table) (done before : List Fated) (x : Fated) (after : List Fated)
+    → AreCounting t bases done (before ++ x ∷ after) → AreCounting t bases (done ++ before) (x ∷ after)
+counting_at t bases done [] x after known =
+    subst (λ ys. AreCounting t bases ys (x ∷ after)) (sym (append-nil done)) known
+counting_at t bases done (y ∷ before) x after known = subst (λ ys. AreCounting t bases ys (x ∷ after))
+    (append_assoc done (y ∷ []) before) (counting_at t bases (done ++ y ∷ []) before x after known.3)
 
 module _ (t : Trace) (e : ℕ) (limits : HasLimits t) (right : IsRightSection t e) where
   -- an attempt that settles is among the settled ones
@@ -272,7 +321,7 @@ module _ (t : Trace) (e : ℕ) (limits : HasLimits t) (right : IsRightSection t 
           (in_map (λ (z : Fated). z.placed) (filter will_commit (told_of t e))
           (in_filter will_commit (told_of t e) i (ap is_committed is))))
       by Discarded is =
-          in_right (history t e).committed (history t e).discarded
+          in_right (attempts_by (history t e).landings) (history t e).discarded
           (subst (In y.placed) (discarded_told t e right)
           (in_map (λ (z : Fated). z.placed) (filter will_fall (told_of t e))
           (in_filter will_fall (told_of t e) i (ap is_discarded is))))
@@ -280,20 +329,24 @@ module _ (t : Trace) (e : ℕ) (limits : HasLimits t) (right : IsRightSection t 
 
   module _ (before : List Fated) (x : Fated) (after : List Fated) (is : told_of t e ≡ before ++ x ∷ after)
       (done : settles x ≡ true) where
-    known : AreCounting before (x ∷ after)
-    known = counting_at [] before x after (subst (AreCounting []) is (counting_told t e right))
+    known : AreCounting t (rows_of t e) before (x ∷ after)
+    known = counting_at t (rows_of t e) [] before x after
+        (subst (AreCounting t (rows_of t e) []) is (counting_told t e right))
 
-    settle : AllByRecursion (λ y. settles y ≡ true) (counting (view_of x) before)
+    abbrev counted : List Fated
+    counted = counting x.taken (view_of x) before
+
+    settle : AllByRecursion (λ y. settles y ≡ true) counted
     settle = known.2 done
 
     -- the path's table, by what was noted before
     path_table : rows_after t x.placed.path
-        ≡ table_after (opening_table t) (entries (filter (counts (view_of x)) (all_noted before)))
+        ≡ table_after (rows_of t e x.taken) (entries (filter (counts x.taken (view_of x)) (all_noted before)))
     path_table =
-        ap (rows_after t) known.0
-        ∙ left_by_all t e (opening_table t) (all_placed (counting (view_of x) before)) limits right there_all
-        ∙ ap (table_after (opening_table t)) (sym (entries_of_all (counting (view_of x) before))
-        ∙ ap entries (sym (counting_noted (view_of x) before settle)))
+        known.0
+        ∙ left_by_all t e (rows_of t e x.taken) (all_placed counted) limits right there_all
+        ∙ ap (table_after (rows_of t e x.taken)) (sym (entries_of_all counted)
+        ∙ ap entries (sym (counting_noted x.taken (view_of x) before settle)))
       where
         there_of : {p : Placed} (ys : List Fated) → ((y : Fated) → In y ys → In y.placed (settled (history t e)))
             → In p (all_placed ys) → In p (settled (history t e))
@@ -301,28 +354,33 @@ module _ (t : Trace) (e : ℕ) (limits : HasLimits t) (right : IsRightSection t 
         there_of (y ∷ ys) h here = h y here
         there_of (y ∷ ys) h (there i) = there_of ys (λ z j. h z (there j)) i
 
-        there_all : (p : Placed) → In p (all_placed (counting (view_of x) before)) → In p (settled (history t e))
+        there_all : (p : Placed) → In p (all_placed counted) → In p (settled (history t e))
         there_all p i =
-            there_of (counting (view_of x) before) (λ y j. settled_there y
-            (subst (In y) (sym is) (in_front (x ∷ after) (from_filter (counts_in (view_of x)) before j)))
+            there_of counted (λ y j. settled_there y
+            (subst (In y) (sym is) (in_front (x ∷ after) (from_filter (counts_in x.taken (view_of x)) before j)))
             (all_in (λ z. settles z ≡ true) settle j)) i
 
     -- what the row's walk meets after the attempts before it and some of its own records
-    pub meets_visible : (xs : List (ℕ × Access)) (row : ℕ) (n : Noted) → n.view ≡ view_of x
-        → met_by (pair_after (opening_table t row)
-        (of_row row (all_noted before ++ flat_map (noted_by (view_of x) (number_of x) (is_committed x.fate)) xs))) n
+    pub meets_visible : (xs : List (ℕ × Access)) (row : ℕ) (n : Noted) → n.taken ≡ x.taken → n.view ≡ view_of x
+        → met_by (bases_of t e row) (pair_after (bases_of t e row)
+        (of_row row (all_noted before ++
+        flat_map (noted_by x.taken (view_of x) (number_of x) (is_committed x.fate)) xs))) n
         ≡ table_after (rows_after t x.placed.path) (entries_along xs) row
-    meets_visible xs row n same =
-        meets_what_counts (opening_table t row) (of_row row ns) n (rising_filter (λ m. m.entry.row == row) ns rising)
-        (all-filter (λ m. m.view ≤ n.view) (λ m. m.entry.row == row) ns up)
-        ∙ ap (after_all (opening_table t row)) (entries_filter (counts n.view) row ns)
-        ∙ sym (table_row (opening_table t) row (entries (filter (counts n.view) ns)))
-        ∙ ap (λ (es : List Entry). table_after (opening_table t) es row) split
+    meets_visible xs row n as_many same =
+        meets_what_counts (bases_of t e row) (of_row row ns) n (rising_filter (λ m. m.entry.row == row) ns rising)
+        (all-filter (λ m. IsUpTo m n) (λ m. m.entry.row == row) ns up)
+        ∙ (λ i. after_all (bases_of t e row (as_many i))
+        (entries (filter (counts (as_many i) (same i)) (of_row row ns))))
+        ∙ ap (after_all (bases_of t e row k)) (entries_filter (counts k v) row ns)
+        ∙ sym (table_row (rows_of t e k) row (entries (filter (counts k v) ns)))
+        ∙ ap (λ (es : List Entry). table_after (rows_of t e k) es row) split
         ∙ ap (λ (table : Table). table row)
-        (table_after-append (opening_table t) (entries (filter (counts (view_of x)) (all_noted before)))
-        (entries_along xs))
+        (table_after-append (rows_of t e k) (entries (filter (counts k v) (all_noted before))) (entries_along xs))
         ∙ ap (λ (table : Table). table_after table (entries_along xs) row) (sym path_table)
       where
+        k : ℕ
+        k = x.taken
+
         v : ℕ
         v = view_of x
 
@@ -333,44 +391,39 @@ module _ (t : Trace) (e : ℕ) (limits : HasLimits t) (right : IsRightSection t 
         c = is_committed x.fate
 
         mine : List Noted
-        mine = flat_map (noted_by v its c) xs
+        mine = flat_map (noted_by k v its c) xs
+
+        mine_alike : AllByRecursion (IsAlike k v c) mine
+        mine_alike = alike k v its c xs
 
         ns : List Noted
         ns = all_noted before ++ mine
 
-        own_counts : (b : Bool) → (b || (v == v)) ≡ true
-        own_counts true = refl
-        own_counts false = eq-eqb v v refl
+        own_counts : ((k == k) && (c || (v == v))) ≡ true
+        own_counts = ap (λ (b : Bool). b && (c || (v == v))) (eq-eqb k k refl) ∙ by c
+          where
+            by : (b : Bool) → (b || (v == v)) ≡ true
+            by true = refl
+            by false = eq-eqb v v refl
 
-        split : entries (filter (counts n.view) ns) ≡ entries (filter (counts v) (all_noted before)) ++ entries_along xs
+        split : entries (filter (counts k v) ns) ≡ entries (filter (counts k v) (all_noted before)) ++ entries_along xs
         split =
-            ap (λ (w : ℕ). entries (filter (counts w) ns)) same
-            ∙ ap entries (filter-append (counts v) (all_noted before) mine)
-            ∙ map-append (λ (m : Noted). m.entry) (filter (counts v) (all_noted before)) (filter (counts v) mine)
-            ∙ ap (λ (es : List Entry). entries (filter (counts v) (all_noted before)) ++ es)
-            (ap entries (filter_all (counts v) mine (counts_alike v v c true mine (own_counts c) (alike v its c xs)))
-            ∙ entries_are v its c xs)
+            ap entries (filter-append (counts k v) (all_noted before) mine)
+            ∙ map-append (λ (m : Noted). m.entry) (filter (counts k v) (all_noted before)) (filter (counts k v) mine)
+            ∙ ap (λ (es : List Entry). entries (filter (counts k v) (all_noted before)) ++ es)
+            (ap entries (filter_all (counts k v) mine (counts_alike k v k v c true mine own_counts mine_alike))
+            ∙ entries_are k v its c xs)
 
-        before_up : AllByRecursion (λ m. m.view ≤ v) (all_noted before)
-        before_up = noted_up v (filter settles before) (all-filter (λ y. view_of y ≤ v) settles before known.1)
+        before_up : AllByRecursion (IsWithin k v) (all_noted before)
+        before_up = noted_up k v (filter settles before) (all-filter (IsNoLater k v) settles before known.1)
 
-        mine_same : (ms : List Noted) → AllByRecursion (IsAlike v c) ms → AllByRecursion (λ m. m.view ≤ v) ms
-        mine_same [] h = tt
-        mine_same (m ∷ ms) h = (omega (arith, h.0.0), mine_same ms h.1)
+        up_to_n : (ms : List Noted) → AllByRecursion (IsWithin k v) ms → AllByRecursion (λ m. IsUpTo m n) ms
+        up_to_n [] h = tt
+        up_to_n (m ∷ ms) h = ((omega (arith, h.0.0, as_many), omega (arith, h.0.1, same)), up_to_n ms h.1)
 
-        up : AllByRecursion (λ m. m.view ≤ n.view) ns
-        up = subst (λ (w : ℕ). AllByRecursion (λ m. m.view ≤ w) ns) (sym same)
-            (all-append (λ m. m.view ≤ v) (all_noted before) mine before_up (mine_same mine (alike v its c xs)))
-
-        mine_above : (k : ℕ) → k ≤ v → (ms : List Noted) → AllByRecursion (IsAlike v c) ms
-            → AllByRecursion (λ m. k ≤ m.view) ms
-        mine_above k h [] a = tt
-        mine_above k h (m ∷ ms) a = (omega (arith, h, a.0.0), mine_above k h ms a.1)
-
-        all_above : (ks : List Noted) → AllByRecursion (λ m. m.view ≤ v) ks
-            → AllByRecursion (λ k. AllByRecursion (λ m. k.view ≤ m.view) mine) ks
-        all_above [] h = tt
-        all_above (k ∷ ks) h = (mine_above k.view h.0 mine (alike v its c xs), all_above ks h.1)
+        up : AllByRecursion (λ m. IsUpTo m n) ns
+        up = up_to_n ns (all-append (IsWithin k v) (all_noted before) mine before_up
+            (within_alike k v c mine mine_alike))
 
         rising : AreRising ns
         rising =
@@ -378,5 +431,6 @@ module _ (t : Trace) (e : ℕ) (limits : HasLimits t) (right : IsRightSection t 
             (noted_rising (filter settles before)
             (order_filter settles before
             (order_front before (x ∷ after)
-            (subst AreInOrder is (in_order [] (told_of t e) (counting_told t e right))))))
-            (rising_alike v c mine (alike v its c xs)) (all_above (all_noted before) before_up)
+            (subst AreInOrder is (in_order t (rows_of t e) [] (told_of t e) (counting_told t e right))))))
+            (rising_alike k v c mine mine_alike)
+            (all_up_to k v (all_noted before) mine before_up (from_alike k v c mine mine_alike))

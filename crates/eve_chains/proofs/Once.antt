@@ -6,8 +6,9 @@ use Rattle.std.proofs.lemmas.Bool.{and_parts}
 use Rattle.std.proofs.lemmas.List.{length-map}
 use Rattle.std.proofs.Math.ListN.{get_or-map}
 use Rattle.std.specs.List.{flat_map}
-use Rattle.eve_grammar.specs.Trace.{Asked, Batch, Attempt, Trace, no_request}
+use Rattle.eve_grammar.specs.Trace.{Asked, Batch, Trace, no_request}
 use Rattle.eve_grammar.specs.Certificate.{is_permutation, keeps_groups}
+use Rattle.eve_history.specs.Section.{Landing, ByAttempt, ByTransfer, Skipped, attempts_by}
 use Rattle.eve_history.specs.Section.{Placed, no_batch, batch_at, request_count}
 use Rattle.eve_history.specs.SectionHistory.{history, committed_at, IsRightSection}
 use Rattle.eve_grammar.specs.Trace.{RequestId, request_id}
@@ -16,7 +17,7 @@ use Rattle.eve_chains.specs.Committed.{attempts_of, request_ids_in, committed_re
 use Rattle.eve_chains.proofs.Distinct.{Distinct, in_split, in_right, in_map, in_source, distinct_left}
 use Rattle.eve_chains.proofs.Distinct.{distinct_right, distinct_apart, distinct_append, distinct_map}
 use Rattle.eve_chains.proofs.Distinct.{distinct_permutation, below_permutation}
-use Rattle.eve_chains.proofs.Linked.{IsLinked, AreLinked, linked_history, linked_at, none≢some, committed_number}
+use Rattle.eve_chains.proofs.Linked.{IsLinked, AreLinked, linked_history, linked_number, none≢some, committed_number}
 use Rattle.eve_chains.proofs.Soundness.{permutes}
 
 -- ---- both forms of distinct
@@ -97,7 +98,7 @@ abbrev request_ids_from : Trace → ℕ → List RequestId
 request_ids_from t n = flat_map (λ b. map request_id b.requests) (drop n t.batches)
 
 -- the batch of the attempt that stands after these others
-module _ (t : Trace) (before : List Attempt) (p : Placed) (linked : IsLinked t before p) where
+module _ (t : Trace) (before : List Landing) (p : Placed) (linked : IsLinked t before p) where
   batch_is : batch_at t p.attempt.seq ≡ get_or t.batches (length before) no_batch
   batch_is = ap (λ n. get_or t.batches n no_batch) (down p.attempt.seq (length before) linked.number)
     where
@@ -131,46 +132,78 @@ module _ (t : Trace) (before : List Attempt) (p : Placed) (linked : IsLinked t b
   unfolding its_requests
   own_member z i = in_order its_requests p.attempt.certificate z its_permutation i
 
-one_longer : (before : List Attempt) (a : Attempt) → length (before ++ a ∷ []) ≡ suc (length before)
-one_longer before a = simp length-append (omega arith)
+one_longer : (before : List Landing) (l : Landing) → length (before ++ l ∷ []) ≡ suc (length before)
+one_longer before l = simp length-append (omega arith)
 
-committed_members : (t : Trace) (before : List Attempt) (ps : List Placed) → AreLinked t before ps → (z : RequestId)
-    → In z (flat_map (request_ids_in t) (attempts_of ps))
-    → In z (request_ids_from t (length before))
+-- from a later batch on
+later_members : {A B : Type 0} {z : B} (f : A → List B) (xs : List A) (n : ℕ) → In z (flat_map f (drop (suc n) xs))
+    → In z (flat_map f (drop n xs))
+later_members f [] zero i = i
+later_members f [] (suc n) i = i
+later_members f (x ∷ xs) zero i = in_right (f x) (flat_map f xs) i
+later_members f (x ∷ xs) (suc n) i = later_members f xs n i
+
+later_distinct : {A B : Type 0} (f : A → List B) (xs : List A) (n : ℕ) → Distinct (flat_map f (drop n xs))
+    → Distinct (flat_map f (drop (suc n) xs))
+later_distinct f [] zero d = d
+later_distinct f [] (suc n) d = d
+later_distinct f (x ∷ xs) zero d = distinct_right (f x) (flat_map f xs) d
+later_distinct f (x ∷ xs) (suc n) d = later_distinct f xs n d
+
+abbrev ids_by : Trace → List Landing → List RequestId
+ids_by t ls = flat_map (request_ids_in t) (attempts_of (attempts_by ls))
+
+committed_members : (t : Trace) (before ls : List Landing) → AreLinked t before ls → (z : RequestId)
+    → In z (ids_by t ls) → In z (request_ids_from t (length before))
 committed_members t before [] linked z i = elim i [ ]
-committed_members t before (p ∷ ps) linked z i =
+committed_members t before (ByAttempt p ∷ ls) linked z i =
     subst (In z) (sym (from_here t before p linked.0))
-    (elim (in_split (request_ids_in t p.attempt) (flat_map (request_ids_in t) (attempts_of ps)) i) [
+    (elim (in_split (request_ids_in t p.attempt) (ids_by t ls) i) [
       | inl j ↦ in_front (request_ids_from t (suc (length before)))
           (own_member t before p linked.0 z j)
       | inr j ↦ in_right (map request_id (its_requests t before p linked.0)) (request_ids_from t (suc (length before)))
-          (subst (λ n. In z (request_ids_from t n)) (one_longer before p.attempt)
-          (committed_members t (before ++ p.attempt ∷ []) ps linked.1 z j))
+          (subst (λ n. In z (request_ids_from t n)) (one_longer before (ByAttempt p))
+          (committed_members t (before ++ ByAttempt p ∷ []) ls linked.1 z j))
     ])
+committed_members t before (ByTransfer at x ∷ ls) linked z i =
+    later_members (λ b. map request_id b.requests) t.batches (length before)
+    (subst (λ n. In z (request_ids_from t n)) (one_longer before (ByTransfer at x))
+    (committed_members t (before ++ ByTransfer at x ∷ []) ls linked.1 z i))
+committed_members t before (Skipped ∷ ls) linked z i =
+    later_members (λ b. map request_id b.requests) t.batches (length before)
+    (subst (λ n. In z (request_ids_from t n)) (one_longer before Skipped)
+    (committed_members t (before ++ Skipped ∷ []) ls linked.1 z i))
 
-committed_distinct : (t : Trace) (before : List Attempt) (ps : List Placed) → AreLinked t before ps
-    → Distinct (request_ids_from t (length before))
-    → Distinct (flat_map (request_ids_in t) (attempts_of ps))
+committed_distinct : (t : Trace) (before ls : List Landing) → AreLinked t before ls
+    → Distinct (request_ids_from t (length before)) → Distinct (ids_by t ls)
 committed_distinct t before [] linked d = tt
-committed_distinct t before (p ∷ ps) linked d =
+committed_distinct t before (ByAttempt p ∷ ls) linked d =
     let own : List RequestId = map request_id (its_requests t before p linked.0) in
     let rest : List RequestId = request_ids_from t (suc (length before)) in
     let whole : Distinct (own ++ rest) = subst Distinct (from_here t before p linked.0) d in
-    distinct_append (request_ids_in t p.attempt) (flat_map (request_ids_in t) (attempts_of ps))
+    distinct_append (request_ids_in t p.attempt) (ids_by t ls)
     (own_distinct t before p linked.0 (distinct_left own rest whole))
-    (committed_distinct t (before ++ p.attempt ∷ []) ps linked.1
-    (subst (λ n. Distinct (request_ids_from t n)) (sym (one_longer before p.attempt))
+    (committed_distinct t (before ++ ByAttempt p ∷ []) ls linked.1
+    (subst (λ n. Distinct (request_ids_from t n)) (sym (one_longer before (ByAttempt p)))
     (distinct_right own rest whole)))
     (λ z i j. distinct_apart own rest whole (own_member t before p linked.0 z i)
-    (subst (λ n. In z (request_ids_from t n)) (one_longer before p.attempt)
-    (committed_members t (before ++ p.attempt ∷ []) ps linked.1 z j)))
+    (subst (λ n. In z (request_ids_from t n)) (one_longer before (ByAttempt p))
+    (committed_members t (before ++ ByAttempt p ∷ []) ls linked.1 z j)))
+committed_distinct t before (ByTransfer at x ∷ ls) linked d =
+    committed_distinct t (before ++ ByTransfer at x ∷ []) ls linked.1
+    (subst (λ n. Distinct (request_ids_from t n)) (sym (one_longer before (ByTransfer at x)))
+    (later_distinct (λ b. map request_id b.requests) t.batches (length before) d))
+committed_distinct t before (Skipped ∷ ls) linked d =
+    committed_distinct t (before ++ Skipped ∷ []) ls linked.1
+    (subst (λ n. Distinct (request_ids_from t n)) (sym (one_longer before Skipped))
+    (later_distinct (λ b. map request_id b.requests) t.batches (length before) d))
 
 pub once : (t : Trace) (e : ℕ) → IsRightSection t e → AllPairs (λ a b. a ≢ b) (batch_request_ids t)
     → AllPairs (λ a b. a ≢ b) (committed_request_ids t e)
 unfolding batch_request_ids committed_request_ids
 once t e right distinct =
-    distinct_pairs (flat_map (request_ids_in t) (attempts_of (history t e).committed))
-    (committed_distinct t [] (history t e).committed (linked_history t e right)
+    distinct_pairs (ids_by t (history t e).landings)
+    (committed_distinct t [] (history t e).landings (linked_history t e right)
     (pairs_distinct (flat_map (λ b. map request_id b.requests) t.batches) distinct))
 
 -- ---- the order of a committed batch
@@ -179,7 +212,7 @@ pub certificate_keeps_groups : (t : Trace) (e n : ℕ) (p : Placed) → IsRightS
     → IsTrue (keeps_groups (batch_at t n).sizes (length (batch_at t n).requests) p.attempt.certificate)
 certificate_keeps_groups t e zero p right at = none≢some p at
 certificate_keeps_groups t e (suc n) p right at =
-    let linked = linked_at t [] (history t e).committed n p (linked_history t e right) at in
+    let linked = linked_number t e n p right at in
     subst (λ m. IsTrue (keeps_groups (batch_at t m).sizes (length (batch_at t m).requests) p.attempt.certificate))
     (committed_number t e (suc n) p right at)
     (and_parts (keeps_groups (batch_at t p.attempt.seq).sizes (request_count t p.attempt) p.attempt.certificate) _

@@ -1,6 +1,6 @@
--- The path of an attempt is what counts of the attempts before it.
+-- What the rows have after an attempt's path is what those leave that count of the attempts before it.
 use Rattle.std.proofs.Common.{◌≡◌, ℕ, zero, suc, ◌+◌, ◌≤◌, ◌<◌, ◌==◌, Bool, true, false, cond, ◌||◌, List, [], ◌∷◌}
-use Rattle.std.proofs.Common.{◌++◌, map, length, filter, refl, sym, subst, ap, ◌∙◌, append_assoc, append-nil, arith}
+use Rattle.std.proofs.Common.{◌++◌, map, fold, flat_map, length, filter, refl, sym, subst, ap, ◌∙◌, append_assoc, append-nil, arith}
 use Rattle.std.proofs.Common.{IsTrue, add-zero, suc-add, add-suc}
 use Rattle.std.specs.List.{AllByRecursion}
 use Rattle.std.specs.Prelude.{nat_le, nat_lt, ◌&&◌}
@@ -12,15 +12,26 @@ use Rattle.eve_grammar.specs.Trace.{Attempt, Commit, Rollback, Step, Attempts, C
 use Rattle.eve_grammar.specs.Spelling.{steps_at}
 use Rattle.eve_grammar.proofs.Lists.{all-weaker, all-append}
 use Rattle.eve_history.specs.declared.fate.Fate.TheVariants.{Committed}
+use Rattle.eve_history.specs.Section.{Came, Ran, Landing, ByAttempt, ByTransfer, Skipped, came_by, attempts_by}
 use Rattle.eve_history.specs.Section.{Placed, SectionState, start, path_of, committing, next, state_after, is_right}
 use Rattle.eve_history.specs.Section.{are_right, is_due, is_right_attempt, is_right_certificate, are_right_accesses}
 use Rattle.eve_history.specs.Section.{request_count, commits_first, is_right_rollback}
 use Rattle.eve_history.specs.Fates.{fate_in}
 use Rattle.eve_history.specs.SectionHistory.{is_committed, is_discarded, history, IsRightSection}
-use Rattle.eve_chains.specs.Rows.{Fated, to_come, settles, told_of}
+use Rattle.eve_history.proofs.FateLaws.{attempts_by_push}
+use Rattle.eve_smallbank.specs.declared.versioned.Versioned.{Versioned}
+use Rattle.eve_smallbank.specs.Chain.{Table, table_after_all}
+use Rattle.std.proofs.lemmas.List.Sums.{fold-append}
+use Rattle.std.proofs.lemmas.Grind.{flat_map-append}
+use Rattle.eve_chains.specs.Visible.{opening_table, execution, with_came, rows_after}
+use Rattle.eve_chains.specs.Rows.{states_by, bases_of, Fated, to_come, settles, told_of}
+use Rattle.eve_chains.proofs.LeftByRecords.{rows_after-push}
 
 abbrev pub all_placed : List Fated → List Placed
 all_placed xs = map (λ x. x.placed) xs
+
+abbrev pub ran : List Placed → List Came
+ran ps = map (λ p. Ran p.attempt) ps
 
 abbrev pub will_commit : Fated → Bool
 will_commit x = is_committed x.fate
@@ -34,79 +45,121 @@ view_of x = x.placed.attempt.view
 abbrev pub number_of : Fated → ℕ
 number_of x = x.placed.attempt.seq
 
--- its writes count for what comes in this view: it will be committed, or no rollback came since
-abbrev pub counts_in : ℕ → Fated → Bool
-counts_in view x = is_committed x.fate || (x.placed.attempt.view == view)
+-- Its writes count for what comes in this view, after as many states that were taken over: it will be committed, or no
+-- rollback came since.
+abbrev pub counts_in : ℕ → ℕ → Fated → Bool
+counts_in taken view x = (x.taken == taken) && (is_committed x.fate || (x.placed.attempt.view == view))
 
-abbrev pub counting : ℕ → List Fated → List Fated
-counting view xs = filter (counts_in view) xs
+abbrev pub counting : ℕ → ℕ → List Fated → List Fated
+counting taken view xs = filter (counts_in taken view) xs
 
--- each attempt's path is what counts of those before it, none of which has a later view
-abbrev pub AreCounting : List Fated → List Fated → Type 0
-AreCounting before [] = Unit {0}
-AreCounting before (x ∷ xs) =
-    (x.placed.path ≡ map (λ p. p.attempt) (all_placed (counting (view_of x) before)))
-    × AllByRecursion (λ y. view_of y ≤ view_of x) before
-    × (settles x ≡ true → AllByRecursion (λ y. settles y ≡ true) (counting (view_of x) before))
-    × AreCounting (before ++ x ∷ []) xs
+-- it counts in every later view
+abbrev stays_in : ℕ → Fated → Bool
+stays_in taken x = (x.taken == taken) && is_committed x.fate
+
+-- after no more states, and in no later view
+abbrev pub IsNoLater : ℕ → ℕ → Fated → Type 0
+IsNoLater taken view x = (x.taken ≤ taken) × (view_of x ≤ view)
+
+-- After each attempt's path the rows have what those before it that count leave of what the rows had after as many states;
+-- and none of those before it is later.
+abbrev pub AreCounting : Trace → (ℕ → Table) → List Fated → List Fated → Type 0
+AreCounting t bases before [] = Unit {0}
+AreCounting t bases before (x ∷ xs) =
+    (rows_after t x.placed.path
+    ≡ fold (with_came t) (bases x.taken) (ran (all_placed (counting x.taken (view_of x) before))))
+    × AllByRecursion (IsNoLater x.taken (view_of x)) before
+    × (settles x ≡ true → AllByRecursion (λ y. settles y ≡ true) (counting x.taken (view_of x) before))
+    × AreCounting t bases (before ++ x ∷ []) xs
+
+-- ---- behind the last state that was taken over
+
+abbrev since_next : List Placed → Landing → List Placed
+since_next ps (ByAttempt p) = ps ++ p ∷ []
+since_next ps (ByTransfer at x) = []
+since_next ps Skipped = ps
+
+-- the attempts by which numbers were reached behind it
+abbrev since : List Landing → List Placed
+since ls = fold since_next [] ls
+
+-- an attempt takes no state over
+pub taken_more : (ls : List Landing) (p : Placed) → states_by (ls ++ ByAttempt p ∷ []) ≡ states_by ls
+taken_more [] p = refl
+taken_more (ByAttempt q ∷ ls) p = taken_more ls p
+taken_more (ByTransfer at x ∷ ls) p = ap (λ (xs : List (List Versioned)). x.rows ∷ xs) (taken_more ls p)
+taken_more (Skipped ∷ ls) p = taken_more ls p
 
 -- ---- the open attempts and what becomes of them
 
-abbrev opened : ℕ → List (ℕ × Step) → List Placed → List Fated
-opened n rest [] = []
-opened n rest (p ∷ ps) = record { placed = p; fate = fate_in rest n } ∷ opened (suc n) rest ps
+abbrev opened : ℕ → ℕ → List (ℕ × Step) → List Placed → List Fated
+opened taken n rest [] = []
+opened taken n rest (p ∷ ps) =
+    record { placed = p; taken = taken; fate = fate_in rest n } ∷ opened taken (suc n) rest ps
 
-opened_attempt : (n at : ℕ) (a : Attempt) (rest : List (ℕ × Step)) (ps : List Placed)
-    → opened n ((at, Attempts a) ∷ rest) ps ≡ opened n rest ps
-opened_attempt n at a rest [] = refl
-opened_attempt n at a rest (p ∷ ps) = ap (λ xs. record { placed = p; fate = fate_in rest n } ∷ xs)
-    (opened_attempt (suc n) at a rest ps)
+opened_attempt : (taken n at : ℕ) (a : Attempt) (rest : List (ℕ × Step)) (ps : List Placed)
+    → opened taken n ((at, Attempts a) ∷ rest) ps ≡ opened taken n rest ps
+opened_attempt taken n at a rest [] = refl
+opened_attempt taken n at a rest (p ∷ ps) =
+    ap (λ xs. record { placed = p; taken = taken; fate = fate_in rest n } ∷ xs)
+    (opened_attempt taken (suc n) at a rest ps)
 
-opened_commit : (n at : ℕ) (c : Commit) (rest : List (ℕ × Step)) (ps : List Placed)
-    → opened (suc n) ((at, Commits c) ∷ rest) ps ≡ opened n rest ps
-opened_commit n at c rest [] = refl
-opened_commit n at c rest (p ∷ ps) = ap (λ xs. record { placed = p; fate = fate_in rest n } ∷ xs)
-    (opened_commit (suc n) at c rest ps)
+opened_commit : (taken n at : ℕ) (c : Commit) (rest : List (ℕ × Step)) (ps : List Placed)
+    → opened taken (suc n) ((at, Commits c) ∷ rest) ps ≡ opened taken n rest ps
+opened_commit taken n at c rest [] = refl
+opened_commit taken n at c rest (p ∷ ps) =
+    ap (λ xs. record { placed = p; taken = taken; fate = fate_in rest n } ∷ xs)
+    (opened_commit taken (suc n) at c rest ps)
 
-opened_push : (n : ℕ) (rest : List (ℕ × Step)) (ps : List Placed) (q : Placed) → opened n rest (ps ++ q ∷ [])
-    ≡ opened n rest ps ++ record { placed = q; fate = fate_in rest (n + length ps) } ∷ []
-opened_push n rest [] q = ap (λ (m : ℕ). record { placed = q; fate = fate_in rest m } ∷ []) (sym (add-zero n))
-opened_push n rest (p ∷ ps) q =
-    ap (λ xs. record { placed = p; fate = fate_in rest n } ∷ xs)
-    (opened_push (suc n) rest ps q
-    ∙ ap (λ (m : ℕ). opened (suc n) rest ps ++ record { placed = q; fate = fate_in rest m } ∷ [])
+opened_push : (taken n : ℕ) (rest : List (ℕ × Step)) (ps : List Placed) (q : Placed)
+    → opened taken n rest (ps ++ q ∷ [])
+    ≡ opened taken n rest ps ++ record { placed = q; taken = taken; fate = fate_in rest (n + length ps) } ∷ []
+opened_push taken n rest [] q =
+    ap (λ (m : ℕ). record { placed = q; taken = taken; fate = fate_in rest m } ∷ []) (sym (add-zero n))
+opened_push taken n rest (p ∷ ps) q =
+    ap (λ xs. record { placed = p; taken = taken; fate = fate_in rest n } ∷ xs)
+    (opened_push taken (suc n) rest ps q
+    ∙ ap (λ (m : ℕ). opened taken (suc n) rest ps ++ record { placed = q; taken = taken; fate = fate_in rest m } ∷ [])
     (suc-add n (length ps) ∙ sym (add-suc n (length ps))))
 
-none_commits : (n at : ℕ) (r : Rollback) (rest : List (ℕ × Step)) (ps : List Placed)
-    → filter will_commit (opened n ((at, RollsBack r) ∷ rest) ps) ≡ []
-none_commits n at r rest [] = refl
-none_commits n at r rest (p ∷ ps) = none_commits (suc n) at r rest ps
+none_commits : (taken n at : ℕ) (r : Rollback) (rest : List (ℕ × Step)) (ps : List Placed)
+    → filter will_commit (opened taken n ((at, RollsBack r) ∷ rest) ps) ≡ []
+none_commits taken n at r rest [] = refl
+none_commits taken n at r rest (p ∷ ps) = none_commits taken (suc n) at r rest ps
 
-all_fall : (n at : ℕ) (r : Rollback) (rest : List (ℕ × Step)) (ps : List Placed)
-    → all_placed (filter will_fall (opened n ((at, RollsBack r) ∷ rest) ps)) ≡ ps
-all_fall n at r rest [] = refl
-all_fall n at r rest (p ∷ ps) = ap (λ qs. p ∷ qs) (all_fall (suc n) at r rest ps)
+all_fall : (taken n at : ℕ) (r : Rollback) (rest : List (ℕ × Step)) (ps : List Placed)
+    → all_placed (filter will_fall (opened taken n ((at, RollsBack r) ∷ rest) ps)) ≡ ps
+all_fall taken n at r rest [] = refl
+all_fall taken n at r rest (p ∷ ps) = ap (λ qs. p ∷ qs) (all_fall taken (suc n) at r rest ps)
 
-none_commits_at_end : (n : ℕ) (ps : List Placed) → filter will_commit (opened n [] ps) ≡ []
-none_commits_at_end n [] = refl
-none_commits_at_end n (p ∷ ps) = none_commits_at_end (suc n) ps
+none_commits_at_end : (taken n : ℕ) (ps : List Placed) → filter will_commit (opened taken n [] ps) ≡ []
+none_commits_at_end taken n [] = refl
+none_commits_at_end taken n (p ∷ ps) = none_commits_at_end taken (suc n) ps
 
-none_falls_at_end : (n : ℕ) (ps : List Placed) → all_placed (filter will_fall (opened n [] ps)) ≡ []
-none_falls_at_end n [] = refl
-none_falls_at_end n (p ∷ ps) = none_falls_at_end (suc n) ps
+none_falls_at_end : (taken n : ℕ) (ps : List Placed) → all_placed (filter will_fall (opened taken n [] ps)) ≡ []
+none_falls_at_end taken n [] = refl
+none_falls_at_end taken n (p ∷ ps) = none_falls_at_end taken (suc n) ps
 
 -- ---- attempts that have come
 
 -- a committed attempt
-abbrev sure : Placed → Fated
-sure p = record { placed = p; fate = Committed }
+abbrev sure : ℕ → Placed → Fated
+sure taken p = record { placed = p; taken = taken; fate = Committed }
 
--- The section has come to this state by these attempts, and these steps are still to come.
-record HasCome (s : SectionState) (rest : List (ℕ × Step)) (xs : List Fated) : Type 0 where
-  counts : counting s.view xs ≡ map sure s.committed ++ opened 0 rest s.pending
-  commit : filter will_commit xs ≡ map sure s.committed ++ filter will_commit (opened 0 rest s.pending)
-  fall : all_placed (filter will_fall xs) ≡ s.discarded ++ all_placed (filter will_fall (opened 0 rest s.pending))
-  views : AllByRecursion (λ x. view_of x ≤ s.view) xs
+-- These attempts came, and these steps are still to come: of those behind the last state that was taken over, of all that
+-- are committed, of the open and of the discarded ones.
+record HasCome (taken view : ℕ) (behind done pending discarded : List Placed) (rest : List (ℕ × Step))
+    (xs : List Fated) : Type 0 where
+  counts : counting taken view xs ≡ map (sure taken) behind ++ opened taken 0 rest pending
+  stays : filter (stays_in taken) xs ≡ map (sure taken) behind ++ filter will_commit (opened taken 0 rest pending)
+  commit : all_placed (filter will_commit xs) ≡ done ++ all_placed (filter will_commit (opened taken 0 rest pending))
+  fall : all_placed (filter will_fall xs) ≡ discarded ++ all_placed (filter will_fall (opened taken 0 rest pending))
+  within : AllByRecursion (IsNoLater taken view) xs
+
+-- the section has come to this state by them
+abbrev AreCome : SectionState → List (ℕ × Step) → List Fated → Type 0
+AreCome s rest xs = HasCome (length (states_by s.landings)) s.view (since s.landings) (attempts_by s.landings) s.pending
+    s.discarded rest xs
 
 -- those of the list, and of one more
 placed_push : (test : Fated → Bool) (xs : List Fated) (x : Fated) → all_placed (filter test (xs ++ x ∷ []))
@@ -115,8 +168,10 @@ placed_push test xs x = ap all_placed (filter-append test xs (x ∷ []))
     ∙ map-append (λ (y : Fated). y.placed) (filter test xs) (filter test (x ∷ []))
 
 -- one that counts in its view
-counts_own : (x : Fated) (view : ℕ) → view_of x ≡ view → counts_in view x ≡ true
-counts_own x view e = by (is_committed x.fate)
+counts_own : (x : Fated) (taken view : ℕ) → x.taken ≡ taken → view_of x ≡ view → counts_in taken view x ≡ true
+counts_own x taken view as_many e =
+    ap (λ (b : Bool). b && (is_committed x.fate || (view_of x == view))) (eq-eqb x.taken taken as_many)
+    ∙ by (is_committed x.fate)
   where
     by : (b : Bool) → (b || (view_of x == view)) ≡ true
     by true = refl
@@ -125,136 +180,222 @@ counts_own x view e = by (is_committed x.fate)
 kept_alone : (test : Fated → Bool) (x : Fated) → test x ≡ true → filter test (x ∷ []) ≡ x ∷ []
 kept_alone test x e = ap (λ (b : Bool). cond b (x ∷ []) []) e
 
+stays_alone : (x : Fated) (taken : ℕ) → x.taken ≡ taken → filter (stays_in taken) (x ∷ []) ≡ filter will_commit (x ∷ [])
+stays_alone x taken as_many =
+    ap (λ (b : Bool). cond (b && will_commit x) (x ∷ []) []) (eq-eqb x.taken taken as_many)
+
+or-false : (b : Bool) → (b || false) ≡ b
+or-false true = refl
+or-false false = refl
+
 -- in a later view only what commits counts
-counting_later : (view : ℕ) (xs : List Fated) → AllByRecursion (λ x. view_of x < view) xs → counting view xs
-    ≡ filter will_commit xs
-counting_later view [] all = refl
-counting_later view (x ∷ xs) all = by (is_committed x.fate) refl (counting_later view xs all.1)
+counting_later : (taken up view : ℕ) (xs : List Fated) → up < view → AllByRecursion (IsNoLater taken up) xs
+    → counting taken view xs ≡ filter (stays_in taken) xs
+counting_later taken up view [] less all = refl
+counting_later taken up view (x ∷ xs) less all =
+    (λ i. cond (same i) (x ∷ counting_later taken up view xs less all.1 i) (counting_later taken up view xs less all.1 i))
   where
     other : view_of x ≡ view → ⊥
-    other e = omega (arith, all.0)
+    other e = omega (arith, all.0.1)
 
-    by : (b : Bool) → is_committed x.fate ≡ b → counting view xs ≡ filter will_commit xs
-        → cond (b || (view_of x == view)) (x ∷ counting view xs) (counting view xs) ≡ cond b (x ∷ filter will_commit xs)
-        (filter will_commit xs)
-    by true e rest = ap (λ ys. x ∷ ys) rest
-    by false e rest = ap (λ (c : Bool). cond c (x ∷ counting view xs) (counting view xs))
-        (ne_eqb (view_of x) view other) ∙ rest
+    same : counts_in taken view x ≡ stays_in taken x
+    same = ap (λ (b : Bool). (x.taken == taken) && (will_commit x || b)) (ne_eqb (view_of x) view other)
+        ∙ ap (λ (b : Bool). (x.taken == taken) && b) (or-false (will_commit x))
+
+-- ---- an attempt comes
+
+module _ (taken view : ℕ) (behind done pending discarded : List Placed) (at : ℕ) (a : Attempt) (rest : List (ℕ × Step))
+    (new : Fated) where
+  opened_one : new.taken ≡ taken → new.fate ≡ fate_in rest (length pending)
+      → opened taken 0 rest (pending ++ new.placed ∷ [])
+      ≡ opened taken 0 ((at, Attempts a) ∷ rest) pending ++ new ∷ []
+  opened_one as_many its =
+      opened_push taken 0 rest pending new.placed
+      ∙ (λ i. sym (opened_attempt taken 0 at a rest pending) i ++ record {
+        placed = new.placed;
+        taken = sym as_many i;
+        fate = (ap (fate_in rest) none ∙ sym its) i;
+      } ∷ [])
+    where
+      none : 0 + length pending ≡ length pending
+      none = omega arith
+
+  come_attempt : new.taken ≡ taken → view_of new ≡ view → new.fate ≡ fate_in rest (length pending) → (xs : List Fated)
+      → HasCome taken view behind done pending discarded ((at, Attempts a) ∷ rest) xs
+      → HasCome taken view behind done (pending ++ new.placed ∷ []) discarded rest (xs ++ new ∷ [])
+  come_attempt as_many same its xs known = record {
+    counts = filter-append (counts_in taken view) xs (new ∷ [])
+        ∙ (λ i. known.counts i ++ kept_alone (counts_in taken view) new (counts_own new taken view as_many same) i)
+        ∙ append_assoc (map (sure taken) behind) (opened taken 0 ((at, Attempts a) ∷ rest) pending) (new ∷ [])
+        ∙ ap (λ (ys : List Fated). map (sure taken) behind ++ ys) (sym (opened_one as_many its));
+    stays = filter-append (stays_in taken) xs (new ∷ [])
+        ∙ (λ i. known.stays i ++ stays_alone new taken as_many i)
+        ∙ append_assoc (map (sure taken) behind)
+        (filter will_commit (opened taken 0 ((at, Attempts a) ∷ rest) pending)) (filter will_commit (new ∷ []))
+        ∙ ap (λ (ys : List Fated). map (sure taken) behind ++ ys)
+        (sym (filter-append will_commit (opened taken 0 ((at, Attempts a) ∷ rest) pending) (new ∷ []))
+        ∙ ap (filter will_commit) (sym (opened_one as_many its)));
+    commit = more will_commit done known.commit;
+    fall = more will_fall discarded known.fall;
+    within = all-append (IsNoLater taken view) xs (new ∷ []) known.within ((equal as_many, equal same), tt);
+  }
+    where
+      equal : {m n : ℕ} → m ≡ n → m ≤ n
+      equal e = omega arith
+
+      more : (test : Fated → Bool) (before : List Placed)
+          → all_placed (filter test xs)
+          ≡ before ++ all_placed (filter test (opened taken 0 ((at, Attempts a) ∷ rest) pending))
+          → all_placed (filter test (xs ++ new ∷ []))
+          ≡ before ++ all_placed (filter test (opened taken 0 rest (pending ++ new.placed ∷ [])))
+      more test before is =
+          placed_push test xs new ∙ ap (λ (qs : List Placed). qs ++ all_placed (filter test (new ∷ []))) is
+          ∙ append_assoc before (all_placed (filter test (opened taken 0 ((at, Attempts a) ∷ rest) pending)))
+          (all_placed (filter test (new ∷ [])))
+          ∙ ap (λ (qs : List Placed). before ++ qs)
+          (sym (placed_push test (opened taken 0 ((at, Attempts a) ∷ rest) pending) new)
+          ∙ ap (λ (ys : List Fated). all_placed (filter test ys)) (sym (opened_one as_many its)))
+
+-- ---- a commit
+
+come_commit : (taken view : ℕ) (behind done discarded : List Placed) (p : Placed) (ps : List Placed) (at : ℕ)
+    (c : Commit) (rest : List (ℕ × Step)) (xs : List Fated)
+    → HasCome taken view behind done (p ∷ ps) discarded ((at, Commits c) ∷ rest) xs
+    → HasCome taken view (behind ++ p ∷ []) (done ++ p ∷ []) ps discarded rest xs
+come_commit taken view behind done discarded p ps at c rest xs known = record {
+  counts = known.counts
+      ∙ ap (λ (ys : List Fated). map (sure taken) behind ++ sure taken p ∷ ys) (opened_commit taken 0 at c rest ps)
+      ∙ one_sure (opened taken 0 rest ps);
+  stays = known.stays
+      ∙ ap (λ (ys : List Fated). map (sure taken) behind ++ sure taken p ∷ filter will_commit ys)
+      (opened_commit taken 0 at c rest ps) ∙ one_sure (filter will_commit (opened taken 0 rest ps));
+  commit = known.commit
+      ∙ ap (λ (ys : List Fated). done ++ p ∷ all_placed (filter will_commit ys)) (opened_commit taken 0 at c rest ps)
+      ∙ sym (append_assoc done (p ∷ []) (all_placed (filter will_commit (opened taken 0 rest ps))));
+  fall = known.fall
+      ∙ ap (λ (ys : List Fated). discarded ++ all_placed (filter will_fall ys)) (opened_commit taken 0 at c rest ps);
+  within = known.within;
+}
+  where
+    one_sure : (ys : List Fated) → map (sure taken) behind ++ sure taken p ∷ ys
+        ≡ map (sure taken) (behind ++ p ∷ []) ++ ys
+    one_sure ys = sym (ap (λ (zs : List Fated). zs ++ ys) (map-append (sure taken) behind (p ∷ []))
+        ∙ append_assoc (map (sure taken) behind) (sure taken p ∷ []) ys)
+
+-- ---- a rollback
+
+come_rollback : (taken view : ℕ) (behind done pending discarded : List Placed) (at : ℕ) (r : Rollback)
+    (rest : List (ℕ × Step)) (xs : List Fated) → view < r.view
+    → HasCome taken view behind done pending discarded ((at, RollsBack r) ∷ rest) xs
+    → HasCome taken r.view behind done [] (discarded ++ pending) rest xs
+come_rollback taken view behind done pending discarded at r rest xs later known = record {
+  counts = counting_later taken view r.view xs later known.within ∙ stay;
+  stays = stay;
+  commit = known.commit
+      ∙ ap (λ (ys : List Fated). done ++ all_placed ys) (none_commits taken 0 at r rest pending);
+  fall = known.fall ∙ ap (λ (qs : List Placed). discarded ++ qs) (all_fall taken 0 at r rest pending)
+      ∙ sym (append-nil (discarded ++ pending));
+  within = all-weaker (IsNoLater taken view) (IsNoLater taken r.view) xs (λ x h. (h.0, up (view_of x) h.1)) known.within;
+}
+  where
+    up : (n : ℕ) → n ≤ view → n ≤ r.view
+    up n h = omega (arith, later)
+
+    stay : filter (stays_in taken) xs ≡ map (sure taken) behind ++ []
+    stay = known.stays ∙ ap (λ (ys : List Fated). map (sure taken) behind ++ ys) (none_commits taken 0 at r rest pending)
 
 module _ (t : Trace) where
-  -- ---- an attempt comes
+  its_view : (s : SectionState) (a : Attempt) → IsTrue (is_right t s (Attempts a)) → a.view ≡ s.view
+  its_view s a right =
+      let own = and_parts (is_right_attempt t s a) (is_right_certificate t a && are_right_accesses t a [] a.accesses)
+      right in
+      let due = and_parts (is_due t s a) (length a.certificate == request_count t a) own.0 in
+      let one = and_parts (a.seq == s.last + 1 + length s.pending)
+      (nat_le a.seq (length t.batches) &&
+      (nat_le a.seq (s.last + t.head.window) && ((a.view == s.view) && beq a.serial s.rolled_back))) due.0 in
+      let two = and_parts (nat_le a.seq (length t.batches))
+      (nat_le a.seq (s.last + t.head.window) && ((a.view == s.view) && beq a.serial s.rolled_back)) one.1 in
+      let three = and_parts (nat_le a.seq (s.last + t.head.window)) ((a.view == s.view) && beq a.serial s.rolled_back)
+      two.1 in
+      let four = and_parts (a.view == s.view) (beq a.serial s.rolled_back) three.1 in
+      eqb-true a.view s.view four.0
 
-  module _ (s : SectionState) (at : ℕ) (a : Attempt) (rest : List (ℕ × Step)) where
-    abbrev new : Fated
-    new = record {
-      placed = record { offset = at; attempt = a; path = path_of s };
-      fate = fate_in rest (length s.pending);
-    }
+  later_view : (s : SectionState) (r : Rollback) → IsTrue (is_right_rollback t s r) → s.view < r.view
+  later_view s r right =
+      let one = and_parts (r.to == s.last) (nat_lt s.last (length t.batches) && (r.view == s.view + 1)) right in
+      let is : r.view ≡ s.view + 1 =
+      eqb-true r.view (s.view + 1) (and_parts (nat_lt s.last (length t.batches)) (r.view == s.view + 1) one.1).1 in
+      omega (arith, is)
 
-    its_view : IsTrue (is_right t s (Attempts a)) → a.view ≡ s.view
-    its_view right =
-        let own = and_parts (is_right_attempt t s a) (is_right_certificate t a && are_right_accesses t a [] a.accesses)
-        right in
-        let due = and_parts (is_due t s a) (length a.certificate == request_count t a) own.0 in
-        let one = and_parts (a.seq == s.last + 1 + length s.pending)
-        (nat_le a.seq (length t.batches) &&
-        (nat_le a.seq (s.last + t.head.window) && ((a.view == s.view) && beq a.serial s.rolled_back))) due.0 in
-        let two = and_parts (nat_le a.seq (length t.batches))
-        (nat_le a.seq (s.last + t.head.window) && ((a.view == s.view) && beq a.serial s.rolled_back)) one.1 in
-        let three = and_parts (nat_le a.seq (s.last + t.head.window)) ((a.view == s.view) && beq a.serial s.rolled_back)
-        two.1 in
-        let four = and_parts (a.view == s.view) (beq a.serial s.rolled_back) three.1 in
-        eqb-true a.view s.view four.0
+  abbrev new : SectionState → ℕ → Attempt → List (ℕ × Step) → Fated
+  new s at a rest = record {
+    placed = record { offset = at; attempt = a; path = path_of s };
+    taken = length (states_by s.landings);
+    fate = fate_in rest (length s.pending);
+  }
 
-    opened_one : opened 0 rest (s.pending ++ new.placed ∷ []) ≡ opened 0 ((at, Attempts a) ∷ rest) s.pending ++ new ∷ []
-    opened_one =
-        opened_push 0 rest s.pending new.placed
-        ∙ ap (λ (m : ℕ). opened 0 rest s.pending ++ record { placed = new.placed; fate = fate_in rest m } ∷ []) none
-        ∙ ap (λ (ys : List Fated). ys ++ new ∷ []) (sym (opened_attempt 0 at a rest s.pending))
-      where
-        none : 0 + length s.pending ≡ length s.pending
-        none = omega arith
+  attempt_comes : (s : SectionState) (at : ℕ) (a : Attempt) (rest : List (ℕ × Step)) → IsTrue (is_right t s (Attempts a))
+      → (xs : List Fated) → AreCome s ((at, Attempts a) ∷ rest) xs
+      → AreCome (next s (at, Attempts a)) rest (xs ++ new s at a rest ∷ [])
+  attempt_comes s at a rest right xs known =
+      come_attempt (length (states_by s.landings)) s.view (since s.landings) (attempts_by s.landings) s.pending s.discarded
+      at a rest (new s at a rest) refl (its_view s a right) refl xs known
 
-    come_attempt : IsTrue (is_right t s (Attempts a)) → (xs : List Fated) → HasCome s ((at, Attempts a) ∷ rest) xs
-        → HasCome (next s (at, Attempts a)) rest (xs ++ new ∷ [])
-    come_attempt right xs known = record {
-      counts = filter-append (counts_in s.view) xs (new ∷ [])
-          ∙ (λ i. known.counts i ++ kept_alone (counts_in s.view) new (counts_own new s.view (its_view right)) i)
-          ∙ append_assoc (map sure s.committed) (opened 0 ((at, Attempts a) ∷ rest) s.pending) (new ∷ [])
-          ∙ ap (λ (ys : List Fated). map sure s.committed ++ ys) (sym opened_one);
-      commit = filter-append will_commit xs (new ∷ [])
-          ∙ ap (λ (ys : List Fated). ys ++ filter will_commit (new ∷ [])) known.commit
-          ∙ append_assoc (map sure s.committed) (filter will_commit (opened 0 ((at, Attempts a) ∷ rest) s.pending))
-          (filter will_commit (new ∷ []))
-          ∙ ap (λ (ys : List Fated). map sure s.committed ++ ys)
-          (sym (filter-append will_commit (opened 0 ((at, Attempts a) ∷ rest) s.pending) (new ∷ []))
-          ∙ ap (filter will_commit) (sym opened_one));
-      fall = placed_push will_fall xs new ∙ ap (λ (qs : List Placed). qs ++ all_placed (filter will_fall (new ∷ [])))
-          known.fall
-          ∙ append_assoc s.discarded (all_placed (filter will_fall (opened 0 ((at, Attempts a) ∷ rest) s.pending)))
-          (all_placed (filter will_fall (new ∷ [])))
-          ∙ ap (λ (qs : List Placed). s.discarded ++ qs)
-          (sym (placed_push will_fall (opened 0 ((at, Attempts a) ∷ rest) s.pending) new)
-          ∙ ap (λ (ys : List Fated). all_placed (filter will_fall ys)) (sym opened_one));
-      views = all-append (λ x. view_of x ≤ s.view) xs (new ∷ []) known.views (up (its_view right), tt);
-    }
-      where
-        up : a.view ≡ s.view → a.view ≤ s.view
-        up e = omega arith
-
-  -- ---- a commit
-
-  come_commit : (s : SectionState) (at : ℕ) (c : Commit) (rest : List (ℕ × Step)) (pending : List Placed) → s.pending
+  commit_comes : (s : SectionState) (at : ℕ) (c : Commit) (rest : List (ℕ × Step)) (pending : List Placed) → s.pending
       ≡ pending → IsTrue (commits_first pending c) → (xs : List Fated)
-      → HasCome s ((at, Commits c) ∷ rest) xs → HasCome (committing s pending) rest xs
-  come_commit s at c rest [] is right xs known = absurd (false≢true right)
-  come_commit s at c rest (p ∷ ps) is right xs known = record {
-    counts = known.counts ∙ ap (λ (qs : List Placed). map sure s.committed ++ opened 0 ((at, Commits c) ∷ rest) qs) is
-        ∙ ap (λ (ys : List Fated). map sure s.committed ++ sure p ∷ ys) (opened_commit 0 at c rest ps)
-        ∙ one_sure (opened 0 rest ps);
-    commit = known.commit ∙ ap
-        (λ (qs : List Placed). map sure s.committed ++ filter will_commit (opened 0 ((at, Commits c) ∷ rest) qs)) is
-        ∙ ap (λ (ys : List Fated). map sure s.committed ++ sure p ∷ filter will_commit ys)
-        (opened_commit 0 at c rest ps) ∙ one_sure (filter will_commit (opened 0 rest ps));
-    fall = known.fall ∙ ap (λ (qs : List Placed). s.discarded ++ all_placed
-        (filter will_fall (opened 0 ((at, Commits c) ∷ rest) qs))) is
-        ∙ ap (λ (ys : List Fated). s.discarded ++ all_placed (filter will_fall ys)) (opened_commit 0 at c rest ps);
-    views = known.views;
-  }
-    where
-      one_sure : (ys : List Fated) → map sure s.committed ++ sure p ∷ ys ≡ map sure (s.committed ++ p ∷ []) ++ ys
-      one_sure ys = sym (ap (λ (zs : List Fated). zs ++ ys) (map-append sure s.committed (p ∷ []))
-          ∙ append_assoc (map sure s.committed) (sure p ∷ []) ys)
+      → AreCome s ((at, Commits c) ∷ rest) xs → AreCome (committing s pending) rest xs
+  commit_comes s at c rest [] is right xs known = absurd (false≢true right)
+  commit_comes s at c rest (p ∷ ps) is right xs known =
+      let k = length (states_by s.landings) in
+      let now : HasCome k s.view (since s.landings ++ p ∷ []) (attempts_by s.landings ++ p ∷ []) ps s.discarded rest xs =
+      come_commit k s.view (since s.landings) (attempts_by s.landings) s.discarded p ps at c rest xs
+      (subst (λ (qs : List Placed). HasCome k s.view (since s.landings) (attempts_by s.landings) qs s.discarded
+      ((at, Commits c) ∷ rest) xs) is known) in
+      subst (λ (m : ℕ). HasCome m s.view (since (s.landings ++ ByAttempt p ∷ []))
+      (attempts_by (s.landings ++ ByAttempt p ∷ [])) ps s.discarded rest xs)
+      (sym (ap (λ (xs : List (List Versioned)). length xs) (taken_more s.landings p)))
+      (subst (λ (qs : List Placed). HasCome k s.view qs (attempts_by (s.landings ++ ByAttempt p ∷ [])) ps s.discarded rest
+      xs) (sym (fold-append since_next [] s.landings (ByAttempt p ∷ [])))
+      (subst (λ (qs : List Placed). HasCome k s.view (since s.landings ++ p ∷ []) qs ps s.discarded rest xs)
+      (sym (attempts_by_push s.landings p)) now))
 
-  -- ---- a rollback
+  rollback_comes : (s : SectionState) (at : ℕ) (r : Rollback) (rest : List (ℕ × Step)) → IsTrue (is_right_rollback t s r)
+      → (xs : List Fated) → AreCome s ((at, RollsBack r) ∷ rest) xs → AreCome (next s (at, RollsBack r)) rest xs
+  rollback_comes s at r rest right xs known =
+      come_rollback (length (states_by s.landings)) s.view (since s.landings) (attempts_by s.landings) s.pending
+      s.discarded at r rest xs (later_view s r right) known
 
-  come_rollback : (s : SectionState) (at : ℕ) (r : Rollback) (rest : List (ℕ × Step)) → IsTrue (is_right_rollback t s r)
-      → (xs : List Fated)
-      → HasCome s ((at, RollsBack r) ∷ rest) xs → HasCome (next s (at, RollsBack r)) rest xs
-  come_rollback s at r rest right xs known = record {
-    counts = counting_later r.view xs
-        (all-weaker (λ x. view_of x ≤ s.view) (λ x. view_of x < r.view) xs (λ x. below (view_of x)) known.views)
-        ∙ committed;
-    commit = committed;
-    fall = known.fall ∙ ap (λ (qs : List Placed). s.discarded ++ qs) (all_fall 0 at r rest s.pending)
-        ∙ sym (append-nil (s.discarded ++ s.pending));
-    views = all-weaker (λ x. view_of x ≤ s.view) (λ x. view_of x ≤ r.view) xs (λ x h. up (view_of x) h) known.views;
-  }
-    where
-      later : r.view ≡ s.view + 1
-      later =
-          let one = and_parts (r.to == s.last) (nat_lt s.last (length t.batches) && (r.view == s.view + 1)) right in
-          eqb-true r.view (s.view + 1) (and_parts (nat_lt s.last (length t.batches)) (r.view == s.view + 1) one.1).1
+  -- ---- what the rows have
 
-      below : (n : ℕ) → n ≤ s.view → n < r.view
-      below n h = omega (arith, later)
+  -- of what came by landings, and of what they had after as many states
+  abbrev AreBased : (ℕ → Table) → List Landing → Type 0
+  AreBased bases ls =
+      rows_after t (flat_map came_by ls) ≡ fold (with_came t) (bases (length (states_by ls))) (ran (since ls))
 
-      up : (n : ℕ) → n ≤ s.view → n ≤ r.view
-      up n h = omega (arith, later)
+  ran_more : (table : Table) (ps qs : List Placed)
+      → fold (with_came t) table (ran (ps ++ qs)) ≡ fold (with_came t) (fold (with_came t) table (ran ps)) (ran qs)
+  ran_more table ps qs = ap (fold (with_came t) table) (map-append (λ (p : Placed). Ran p.attempt) ps qs)
+      ∙ fold-append (with_came t) table (ran ps) (ran qs)
 
-      committed : filter will_commit xs ≡ map sure s.committed ++ []
-      committed = known.commit ∙ ap (λ (ys : List Fated). map sure s.committed ++ ys)
-          (none_commits 0 at r rest s.pending)
+  based_commit : (bases : ℕ → Table) (s : SectionState) (pending : List Placed) → AreBased bases s.landings
+      → AreBased bases (committing s pending).landings
+  based_commit bases s [] based = based
+  based_commit bases s (p ∷ ps) based =
+      ap (rows_after t) (flat_map-append came_by s.landings (ByAttempt p ∷ []))
+      ∙ rows_after-push t (flat_map came_by s.landings) p.attempt
+      ∙ ap (λ (table : Table). table_after_all table (execution t p.attempt)) based
+      ∙ sym (ran_more (bases (length (states_by s.landings))) (since s.landings) (p ∷ []))
+      ∙ (λ i. fold (with_came t) (bases (length (sym (taken_more s.landings p) i)))
+      (ran (sym (fold-append since_next [] s.landings (ByAttempt p ∷ [])) i)))
+
+  -- after the path of an attempt
+  based_path : (bases : ℕ → Table) (s : SectionState) → AreBased bases s.landings
+      → rows_after t (path_of s)
+      ≡ fold (with_came t) (bases (length (states_by s.landings))) (ran (since s.landings ++ s.pending))
+  based_path bases s based =
+      fold-append (with_came t) (opening_table t) (flat_map came_by s.landings) (ran s.pending)
+      ∙ ap (λ (table : Table). fold (with_came t) table (ran s.pending)) based
+      ∙ sym (ran_more (bases (length (states_by s.landings))) (since s.landings) s.pending)
 
   -- ---- all of them
 
@@ -269,100 +410,107 @@ module _ (t : Trace) where
   settles_before ((at, Commits c) ∷ rest) (suc m) (suc n) up done = settles_before rest m n (omega arith) done
   settles_before ((at, RollsBack r) ∷ rest) m n up done = refl
 
-  all_settle : (rest : List (ℕ × Step)) (from n : ℕ) (ps : List Placed) → from + length ps ≤ n
+  all_settle : (taken : ℕ) (rest : List (ℕ × Step)) (from n : ℕ) (ps : List Placed) → from + length ps ≤ n
       → (is_committed (fate_in rest n) || is_discarded (fate_in rest n)) ≡ true
-      → AllByRecursion (λ y. settles y ≡ true) (opened from rest ps)
-  all_settle rest from n [] up done = tt
-  all_settle rest from n (p ∷ ps) up done =
-      (settles_before rest from n (omega arith) done, all_settle rest (suc from) n ps (omega arith) done)
+      → AllByRecursion (λ y. settles y ≡ true) (opened taken from rest ps)
+  all_settle taken rest from n [] up done = tt
+  all_settle taken rest from n (p ∷ ps) up done =
+      (settles_before rest from n (omega arith) done, all_settle taken rest (suc from) n ps (omega arith) done)
 
-  sure_settle : (ps : List Placed) → AllByRecursion (λ y. settles y ≡ true) (map sure ps)
-  sure_settle [] = tt
-  sure_settle (p ∷ ps) = (refl, sure_settle ps)
+  sure_settle : (taken : ℕ) (ps : List Placed) → AllByRecursion (λ y. settles y ≡ true) (map (sure taken) ps)
+  sure_settle taken [] = tt
+  sure_settle taken (p ∷ ps) = (refl, sure_settle taken ps)
 
-  placed_sure : (ps : List Placed) → all_placed (map sure ps) ≡ ps
-  placed_sure [] = refl
-  placed_sure (p ∷ ps) = ap (λ qs. p ∷ qs) (placed_sure ps)
+  placed_sure : (taken : ℕ) (ps : List Placed) → all_placed (map (sure taken) ps) ≡ ps
+  placed_sure taken [] = refl
+  placed_sure taken (p ∷ ps) = ap (λ qs. p ∷ qs) (placed_sure taken ps)
 
-  placed_opened : (n : ℕ) (rest : List (ℕ × Step)) (ps : List Placed) → all_placed (opened n rest ps) ≡ ps
-  placed_opened n rest [] = refl
-  placed_opened n rest (p ∷ ps) = ap (λ qs. p ∷ qs) (placed_opened (suc n) rest ps)
+  placed_opened : (taken n : ℕ) (rest : List (ℕ × Step)) (ps : List Placed) → all_placed (opened taken n rest ps) ≡ ps
+  placed_opened taken n rest [] = refl
+  placed_opened taken n rest (p ∷ ps) = ap (λ qs. p ∷ qs) (placed_opened taken (suc n) rest ps)
 
-  come_all : (s : SectionState) (rest : List (ℕ × Step)) (xs : List Fated) → IsTrue (are_right t s rest)
-      → HasCome s rest xs → AreCounting xs (to_come s rest)
-  come_all s [] xs right known = tt
-  come_all s ((at, Attempts a) ∷ rest) xs right known =
+  come_all : (bases : ℕ → Table) (s : SectionState) (rest : List (ℕ × Step)) (xs : List Fated)
+      → IsTrue (are_right t s rest) → AreCome s rest xs → AreBased bases s.landings
+      → AreCounting t bases xs (to_come s rest)
+  come_all bases s [] xs right known based = tt
+  come_all bases s ((at, Attempts a) ∷ rest) xs right known based =
       let parts = and_parts (is_right t s (Attempts a)) (are_right t (next s (at, Attempts a)) rest) right in
-      let view : a.view ≡ s.view = its_view s at a rest parts.0 in
-      let count : counting a.view xs ≡ map sure s.committed ++ opened 0 ((at, Attempts a) ∷ rest) s.pending =
-      ap (λ (v : ℕ). counting v xs) view ∙ known.counts in
-      let placed : all_placed (counting a.view xs) ≡ s.committed ++ s.pending =
-      ap all_placed count ∙ map-append (λ (y : Fated). y.placed) (map sure s.committed)
-      (opened 0 ((at, Attempts a) ∷ rest) s.pending)
-      ∙ (λ i. placed_sure s.committed i ++ placed_opened 0 ((at, Attempts a) ∷ rest) s.pending i) in (
-        ap (map (λ p. p.attempt)) (sym placed),
-        all-weaker (λ x. view_of x ≤ s.view) (λ x. view_of x ≤ a.view) xs (λ x h. up (view_of x) view h) known.views,
+      let k = length (states_by s.landings) in
+      let steps = (at, Attempts a) ∷ rest in
+      let view : a.view ≡ s.view = its_view s a parts.0 in
+      let count : counting k a.view xs ≡ map (sure k) (since s.landings) ++ opened k 0 steps s.pending =
+      ap (λ (v : ℕ). counting k v xs) view ∙ known.counts in
+      let placed : all_placed (counting k a.view xs) ≡ since s.landings ++ s.pending =
+      ap all_placed count
+      ∙ map-append (λ (y : Fated). y.placed) (map (sure k) (since s.landings)) (opened k 0 steps s.pending)
+      ∙ (λ i. placed_sure k (since s.landings) i ++ placed_opened k 0 steps s.pending i) in (
+        based_path bases s based ∙ ap (λ (ps : List Placed). fold (with_came t) (bases k) (ran ps)) (sym placed),
+        subst (λ (v : ℕ). AllByRecursion (IsNoLater k v) xs) (sym view) known.within,
         λ done. subst (AllByRecursion (λ y. settles y ≡ true)) (sym count)
-            (all-append (λ y. settles y ≡ true) (map sure s.committed) (opened 0 ((at, Attempts a) ∷ rest) s.pending)
-            (sure_settle s.committed)
-            (all_settle ((at, Attempts a) ∷ rest) 0 (length s.pending) s.pending none done)),
-        come_all (next s (at, Attempts a)) rest (xs ++ new s at a rest ∷ []) parts.1
-            (come_attempt s at a rest parts.0 xs known),
+            (all-append (λ y. settles y ≡ true) (map (sure k) (since s.landings)) (opened k 0 steps s.pending)
+            (sure_settle k (since s.landings))
+            (all_settle k steps 0 (length s.pending) s.pending none done)),
+        come_all bases (next s (at, Attempts a)) rest (xs ++ new s at a rest ∷ []) parts.1
+            (attempt_comes s at a rest parts.0 xs known) based,
       )
     where
-      up : (n : ℕ) → a.view ≡ s.view → n ≤ s.view → n ≤ a.view
-      up n e h = omega arith
-
       none : 0 + length s.pending ≤ length s.pending
       none = omega arith
-  come_all s ((at, Commits c) ∷ rest) xs right known =
+  come_all bases s ((at, Commits c) ∷ rest) xs right known based =
       let parts = and_parts (is_right t s (Commits c)) (are_right t (next s (at, Commits c)) rest) right in
-      come_all (next s (at, Commits c)) rest xs parts.1
-      (come_commit s at c rest s.pending refl
+      come_all bases (next s (at, Commits c)) rest xs parts.1
+      (commit_comes s at c rest s.pending refl
       (and_parts (c.seq == s.last + 1) (commits_first s.pending c) parts.0).1 xs known)
-  come_all s ((at, RollsBack r) ∷ rest) xs right known =
+      (based_commit bases s s.pending based)
+  come_all bases s ((at, RollsBack r) ∷ rest) xs right known based =
       let parts = and_parts (is_right t s (RollsBack r)) (are_right t (next s (at, RollsBack r)) rest) right in
-      come_all (next s (at, RollsBack r)) rest xs parts.1 (come_rollback s at r rest parts.0 xs known)
+      come_all bases (next s (at, RollsBack r)) rest xs parts.1 (rollback_comes s at r rest parts.0 xs known) based
 
   -- where the section ends
   record HasEnded (s : SectionState) (xs : List Fated) : Type 0 where
-    committed : all_placed (filter will_commit xs) ≡ s.committed
+    committed : all_placed (filter will_commit xs) ≡ attempts_by s.landings
     discarded : all_placed (filter will_fall xs) ≡ s.discarded
 
   come_end : (s : SectionState) (rest : List (ℕ × Step)) (xs : List Fated) → IsTrue (are_right t s rest)
-      → HasCome s rest xs → HasEnded (state_after s rest) (xs ++ to_come s rest)
-  come_end s [] xs right known = record {
-    committed = ap (λ (ys : List Fated). all_placed (filter will_commit ys)) (append-nil xs)
-        ∙ ap all_placed (known.commit ∙ ap (λ (ys : List Fated). map sure s.committed ++ ys)
-        (none_commits_at_end 0 s.pending) ∙ append-nil (map sure s.committed)) ∙ placed_sure s.committed;
-    discarded = ap (λ (ys : List Fated). all_placed (filter will_fall ys)) (append-nil xs) ∙ known.fall
-        ∙ ap (λ (qs : List Placed). s.discarded ++ qs) (none_falls_at_end 0 s.pending) ∙ append-nil s.discarded;
-  }
+      → AreCome s rest xs → HasEnded (state_after s rest) (xs ++ to_come s rest)
+  come_end s [] xs right known =
+      let k = length (states_by s.landings) in
+      record {
+        committed = ap (λ (ys : List Fated). all_placed (filter will_commit ys)) (append-nil xs) ∙ known.commit
+            ∙ ap (λ (ys : List Fated). attempts_by s.landings ++ all_placed ys) (none_commits_at_end k 0 s.pending)
+            ∙ append-nil (attempts_by s.landings);
+        discarded = ap (λ (ys : List Fated). all_placed (filter will_fall ys)) (append-nil xs) ∙ known.fall
+            ∙ ap (λ (qs : List Placed). s.discarded ++ qs) (none_falls_at_end k 0 s.pending) ∙ append-nil s.discarded;
+      }
   come_end s ((at, Attempts a) ∷ rest) xs right known =
       let parts = and_parts (is_right t s (Attempts a)) (are_right t (next s (at, Attempts a)) rest) right in
       subst (HasEnded (state_after (next s (at, Attempts a)) rest))
       (append_assoc xs (new s at a rest ∷ []) (to_come (next s (at, Attempts a)) rest))
       (come_end (next s (at, Attempts a)) rest (xs ++ new s at a rest ∷ []) parts.1
-      (come_attempt s at a rest parts.0 xs known))
+      (attempt_comes s at a rest parts.0 xs known))
   come_end s ((at, Commits c) ∷ rest) xs right known =
       let parts = and_parts (is_right t s (Commits c)) (are_right t (next s (at, Commits c)) rest) right in
       come_end (next s (at, Commits c)) rest xs parts.1
-      (come_commit s at c rest s.pending refl
+      (commit_comes s at c rest s.pending refl
       (and_parts (c.seq == s.last + 1) (commits_first s.pending c) parts.0).1 xs known)
   come_end s ((at, RollsBack r) ∷ rest) xs right known =
       let parts = and_parts (is_right t s (RollsBack r)) (are_right t (next s (at, RollsBack r)) rest) right in
-      come_end (next s (at, RollsBack r)) rest xs parts.1 (come_rollback s at r rest parts.0 xs known)
+      come_end (next s (at, RollsBack r)) rest xs parts.1 (rollback_comes s at r rest parts.0 xs known)
 
-  none_came : (rest : List (ℕ × Step)) → HasCome start rest []
-  none_came rest = record { counts = refl; commit = refl; fall = refl; views = tt }
+  none_came : (rest : List (ℕ × Step)) → AreCome start rest []
+  none_came rest = record { counts = refl; stays = refl; commit = refl; fall = refl; within = tt }
 
   -- ---- a replica's section
 
-  pub counting_told : (e : ℕ) → IsRightSection t e → AreCounting [] (told_of t e)
-  counting_told e right = come_all start (steps_at t e) [] right (none_came (steps_at t e))
+  -- what the rows of replica e have after as many states
+  abbrev pub rows_of : ℕ → ℕ → Table
+  rows_of e k row = bases_of t e row k
+
+  pub counting_told : (e : ℕ) → IsRightSection t e → AreCounting t (rows_of e) [] (told_of t e)
+  counting_told e right = come_all (rows_of e) start (steps_at t e) [] right (none_came (steps_at t e)) refl
 
   pub committed_told : (e : ℕ) → IsRightSection t e → all_placed (filter will_commit (told_of t e))
-      ≡ (history t e).committed
+      ≡ attempts_by (history t e).landings
   unfolding history
   committed_told e right = (come_end start (steps_at t e) [] right (none_came (steps_at t e))).committed
 

@@ -18,14 +18,14 @@ use Rattle.eve_views.specs.declared.fault.Code.{Code}
 use Rattle.eve_views.specs.declared.fault.Code.TheVariants as code
 use Rattle.eve_views.specs.declared.fault.Fault.{Fault}
 use Rattle.eve_views.specs.Form.{SomePlace, IsFaultIn}
-use Rattle.eve_history.specs.Section.{Placed, settled}
+use Rattle.eve_history.specs.Section.{Placed, attempts_by, settled}
 use Rattle.eve_history.specs.SectionHistory.{history, names_of, IsRightSection, is_committed, is_discarded}
 use Rattle.eve_history.specs.declared.fate.Fate.{Fate}
 use Rattle.eve_history.specs.declared.fate.Fate.TheVariants.{Committed, Discarded, Open}
 use Rattle.eve_grammar.specs.Frames.{OfAccess, OfAttempt}
 use Rattle.eve_grammar.specs.Spelling.{frame_text, accesses_at}
 use Rattle.eve_grammar.proofs.Lists.{filter_kept, filter_dropped}
-use Rattle.eve_chains.specs.Visible.{opening_table, executed_by, visible_to}
+use Rattle.eve_chains.specs.Visible.{executed_by, visible_to}
 use Rattle.eve_chains.specs.Sound.{RecordsFit, EntriesSee}
 use Rattle.eve_chains.specs.Faults.{AtSettledAccess, StandsInChains}
 use Rattle.eve_chains.specs.Along.{SeesAnother}
@@ -34,29 +34,29 @@ use Rattle.eve_chains.proofs.Faultless.{Standing, place_of, in_place, standing, 
 use Rattle.eve_chains.proofs.LeftByRecords.{left_before, right_one, complete_one}
 use Rattle.eve_chains.proofs.Attempts.{in_ordered, from_ordered, located_in}
 use Rattle.eve_chains.specs.Rows.{Fated, told_of, settles, Noted, noted_by, noted_in, all_noted, of_row, met_by}
-use Rattle.eve_chains.specs.Rows.{pair_after, IsWrongOnRow, EachSees}
+use Rattle.eve_chains.specs.Rows.{bases_of, pair_after, IsWrongOnRow, EachSees}
 use Rattle.eve_chains.proofs.AttemptRecords.{own}
 use Rattle.eve_chains.proofs.Paths.{all_placed, view_of, number_of, committed_told, discarded_told}
 use Rattle.eve_chains.proofs.Meeting.{settled_there, meets_visible}
 use Rattle.eve_chains.proofs.Cuts.{filter_cut, flat_cut, map_cut}
 
-abbrev noted_entry : ℕ → ℕ → ℕ → Bool → Entry → Noted
-noted_entry at view number commits e =
-    record { offset = at; view = view; number = number; commits = commits; entry = e }
+abbrev noted_entry : ℕ → ℕ → ℕ → ℕ → Bool → Entry → Noted
+noted_entry at taken view number commits e =
+    record { offset = at; taken = taken; view = view; number = number; commits = commits; entry = e }
 
 -- what stands between a front and a back is there
 in_cut : {A : Type 0} (xs front : List A) (x : A) (back : List A) → xs ≡ front ++ x ∷ back → In x xs
 in_cut xs front x back is = subst (In x) (sym is) (in_middle x front back)
 
 -- of a request's entries on distinct rows none before this one is of its row
-none_before : (at view number : ℕ) (commits : Bool) (row : ℕ) (before : List Entry) (e : Entry) (rest : List Entry)
+none_before : (at taken view number : ℕ) (commits : Bool) (row : ℕ) (before : List Entry) (e : Entry) (rest : List Entry)
     → AreDistinct (map (λ d. d.row) (before ++ e ∷ rest)) → e.row ≡ row
-    → of_row row (map (noted_entry at view number commits) before) ≡ []
-none_before at view number commits row [] e rest apart its = refl
-none_before at view number commits row (d ∷ before) e rest apart its =
-    filter_dropped (λ (n : Noted). n.entry.row == row) (noted_entry at view number commits d)
-    (map (noted_entry at view number commits) before) (ne_eqb d.row row other)
-    ∙ none_before at view number commits row before e rest apart.1 its
+    → of_row row (map (noted_entry at taken view number commits) before) ≡ []
+none_before at taken view number commits row [] e rest apart its = refl
+none_before at taken view number commits row (d ∷ before) e rest apart its =
+    filter_dropped (λ (n : Noted). n.entry.row == row) (noted_entry at taken view number commits d)
+    (map (noted_entry at taken view number commits) before) (ne_eqb d.row row other)
+    ∙ none_before at taken view number commits row before e rest apart.1 its
   where
     other : d.row ≡ row → ⊥
     other same = all_in (λ n. ¬ (n ≡ d.row)) apart.0
@@ -123,20 +123,20 @@ module _ (t : Trace) (e : ℕ) (limits : HasLimits t) (right : IsRightSection t 
   -- what the row's walk meets at an entry of a record is what the record's entries must see
   meets_must : (front : List Fated) (y : Fated) (back : List Fated) → told_of t e ≡ front ++ y ∷ back → settles y ≡ true
       → (xs : List (ℕ × Access)) (x : ℕ × Access) (zs : List (ℕ × Access)) → own y.placed ≡ xs ++ x ∷ zs
-      → (row : ℕ) (n : Noted) → n.view ≡ view_of y
-      → met_by (pair_after (opening_table t row)
-      (of_row row (all_noted front ++ flat_map (noted_by (view_of y) (number_of y) (is_committed y.fate)) xs))) n
+      → (row : ℕ) (n : Noted) → n.taken ≡ y.taken → n.view ≡ view_of y
+      → met_by (bases_of t e row) (pair_after (bases_of t e row)
+      (of_row row (all_noted front ++ flat_map (noted_by y.taken (view_of y) (number_of y) (is_committed y.fate)) xs))) n
       ≡ visible_to t y.placed x.1.index row
-  meets_must front y back is done xs x zs its row n same =
+  meets_must front y back is done xs x zs its row n as_many same =
       let there_is = settled_there t e limits right y (in_cut (told_of t e) front y back is) done in
-      meets_visible t e limits right front y back is done xs row n same
+      meets_visible t e limits right front y back is done xs row n as_many same
       ∙ ap (λ (table : Table). table row)
       (left_before t y.placed (right_one t e y.placed right there_is) (complete_one t e y.placed limits there_is) xs x zs
       its)
 
   -- a fault on a row stands at some record
   pub row_fault_stands : (row : ℕ) (f : Fault)
-      → IsWrongOnRow e (opening_table t row) (of_row row (all_noted (told_of t e))) f → IsFaultIn StandsInChains t e f
+      → IsWrongOnRow e (bases_of t e row) (of_row row (all_noted (told_of t e))) f → IsFaultIn StandsInChains t e f
   row_fault_stands row f wrong =
       let place = wrong.stands in
       let n = place.item in
@@ -144,9 +144,9 @@ module _ (t : Trace) (e : ℕ) (limits : HasLimits t) (right : IsRightSection t 
       place.is in
       let b = flat_cut noted_in (filter settles (told_of t e)) a.front n a.back a.is in
       let c = filter_cut settles (told_of t e) b.earlier b.item b.later b.is in
-      let d = flat_cut (noted_by (view_of b.item) (number_of b.item) (is_committed b.item.fate)) (own b.item.placed) b.front n b.back
+      let d = flat_cut (noted_by b.item.taken (view_of b.item) (number_of b.item) (is_committed b.item.fate)) (own b.item.placed) b.front n b.back
       b.inner in
-      let m = map_cut (noted_entry d.item.0 (view_of b.item) (number_of b.item) (is_committed b.item.fate)) d.item.1.entries d.front n
+      let m = map_cut (noted_entry d.item.0 b.item.taken (view_of b.item) (number_of b.item) (is_committed b.item.fate)) d.item.1.entries d.front n
       d.back d.inner in
       let its : n.entry.row ≡ row = eqb-true n.entry.row row a.passes in
       let same : n.entry ≡ m.item = ap (λ (k : Noted). k.entry) m.it in
@@ -154,11 +154,11 @@ module _ (t : Trace) (e : ℕ) (limits : HasLimits t) (right : IsRightSection t 
       let record_there : In d.item (own b.item.placed) =
       in_cut (own b.item.placed) d.earlier d.item d.later d.is in
       let none : of_row row d.front ≡ [] =
-      ap (of_row row) m.same ∙ none_before d.item.0 (view_of b.item) (number_of b.item) (is_committed b.item.fate) row m.earlier m.item
+      ap (of_row row) m.same ∙ none_before d.item.0 b.item.taken (view_of b.item) (number_of b.item) (is_committed b.item.fate) row m.earlier m.item
       m.later
       (subst (λ (es : List Entry). AreDistinct (map (λ k. k.row) es)) m.is
       (apart b.item there_is c.passes d.item record_there)) (ap (λ (k : Entry). k.row) (sym same) ∙ its) in
-      let mine = flat_map (noted_by (view_of b.item) (number_of b.item) (is_committed b.item.fate)) d.earlier in
+      let mine = flat_map (noted_by b.item.taken (view_of b.item) (number_of b.item) (is_committed b.item.fate)) d.earlier in
       let all : a.front ≡ (all_noted c.front ++ mine) ++ d.front =
       b.same ∙ (λ i. flat_map noted_in (sym c.same i) ++ d.same i)
       ∙ sym (append_assoc (all_noted c.front) mine d.front) in
@@ -168,10 +168,10 @@ module _ (t : Trace) (e : ℕ) (limits : HasLimits t) (right : IsRightSection t 
       ∙ ap (λ (ks : List Noted). of_row row (all_noted c.front ++ mine) ++ ks) none
       ∙ append-nil (of_row row (all_noted c.front ++ mine)) in
       let table : Table = visible_to t b.item.placed d.item.1.index in
-      let met : met_by (pair_after (opening_table t row) place.before) n ≡ table n.entry.row =
-      ap (λ (ks : List Noted). met_by (pair_after (opening_table t row) ks) n) before
+      let met : met_by (bases_of t e row) (pair_after (bases_of t e row) place.before) n ≡ table n.entry.row =
+      ap (λ (ks : List Noted). met_by (bases_of t e row) (pair_after (bases_of t e row) ks) n) before
       ∙ meets_must c.front b.item c.back c.is c.passes d.earlier d.item d.later d.is row n
-      (ap (λ (k : Noted). k.view) m.it) ∙ ap table (sym its) in
+      (ap (λ (k : Noted). k.taken) m.it) (ap (λ (k : Noted). k.view) m.it) ∙ ap table (sym its) in
       let other : SeesAnother f.code (table n.entry.row) n.entry =
       subst (λ (v : Versioned). SeesAnother f.code v n.entry) met place.holds.1 in
       let member : In n.entry d.item.1.entries = subst (λ (k : Entry). In k d.item.1.entries) (sym same)
@@ -193,7 +193,7 @@ module _ (t : Trace) (e : ℕ) (limits : HasLimits t) (right : IsRightSection t 
 
   its_place : (p : Placed) → In p (settled (history t e)) → ToldAt (told_of t e) p
   its_place p i =
-      elim (in_split (history t e).committed (history t e).discarded i) [
+      elim (in_split (attempts_by (history t e).landings) (history t e).discarded i) [
         | inl j ↦ told_at (told_of t e) is_committed committed_settles p
             (subst (In p) (sym (committed_told t e right)) j)
         | inr j ↦ told_at (told_of t e) is_discarded discarded_settles p
@@ -206,28 +206,28 @@ module _ (t : Trace) (e : ℕ) (limits : HasLimits t) (right : IsRightSection t 
       (xs : List (ℕ × Access)) (x : ℕ × Access) (zs : List (ℕ × Access)) (its : own y.placed ≡ xs ++ x ∷ zs)
       (before : List Entry) (en : Entry) (rest : List Entry) (entries_is : x.1.entries ≡ before ++ en ∷ rest) where
     abbrev note : Noted
-    note = noted_entry x.0 (view_of y) (number_of y) (is_committed y.fate) en
+    note = noted_entry x.0 y.taken (view_of y) (number_of y) (is_committed y.fate) en
 
     abbrev mine : List Noted
-    mine = flat_map (noted_by (view_of y) (number_of y) (is_committed y.fate)) xs
+    mine = flat_map (noted_by y.taken (view_of y) (number_of y) (is_committed y.fate)) xs
 
     abbrev own_before : List Noted
-    own_before = map (noted_entry x.0 (view_of y) (number_of y) (is_committed y.fate)) before
+    own_before = map (noted_entry x.0 y.taken (view_of y) (number_of y) (is_committed y.fate)) before
 
     abbrev others : List Noted
     others =
-        map (noted_entry x.0 (view_of y) (number_of y) (is_committed y.fate)) rest ++
-        (flat_map (noted_by (view_of y) (number_of y) (is_committed y.fate)) zs ++ all_noted back)
+        map (noted_entry x.0 y.taken (view_of y) (number_of y) (is_committed y.fate)) rest ++
+        (flat_map (noted_by y.taken (view_of y) (number_of y) (is_committed y.fate)) zs ++ all_noted back)
 
-    in_record : noted_by (view_of y) (number_of y) (is_committed y.fate) x
-        ≡ own_before ++ note ∷ map (noted_entry x.0 (view_of y) (number_of y) (is_committed y.fate)) rest
-    in_record = ap (map (noted_entry x.0 (view_of y) (number_of y) (is_committed y.fate))) entries_is
-        ∙ map-append (noted_entry x.0 (view_of y) (number_of y) (is_committed y.fate)) before (en ∷ rest)
+    in_record : noted_by y.taken (view_of y) (number_of y) (is_committed y.fate) x
+        ≡ own_before ++ note ∷ map (noted_entry x.0 y.taken (view_of y) (number_of y) (is_committed y.fate)) rest
+    in_record = ap (map (noted_entry x.0 y.taken (view_of y) (number_of y) (is_committed y.fate))) entries_is
+        ∙ map-append (noted_entry x.0 y.taken (view_of y) (number_of y) (is_committed y.fate)) before (en ∷ rest)
 
     in_attempt : noted_in y ≡ mine ++
-        (noted_by (view_of y) (number_of y) (is_committed y.fate) x ++ flat_map (noted_by (view_of y) (number_of y) (is_committed y.fate)) zs)
-    in_attempt = ap (flat_map (noted_by (view_of y) (number_of y) (is_committed y.fate))) its
-        ∙ flat_map-append (noted_by (view_of y) (number_of y) (is_committed y.fate)) xs (x ∷ zs)
+        (noted_by y.taken (view_of y) (number_of y) (is_committed y.fate) x ++ flat_map (noted_by y.taken (view_of y) (number_of y) (is_committed y.fate)) zs)
+    in_attempt = ap (flat_map (noted_by y.taken (view_of y) (number_of y) (is_committed y.fate))) its
+        ∙ flat_map-append (noted_by y.taken (view_of y) (number_of y) (is_committed y.fate)) xs (x ∷ zs)
 
     in_all : all_noted (told_of t e) ≡ all_noted front ++ (noted_in y ++ all_noted back)
     in_all =
@@ -238,18 +238,18 @@ module _ (t : Trace) (e : ℕ) (limits : HasLimits t) (right : IsRightSection t 
     all_is : all_noted (told_of t e) ≡ ((all_noted front ++ mine) ++ own_before) ++ note ∷ others
     all_is =
         in_all ∙ ap (λ ns. all_noted front ++ (ns ++ all_noted back))
-        (in_attempt ∙ ap (λ ns. mine ++ (ns ++ flat_map (noted_by (view_of y) (number_of y) (is_committed y.fate)) zs)) in_record)
+        (in_attempt ∙ ap (λ ns. mine ++ (ns ++ flat_map (noted_by y.taken (view_of y) (number_of y) (is_committed y.fate)) zs)) in_record)
         ∙ ap (λ ns. all_noted front ++ ns)
-        (append_assoc mine ((own_before ++ note ∷ map (noted_entry x.0 (view_of y) (number_of y) (is_committed y.fate)) rest)
-        ++ flat_map (noted_by (view_of y) (number_of y) (is_committed y.fate)) zs) (all_noted back))
+        (append_assoc mine ((own_before ++ note ∷ map (noted_entry x.0 y.taken (view_of y) (number_of y) (is_committed y.fate)) rest)
+        ++ flat_map (noted_by y.taken (view_of y) (number_of y) (is_committed y.fate)) zs) (all_noted back))
         ∙ sym (append_assoc (all_noted front) mine
-        (((own_before ++ note ∷ map (noted_entry x.0 (view_of y) (number_of y) (is_committed y.fate)) rest) ++ flat_map
-        (noted_by (view_of y) (number_of y) (is_committed y.fate)) zs) ++ all_noted back))
+        (((own_before ++ note ∷ map (noted_entry x.0 y.taken (view_of y) (number_of y) (is_committed y.fate)) rest) ++ flat_map
+        (noted_by y.taken (view_of y) (number_of y) (is_committed y.fate)) zs) ++ all_noted back))
         ∙ ap (λ ns. (all_noted front ++ mine) ++ ns)
-        (append_assoc (own_before ++ note ∷ map (noted_entry x.0 (view_of y) (number_of y) (is_committed y.fate)) rest)
-        (flat_map (noted_by (view_of y) (number_of y) (is_committed y.fate)) zs) (all_noted back)
-        ∙ append_assoc own_before (note ∷ map (noted_entry x.0 (view_of y) (number_of y) (is_committed y.fate)) rest)
-        (flat_map (noted_by (view_of y) (number_of y) (is_committed y.fate)) zs ++ all_noted back))
+        (append_assoc (own_before ++ note ∷ map (noted_entry x.0 y.taken (view_of y) (number_of y) (is_committed y.fate)) rest)
+        (flat_map (noted_by y.taken (view_of y) (number_of y) (is_committed y.fate)) zs) (all_noted back)
+        ∙ append_assoc own_before (note ∷ map (noted_entry x.0 y.taken (view_of y) (number_of y) (is_committed y.fate)) rest)
+        (flat_map (noted_by y.taken (view_of y) (number_of y) (is_committed y.fate)) zs ++ all_noted back))
         ∙ sym (append_assoc (all_noted front ++ mine) own_before (note ∷ others))
 
     there_is : In y (told_of t e)
@@ -270,18 +270,18 @@ module _ (t : Trace) (e : ℕ) (limits : HasLimits t) (right : IsRightSection t 
         front_is =
             filter-append (λ (n : Noted). n.entry.row == en.row) (all_noted front ++ mine) own_before
             ∙ ap (λ ns. of_row en.row (all_noted front ++ mine) ++ ns)
-            (none_before x.0 (view_of y) (number_of y) (is_committed y.fate) en.row before en rest
+            (none_before x.0 y.taken (view_of y) (number_of y) (is_committed y.fate) en.row before en rest
             (subst (λ (es : List Entry). AreDistinct (map (λ k. k.row) es)) entries_is
             (apart y there_is done x record_there)) refl)
             ∙ append-nil (of_row en.row (all_noted front ++ mine))
 
-    met : met_by (pair_after (opening_table t en.row) (of_row en.row (all_noted front ++ mine))) note
+    met : met_by (bases_of t e en.row) (pair_after (bases_of t e en.row) (of_row en.row (all_noted front ++ mine))) note
         ≡ visible_to t y.placed x.1.index en.row
-    met = meets_must front y back is done xs x zs its en.row note refl
+    met = meets_must front y back is done xs x zs its en.row note refl refl
 
     found_there : (f : Fault) → x.0 ≡ f.offset → SeesAnother f.code (visible_to t y.placed x.1.index en.row) en
         → f.replica ≡ Some e
-        → IsWrongOnRow e (opening_table t en.row) (of_row en.row (all_noted (told_of t e))) f
+        → IsWrongOnRow e (bases_of t e en.row) (of_row en.row (all_noted (told_of t e))) f
     found_there f at other inside = record {
       stands = record {
         before = of_row en.row (all_noted front ++ mine);
@@ -293,7 +293,7 @@ module _ (t : Trace) (e : ℕ) (limits : HasLimits t) (right : IsRightSection t 
       inside = inside;
     }
 
-    sees_there : EachSees (opening_table t en.row) (of_row en.row (all_noted (told_of t e)))
+    sees_there : EachSees (bases_of t e en.row) (of_row en.row (all_noted (told_of t e)))
         → Sees (visible_to t y.placed x.1.index) en
     sees_there each =
         let own_seen = each (of_row en.row (all_noted front ++ mine)) note (of_row en.row others) row_is in
@@ -309,7 +309,7 @@ module _ (t : Trace) (e : ℕ) (limits : HasLimits t) (right : IsRightSection t 
 
   -- a fault of chains stands on a row
   pub fault_on_row : (f : Fault) → IsFaultIn StandsInChains t e f → (row : ℕ)
-      × IsWrongOnRow e (opening_table t row) (of_row row (all_noted (told_of t e))) f
+      × IsWrongOnRow e (bases_of t e row) (of_row row (all_noted (told_of t e))) f
   fault_on_row f fault =
       let wrong = other_seen t e f.code f.offset fault.stands in
       let i = in_place (settled (history t e)) wrong in
@@ -326,7 +326,7 @@ module _ (t : Trace) (e : ℕ) (limits : HasLimits t) (right : IsRightSection t 
       )
 
   -- where each row's entries see what its walk meets, each entry sees what it must
-  pub all_rows_see : ((row : ℕ) → EachSees (opening_table t row) (of_row row (all_noted (told_of t e)))) → EntriesSee t e
+  pub all_rows_see : ((row : ℕ) → EachSees (bases_of t e row) (of_row row (all_noted (told_of t e)))) → EntriesSee t e
   all_rows_see each =
       all_from_in (λ p. AllByRecursion (λ x. AllByRecursion (Sees (visible_to t p x.index)) x.entries)
       p.attempt.accesses) (settled (history t e)) (λ p i.

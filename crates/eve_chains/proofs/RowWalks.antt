@@ -9,13 +9,18 @@ use Rattle.eve_smallbank.specs.declared.entry.Entry.{Entry}
 use Rattle.eve_smallbank.specs.Access.{is_write, writes_row}
 use Rattle.eve_smallbank.specs.Chain.{Table, after_own, left_by, table_after}
 use Rattle.eve_smallbank.specs.declared.versioned.Versioned.{Versioned}
-use Rattle.eve_chains.specs.Rows.{Noted, Pair, met_by, next_pair, at_first, pair_after}
+use Rattle.eve_chains.specs.Rows.{Noted, Pair, kept_by, met_by, next_pair, at_first, pair_after}
 use Rattle.eve_grammar.proofs.Lists.{all-append}
 
 -- ---- what counts
 
-abbrev pub counts : ℕ → Noted → Bool
-counts view n = n.commits || (n.view == view)
+-- of the entries behind as many states that were taken over, those that are committed, or of this view
+abbrev pub counts : ℕ → ℕ → Noted → Bool
+counts taken view n = (n.taken == taken) && (n.commits || (n.view == view))
+
+-- those that are committed
+abbrev stays : ℕ → Noted → Bool
+stays taken n = (n.taken == taken) && n.commits
 
 abbrev pub entries : List Noted → List Entry
 entries ns = map (λ n. n.entry) ns
@@ -24,125 +29,195 @@ entries ns = map (λ n. n.entry) ns
 abbrev pub after_all : Versioned → List Entry → Versioned
 after_all v es = fold after_own v es
 
--- no view falls
+-- in no number the one is past the other
+abbrev pub IsUpTo : Noted → Noted → Type 0
+IsUpTo n m = (n.taken ≤ m.taken) × (n.view ≤ m.view)
+
+-- neither number falls
 abbrev pub AreRising : List Noted → Type 0
 AreRising [] = Unit {0}
-AreRising (n ∷ ns) = AllByRecursion (λ m. n.view ≤ m.view) ns × AreRising ns
+AreRising (n ∷ ns) = AllByRecursion (IsUpTo n) ns × AreRising ns
+
+-- up to these numbers
+abbrev pub IsWithin : ℕ → ℕ → Noted → Type 0
+IsWithin taken view n = (n.taken ≤ taken) × (n.view ≤ view)
 
 pub fold_more : {A B : Type 0} (f : A → B → A) (a : A) (xs : List B) (x : B) → fold f a (xs ++ x ∷ []) ≡ f (fold f a xs) x
 fold_more f a [] x = refl
 fold_more f a (y ∷ xs) x = fold_more f (f a y) xs x
 
-counts_later : (view : ℕ) (ns : List Noted) → AllByRecursion (λ n. n.view < view) ns → filter (counts view) ns
-    ≡ filter (λ n. n.commits) ns
-counts_later view [] all = refl
-counts_later view (n ∷ ns) all = by n.commits refl (counts_later view ns all.1)
+-- tests that say the same of each
+same_filter : (one other : Noted → Bool) (P : Noted → Type 0) → ((n : Noted) → P n → one n ≡ other n)
+    → (ns : List Noted) → AllByRecursion P ns → filter one ns ≡ filter other ns
+same_filter one other P same [] all = refl
+same_filter one other P same (n ∷ ns) all =
+    (λ i. cond (same n all.0 i) (n ∷ same_filter one other P same ns all.1 i) (same_filter one other P same ns all.1 i))
+
+none_of : (test : Noted → Bool) (P : Noted → Type 0) → ((n : Noted) → P n → test n ≡ false)
+    → (ns : List Noted) → AllByRecursion P ns → filter test ns ≡ []
+none_of test P not [] all = refl
+none_of test P not (n ∷ ns) all =
+    (λ i. cond (not n all.0 i) (n ∷ none_of test P not ns all.1 i) (none_of test P not ns all.1 i))
+
+or-false : (b : Bool) → (b || false) ≡ b
+or-false true = refl
+or-false false = refl
+
+-- in a later view only what is committed counts
+counts_later : (taken up view : ℕ) (ns : List Noted) → up < view → AllByRecursion (IsWithin taken up) ns
+    → filter (counts taken view) ns ≡ filter (stays taken) ns
+counts_later taken up view ns less all =
+    same_filter (counts taken view) (stays taken) (IsWithin taken up)
+    (λ n within. ap (λ (b : Bool). (n.taken == taken) && (n.commits || b)) (ne_eqb n.view view (other n within.1))
+    ∙ ap (λ (b : Bool). (n.taken == taken) && b) (or-false n.commits)) ns all
   where
-    other : n.view ≡ view → ⊥
-    other e = omega (arith, all.0)
+    other : (n : Noted) → n.view ≤ up → n.view ≡ view → ⊥
+    other n le is = omega arith
 
-    by : (b : Bool) → n.commits ≡ b → filter (counts view) ns ≡ filter (λ m. m.commits) ns
-        → cond (b || (n.view == view)) (n ∷ filter (counts view) ns) (filter (counts view) ns)
-        ≡ cond b (n ∷ filter (λ m. m.commits) ns) (filter (λ m. m.commits) ns)
-    by true e rest = ap (λ ms. n ∷ ms) rest
-    by false e rest = ap (λ (c : Bool). cond c (n ∷ filter (counts view) ns) (filter (counts view) ns))
-        (ne_eqb n.view view other) ∙ rest
+-- and behind one state more nothing does yet
+counts_none : (up taken view most : ℕ) (ns : List Noted) → up < taken → AllByRecursion (IsWithin up most) ns
+    → filter (counts taken view) ns ≡ []
+counts_none up taken view most ns less all =
+    none_of (counts taken view) (IsWithin up most)
+    (λ n within. ap (λ (b : Bool). b && (n.commits || (n.view == view))) (ne_eqb n.taken taken (other n within.0))) ns all
+  where
+    other : (n : Noted) → n.taken ≤ up → n.taken ≡ taken → ⊥
+    other n le is = omega arith
 
-all_less : (view later : ℕ) (ns : List Noted) → view < later → AllByRecursion (λ n. n.view ≤ view) ns
-    → AllByRecursion (λ n. n.view < later) ns
-all_less view later [] less all = tt
-all_less view later (n ∷ ns) less all = (omega (arith, all.0), all_less view later ns less all.1)
+stays_none : (up taken most : ℕ) (ns : List Noted) → up < taken → AllByRecursion (IsWithin up most) ns
+    → filter (stays taken) ns ≡ []
+stays_none up taken most ns less all =
+    none_of (stays taken) (IsWithin up most)
+    (λ n within. ap (λ (b : Bool). b && n.commits) (ne_eqb n.taken taken (other n within.0))) ns all
+  where
+    other : (n : Noted) → n.taken ≤ up → n.taken ≡ taken → ⊥
+    other n le is = omega arith
 
-all_up : (view later : ℕ) (ns : List Noted) → view ≤ later → AllByRecursion (λ n. n.view ≤ view) ns
-    → AllByRecursion (λ n. n.view ≤ later) ns
-all_up view later [] less all = tt
-all_up view later (n ∷ ns) less all = (omega (arith, all.0), all_up view later ns less all.1)
+within_more : (taken view later_taken later_view : ℕ) (ns : List Noted) → taken ≤ later_taken → view ≤ later_view
+    → AllByRecursion (IsWithin taken view) ns → AllByRecursion (IsWithin later_taken later_view) ns
+within_more taken view more late [] up on all = tt
+within_more taken view more late (n ∷ ns) up on all =
+    ((omega (arith, all.0.0), omega (arith, all.0.1)), within_more taken view more late ns up on all.1)
 
 -- ---- the pair, after these entries of the row
 
-module _ (base : Versioned) where
+module _ (bases : ℕ → Versioned) where
+  -- what the row has, of the entries that pass behind as many states
+  abbrev left : ℕ → (Noted → Bool) → List Noted → Versioned
+  left taken test ns = after_all (bases taken) (entries (filter test ns))
+
   record HasPair (done : List Noted) (p : Pair) : Type 0 where
-    committed : p.committed ≡ after_all base (entries (filter (λ n. n.commits) done))
-    working : p.working ≡ after_all base (entries (filter (counts p.view) done))
-    views : AllByRecursion (λ n. n.view ≤ p.view) done
+    committed : p.committed ≡ left p.taken (stays p.taken) done
+    working : p.working ≡ left p.taken (counts p.taken p.view) done
+    within : AllByRecursion (IsWithin p.taken p.view) done
 
-  -- what is met at the next entry is what counts in its view
-  meets : (done : List Noted) (p : Pair) (n : Noted) → HasPair done p → p.view ≤ n.view → met_by p n
-      ≡ after_all base (entries (filter (counts n.view) done))
-  meets done p n known up = by (n.view == p.view) refl
+  abbrev Follows : Pair → Noted → Type 0
+  Follows p n = (p.taken ≤ n.taken) × (p.view ≤ n.view)
+
+  -- the number is the same, or it has risen
+  same_or_more : (m n : ℕ) → m ≤ n → (n == m) ≡ false → m < n
+  same_or_more m n up not = elim (cases_lt m n) [
+    | inl less ↦ less
+    | inr more ↦ absurd (false≢true (sym not ∙ eq-eqb n m (same up more)))
+  ]
     where
-      later : (n.view == p.view) ≡ false → p.view < n.view
-      later e = elim (cases_lt p.view n.view) [
-        | inl less ↦ less
-        | inr more ↦ absurd (false≢true (sym e ∙ eq-eqb n.view p.view (same up more)))
-      ]
-        where
-          same : p.view ≤ n.view → n.view ≤ p.view → n.view ≡ p.view
-          same a b = omega arith
+      same : m ≤ n → n ≤ m → n ≡ m
+      same a b = omega arith
 
-      by : (b : Bool) → (n.view == p.view) ≡ b → cond b p.working p.committed
-          ≡ after_all base (entries (filter (counts n.view) done))
-      by true e = known.working ∙ ap (λ (v : ℕ). after_all base (entries (filter (counts v) done)))
-          (sym (eqb-true n.view p.view e))
-      by false e = known.committed
-          ∙ ap (λ ms. after_all base (entries ms))
-          (sym (counts_later n.view done (all_less p.view n.view done (later e) known.views)))
-
-  after_more : (test : Noted → Bool) (done : List Noted) (n : Noted)
-      → after_all base (entries (filter test (done ++ n ∷ [])))
-      ≡ cond (test n) (after_own (after_all base (entries (filter test done))) n.entry)
-      (after_all base (entries (filter test done)))
-  after_more test done n = ap (λ ms. after_all base (entries ms)) (filter-append test done (n ∷ [])) ∙ by (test n)
+  -- what is kept where the next entry comes
+  keeps : (done : List Noted) (p : Pair) (n : Noted) → HasPair done p → Follows p n
+      → kept_by bases p n ≡ left n.taken (stays n.taken) done
+  keeps done p n known follows = by (n.taken == p.taken) refl
     where
-      by : (b : Bool) → after_all base (entries (filter test done ++ cond b (n ∷ []) []))
-          ≡ cond b (after_own (after_all base (entries (filter test done))) n.entry)
-          (after_all base (entries (filter test done)))
-      by true = ap (after_all base) (map-append (λ (m : Noted). m.entry) (filter test done) (n ∷ []))
-          ∙ fold_more after_own base (entries (filter test done)) n.entry
-      by false = ap (λ ms. after_all base (entries ms)) (append-nil (filter test done))
+      by : (b : Bool) → (n.taken == p.taken) ≡ b → cond b p.committed (bases n.taken)
+          ≡ left n.taken (stays n.taken) done
+      by true e = known.committed ∙ ap (λ (k : ℕ). left k (stays k) done) (sym (eqb-true n.taken p.taken e))
+      by false e = ap (λ ms. after_all (bases n.taken) (entries ms))
+          (sym (stays_none p.taken n.taken p.view done (same_or_more p.taken n.taken follows.0 e) known.within))
 
-  stepped : (done : List Noted) (p : Pair) (n : Noted) → HasPair done p → p.view ≤ n.view
-      → HasPair (done ++ n ∷ []) (next_pair p n)
-  stepped done p n known up = record {
-    committed = ap (λ (v : Versioned). cond n.commits (after_own v n.entry) v) known.committed
-        ∙ sym (after_more (λ m. m.commits) done n);
-    working = ap (λ (v : Versioned). after_own v n.entry) (meets done p n known up)
-        ∙ sym (after_more (counts n.view) done n
-        ∙ ap (λ (b : Bool). cond b (after_own (after_all base (entries (filter (counts n.view) done))) n.entry)
-        (after_all base (entries (filter (counts n.view) done)))) (own n.commits));
-    views = all-append (λ m. m.view ≤ n.view) done (n ∷ []) (all_up p.view n.view done up known.views)
-        (omega arith, tt);
+  -- what is met there is what counts
+  meets : (done : List Noted) (p : Pair) (n : Noted) → HasPair done p → Follows p n → met_by bases p n
+      ≡ left n.taken (counts n.taken n.view) done
+  meets done p n known follows = by (n.taken == p.taken) (n.view == p.view) refl refl
+    where
+      by : (b w : Bool) → (n.taken == p.taken) ≡ b → (n.view == p.view) ≡ w
+          → cond (b && w) p.working (cond b p.committed (bases n.taken)) ≡ left n.taken (counts n.taken n.view) done
+      by true true e same = known.working
+          ∙ (λ i. left (sym (eqb-true n.taken p.taken e) i)
+          (counts (sym (eqb-true n.taken p.taken e) i) (sym (eqb-true n.view p.view same) i)) done)
+      by true false e not =
+          known.committed ∙ ap (λ (k : ℕ). left k (stays k) done) (sym (eqb-true n.taken p.taken e))
+          ∙ ap (λ ms. after_all (bases n.taken) (entries ms))
+          (sym (counts_later n.taken p.view n.view done (same_or_more p.view n.view follows.1 not)
+          (within_more p.taken p.view n.taken p.view done follows.0 (omega arith) known.within)))
+      by false w e not = ap (λ ms. after_all (bases n.taken) (entries ms))
+          (sym (counts_none p.taken n.taken n.view p.view done (same_or_more p.taken n.taken follows.0 e) known.within))
+
+  after_more : (taken : ℕ) (test : Noted → Bool) (done : List Noted) (n : Noted)
+      → left taken test (done ++ n ∷ [])
+      ≡ cond (test n) (after_own (left taken test done) n.entry) (left taken test done)
+  after_more taken test done n = ap (λ ms. after_all (bases taken) (entries ms)) (filter-append test done (n ∷ []))
+      ∙ by (test n)
+    where
+      by : (b : Bool) → after_all (bases taken) (entries (filter test done ++ cond b (n ∷ []) []))
+          ≡ cond b (after_own (left taken test done) n.entry) (left taken test done)
+      by true = ap (after_all (bases taken)) (map-append (λ (m : Noted). m.entry) (filter test done) (n ∷ []))
+          ∙ fold_more after_own (bases taken) (entries (filter test done)) n.entry
+      by false = ap (λ ms. after_all (bases taken) (entries ms)) (append-nil (filter test done))
+
+  stepped : (done : List Noted) (p : Pair) (n : Noted) → HasPair done p → Follows p n
+      → HasPair (done ++ n ∷ []) (next_pair bases p n)
+  stepped done p n known follows = record {
+    committed = ap (λ (v : Versioned). cond n.commits (after_own v n.entry) v) (keeps done p n known follows)
+        ∙ sym (after_more n.taken (stays n.taken) done n
+        ∙ ap (λ (b : Bool). cond b (after_own (left n.taken (stays n.taken) done) n.entry)
+        (left n.taken (stays n.taken) done)) own);
+    working = ap (λ (v : Versioned). after_own v n.entry) (meets done p n known follows)
+        ∙ sym (after_more n.taken (counts n.taken n.view) done n
+        ∙ ap (λ (b : Bool). cond b (after_own (left n.taken (counts n.taken n.view) done) n.entry)
+        (left n.taken (counts n.taken n.view) done)) (counts_own n));
+    within = all-append (IsWithin n.taken n.view) done (n ∷ [])
+        (within_more p.taken p.view n.taken n.view done follows.0 follows.1 known.within)
+        ((omega arith, omega arith), tt);
   }
     where
-      own : (b : Bool) → (b || (n.view == n.view)) ≡ true
-      own true = refl
-      own false = eq-eqb n.view n.view refl
+      own : ((n.taken == n.taken) && n.commits) ≡ n.commits
+      own = ap (λ (b : Bool). b && n.commits) (eq-eqb n.taken n.taken refl)
 
-  walked : (done ns : List Noted) (p : Pair) → HasPair done p → AllByRecursion (λ n. p.view ≤ n.view) ns → AreRising ns
-      → HasPair (done ++ ns) (fold next_pair p ns)
+      counts_own : (m : Noted) → counts m.taken m.view m ≡ true
+      counts_own m = ap (λ (b : Bool). b && (m.commits || (m.view == m.view))) (eq-eqb m.taken m.taken refl)
+          ∙ by m.commits
+        where
+          by : (b : Bool) → (b || (m.view == m.view)) ≡ true
+          by true = refl
+          by false = eq-eqb m.view m.view refl
+
+  walked : (done ns : List Noted) (p : Pair) → HasPair done p → AllByRecursion (Follows p) ns → AreRising ns
+      → HasPair (done ++ ns) (fold (next_pair bases) p ns)
   walked done [] p known up rising = subst (λ ms. HasPair ms p) (sym (append-nil done)) known
   walked done (n ∷ ns) p known up rising =
-      subst (λ ms. HasPair ms (fold next_pair (next_pair p n) ns)) (append_assoc done (n ∷ []) ns)
-      (walked (done ++ n ∷ []) ns (next_pair p n) (stepped done p n known up.0) rising.0 rising.1)
+      subst (λ ms. HasPair ms (fold (next_pair bases) (next_pair bases p n) ns)) (append_assoc done (n ∷ []) ns)
+      (walked (done ++ n ∷ []) ns (next_pair bases p n) (stepped done p n known up.0) rising.0 rising.1)
 
-  from_zero : (ns : List Noted) → AllByRecursion (λ n. 0 ≤ n.view) ns
+  from_zero : (ns : List Noted) → AllByRecursion (λ n. (0 ≤ n.taken) × (0 ≤ n.view)) ns
   from_zero [] = tt
-  from_zero (n ∷ ns) = (omega arith, from_zero ns)
+  from_zero (n ∷ ns) = ((omega arith, omega arith), from_zero ns)
 
-  pair_is : (ns : List Noted) → AreRising ns → HasPair ns (pair_after base ns)
-  pair_is ns rising = walked [] ns (at_first base) (record { committed = refl; working = refl; views = tt })
+  pair_is : (ns : List Noted) → AreRising ns → HasPair ns (pair_after bases ns)
+  pair_is ns rising = walked [] ns (at_first bases) (record { committed = refl; working = refl; within = tt })
       (from_zero ns) rising
 
-  view_reached : (ns : List Noted) (p : Pair) (view : ℕ) → p.view ≤ view → AllByRecursion (λ m. m.view ≤ view) ns
-      → (fold next_pair p ns).view ≤ view
-  view_reached [] p view up all = up
-  view_reached (n ∷ ns) p view up all = view_reached ns (next_pair p n) view all.0 all.1
+  reached : (ns : List Noted) (p : Pair) (n : Noted) → Follows p n → AllByRecursion (λ m. IsUpTo m n) ns
+      → Follows (fold (next_pair bases) p ns) n
+  reached [] p n up all = up
+  reached (m ∷ ns) p n up all = reached ns (next_pair bases p m) n all.0 all.1
 
-  -- what an entry of the row meets is what counts in its view of the row's entries before it
-  pub meets_what_counts : (ns : List Noted) (n : Noted) → AreRising ns → AllByRecursion (λ m. m.view ≤ n.view) ns
-      → met_by (pair_after base ns) n ≡ after_all base (entries (filter (counts n.view) ns))
-  meets_what_counts ns n rising up = meets ns (pair_after base ns) n (pair_is ns rising)
-      (view_reached ns (at_first base) n.view (omega arith) up)
+  -- what an entry of the row meets is what counts of the row's entries before it
+  pub meets_what_counts : (ns : List Noted) (n : Noted) → AreRising ns → AllByRecursion (λ m. IsUpTo m n) ns
+      → met_by bases (pair_after bases ns) n
+      ≡ after_all (bases n.taken) (entries (filter (counts n.taken n.view) ns))
+  meets_what_counts ns n rising up = meets ns (pair_after bases ns) n (pair_is ns rising)
+      (reached ns (at_first bases) n (omega arith, omega arith) up)
 
 -- ---- a table at one row
 

@@ -9,7 +9,7 @@ use Rattle.std.proofs.lemmas.List.{same_lists}
 use Rattle.eve_smallbank.specs.Access.{balance_of_row}
 use Rattle.eve_chains.specs.Changes.{values_changed}
 use Rattle.eve_chains.specs.Numbered.{is_same_where_changed}
-use Rattle.eve_chains.specs.Settling.{Settling, values_in, HaveSameBalances}
+use Rattle.eve_chains.specs.Settling.{Change, Wrote, Settling, values_in, HaveSameBalances}
 use Rattle.eve_chains.proofs.AdvancingBanks.{values_next}
 
 -- ---- the rows that are changed
@@ -59,16 +59,17 @@ all_same b (x ∷ cs) =
 -- ---- a batch of the one and of the other
 
 -- the balances after batch n, row by row, of those after the batch before and its changes
-after_batch : (s : Settling) (n : ℕ) (cs : List (ℕ × ℤ)) (b : List ℤ) → 1 ≤ n → slice_get s.numbers (n - 1) ≡ Some cs
+after_batch : (s : Settling) (n : ℕ) (cs : List (ℕ × ℤ)) (b : List ℤ) → 1 ≤ n
+    → slice_get s.numbers (n - 1) ≡ Some (Wrote cs)
     → balance_of_row b ≡ values_in s n → balance_of_row b ≡ values_changed (values_in s (n - 1)) cs
 after_batch s n cs b one at after =
     let is : n ≡ suc (n - 1) = omega arith in
-    after ∙ ap (values_in s) is ∙ values_next s (n - 1) cs at
+    after ∙ ap (values_in s) is ∙ values_next s (n - 1) (Wrote cs) at
 
 -- what was compared of the batch: its changes, and whether both have the same in the rows that it changes
-pub record IsCompared (numbers : List (List (ℕ × ℤ))) (n : ℕ) (b c : List ℤ) (found : Bool) : Type 0 where
+pub record IsCompared (numbers : List Change) (n : ℕ) (b c : List ℤ) (found : Bool) : Type 0 where
   pub cs : List (ℕ × ℤ)
-  pub at : slice_get numbers (n - 1) ≡ Some cs
+  pub at : slice_get numbers (n - 1) ≡ Some (Wrote cs)
   pub is : found ≡ list_all (is_same_where_changed b c) cs
 
 -- the same in both
@@ -89,7 +90,7 @@ same_again s u n b c own its one rows many after other before mine yours here th
     read (z ∷ xs) (suc i) d lt = read xs i d (omega arith)
 
 -- where the balances are the same, so are those of the rows that a batch changes
-pub changed_alike : (numbers : List (List (ℕ × ℤ))) (n : ℕ) (b c : List ℤ) (found : Bool)
+pub changed_alike : (numbers : List Change) (n : ℕ) (b c : List ℤ) (found : Bool)
     → IsCompared numbers n b c found → b ≡ c → found ≡ true
 changed_alike numbers n b c found told same =
     told.is ∙ (λ i. list_all (is_same_where_changed b (sym same i)) told.cs)

@@ -1,6 +1,6 @@
 -- What holds of each attempt among a section's steps holds of each that is settled.
 use Rattle.std.proofs.Common.{◌≡◌, ℕ, ◌&&◌, ◌==◌, List, [], ◌∷◌, length}
-use Rattle.std.proofs.Common.{IsTrue}
+use Rattle.std.proofs.Common.{IsTrue, sym, subst}
 use Rattle.std.specs.Prelude.{⊤}
 use Rattle.std.proofs.lemmas.Bool.{and_parts, eqb-true}
 use Rattle.std.specs.List.{AllByRecursion, list_all}
@@ -8,11 +8,13 @@ use Rattle.eve_grammar.specs.Trace.{Attempt, Step, Attempts, Commits, RollsBack,
 use Rattle.eve_grammar.specs.Spelling.{steps_at}
 use Rattle.eve_grammar.specs.Limits.{is_attempt, is_access, is_step, row_count, HasLimits}
 use Rattle.eve_grammar.proofs.Lists.{all-append}
-use Rattle.eve_history.specs.Section.{Placed, SectionState, start, path_of, committing, next, state_after, settled}
+use Rattle.eve_history.specs.Section.{Placed, SectionState, start, attempts_by, path_of, committing, next, state_after}
+use Rattle.eve_history.specs.Section.{settled}
 use Rattle.eve_history.specs.Section.{request_count, is_due, is_right_attempt, is_right_certificate, are_right_accesses}
 use Rattle.eve_history.specs.Section.{is_right, are_right}
 use Rattle.eve_history.specs.SectionHistory.{history, IsRightSection}
 use Rattle.eve_history.proofs.Coming.{steps_fit}
+use Rattle.eve_history.proofs.FateLaws.{attempts_by_push}
 
 -- ---- of any fact on attempts
 
@@ -22,7 +24,7 @@ IfAttempt (Attempts a) P = P a
 IfAttempt _ P = ⊤
 
 record AreAll (P : Attempt → Type 0) (s : SectionState) : Type 0 where
-  committed : AllByRecursion (λ p. P p.attempt) s.committed
+  committed : AllByRecursion (λ p. P p.attempt) (attempts_by s.landings)
   pending : AllByRecursion (λ p. P p.attempt) s.pending
   discarded : AllByRecursion (λ p. P p.attempt) s.discarded
 
@@ -31,7 +33,8 @@ all_committing : (P : Attempt → Type 0) (s : SectionState) (pending : List Pla
 all_committing P s [] all known = known
 all_committing P s (p ∷ ps) all known =
     record {
-      committed = all-append (λ q. P q.attempt) s.committed (p ∷ []) known.committed (all.0, tt);
+      committed = subst (AllByRecursion (λ q. P q.attempt)) (sym (attempts_by_push s.landings p))
+          (all-append (λ q. P q.attempt) (attempts_by s.landings) (p ∷ []) known.committed (all.0, tt));
       pending = all.1;
       discarded = known.discarded;
     }
@@ -63,7 +66,7 @@ all_settled : (t : Trace) (e : ℕ) (P : Attempt → Type 0) → AllByRecursion 
 unfolding history
 all_settled t e P own =
     let known = all_after P start (steps_at t e) own (record { committed = tt; pending = tt; discarded = tt }) in
-    all-append (λ p. P p.attempt) (history t e).committed (history t e).discarded known.committed known.discarded
+    all-append (λ p. P p.attempt) (attempts_by (history t e).landings) (history t e).discarded known.committed known.discarded
 
 -- ---- right steps
 

@@ -17,8 +17,9 @@ use Rattle.std.proofs.lemmas.Grind.{get_or-set_at}
 use Rattle.std.proofs.lemmas.List.{get_or-set_other, length-set}
 use Rattle.eve_views.proofs.Firsts.{up_to-trans}
 use Rattle.eve_grammar.specs.Trace.{Trace}
-use Rattle.eve_chains.specs.Visible.{opening_of, opening_table}
+use Rattle.eve_chains.specs.Visible.{opening_of}
 use Rattle.eve_chains.specs.Along.{SeesAnother, fault_if}
+use Rattle.eve_chains.specs.Rows.{bases_of}
 use Rattle.eve_chains.specs.Rows.{Noted, of_row, met_by, next_pair, pair_after, at_first, IsWrongOnRow, EachSees}
 use Rattle.std.proofs.Common.{get_or, map, set}
 use Rattle.std.specs.List.{AllByRecursion}
@@ -132,19 +133,19 @@ first_here e v n (Some c) is = record {
 
 -- ---- one entry more
 
-module _ (e : ℕ) (v : Versioned) (ns : List Noted) (n : Noted) where
+module _ (e : ℕ) (bases : ℕ → Versioned) (ns : List Noted) (n : Noted) where
   abbrev met : Versioned
-  met = met_by (pair_after v ns) n
+  met = met_by bases (pair_after bases ns) n
 
-  sees_more : EachSees v ns → SeesHere met n → EachSees v (ns ++ n ∷ [])
+  sees_more : EachSees bases ns → SeesHere met n → EachSees bases (ns ++ n ∷ [])
   sees_more each here before m rest is =
       elim (split_last ns n before m rest is) [
-        | inl last ↦ subst (λ (bs : List Noted). SeesHere (met_by (pair_after v bs) m) m) (sym last.0)
-            (subst (λ (k : Noted). SeesHere (met_by (pair_after v ns) k) k) (sym last.1) here)
+        | inl last ↦ subst (λ (bs : List Noted). SeesHere (met_by bases (pair_after bases bs) m) m) (sym last.0)
+            (subst (λ (k : Noted). SeesHere (met_by bases (pair_after bases ns) k) k) (sym last.1) here)
         | inr front ↦ each before m front.0 front.1
       ]
 
-  front_wrong : (f : Fault) → IsWrongOnRow e v ns f → IsWrongOnRow e v (ns ++ n ∷ []) f
+  front_wrong : (f : Fault) → IsWrongOnRow e bases ns f → IsWrongOnRow e bases (ns ++ n ∷ []) f
   front_wrong f wrong = record {
     stands = record {
       before = wrong.stands.before;
@@ -157,20 +158,20 @@ module _ (e : ℕ) (v : Versioned) (ns : List Noted) (n : Noted) where
     inside = wrong.inside;
   }
 
-  last_wrong : (f : Fault) → IsWrongHere e met n f → IsWrongOnRow e v (ns ++ n ∷ []) f
+  last_wrong : (f : Fault) → IsWrongHere e met n f → IsWrongOnRow e bases (ns ++ n ∷ []) f
   last_wrong f wrong = record {
     stands = record { before = ns; item = n; rest = []; is = refl; holds = (wrong.at, wrong.other) };
     inside = wrong.inside;
   }
 
-  which_wrong : (f : Fault) → IsWrongOnRow e v (ns ++ n ∷ []) f → IsWrongOnRow e v ns f ⊎ IsWrongHere e met n f
+  which_wrong : (f : Fault) → IsWrongOnRow e bases (ns ++ n ∷ []) f → IsWrongOnRow e bases ns f ⊎ IsWrongHere e met n f
   which_wrong f wrong =
       let place = wrong.stands in
       elim (split_last ns n place.before place.item place.rest place.is) [
         | inl last ↦ inr (record {
           at = ap (λ (k : Noted). k.offset) (sym last.1) ∙ place.holds.0;
-          other = subst (λ (k : Noted). SeesAnother f.code (met_by (pair_after v ns) k) k.entry) last.1
-              (subst (λ (bs : List Noted). SeesAnother f.code (met_by (pair_after v bs) place.item) place.item.entry)
+          other = subst (λ (k : Noted). SeesAnother f.code (met_by bases (pair_after bases ns) k) k.entry) last.1
+              (subst (λ (bs : List Noted). SeesAnother f.code (met_by bases (pair_after bases bs) place.item) place.item.entry)
               last.0 place.holds.1);
           inside = wrong.inside;
         })
@@ -186,10 +187,10 @@ module _ (e : ℕ) (v : Versioned) (ns : List Noted) (n : Noted) where
         })
       ]
 
-  pub first_noted : (first : Option Fault) (wrong : Option Code) → IsFirstOnRow e v ns first
-      → IsMismatch met n.entry wrong → IsFirstOnRow e v (ns ++ n ∷ []) (first_of first (fault_if e n.offset wrong))
+  pub first_noted : (first : Option Fault) (wrong : Option Code) → IsFirstOnRow e bases ns first
+      → IsMismatch met n.entry wrong → IsFirstOnRow e bases (ns ++ n ∷ []) (first_of first (fault_if e n.offset wrong))
   first_noted first wrong known is =
-      first_of_both {S = IsWrongOnRow e v (ns ++ n ∷ [])} (record {
+      first_of_both {S = IsWrongOnRow e bases (ns ++ n ∷ [])} (record {
         well = sees_more;
         one = front_wrong;
         other = last_wrong;
@@ -197,12 +198,12 @@ module _ (e : ℕ) (v : Versioned) (ns : List Noted) (n : Noted) where
         phase = λ f w. chain_phase f.code _ _ w.stands.holds.1;
       }) first (fault_if e n.offset wrong) known (first_here e met n wrong is)
 
-pub pair_more : (v : Versioned) (ns : List Noted) (n : Noted) → pair_after v (ns ++ n ∷ [])
-    ≡ next_pair (pair_after v ns) n
-pair_more v ns n = fold_more next_pair (at_first v) ns n
+pub pair_more : (bases : ℕ → Versioned) (ns : List Noted) (n : Noted) → pair_after bases (ns ++ n ∷ [])
+    ≡ next_pair bases (pair_after bases ns) n
+pair_more bases ns n = fold_more (next_pair bases) (at_first bases) ns n
 
-pub none_on_row : (e : ℕ) (v : Versioned) → IsFirstOnRow e v [] None
-none_on_row e v = (
+pub none_on_row : (e : ℕ) (bases : ℕ → Versioned) → IsFirstOnRow e bases [] None
+none_on_row e bases = (
   λ before n rest is. absurd (nothing before n rest is),
   λ f wrong.
       nothing wrong.stands.before wrong.stands.item wrong.stands.rest wrong.stands.is,
@@ -222,12 +223,12 @@ module _ (t : Trace) (e : ℕ) where
       apart : (row : ℕ) → i ≤ row → row < i → ⊥
       apart row low high = omega arith
 
-  pub one_on_rows : (row : ℕ) (first : Option Fault) → IsFirstOnRow e (opening_table t row) (notes_on t e row) first
+  pub one_on_rows : (row : ℕ) (first : Option Fault) → IsFirstOnRow e (bases_of t e row) (notes_on t e row) first
       → IsFirstOnRows t e row (row + 1) first
   one_on_rows row None first = (
-    λ r low high. subst (λ (k : ℕ). EachSees (opening_table t k) (notes_on t e k)) (same r low high) first.0,
+    λ r low high. subst (λ (k : ℕ). EachSees (bases_of t e k) (notes_on t e k)) (same r low high) first.0,
     λ f wrong. first.1 f
-        (subst (λ (k : ℕ). IsWrongOnRow e (opening_table t k) (notes_on t e k) f)
+        (subst (λ (k : ℕ). IsWrongOnRow e (bases_of t e k) (notes_on t e k) f)
         (sym (same wrong.row wrong.above wrong.below)) wrong.wrong),
   )
     where
@@ -236,7 +237,7 @@ module _ (t : Trace) (e : ℕ) where
   one_on_rows row (Some f) first = record {
     is = record { row = row; above = omega arith; below = omega arith; wrong = first.is };
     least = λ g wrong. first.least g
-        (subst (λ (k : ℕ). IsWrongOnRow e (opening_table t k) (notes_on t e k) g)
+        (subst (λ (k : ℕ). IsWrongOnRow e (bases_of t e k) (notes_on t e k) g)
         (sym (same wrong.row wrong.above wrong.below)) wrong.wrong);
   }
     where
@@ -412,15 +413,15 @@ each_set P xs p x there new each i d less =
     ]
 
 pub row_begun : (t : Trace) (row place : ℕ) (value : ℤ) (w : GatheredRow)
-    → ((e : ℕ) → HasMet e (record { version = 0; value = value }) [] w.walked.walk) → w.walked.changes.items ≡ []
-    → w.notes.items ≡ [] → value ≡ opening_of t row → row ≡ place
-    → (e : ℕ) → HasGathered e place (opening_table t place) [] w
+    → ((e : ℕ) (bases : ℕ → Versioned) → bases 0 ≡ record { version = 0; value = value } → HasMet e bases [] w.walked.walk)
+    → w.walked.changes.items ≡ [] → w.notes.items ≡ [] → value ≡ opening_of t row → row ≡ place
+    → (e : ℕ) → HasGathered e place (bases_of t e place) [] w
 row_begun t row place value w met none empty is same e = record {
   before = [];
   whole = ap (map (noted_at place)) empty;
   walked = record {
-    met = subst (λ (k : ℕ). HasMet e (opening_table t k) [] w.walked.walk) same
-        (subst (λ (z : ℤ). HasMet e (record { version = 0; value = z }) [] w.walked.walk) is (met e));
+    met = met e (bases_of t e place)
+        (λ i. record { version = 0; value = ((ap (opening_of t) (sym same)) ∙ sym is) i });
     changes = none;
   };
 }

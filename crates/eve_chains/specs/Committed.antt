@@ -6,7 +6,7 @@ use Rattle.eve_smallbank.specs.SmallBank.{Bank, run}
 use Rattle.eve_smallbank.specs.Access.{Executed, bank_of}
 use Rattle.eve_smallbank.specs.Conflict.{AgreesWithConflicts, IsReordering}
 use Rattle.eve_grammar.specs.Trace.{Attempt, Trace}
-use Rattle.eve_history.specs.Section.{Placed}
+use Rattle.eve_history.specs.Section.{Came, Placed, came_by, attempts_by}
 use Rattle.eve_history.specs.SectionHistory.{asked_in, history, names_of}
 use Rattle.eve_grammar.specs.Trace.{RequestId, request_id}
 use Rattle.eve_chains.specs.Visible.{opening_of, rows_after}
@@ -16,13 +16,17 @@ use Rattle.eve_chains.specs.Visible.{opening_of, rows_after}
 abbrev pub attempts_of : List Placed → List Attempt
 attempts_of ps = map (λ p. p.attempt) ps
 
--- replica e's committed attempts of the batches 1 to n
+-- the attempts by which replica e reached numbers up to n
 abbrev pub committed_to : Trace → ℕ → ℕ → List Attempt
-committed_to t e n = attempts_of (take n (history t e).committed)
+committed_to t e n = attempts_of (attempts_by (take n (history t e).landings))
 
--- the opening balances with the writes of replica e's committed attempts 1 to n, by row
+-- what happened to replica e's rows where it reached the numbers up to n
+abbrev pub path_to : Trace → ℕ → ℕ → List Came
+path_to t e n = flat_map came_by (take n (history t e).landings)
+
+-- the opening balances with what came up to number n, by row
 abbrev pub values_to : Trace → ℕ → ℕ → ℕ → ℤ
-values_to t e n row = (rows_after t (committed_to t e n) row).value
+values_to t e n row = (rows_after t (path_to t e n) row).value
 
 -- the same as a bank
 unfoldable pub bank_after : Trace → ℕ → ℕ → Bank
@@ -62,7 +66,7 @@ request_ids_in t a = map (λ index. request_id (asked_in t a index)) a.certifica
 
 -- of all that replica e committed, in order
 unfoldable pub committed_request_ids : Trace → ℕ → List RequestId
-committed_request_ids t e = flat_map (request_ids_in t) (attempts_of (history t e).committed)
+committed_request_ids t e = flat_map (request_ids_in t) (attempts_of (attempts_by (history t e).landings))
 
 -- those of all batches
 unfoldable pub batch_request_ids : Trace → List RequestId

@@ -7,10 +7,11 @@ use Rattle.eve_chains.specs.Unfit.{is_settled, by_fates_between}
 use Rattle.eve_chains.specs.Rows.{Noted, noted_by}
 use Rattle.eve_chains.specs.declared.note.Note.{Note}
 
--- a note of this row, as the row's walk meets it
+-- a note of this row, as the row's walk meets it; no step takes a state over yet, so none came before it
 abbrev pub noted_at : ℕ → Note → Noted
 noted_at row n = record {
   offset = n.at;
+  taken = 0;
   view = n.view;
   number = n.number;
   commits = n.commits;
@@ -21,7 +22,7 @@ noted_at row n = record {
 
 -- of records of an attempt with this view, number and fate
 abbrev pub noted_along : ExecutedAttempt → Fate → List Noted
-noted_along r fate = flat_map (noted_by r.attempt.view r.attempt.seq (is_committed fate)) r.ordered
+noted_along r fate = flat_map (noted_by 0 r.attempt.view r.attempt.seq (is_committed fate)) r.ordered
 
 -- of an attempt that is settled
 abbrev pub noted_if_settled : ExecutedAttempt → Fate → List Noted

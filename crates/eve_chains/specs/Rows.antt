@@ -1,6 +1,6 @@
 -- The entries of each row, gathered along a replica's section. docs/MODEL.md, "What an entry must see".
-use Rattle.std.specs.Prelude.{◌≡◌, Some, ℕ, ◌==◌, Bool, List, [], ◌∷◌, ◌++◌, map, length, filter, fold}
-use Rattle.std.specs.Prelude.{if◌then◌else◌}
+use Rattle.std.specs.Prelude.{◌≡◌, Some, ℕ, zero, suc, ◌==◌, Bool, ◌&&◌, List, [], ◌∷◌, ◌++◌, map, length, filter, fold}
+use Rattle.std.specs.Prelude.{if◌then◌else◌, slice_index_or}
 use Rattle.std.specs.List.{flat_map}
 use Rattle.eve_smallbank.specs.declared.entry.Entry.{Entry}
 use Rattle.eve_smallbank.specs.Chain.{after_own}
@@ -10,23 +10,43 @@ use Rattle.eve_grammar.specs.Spelling.{steps_at}
 use Rattle.eve_views.specs.Form.{SomePlace}
 use Rattle.eve_views.specs.declared.fault.Fault.{Fault}
 use Rattle.eve_history.specs.declared.fate.Fate.{Fate}
-use Rattle.eve_history.specs.Section.{Placed, SectionState, start, path_of, next}
+use Rattle.eve_history.specs.Section.{Placed, Landing, ByAttempt, ByTransfer, Skipped, SectionState, start, path_of, next}
 use Rattle.eve_history.specs.Fates.{fate_in}
-use Rattle.eve_history.specs.SectionHistory.{ordered, is_committed}
+use Rattle.eve_history.specs.SectionHistory.{history, ordered, is_committed}
+use Rattle.eve_chains.specs.Visible.{opening_table, taken_table}
 use Rattle.eve_chains.specs.Along.{SeesAnother}
 use Rattle.eve_chains.specs.Unfit.{is_settled}
+
+-- ---- states that were taken over
+
+-- where numbers were reached so, in order
+abbrev pub states_by : List Landing → List (List Versioned)
+states_by [] = []
+states_by (ByAttempt p ∷ landings) = states_by landings
+states_by (ByTransfer at x ∷ landings) = x.rows ∷ states_by landings
+states_by (Skipped ∷ landings) = states_by landings
+
+-- what a row of replica e has after this many of them: the opening balance after none, and else what the last of them has
+abbrev pub bases_of : Trace → ℕ → ℕ → ℕ → Versioned
+bases_of t e row zero = opening_table t row
+bases_of t e row (suc k) = taken_table (slice_index_or (states_by (history t e).landings) k []) row
 
 -- ---- attempts and what becomes of them
 
 pub record Fated : Type 0 where
   pub placed : Placed
+  pub taken : ℕ  -- how many states were taken over before it
   pub fate : Fate
 
 -- the attempts that come in these steps, after this state
 abbrev pub to_come : SectionState → List (ℕ × Step) → List Fated
 to_come s [] = []
 to_come s ((at, Attempts a) ∷ rest) =
-    record { placed = record { offset = at; attempt = a; path = path_of s }; fate = fate_in rest (length s.pending) }
+    record {
+      placed = record { offset = at; attempt = a; path = path_of s };
+      taken = length (states_by s.landings);
+      fate = fate_in rest (length s.pending);
+    }
     ∷ to_come (next s (at, Attempts a)) rest
 to_come s ((at, Commits c) ∷ rest) = to_come (next s (at, Commits c)) rest
 to_come s ((at, RollsBack r) ∷ rest) = to_come (next s (at, RollsBack r)) rest
@@ -41,23 +61,32 @@ told_of t e = to_come start (steps_at t e)
 
 -- ---- their entries
 
--- an entry with its access frame's offset, its attempt's view and number, and whether its attempt is committed in the end
+-- an entry with its access frame's offset, how many states were taken over before its attempt, the attempt's view and
+-- number, and whether the attempt is committed in the end
 pub record Noted : Type 0 where
   pub offset : ℕ
+  pub taken : ℕ
   pub view : ℕ
   pub number : ℕ
   pub commits : Bool
   pub entry : Entry
 
 -- those of an access record
-abbrev pub noted_by : ℕ → ℕ → Bool → ℕ × Access → List Noted
-noted_by view number commits x =
-    map (λ e. record { offset = x.0; view = view; number = number; commits = commits; entry = e }) x.1.entries
+abbrev pub noted_by : ℕ → ℕ → ℕ → Bool → ℕ × Access → List Noted
+noted_by taken view number commits x =
+    map (λ e. record {
+      offset = x.0;
+      taken = taken;
+      view = view;
+      number = number;
+      commits = commits;
+      entry = e;
+    }) x.1.entries
 
 -- those of an attempt, in its certificate's order
 abbrev pub noted_in : Fated → List Noted
 noted_in y =
-    flat_map (noted_by y.placed.attempt.view y.placed.attempt.seq (is_committed y.fate))
+    flat_map (noted_by y.taken y.placed.attempt.view y.placed.attempt.seq (is_committed y.fate))
     (ordered y.placed.offset y.placed.attempt)
 
 -- those of the attempts that settle
@@ -70,41 +99,49 @@ of_row row ns = filter (λ n. n.entry.row == row) ns
 
 -- ---- one row walked by itself
 
--- what the row has: after the committed attempts, and with those of the view that are open
+-- what the row has, after this many states that were taken over: after the committed attempts behind the last of them,
+-- and with those of the view that are open
 pub record Pair : Type 0 where
+  pub taken : ℕ
   pub view : ℕ
   pub committed : Versioned
   pub working : Versioned
 
--- with a new view a rollback came: the open pair is what the committed one is
-abbrev pub met_by : Pair → Noted → Versioned
-met_by p n = if n.view == p.view then p.working else p.committed
+-- What the row has as it is committed, where the next entry comes. Where more states were taken over, it is what the last
+-- of them has, since nothing was noted of the row behind it. What it has after each is given.
+abbrev pub kept_by : (ℕ → Versioned) → Pair → Noted → Versioned
+kept_by bases p n = if n.taken == p.taken then p.committed else bases n.taken
 
-abbrev pub next_pair : Pair → Noted → Pair
-next_pair p n = record {
+-- and with the open attempts: with a new view a rollback came, and the open pair is what the committed one is
+abbrev pub met_by : (ℕ → Versioned) → Pair → Noted → Versioned
+met_by bases p n = if (n.taken == p.taken) && (n.view == p.view) then p.working else kept_by bases p n
+
+abbrev pub next_pair : (ℕ → Versioned) → Pair → Noted → Pair
+next_pair bases p n = record {
+  taken = n.taken;
   view = n.view;
-  committed = if n.commits then after_own p.committed n.entry else p.committed;
-  working = after_own (met_by p n) n.entry;
+  committed = if n.commits then after_own (kept_by bases p n) n.entry else kept_by bases p n;
+  working = after_own (met_by bases p n) n.entry;
 }
 
 -- before any entry
-abbrev pub at_first : Versioned → Pair
-at_first v = record { view = 0; committed = v; working = v }
+abbrev pub at_first : (ℕ → Versioned) → Pair
+at_first bases = record { taken = 0; view = 0; committed = bases 0; working = bases 0 }
 
 -- after these entries of the row
-abbrev pub pair_after : Versioned → List Noted → Pair
-pair_after v ns = fold next_pair (at_first v) ns
+abbrev pub pair_after : (ℕ → Versioned) → List Noted → Pair
+pair_after bases ns = fold (next_pair bases) (at_first bases) ns
 
--- A fault of replica e at one of these entries of a row, which had this at first: the entry sees something else than
--- the row's walk meets there.
-pub record IsWrongOnRow (e : ℕ) (v : Versioned) (ns : List Noted) (f : Fault) : Type 0 where
+-- A fault of replica e at one of these entries of a row, which had this at first and after each state that was taken over:
+-- the entry sees something else than the row's walk meets there.
+pub record IsWrongOnRow (e : ℕ) (bases : ℕ → Versioned) (ns : List Noted) (f : Fault) : Type 0 where
   pub stands : SomePlace ns
-      (λ before n. (n.offset ≡ f.offset) × SeesAnother f.code (met_by (pair_after v before) n) n.entry)
+      (λ before n. (n.offset ≡ f.offset) × SeesAnother f.code (met_by bases (pair_after bases before) n) n.entry)
   pub inside : f.replica ≡ Some e
 
--- each of these entries of a row, which had this at first, sees what the row's walk meets there
-abbrev pub EachSees : Versioned → List Noted → Type 0
-EachSees v ns =
+-- each of these entries of such a row sees what the row's walk meets there
+abbrev pub EachSees : (ℕ → Versioned) → List Noted → Type 0
+EachSees bases ns =
     (before : List Noted) (n : Noted) (rest : List Noted) → ns ≡ before ++ n ∷ rest
-    → (n.entry.version ≡ (met_by (pair_after v before) n).version)
-    × (n.entry.seen ≡ (met_by (pair_after v before) n).value)
+    → (n.entry.version ≡ (met_by bases (pair_after bases before) n).version)
+    × (n.entry.seen ≡ (met_by bases (pair_after bases before) n).value)

@@ -5,8 +5,9 @@ use Rattle.eve_smallbank.specs.declared.request.Reply.TheVariants.{Done}
 use Rattle.eve_smallbank.specs.declared.entry.Entry.{Entry}
 use Rattle.eve_smallbank.specs.Access.{Executed}
 use Rattle.eve_smallbank.specs.Chain.{Table, before_rest, table_after_all}
+use Rattle.eve_smallbank.specs.declared.versioned.Versioned.{Versioned}
 use Rattle.eve_grammar.specs.Trace.{Access, Attempt, Trace}
-use Rattle.eve_history.specs.Section.{Placed}
+use Rattle.eve_history.specs.Section.{Came, Ran, TookOver, Placed}
 use Rattle.eve_history.specs.SectionHistory.{asked_in}
 
 -- ---- the opening
@@ -53,27 +54,32 @@ executions t attempts = flat_map (execution t) attempts
 
 -- ---- what an entry must see
 
--- a table after what an attempt executed
-abbrev pub with_attempt : Trace → Table → Attempt → Table
-with_attempt t table a = table_after_all table (execution t a)
+-- a state that was taken over, row by row; past its end version 0 and value 0
+abbrev pub taken_table : List Versioned → Table
+taken_table rows row = slice_index_or rows row (record { version = 0; value = pos 0 })
+
+-- a table after what happened to the rows: what an attempt executed, or a state in its place
+abbrev pub with_came : Trace → Table → Came → Table
+with_came t table (Ran a) = table_after_all table (execution t a)
+with_came t table (TookOver rows) = taken_table rows
 
 -- what the rows have after a path: the opening balances, and what came since
-abbrev pub rows_after : Trace → List Attempt → Table
-rows_after t path = fold (with_attempt t) (opening_table t) path
+abbrev pub rows_after : Trace → List Came → Table
+rows_after t path = fold (with_came t) (opening_table t) path
 
 -- the indexes that stand before this one
 abbrev pub before_index : ℕ → List ℕ → List ℕ
 before_index index [] = []
 before_index index (j ∷ order) = if j == index then [] else j ∷ before_index index order
 
--- What the request with this index must see: the rows as the attempts on the path leave them, and in the
--- attempt itself the requests that stand before this index in the certificate.
+-- What the request with this index must see: the rows as the path leaves them, and in the attempt itself the requests
+-- that stand before this index in the certificate.
 abbrev pub visible_to : Trace → Placed → ℕ → Table
 visible_to t p index = table_after_all (rows_after t p.path)
     (executed_in t p.attempt (before_index index p.attempt.certificate))
 
 -- ---- the same by the nearest write
 
--- The entries along a path of attempts, the nearest first: the law on nearest writes is said of them, and nothing else.
+-- The entries along attempts, the nearest first: the law on nearest writes is said of them, and nothing else.
 abbrev pub entries_before : Trace → List Attempt → List Entry
-entries_before t path = before_rest [] (executions t path)
+entries_before t attempts = before_rest [] (executions t attempts)

@@ -9,7 +9,7 @@ use Rattle.eve_views.specs.declared.fault.Code.{Code}
 use Rattle.eve_views.specs.declared.fault.Code.TheVariants as code
 use Rattle.eve_views.specs.declared.fault.Fault.{Fault}
 use Rattle.eve_views.specs.Form.{IsLeast, HasNone}
-use Rattle.eve_chains.specs.Visible.{opening_table}
+use Rattle.eve_chains.specs.Rows.{bases_of}
 use Rattle.eve_chains.specs.Rows.{Noted, Pair, told_of, all_noted, of_row, pair_after, IsWrongOnRow, EachSees}
 use Rattle.eve_chains.specs.Notes.{noted_at}
 use Rattle.eve_chains.specs.Changes.{changes_along, changes_of_rows}
@@ -36,40 +36,40 @@ IsMismatch v e (Some code.Value) = (e.version ≡ v.version) × (e.seen ≢ v.va
 IsMismatch v e (Some _) = ⊥
 
 abbrev pub pair_of : RowWalk → Pair
-pair_of w = record { view = w.view; committed = w.committed; working = w.working }
+pair_of w = record { taken = 0; view = w.view; committed = w.committed; working = w.working }
 
--- the first fault of replica e among these entries of a row, which had this at first
-abbrev pub IsFirstOnRow : ℕ → Versioned → List Noted → Option Fault → Type 0
-IsFirstOnRow e v ns first = IsFirstOrNone (EachSees v ns) (IsWrongOnRow e v ns) first
+-- the first fault of replica e among these entries of a row, which had this at first and after each state taken over
+abbrev pub IsFirstOnRow : ℕ → (ℕ → Versioned) → List Noted → Option Fault → Type 0
+IsFirstOnRow e bases ns first = IsFirstOrNone (EachSees bases ns) (IsWrongOnRow e bases ns) first
 
--- a row, which had this at first, is walked along these entries of it
-pub record HasMet (e : ℕ) (v : Versioned) (ns : List Noted) (w : RowWalk) : Type 0 where
-  pub pair : pair_of w ≡ pair_after v ns
-  pub first : IsFirstOnRow e v ns w.first
+-- such a row is walked along these entries of it
+pub record HasMet (e : ℕ) (bases : ℕ → Versioned) (ns : List Noted) (w : RowWalk) : Type 0 where
+  pub pair : pair_of w ≡ pair_after bases ns
+  pub first : IsFirstOnRow e bases ns w.first
 
 -- and what the batches changed of it is noted
-pub record HasWalked (e : ℕ) (v : Versioned) (ns : List Noted) (w : WalkedRow) : Type 0 where
-  pub met : HasMet e v ns w.walk
+pub record HasWalked (e : ℕ) (bases : ℕ → Versioned) (ns : List Noted) (w : WalkedRow) : Type 0 where
+  pub met : HasMet e bases ns w.walk
   pub changes : w.changes.items ≡ changes_along [] ns
 
 -- of these entries of the row with this number, the first are walked along, and the others lie gathered
-pub record HasGathered (e row : ℕ) (v : Versioned) (ns : List Noted) (w : GatheredRow) : Type 0 where
+pub record HasGathered (e row : ℕ) (bases : ℕ → Versioned) (ns : List Noted) (w : GatheredRow) : Type 0 where
   pub before : List Noted
   pub whole : before ++ map (noted_at row) w.notes.items ≡ ns
-  pub walked : HasWalked e v before w.walked
+  pub walked : HasWalked e bases before w.walked
 
 -- ---- rows from one on
 
 -- each of these rows, the first of which has this number, has its own of these entries, walked along or gathered
 abbrev pub EachHasGathered : Trace → ℕ → ℕ → List Noted → List GatheredRow → Type 0
 EachHasGathered t e from ns ws = (place : ℕ) (d : GatheredRow) → place < length ws
-    → HasGathered e (from + place) (opening_table t (from + place)) (of_row (from + place) ns)
+    → HasGathered e (from + place) (bases_of t e (from + place)) (of_row (from + place) ns)
     (slice_index_or ws place d)
 
 -- each of them is walked along its own of these entries
 abbrev pub EachHasWalked : Trace → ℕ → ℕ → List Noted → List GatheredRow → Type 0
 EachHasWalked t e from ns ws = (place : ℕ) (d : GatheredRow) → place < length ws
-    → HasWalked e (opening_table t (from + place)) (of_row (from + place) ns) (slice_index_or ws place d).walked
+    → HasWalked e (bases_of t e (from + place)) (of_row (from + place) ns) (slice_index_or ws place d).walked
 
 -- the place of a row among the given number of rows from one on, if it is one of them
 abbrev pub IsPlaceAmong : ℕ → ℕ → ℕ → Option ℕ → Type 0
@@ -84,14 +84,14 @@ notes_on t e row = of_row row (all_noted (told_of t e))
 
 -- each entry of them sees what its row's walk meets
 abbrev pub RowsSee : Trace → ℕ → ℕ → ℕ → Type 0
-RowsSee t e from to = (row : ℕ) → from ≤ row → row < to → EachSees (opening_table t row) (notes_on t e row)
+RowsSee t e from to = (row : ℕ) → from ≤ row → row < to → EachSees (bases_of t e row) (notes_on t e row)
 
 -- a fault on one of them
 pub record IsWrongOnSome (t : Trace) (e from to : ℕ) (f : Fault) : Type 0 where
   pub row : ℕ
   pub above : from ≤ row
   pub below : row < to
-  pub wrong : IsWrongOnRow e (opening_table t row) (notes_on t e row) f
+  pub wrong : IsWrongOnRow e (bases_of t e row) (notes_on t e row) f
 
 -- the first fault on them
 abbrev pub IsFirstOnRows : Trace → ℕ → ℕ → ℕ → Option Fault → Type 0

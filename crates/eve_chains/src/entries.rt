@@ -94,7 +94,7 @@ fn note_record(
     ensures gathered { OnOk result ((t : TraceValue) (e : ℕ) (ns : List Noted)
         → EachHasGathered t e noting.from ns rows.old.items
         → EachHasGathered t e noting.from
-        (ns ++ noted_by noting.view noting.number noting.commits (access.now.offset, access_said access.now))
+        (ns ++ noted_by 0 noting.view noting.number noting.commits (access.now.offset, access_said access.now))
         rows.new.items) }
 {
     let at = access.offset() as u32;
@@ -117,6 +117,7 @@ fn note_entry(
         → EachHasGathered t e noting.from ns rows.old.items
         → EachHasGathered t e noting.from (ns ++ record {
           offset = at;
+          taken = 0;
           view = noting.view;
           number = noting.number;
           commits = noting.commits;

@@ -1,43 +1,46 @@
 //! Laws about the definitions. Each body is empty: the contract is the law.
 
-ghost use Rattle.std.specs.Prelude.{ℕ, ◌≡◌, ◌-◌, suc, List, IsTrue, length, Some, AllPairs, ◌≢◌};
+ghost use Rattle.std.specs.Prelude.{ℕ, ◌≡◌, ◌-◌, ◌∷◌, ◌++◌, suc, List, IsTrue, length, map, Some, AllPairs, ◌≢◌};
 ghost use Rattle.eve_grammar.specs.Trace.{Trace, Attempt};
 ghost use Rattle.eve_grammar.specs.Limits.{HasLimits};
 ghost use Rattle.eve_views.specs.declared.fault.Fault.{Fault};
 ghost use Rattle.eve_views.specs.Form.{IsFaultIn};
 ghost use Rattle.eve_history.specs.SectionHistory.{IsRightSection, ordered, committed_at, names_of};
+ghost use Rattle.eve_history.specs.SectionHistory.{is_reached};
 ghost use Rattle.eve_chains.specs.Visible.{opening_table, executed_by, executed_in, execution, executions, rows_after};
-ghost use Rattle.eve_chains.specs.Visible.{before_index, visible_to, entries_before};
+ghost use Rattle.eve_chains.specs.Visible.{taken_table, before_index, visible_to, entries_before};
 ghost use Rattle.eve_chains.specs.Sound.{SettledAreSound, RecordsFit, OfSettledAccesses, EntriesSee};
 ghost use Rattle.eve_chains.specs.Faults.{HasNoFault, StandsInChains};
-ghost use Rattle.eve_chains.specs.Rows.{told_of, all_noted, of_row, IsWrongOnRow, EachSees};
+ghost use Rattle.eve_chains.specs.Rows.{bases_of, told_of, all_noted, of_row, IsWrongOnRow, EachSees};
 ghost use Rattle.eve_smallbank.specs.Access.{Fits, values_after};
 ghost use Rattle.eve_smallbank.specs.declared.entry.Entry.{Entry};
 ghost use Rattle.eve_smallbank.specs.Chain.{Table, table_after, visible_at, before_rest};
 ghost use Rattle.eve_smallbank.specs.Conflict.{IsReordering};
 ghost use Rattle.eve_grammar.specs.Certificate.{is_permutation, keeps_groups};
-ghost use Rattle.eve_history.specs.Section.{Placed, batch_at, request_count};
+ghost use Rattle.eve_smallbank.specs.declared.versioned.Versioned.{Versioned};
+ghost use Rattle.eve_history.specs.Section.{Came, Ran, TookOver, Placed, batch_at, request_count};
 ghost use Rattle.eve_views.specs.declared.fault.Code.TheVariants as code;
 ghost use Rattle.eve_history.specs.Order.{StandsInOrders};
 ghost use Rattle.eve_chains.specs.Committed.{committed_to, values_to, opening_bank, bank_after, Leads, IsSerialBetween};
 ghost use Rattle.eve_chains.specs.Committed.{committed_request_ids, batch_request_ids};
 ghost use Rattle.eve_chains.specs.Along.{entries_along};
-ghost use Rattle.eve_chains.specs.Settling.{settling, values_in};
+ghost use Rattle.eve_chains.specs.Settling.{settling, values_in, defined};
 
 /// Rows can be judged each by itself: in a right section whose settled records fit, the faults of chains are exactly
-/// those that the walks of single rows meet, each along the row's own entries and with no other row in sight; and where
-/// no walk meets one, the settled attempts are sound.
+/// those that the walks of single rows meet, each along the row's own entries and with no other row in sight, from what
+/// the row has at first and after each state that was taken over; and where no walk meets one, the settled attempts are
+/// sound.
 ///
 /// docs/MODEL.md, "What an entry must see".
 pub fn rows_are_judged_by_themselves()
     ensures stands { (t : Trace) (e row : ℕ) (f : Fault) → HasLimits t → IsRightSection t e → RecordsFit t e
-        → IsWrongOnRow e (opening_table t row) (of_row row (all_noted (told_of t e))) f
+        → IsWrongOnRow e (bases_of t e row) (of_row row (all_noted (told_of t e))) f
         → IsFaultIn StandsInChains t e f }
     ensures found { (t : Trace) (e : ℕ) (f : Fault) → HasLimits t → IsRightSection t e → RecordsFit t e
         → IsFaultIn StandsInChains t e f
-        → (row : ℕ) × IsWrongOnRow e (opening_table t row) (of_row row (all_noted (told_of t e))) f }
+        → (row : ℕ) × IsWrongOnRow e (bases_of t e row) (of_row row (all_noted (told_of t e))) f }
     ensures sound { (t : Trace) (e : ℕ) → HasLimits t → IsRightSection t e → RecordsFit t e
-        → ((row : ℕ) → EachSees (opening_table t row) (of_row row (all_noted (told_of t e)))) → SettledAreSound t e }
+        → ((row : ℕ) → EachSees (bases_of t e row) (of_row row (all_noted (told_of t e)))) → SettledAreSound t e }
 {}
 
 /// A replica whose section is right, and whose settled attempts fit and are chained row by row, committed
@@ -104,18 +107,30 @@ pub fn balances_advance_along_the_records()
         → values_to t e (suc n) ≡ values_after (values_to t e n) (entries_along (ordered p.offset p.attempt)) }
 {}
 
-/// What the rows have after a path of attempts is what the nearest write of each left, or else the opening balance;
-/// and so is what each entry must see.
+/// What the rows have after attempts is what the nearest write of each left, or else the opening balance; behind a state
+/// that was taken over, or else that state, whatever came before it. So is what each entry must see: what the nearest
+/// write left of the attempts behind any part of the path, or else what the rows had after that part.
 ///
 /// docs/MODEL.md, "What an entry must see".
 pub fn rows_have_what_the_nearest_writes_left()
-    ensures rows { (t : Trace) (path : List Attempt) → rows_after t path
-        ≡ visible_at (opening_table t) (entries_before t path) }
-    ensures seen { (t : Trace) (p : Placed) (index : ℕ) → visible_to t p index ≡ visible_at (opening_table t)
-        (before_rest (entries_before t p.path) (executed_in t p.attempt (before_index index p.attempt.certificate))) }
+    ensures rows { (t : Trace) (attempts : List Attempt) → rows_after t (map Ran attempts)
+        ≡ visible_at (opening_table t) (entries_before t attempts) }
+    ensures taken { (t : Trace) (before : List Came) (rows : List Versioned) (attempts : List Attempt)
+        → rows_after t (before ++ TookOver rows ∷ map Ran attempts)
+        ≡ visible_at (taken_table rows) (entries_before t attempts) }
+    ensures seen { (t : Trace) (p : Placed) (index : ℕ) (before : List Came) (attempts : List Attempt)
+        → p.path ≡ before ++ map Ran attempts
+        → visible_to t p index ≡ visible_at (rows_after t before) (before_rest (entries_before t attempts)
+        (executed_in t p.attempt (before_index index p.attempt.certificate))) }
 {}
 
-/// What is kept of a right section gives the balances of the committed batches.
+/// What is kept of a right section gives the balances after each number, also after one that was skipped: they are those
+/// before it.
 pub fn settled_values_are_the_banks()
     ensures { (t : Trace) (e n : ℕ) → HasLimits t → IsRightSection t e → values_in (settling t e) n ≡ values_to t e n }
+{}
+
+/// There are balances after a number exactly where it was reached.
+pub fn defined_numbers_are_reached()
+    ensures { (t : Trace) (e n : ℕ) → defined (settling t e) n ≡ is_reached t e n }
 {}

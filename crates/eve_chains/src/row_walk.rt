@@ -30,7 +30,8 @@ pub struct RowWalk {
 impl RowWalk {
     /// A row at version 0, with its opening balance, before any entry.
     pub fn new(opening: Cents) -> RowWalk
-        ensures { (e : ℕ) → HasMet e (record { version = 0; value = opening }) [] result }
+        ensures { (e : ℕ) (bases : ℕ → VersionedValue) → bases 0 ≡ record { version = 0; value = opening }
+            → HasMet e bases [] result }
     {
         let committed = Versioned {
             version: 0,
@@ -47,7 +48,8 @@ impl RowWalk {
 
     /// What the row has where the next entry comes: with a new view a rollback came, which took the open attempts back.
     fn met_by(&self, note: &Note) -> Versioned
-        ensures { (row : ℕ) → result ≡ met_by (pair_of self.now) (noted_at row note.now) }
+        ensures { (row : ℕ) (bases : ℕ → VersionedValue) → result
+            ≡ met_by bases (pair_of self.now) (noted_at row note.now) }
     {
         if note.view == self.view {
             self.working
@@ -58,7 +60,8 @@ impl RowWalk {
 
     /// What the row has after the committed attempts, with the next entry.
     fn committed_by(&self, note: &Note) -> Versioned
-        ensures { (row : ℕ) → result ≡ (next_pair (pair_of self.now) (noted_at row note.now)).committed }
+        ensures { (row : ℕ) (bases : ℕ → VersionedValue) → result
+            ≡ (next_pair bases (pair_of self.now) (noted_at row note.now)).committed }
     {
         if note.commits {
             after_own(&self.committed, note)
@@ -71,8 +74,8 @@ impl RowWalk {
     ///
     /// docs/MODEL.md, "What an entry must see".
     pub fn meet(&self, replica: u8, note: &Note) -> RowWalk
-        ensures { (row : ℕ) (v : VersionedValue) (ns : List Noted) → HasMet replica v ns self.now
-            → HasMet replica v (ns ++ noted_at row note.now ∷ []) result }
+        ensures { (row : ℕ) (bases : ℕ → VersionedValue) (ns : List Noted) → HasMet replica bases ns self.now
+            → HasMet replica bases (ns ++ noted_at row note.now ∷ []) result }
     {
         let met = self.met_by(note);
         let wrong = mismatch(&met, note);

@@ -8,7 +8,7 @@ ghost use Rattle.eve_grammar.specs.Limits.{row_count};
 ghost use Rattle.eve_history.specs.SectionHistory.{section_history};
 ghost use Rattle.eve_chains.specs.Changes.{change_of, by_number, values_changed};
 ghost use Rattle.eve_chains.specs.Numbered.{HasNumber, IsRowBelow, is_same_where_changed};
-ghost use Rattle.eve_chains.specs.Settling.{settling, values_in, AreBankAfter, HaveSameBalances};
+ghost use Rattle.eve_chains.specs.Settling.{Wrote, settling, values_in, defined, AreBankAfter, HaveSameBalances};
 ghost use Rattle.eve_chains.specs.Walked.{AreWalked};
 
 use crate::changed::Changed;
@@ -17,6 +17,7 @@ use crate::opening::opening_balances;
 use crate::walked::{Walked, walk_section};
 use eve_accounts::Balances;
 use eve_history::History;
+use eve_history::laws::numbers_are_reached;
 use eve_views::Trace;
 use std::alloc::{AllocError, Global};
 use std::marker::Model;
@@ -25,7 +26,7 @@ use std::marker::Model;
 /// looked up in both replicas, and the other's batch mostly changed as many rows.
 const ROWS_A_CHANGE: usize = 2;
 
-/// The opening balances, and what the batches that a replica committed changed, which give the balances after each.
+/// The opening balances, and what each number that a replica reached changed, which give the balances after each.
 ///
 /// docs/MODEL.md, "Bank and replies after a committed batch". It takes eight bytes for each row and for each batch, and
 /// sixteen for each row that a batch changed. It borrows nothing.
@@ -36,16 +37,16 @@ pub struct Settled {
 }
 
 impl Model for Settled {
-    ghost use Rattle.std.specs.Prelude.{length};
+    ghost use Rattle.std.specs.Prelude.{length, map};
     ghost use Rattle.eve_chains.specs.Changes.{from_starts};
     ghost use Rattle.eve_chains.specs.Numbered.{IsInOrder};
-    ghost use Rattle.eve_chains.specs.Settling.{Settling};
+    ghost use Rattle.eve_chains.specs.Settling.{Settling, Wrote};
 
     ghost Value = { Settling };
 
     ghost view = { λ s. record {
       opening = s.opening;
-      numbers = from_starts s.numbered.count s.numbered.starts.items s.numbered.changes.items;
+      numbers = map Wrote (from_starts s.numbered.count s.numbered.starts.items s.numbered.changes.items);
     } };
 
     ghost invariant = { λ s. IsInOrder (length s.opening) s.numbered };
@@ -81,6 +82,7 @@ impl Settled {
     {
         trace.recall_limits();
         history.recall_right();
+        numbers_are_reached();
         let changes = join_all(alloc, walked)?;
         Settled::of_changes(alloc, opening, history.committed(), &changes)
     }
@@ -96,24 +98,33 @@ impl Settled {
         requires numbers { All (HasNumber count) changes.now }
         requires rows { All (IsRowBelow (length opening)) changes.now }
         ensures { IfOk result (λ settled. settled
-            ≡ record { opening = opening; numbers = by_number count changes.entry.now }) }
+            ≡ record { opening = opening; numbers = map Wrote (by_number count changes.entry.now) }) }
     {
         let numbered = Numbered::of(alloc, opening.len(), count, changes)?;
         Ok(Settled { opening, numbered })
     }
 
-    /// How many batches the replica committed.
+    /// The last number that the replica reached; 0 where it reached none.
     pub fn committed(&self) -> u32
         ensures { result ≡ length self.now.numbers }
     {
         self.numbered.count
     }
 
+    /// Whether there are balances after number n: 0 has some, and so has each number that the replica reached.
+    ///
+    /// docs/MODEL.md, "Bank and replies after a committed batch".
+    pub fn defined(&self, n: u32) -> bool
+        ensures { result ≡ defined self.now n }
+    {
+        n <= self.numbered.count
+    }
+
     /// What batch n changed, of the batches from 1 on, the rows rising.
     fn changes_of(&self, n: u32) -> &[Changed]
         requires one { 1 ≤ n }
         requires there { n ≤ length self.now.numbers }
-        ensures says { slice_get self.now.numbers (n - 1) ≡ Some (map change_of result.now) }
+        ensures says { slice_get self.now.numbers (n - 1) ≡ Some (Wrote (map change_of result.now)) }
         ensures rows { All (IsRowBelow (length self.now.opening)) result.now }
     {
         let numbered = &self.numbered;
@@ -124,8 +135,7 @@ impl Settled {
         &numbered.changes[from..to]
     }
 
-    /// The balances after the first n batches, in cents, which are the bank after batch n: the work is what those
-    /// batches changed.
+    /// The balances after number n, in cents, which are the bank after it: the work is what the numbers up to n changed.
     ///
     /// docs/MODEL.md, "Bank and replies after a committed batch".
     pub fn balances_after(&self, alloc: Global, n: u32) -> Result<Balances, AllocError>
@@ -141,8 +151,8 @@ impl Settled {
         Ok(balances)
     }
 
-    /// Goes from the balances after the batch before to those after batch n, of the batches from 1 on, which are the
-    /// bank after it.
+    /// Goes from the balances after number n - 1 to those after number n, of the numbers from 1 on, which are the bank
+    /// after it.
     ///
     /// docs/MODEL.md, "Bank and replies after a committed batch".
     pub fn advance(&self, n: u32, balances: &mut Balances)

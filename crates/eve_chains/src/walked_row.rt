@@ -1,6 +1,6 @@
 //! One row walked by itself along what is gathered of it.
 
-ghost use Rattle.std.specs.Prelude.{◌≡◌, ◌++◌, ◌∷◌, [], OnOk, List, map};
+ghost use Rattle.std.specs.Prelude.{◌≡◌, ℕ, ◌++◌, ◌∷◌, [], OnOk, List, map};
 ghost use Rattle.eve_smallbank.specs.declared.versioned.Versioned.{Versioned as VersionedValue};
 ghost use Rattle.eve_chains.specs.Rows.{Noted};
 ghost use Rattle.eve_chains.specs.Notes.{noted_at};
@@ -34,8 +34,8 @@ pub struct GatheredRow {
 /// Goes on along these notes to the end, also where something is wrong: the first fault needn't be the first that the
 /// walk meets.
 fn walk_notes(on: &mut WalkedRow, replica: u8, row: Row, notes: &[Note]) -> Result<(), AllocError>
-    ensures { OnOk result ((v : VersionedValue) (ns : List Noted) → HasWalked replica v ns on.old
-        → HasWalked replica v (ns ++ map (noted_at row) notes.now) on.new) }
+    ensures { OnOk result ((bases : ℕ → VersionedValue) (ns : List Noted) → HasWalked replica bases ns on.old
+        → HasWalked replica bases (ns ++ map (noted_at row) notes.now) on.new) }
 {
     for note in notes {
         on.walk = on.walk.meet(replica, note);
@@ -63,8 +63,8 @@ fn note_change(changes: &mut Vec<Changed>, row: Row, note: &Note) -> Result<(), 
 
 /// Walks a row along its gathered entries, and empties their list, whose room is used again.
 pub(crate) fn walk_row(on: &mut GatheredRow, replica: u8, row: Row) -> Result<(), AllocError>
-    ensures walked { OnOk result ((v : VersionedValue) (ns : List Noted) → HasGathered replica row v ns on.old
-        → HasWalked replica v ns on.new.walked) }
+    ensures walked { OnOk result ((bases : ℕ → VersionedValue) (ns : List Noted)
+        → HasGathered replica row bases ns on.old → HasWalked replica bases ns on.new.walked) }
     ensures none { OnOk result (on.new.notes.items ≡ []) }
 {
     walk_notes(&mut on.walked, replica, row, &on.notes)?;

@@ -16,16 +16,19 @@ use Rattle.eve_grammar.specs.Limits.{is_step, row_count, HasLimits}
 use Rattle.eve_views.specs.declared.fault.Fault.{Fault}
 use Rattle.eve_history.specs.declared.fate.Fate.{Fate}
 use Rattle.eve_history.specs.declared.fate.Fate.TheVariants.{Committed, Discarded, Open}
+use Rattle.eve_history.specs.declared.landing.Landing as told
+use Rattle.eve_history.specs.declared.landing.Landing.TheVariants as landing
 use Rattle.eve_history.specs.declared.wrong.Wrong.{Wrong}
-use Rattle.eve_history.specs.Section.{Placed, SectionState, start, next, committing, state_after, path_of}
-use Rattle.eve_history.specs.Section.{commits_first, is_right_commit, are_right}
+use Rattle.eve_history.specs.Section.{Placed, Landing, ByAttempt, ByTransfer, Skipped, SectionState, start, next}
+use Rattle.eve_history.specs.Section.{committing, state_after, path_of, commits_first, is_right_commit, are_right}
 use Rattle.eve_history.specs.Fates.{fate_in, fates_from}
 use Rattle.eve_history.specs.SectionHistory.{ExecutedAttempt, executed_attempt, placed_at, ordered, attempts_among}
-use Rattle.eve_history.specs.SectionHistory.{rollbacks_among, access_with, section_history}
+use Rattle.eve_history.specs.SectionHistory.{rollbacks_among, access_with, section_history, Landed, LandedBy}
+use Rattle.eve_history.specs.SectionHistory.{LandedFrom, NotLanded, landed_from}
 use Rattle.eve_history.specs.FirstWrong.{wrong_step, first_wrong, first_wrong_of, fault_of}
 use Rattle.eve_history.specs.Coming.{KeptAttempt, KeptSection, open_count, kept_executed_attempt, executed_attempts}
 use Rattle.eve_history.specs.Coming.{kept_at_first, executed_attempt_at, section_history_of, StandsAt}
-use Rattle.eve_history.specs.Coming.{AreSettled, open_fates, HasCome}
+use Rattle.eve_history.specs.Coming.{landed_in, IsLandingAmong, AreSettled, open_fates, HasCome}
 use Rattle.eve_history.proofs.StructureLaws.{state_after-append, are_right-push, right_step, steps_on, found_is_least}
 use Rattle.eve_history.proofs.StructureLaws.{none_stands}
 use Rattle.eve_history.specs.Structure.{StandsInStructure}
@@ -61,7 +64,7 @@ come_start_with t e records limits = record {
   right = refl;
   stands = record { view = refl; last = refl; rolled_back = refl; pending = refl; fewer = omega arith };
   attempts = refl;
-  settled = record { pending = refl; committed = refl };
+  settled = record { pending = refl; landed = refl };
   is_kept = record { within = tt; fewer = omega arith; count = refl; there = tt };
   fates = refl;
   rollbacks = refl;
@@ -106,10 +109,10 @@ module _ (t : Trace) (e : ℕ) (step : ℕ × Step) (rest : List (ℕ × Step)) 
   one_more : steps_at t e ≡ (come.front ++ step ∷ []) ++ rest
   one_more = come.split ∙ sym (append_assoc come.front (step ∷ []) rest)
 
-  settled_next : (rs : List ExecutedAttempt) (n : ℕ) (places : List ℕ)
-      → AreSettled (next (state_after start come.front) step) rs n places
-      → AreSettled (state_after start (come.front ++ step ∷ [])) rs n places
-  settled_next rs n places settled = subst (λ (s : SectionState). AreSettled s rs n places)
+  settled_next : (rs : List ExecutedAttempt) (n : ℕ) (ls : List told.Landing)
+      → AreSettled (next (state_after start come.front) step) rs n ls
+      → AreSettled (state_after start (come.front ++ step ∷ [])) rs n ls
+  settled_next rs n ls settled = subst (λ (s : SectionState). AreSettled s rs n ls)
       (sym (state_after-append start come.front (step ∷ []))) settled
 
   still_right : are_right t start (come.front ++ step ∷ []) ≡ true
@@ -153,7 +156,7 @@ pub open_end : (b n : ℕ) → open_fates [] b n ≡ replicate n Open
 open_end b zero = refl
 open_end b (suc n) = ap (λ (fs : List Fate). Open ∷ fs) (open_end (suc b) n)
 
--- ---- committed attempts
+-- ---- landings
 
 abbrev placed_executed_attempt : Placed → ExecutedAttempt
 placed_executed_attempt p = executed_attempt (placed_at p)
@@ -164,23 +167,41 @@ executed_attempt_among [] more place lt = absurd (omega arith)
 executed_attempt_among (r ∷ rs) more zero lt = refl
 executed_attempt_among (r ∷ rs) more (suc place) lt = executed_attempt_among rs more place (omega arith)
 
-executed_attempts_among : (rs more : List ExecutedAttempt) (places : List ℕ)
-    → AllByRecursion (λ place. place < length rs) places
-    → map (executed_attempt_at (rs ++ more)) places ≡ map (executed_attempt_at rs) places
-executed_attempts_among rs more [] there = refl
-executed_attempts_among rs more (place ∷ places) there =
-    λ i. executed_attempt_among rs more place there.0 i ∷ executed_attempts_among rs more places there.1 i
+landing_among : (rs more : List ExecutedAttempt) (l : told.Landing) → IsLandingAmong (length rs) l
+    → landed_in (rs ++ more) l ≡ landed_in rs l
+landing_among rs more (landing.Attempt place) lt = ap LandedBy (executed_attempt_among rs more place lt)
+landing_among rs more (landing.Transfer i) there = refl
+landing_among rs more landing.Skipped there = refl
 
-still_there : (n m : ℕ) (places : List ℕ) → n ≤ m → AllByRecursion (λ place. place < n) places
-    → AllByRecursion (λ place. place < m) places
+landings_among : (rs more : List ExecutedAttempt) (ls : List told.Landing)
+    → AllByRecursion (IsLandingAmong (length rs)) ls → map (landed_in (rs ++ more)) ls ≡ map (landed_in rs) ls
+landings_among rs more [] there = refl
+landings_among rs more (l ∷ ls) there =
+    λ i. landing_among rs more l there.0 i ∷ landings_among rs more ls there.1 i
+
+still_among : (n m : ℕ) (l : told.Landing) → n ≤ m → IsLandingAmong n l → IsLandingAmong m l
+still_among n m (landing.Attempt place) le lt = let first : place < n = lt in omega arith
+still_among n m (landing.Transfer i) le there = tt
+still_among n m landing.Skipped le there = tt
+
+still_there : (n m : ℕ) (ls : List told.Landing) → n ≤ m → AllByRecursion (IsLandingAmong n) ls
+    → AllByRecursion (IsLandingAmong m) ls
 still_there n m [] le there = tt
-still_there n m (place ∷ places) le there = let first : place < n =
-    there.0 in (omega arith, still_there n m places le there.1)
+still_there n m (l ∷ ls) le there = (still_among n m l le there.0, still_there n m ls le there.1)
 
-one_more_there : (n place : ℕ) (places : List ℕ) → place < n → AllByRecursion (λ p. p < n) places
-    → AllByRecursion (λ p. p < n) (places ++ place ∷ [])
+one_more_there : (n place : ℕ) (ls : List told.Landing) → place < n → AllByRecursion (IsLandingAmong n) ls
+    → AllByRecursion (IsLandingAmong n) (ls ++ landing.Attempt place ∷ [])
 one_more_there n place [] lt there = (lt, tt)
-one_more_there n place (p ∷ places) lt there = (there.0, one_more_there n place places lt there.1)
+one_more_there n place (l ∷ ls) lt there = (there.0, one_more_there n place ls lt there.1)
+
+landed_push : (taken : ℕ) (ls : List Landing) (p : Placed) → landed_from taken (ls ++ ByAttempt p ∷ [])
+    ≡ landed_from taken ls ++ LandedBy (placed_executed_attempt p) ∷ []
+landed_push taken [] p = refl
+landed_push taken (ByAttempt q ∷ ls) p = ap (λ (xs : List Landed). LandedBy (placed_executed_attempt q) ∷ xs)
+    (landed_push taken ls p)
+landed_push taken (ByTransfer at x ∷ ls) p = ap (λ (xs : List Landed). LandedFrom taken ∷ xs)
+    (landed_push (suc taken) ls p)
+landed_push taken (Skipped ∷ ls) p = ap (λ (xs : List Landed). NotLanded ∷ xs) (landed_push taken ls p)
 
 -- what stands first after so many
 first_behind : (rs : List ExecutedAttempt) (n : ℕ) (r : ExecutedAttempt) (rest : List ExecutedAttempt)
@@ -197,39 +218,40 @@ first_behind (x ∷ rs) zero r rest e = same x rs r rest e
     same x xs y ys e = cc
 first_behind (x ∷ rs) (suc n) r rest e = first_behind rs n r rest e
 
-settled_attempt : (s : SectionState) (at : ℕ) (a : Attempt) (rs after : List ExecutedAttempt) (n : ℕ) (places : List ℕ)
-    → after ≡ rs ++ executed_attempt (at, a) ∷ [] → n ≤ length rs → AllByRecursion (λ place. place < length rs) places
-    → AreSettled s rs n places → AreSettled (next s (at, Attempts a)) after n places
-settled_attempt s at a rs after n places is few there settled =
-    subst (λ (xs : List ExecutedAttempt). AreSettled (next s (at, Attempts a)) xs n places) (sym is) (record {
+settled_attempt : (s : SectionState) (at : ℕ) (a : Attempt) (rs after : List ExecutedAttempt) (n : ℕ)
+    (ls : List told.Landing) → after ≡ rs ++ executed_attempt (at, a) ∷ [] → n ≤ length rs
+    → AllByRecursion (IsLandingAmong (length rs)) ls → AreSettled s rs n ls
+    → AreSettled (next s (at, Attempts a)) after n ls
+settled_attempt s at a rs after n ls is few there settled =
+    subst (λ (xs : List ExecutedAttempt). AreSettled (next s (at, Attempts a)) xs n ls) (sym is) (record {
       pending = map-append placed_executed_attempt s.pending
           (record { offset = at; attempt = a; path = path_of s } ∷ [])
           ∙ ap (λ (xs : List ExecutedAttempt). xs ++ executed_attempt (at, a) ∷ []) settled.pending
           ∙ sym (drop-append-le n rs (executed_attempt (at, a) ∷ []) few);
-      committed = executed_attempts_among rs (executed_attempt (at, a) ∷ []) places there ∙ settled.committed;
+      landed = landings_among rs (executed_attempt (at, a) ∷ []) ls there ∙ settled.landed;
     })
 
 settled_commit : (s : SectionState) (pending : List Placed) (c : Commit) (rs : List ExecutedAttempt) (n m : ℕ)
-    (places : List ℕ)
+    (ls : List told.Landing)
     → s.pending ≡ pending → commits_first pending c ≡ true → m ≡ n + 1
-    → AreSettled s rs n places → AreSettled (committing s pending) rs m (places ++ n ∷ [])
-settled_commit s [] c rs n m places is first more settled = absurd (false≢true first)
-settled_commit s (p ∷ ps) c rs n m places is first more settled =
+    → AreSettled s rs n ls → AreSettled (committing s pending) rs m (ls ++ landing.Attempt n ∷ [])
+settled_commit s [] c rs n m ls is first more settled = absurd (false≢true first)
+settled_commit s (p ∷ ps) c rs n m ls is first more settled =
     let open_is : placed_executed_attempt p ∷ map placed_executed_attempt ps ≡ drop n rs =
     ap (map placed_executed_attempt) (sym is) ∙ settled.pending in
     record {
       pending = ap (drop 1) open_is ∙ drop-drop 1 n rs ∙ ap (λ (k : ℕ). drop k rs) (sym more);
-      committed = map-append (executed_attempt_at rs) places (n ∷ [])
-          ∙ ap (λ (r : ExecutedAttempt). map (executed_attempt_at rs) places ++ r ∷ [])
+      landed = map-append (landed_in rs) ls (landing.Attempt n ∷ [])
+          ∙ ap (λ (r : ExecutedAttempt). map (landed_in rs) ls ++ LandedBy r ∷ [])
           (first_behind rs n (placed_executed_attempt p) (map placed_executed_attempt ps) open_is)
-          ∙ ap (λ (xs : List ExecutedAttempt). xs ++ placed_executed_attempt p ∷ []) settled.committed
-          ∙ sym (map-append placed_executed_attempt s.committed (p ∷ []));
+          ∙ ap (λ (xs : List Landed). xs ++ LandedBy (placed_executed_attempt p) ∷ []) settled.landed
+          ∙ sym (landed_push 0 s.landings p);
     }
 
-settled_rollback : (s : SectionState) (at : ℕ) (r : Rollback) (rs : List ExecutedAttempt) (n m : ℕ) (places : List ℕ)
-    → length rs ≤ m → AreSettled s rs n places → AreSettled (next s (at, RollsBack r)) rs m places
-settled_rollback s at r rs n m places all settled =
-    record { pending = sym (drop_all m rs all); committed = settled.committed }
+settled_rollback : (s : SectionState) (at : ℕ) (r : Rollback) (rs : List ExecutedAttempt) (n m : ℕ)
+    (ls : List told.Landing) → length rs ≤ m → AreSettled s rs n ls → AreSettled (next s (at, RollsBack r)) rs m ls
+settled_rollback s at r rs n m ls all settled =
+    record { pending = sym (drop_all m rs all); landed = settled.landed }
 
 -- ---- an attempt
 
@@ -352,14 +374,14 @@ module _ (t : Trace) (e at : ℕ) (b : Attempt) (rest : List (ℕ × Step)) (k :
         attempts = attempts_more;
         settled = settled_next t e (at, Attempts b) rest k come right _ _ _
             (settled_attempt state at b (executed_attempts k) (executed_attempts after)
-            (length k.fates) k.commits one_executed_attempt_more (omega arith)
-            (still_there (length k.attempts) (length (executed_attempts k)) k.commits (omega arith) come.is_kept.there)
+            (length k.fates) k.landings one_executed_attempt_more (omega arith)
+            (still_there (length k.attempts) (length (executed_attempts k)) k.landings (omega arith) come.is_kept.there)
             come.settled);
         is_kept = record {
           within = within;
           fewer = attempt_stands.fewer;
           count = come.is_kept.count;
-          there = still_there (length k.attempts) (length (k.attempts ++ added ∷ [])) k.commits
+          there = still_there (length k.attempts) (length (k.attempts ++ added ∷ [])) k.landings
               (omega arith) come.is_kept.there;
         };
         fates = attempt_fates;
@@ -400,8 +422,7 @@ abbrev pub with_commit : KeptSection → ℕ → KeptSection
 with_commit k seq = record k {
   last = seq;
   fates = k.fates ++ Committed ∷ [];
-  commits = k.commits ++ length k.fates ∷
-      [];
+  landings = k.landings ++ landing.Attempt (length k.fates) ∷ [];
 }
 
 module _ (t : Trace) (e at : ℕ) (c : Commit) (rest : List (ℕ × Step)) (k : KeptSection)
@@ -473,14 +494,14 @@ module _ (t : Trace) (e at : ℕ) (c : Commit) (rest : List (ℕ × Step)) (k : 
         (sym (attempts_among-append come.front ((at, Commits c) ∷ []) ∙ append-nil (attempts_among come.front)));
     settled = settled_next t e (at, Commits c) rest k come right _ _ _
         (settled_commit (state_after start come.front) (state_after start come.front).pending c (executed_attempts k)
-        (length k.fates) (length (k.fates ++ Committed ∷ [])) k.commits refl commit_first
+        (length k.fates) (length (k.fates ++ Committed ∷ [])) k.landings refl commit_first
         (length-append k.fates (Committed ∷ [])) come.settled);
     is_kept = record {
       within = come.is_kept.within;
       fewer = commit_parts.0.fewer;
-      count = length-append k.commits (length k.fates ∷ [])
+      count = length-append k.landings (landing.Attempt (length k.fates) ∷ [])
           ∙ ap (λ (n : ℕ). n + 1) (come.is_kept.count ∙ come.stands.last) ∙ sym commit_seq;
-      there = one_more_there (length k.attempts) (length k.fates) k.commits commit_parts.1 come.is_kept.there;
+      there = one_more_there (length k.attempts) (length k.fates) k.landings commit_parts.1 come.is_kept.there;
     };
     fates = commit_fates;
     rollbacks = come.rollbacks
@@ -543,7 +564,7 @@ module _ (t : Trace) (e at : ℕ) (r : Rollback) (rest : List (ℕ × Step)) (k 
         ∙ append-nil (attempts_among come.front)));
     settled = settled_next t e (at, RollsBack r) rest k come right _ _ _
         (settled_rollback (state_after start come.front) at r (executed_attempts k) (length k.fates)
-        (length (k.fates ++ replicate (open_count k) Discarded)) k.commits
+        (length (k.fates ++ replicate (open_count k) Discarded)) k.landings
         (omega (arith, all_settled, length-map k.attempts (kept_executed_attempt k.records))) come.settled);
     is_kept = record {
       within = come.is_kept.within;
@@ -587,8 +608,7 @@ module _ (t : Trace) (e : ℕ) (k : KeptSection) (come : HasCome t e [] k) where
         attempts = (come.attempts ∙ ap (λ (xs : List (ℕ × Step)). map executed_attempt (attempts_among xs))
             (sym all_came)) i;
         fates = fates i;
-        commits = (come.settled.committed
-            ∙ ap (λ (xs : List (ℕ × Step)). map (λ p. executed_attempt (placed_at p)) (state_after start xs).committed)
-            (sym all_came)) i;
+        landings = (come.settled.landed
+            ∙ ap (λ (xs : List (ℕ × Step)). landed_from 0 (state_after start xs).landings) (sym all_came)) i;
         rollbacks = (come.rollbacks ∙ ap rollbacks_among (sym all_came)) i;
       }

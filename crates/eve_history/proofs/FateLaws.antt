@@ -7,7 +7,8 @@ use Rattle.eve_grammar.specs.Trace.{Attempt, Commit, Step, Attempts, Commits, Ro
 use Rattle.eve_grammar.specs.Spelling.{steps_at}
 use Rattle.eve_history.specs.declared.fate.Fate.{Fate}
 use Rattle.eve_history.specs.declared.fate.Fate.TheVariants.{Committed, Discarded, Open}
-use Rattle.eve_history.specs.Section.{Placed, SectionState, start, next, committing, path_of, state_after}
+use Rattle.eve_history.specs.Section.{Placed, Landing, ByAttempt, ByTransfer, Skipped, attempts_by, SectionState}
+use Rattle.eve_history.specs.Section.{start, next, committing, path_of, state_after}
 use Rattle.eve_history.specs.Fates.{fate_in, fates_from}
 use Rattle.eve_history.specs.SectionHistory.{attempts_among, history, placed_at, picked, is_committed, is_discarded}
 use Rattle.eve_history.specs.Coming.{open_fates}
@@ -72,30 +73,40 @@ at_commit test at c rest p ps =
     (open_commit at c rest 0 (length ps) i ++ fates_from (less i) rest) in
     ap (λ (xs : List (ℕ × Attempt)). cond (test Committed) (placed_at p ∷ xs) xs) same
 
-committed_after : (s : SectionState) (steps : List (ℕ × Step)) → map placed_at (state_after s steps).committed
-    ≡ map placed_at s.committed ++ picked_from is_committed s.pending steps
+pub attempts_by_push : (ls : List Landing) (p : Placed) → attempts_by (ls ++ ByAttempt p ∷ [])
+    ≡ attempts_by ls ++ p ∷ []
+attempts_by_push [] p = refl
+attempts_by_push (ByAttempt q ∷ ls) p = ap (λ (ps : List Placed). q ∷ ps) (attempts_by_push ls p)
+attempts_by_push (ByTransfer at x ∷ ls) p = attempts_by_push ls p
+attempts_by_push (Skipped ∷ ls) p = attempts_by_push ls p
+
+committed_after : (s : SectionState) (steps : List (ℕ × Step))
+    → map placed_at (attempts_by (state_after s steps).landings)
+    ≡ map placed_at (attempts_by s.landings) ++ picked_from is_committed s.pending steps
 committed_after s [] = sym
-    (ap (λ (xs : List (ℕ × Attempt)). map placed_at s.committed ++ xs) (at_end is_committed s.pending refl)
-    ∙ append-nil (map placed_at s.committed))
+    (ap (λ (xs : List (ℕ × Attempt)). map placed_at (attempts_by s.landings) ++ xs) (at_end is_committed s.pending refl)
+    ∙ append-nil (map placed_at (attempts_by s.landings)))
 committed_after s ((at, Attempts a) ∷ rest) =
     committed_after (next s (at, Attempts a)) rest
-    ∙ ap (λ (xs : List (ℕ × Attempt)). map placed_at s.committed ++ xs)
+    ∙ ap (λ (xs : List (ℕ × Attempt)). map placed_at (attempts_by s.landings) ++ xs)
     (sym (at_attempt is_committed at a rest s.pending (record { offset = at; attempt = a; path = path_of s }) refl))
 committed_after s ((at, Commits c) ∷ rest) = committed_after (committing s s.pending) rest ∙ by s.pending refl
   where
     by : (pending : List Placed) → s.pending ≡ pending
-        → map placed_at (committing s pending).committed ++ picked_from is_committed (committing s pending).pending rest
-        ≡ map placed_at s.committed ++ picked_from is_committed pending ((at, Commits c) ∷ rest)
-    by [] is = ap (λ (ps : List Placed). map placed_at s.committed ++ picked_from is_committed ps rest) is
+        → map placed_at (attempts_by (committing s pending).landings) ++
+        picked_from is_committed (committing s pending).pending rest
+        ≡ map placed_at (attempts_by s.landings) ++ picked_from is_committed pending ((at, Commits c) ∷ rest)
+    by [] is = ap (λ (ps : List Placed). map placed_at (attempts_by s.landings) ++ picked_from is_committed ps rest) is
     by (p ∷ ps) is =
-        ap (λ (xs : List (ℕ × Attempt)). xs ++ picked_from is_committed ps rest)
-        (map-append placed_at s.committed (p ∷ []))
-        ∙ append_assoc (map placed_at s.committed) (placed_at p ∷ []) (picked_from is_committed ps rest)
-        ∙ ap (λ (xs : List (ℕ × Attempt)). map placed_at s.committed ++ xs)
+        ap (λ (ls : List Placed). map placed_at ls ++ picked_from is_committed ps rest) (attempts_by_push s.landings p)
+        ∙ ap (λ (xs : List (ℕ × Attempt)). xs ++ picked_from is_committed ps rest)
+        (map-append placed_at (attempts_by s.landings) (p ∷ []))
+        ∙ append_assoc (map placed_at (attempts_by s.landings)) (placed_at p ∷ []) (picked_from is_committed ps rest)
+        ∙ ap (λ (xs : List (ℕ × Attempt)). map placed_at (attempts_by s.landings) ++ xs)
         (sym (at_commit is_committed at c rest p ps))
 committed_after s ((at, RollsBack r) ∷ rest) =
     committed_after (next s (at, RollsBack r)) rest
-    ∙ ap (λ (xs : List (ℕ × Attempt)). map placed_at s.committed ++ xs)
+    ∙ ap (λ (xs : List (ℕ × Attempt)). map placed_at (attempts_by s.landings) ++ xs)
     (sym (ap (λ (fs : List Fate). picked is_committed (map placed_at s.pending ++ attempts_among rest)
     (fs ++ fates_from 0 rest)) (open_rollback at r rest 0 (length s.pending))
     ∙ picked-same is_committed Discarded s.pending (attempts_among rest) (fates_from 0 rest) refl))
@@ -128,7 +139,7 @@ discarded_after s ((at, RollsBack r) ∷ rest) =
     (fs ++ fates_from 0 rest)) (open_rollback at r rest 0 (length s.pending))
     ∙ picked-all is_discarded Discarded s.pending (attempts_among rest) (fates_from 0 rest) refl))
 
-pub committed_are_picked : (t : Trace) (e : ℕ) → map placed_at (history t e).committed
+pub committed_are_picked : (t : Trace) (e : ℕ) → map placed_at (attempts_by (history t e).landings)
     ≡ picked is_committed (attempts_among (steps_at t e)) (fates_from 0 (steps_at t e))
 unfolding history
 committed_are_picked t e = committed_after start (steps_at t e)

@@ -3,7 +3,10 @@ pub mod OrderLaws
 pub mod Marking
 pub mod Finding
 pub mod Coming
-pub mod CommitLaws
+pub mod LandingLaws
+pub mod AttemptsAlone
+pub mod Landed
+mod WorkedStates
 pub mod Records
 pub mod Taking
 pub mod FateLaws

@@ -11,7 +11,6 @@ use Rattle.eve_grammar.specs.Spelling.{frame_text, step_text, located, section_s
 use Rattle.eve_grammar.proofs.Numbered.{numbered_at}
 use Rattle.eve_history.specs.Section.{start, are_right}
 use Rattle.eve_history.specs.SectionHistory.{SectionHistory, section_history, section_histories, IsRightSection}
-use Rattle.eve_history.specs.SectionHistory.{executed_attempt, placed_at, history}
 
 right_told : (t : Trace) (e : ℕ) → IsTrue (section_history t e).right → IsRightSection t e
 unfolding section_history
@@ -20,12 +19,6 @@ right_told t e right = right
 pub right_section : (t : Trace) (e : ℕ) (h : SectionHistory) → h ≡ section_history t e → IsTrue h.right
     → IsRightSection t e
 right_section t e h is right = right_told t e (subst (λ (v : SectionHistory). IsTrue v.right) is right)
-
--- the attempts that it committed
-pub commits_told : (t : Trace) (e : ℕ) → (section_history t e).commits ≡ map (λ p. executed_attempt (placed_at p))
-    (history t e).committed
-unfolding section_history history
-commits_told t e = refl
 
 -- ---- of all replicas
 

@@ -4,13 +4,14 @@ use Rattle.std.proofs.Common.{◌++◌, map, length, take, drop, slice_get, slic
 use Rattle.std.proofs.Common.{append_assoc, IsTrue, inl, inr, arith}
 use Rattle.std.specs.List.{AllByRecursion, flat_map, list_all, list_any}
 use Rattle.std.proofs.lemmas.Bool.{and_parts, cases_lt, false≢true}
-use Rattle.std.proofs.lemmas.List.{append-nil, length-append, take_at, drop_at, get_or_past}
+use Rattle.std.proofs.lemmas.List.{append-nil, length-append, take_at, drop_at, get_or_past, length-map}
 use Rattle.std.proofs.lemmas.List.Concat.{flat_map-append}
 use Rattle.std.proofs.lemmas.List.Folds.{flat_map-map}
 use Rattle.byteorder.specs.Endian.{big_bytes, big_number}
-use Rattle.eve_grammar.specs.Trace.{Access, Attempt, Rollback, Step, Attempts, RollsBack, Trace, head_of}
-use Rattle.eve_grammar.specs.Frames.{Frame, OfReplica, OfAttempt, OfAccess, OfRollback, kind_of, step_frames, frames_of}
-use Rattle.eve_grammar.specs.Frames.{without_accesses}
+use Rattle.eve_grammar.specs.Trace.{Access, Attempt, Commit, Rollback, Step, Attempts, Commits, RollsBack, Trace}
+use Rattle.eve_grammar.specs.Trace.{head_of}
+use Rattle.eve_grammar.specs.Frames.{Frame, OfReplica, OfAttempt, OfAccess, OfCommit, OfRollback, kind_of}
+use Rattle.eve_grammar.specs.Frames.{step_frames, frames_of, without_accesses}
 use Rattle.eve_grammar.specs.Spelling.{body_text, frame_text, frames_text, head_text, length_of, spelling, located}
 use Rattle.eve_grammar.specs.Spelling.{step_text, section_start, steps_of, steps_at, accesses_at}
 use Rattle.eve_grammar.specs.Limits.{is_step, is_attempt, is_access, row_count}
@@ -27,9 +28,9 @@ use Rattle.eve_frames.specs.Views.{has_attempt_body, attempt_in, has_access_body
 use Rattle.eve_frames.specs.Views.{has_rollback_body, rollback_in}
 use Rattle.eve_frames.proofs.Rereading.{attempt_again, access_again, rollback_again}
 use Rattle.eve_history.specs.Standing.{frame_in, IsFramed, IsAttemptAt, IsAccessAt, IsRollbackAt}
-use Rattle.eve_history.specs.SectionHistory.{access_with}
+use Rattle.eve_history.specs.SectionHistory.{access_with, attempts_among, executed_attempt}
 use Rattle.eve_history.specs.Structure.{accesses_of}
-use Rattle.eve_history.specs.Coming.{KeptSection, HasCome, ComesNext, seen}
+use Rattle.eve_history.specs.Coming.{KeptSection, kept_executed_attempt, HasCome, ComesNext, seen}
 use Rattle.eve_grammar.proofs.Grouping.{all_at}
 use Rattle.eve_grammar.proofs.Lists.{same_first, same_others, no_item}
 use Rattle.eve_grammar.specs.Following.{Spells}
@@ -276,6 +277,56 @@ rollback_there bytes t e rest k at r spelled come =
         text = framed.0 ∙ ap (λ (q : Rollback). frame_text (OfRollback q)) (sym (ap rollback_in framed.0 ∙ says.1));
       },
     )
+
+-- ---- how many steps came
+
+step_long : (step : Step) → 1 ≤ length (step_text step)
+step_long (Attempts a) = omega arith
+step_long (Commits c) = omega arith
+step_long (RollsBack r) = omega arith
+
+-- before one of them stand no more than there are bytes before it
+located_late : {A : Type 0} (text : A → List ℕ) (at : ℕ) (xs : List A) (before : List (ℕ × A)) (item : ℕ × A)
+    (rest : List (ℕ × A)) → ((x : A) → 1 ≤ length (text x)) → located text at xs ≡ before ++ item ∷ rest
+    → at + length before ≤ item.0
+located_late text at [] before item rest long e = absurd (no_item before item rest e)
+located_late {A = A} text at (x ∷ xs) [] item rest long e =
+    let same : at ≡ item.0 = ap (λ (y : ℕ × A). y.0)
+    (same_first (at, x) item (located text (at + length (text x)) xs) rest e) in
+    omega arith
+located_late text at (x ∷ xs) (z ∷ before) item rest long e =
+    let own : 1 ≤ length (text x) = long x in
+    let later : at + length (text x) + length before ≤ item.0 =
+    located_late text (at + length (text x)) xs before item rest long
+    (same_others (at, x) z (located text (at + length (text x)) xs) (before ++ item ∷ rest) e) in
+    omega arith
+
+steps_late : (t : Trace) (e : ℕ) (before : List (ℕ × Step)) (step : ℕ × Step) (rest : List (ℕ × Step))
+    → steps_at t e ≡ before ++ step ∷ rest → length before ≤ step.0
+unfolding steps_at
+steps_late t e before step rest split =
+    let late = located_late step_text (section_start t e + length (frame_text (OfReplica e))) (steps_of t e) before step
+    rest step_long split in
+    omega (arith, late)
+
+attempts_few : (steps : List (ℕ × Step)) → length (attempts_among steps) ≤ length steps
+attempts_few [] = omega arith
+attempts_few ((at, Attempts a) ∷ steps) = let few = attempts_few steps in omega (arith, few)
+attempts_few ((at, Commits c) ∷ steps) = let few = attempts_few steps in omega (arith, few)
+attempts_few ((at, RollsBack r) ∷ steps) = let few = attempts_few steps in omega (arith, few)
+
+-- where a commit comes next, there are fewer attempts before it than 32 bits can count
+pub attempts_small : (bytes : List ℕ) (t : Trace) (e : ℕ) (rest : List (ℕ × Step)) (k : KeptSection) (at : ℕ)
+    (c : Commit) → Spells bytes t → HasCome t e ((at, Commits c) ∷ rest) k → length k.attempts < 2 ^ 32
+attempts_small bytes t e rest k at c spelled come =
+    let stands = first_stands (OfCommit c) [] (next_stands bytes t e rest k at (Commits c) spelled come) in
+    let small = (framed_there t (OfCommit c) spelled (omega arith) stands).1.small in
+    let late = steps_late t e come.front (at, Commits c) rest come.split in
+    let few = attempts_few come.front in
+    let many : length k.attempts ≡ length (attempts_among come.front) =
+    sym (length-map k.attempts (kept_executed_attempt k.records)) ∙ ap length come.attempts
+    ∙ length-map (attempts_among come.front) executed_attempt in
+    omega (arith, small, late, few)
 
 -- ---- the access records of an attempt that comes next
 

@@ -1,6 +1,6 @@
 -- What is kept of a section's steps that have come.
 use Rattle.std.specs.Prelude.{◌≡◌, ℕ, zero, suc, ◌+◌, ◌-◌, ◌<◌, ◌≤◌, Bool, true, IsTrue, List, [], ◌∷◌, ◌++◌, map}
-use Rattle.std.specs.Prelude.{length, take, drop, replicate, slice_index_or, false}
+use Rattle.std.specs.Prelude.{length, take, drop, replicate, slice_index_or, false, ⊤}
 use Rattle.std.specs.List.{AllByRecursion, list_all}
 use Rattle.eve_grammar.specs.Trace.{Access, Attempt, Rollback, Step, Attempts, Trace, head_of}
 use Rattle.eve_grammar.specs.Frames.{without_accesses}
@@ -10,13 +10,16 @@ use Rattle.eve_grammar.specs.Following.{Spells}
 use Rattle.eve_frames.specs.Views.{attempt_in, access_in, rollback_in}
 use Rattle.eve_history.specs.declared.fate.Fate.{Fate}
 use Rattle.eve_history.specs.declared.fate.Fate.TheVariants.{Open}
+use Rattle.eve_history.specs.declared.landing.Landing as told
+use Rattle.eve_history.specs.declared.landing.Landing.TheVariants as landing
 use Rattle.eve_history.specs.declared.structure.Attempted.{Attempted}
 use Rattle.eve_history.specs.declared.structure.Notes.{Notes}
 use Rattle.eve_history.specs.Standing.{frame_in, IsAttemptAt, IsAccessAt, IsRollbackAt}
 use Rattle.eve_history.specs.Section.{SectionState, start, state_after, are_right}
 use Rattle.eve_history.specs.Fates.{fate_in, fates_from}
 use Rattle.eve_history.specs.SectionHistory.{ExecutedAttempt, executed_attempt, placed_at, attempts_among}
-use Rattle.eve_history.specs.SectionHistory.{rollbacks_among, SectionHistory}
+use Rattle.eve_history.specs.SectionHistory.{rollbacks_among, Landed, LandedBy, LandedFrom, NotLanded, landed_from}
+use Rattle.eve_history.specs.SectionHistory.{SectionHistory}
 
 -- ---- what is kept
 
@@ -26,15 +29,15 @@ pub record KeptAttempt : Type 0 where
   pub attempt : Attempt
   pub from : ℕ
 
--- Attempts stand in the order of their frames. The first of them are settled, and have a fate. Those that were
--- committed are kept by their places among the attempts.
+-- Attempts stand in the order of their frames. The first of them are settled, and have a fate. Numbers were reached by
+-- attempts at these places.
 pub record KeptSection : Type 0 where
   pub view : ℕ
   pub last : ℕ
   pub rolled_back : Bool
   pub attempts : List KeptAttempt
   pub fates : List Fate
-  pub commits : List ℕ
+  pub landings : List told.Landing
   pub records : List (ℕ × Access)
   pub rollbacks : List (ℕ × Rollback)
 
@@ -57,7 +60,7 @@ kept_section n = record {
   rolled_back = n.rolled_back;
   attempts = map (kept_attempt n.bytes.now) n.attempts.items;
   fates = n.fates.items;
-  commits = n.commits.items;
+  landings = n.landings.items;
   records = map (seen n.bytes.now) n.records.items;
   rollbacks = map (rolled n.bytes.now) n.rollbacks.items;
 }
@@ -70,7 +73,7 @@ kept_at_first records = record {
   rolled_back = false;
   attempts = [];
   fates = [];
-  commits = [];
+  landings = [];
   records = records;
   rollbacks = [];
 }
@@ -103,6 +106,18 @@ no_executed_attempt = record {
 abbrev pub executed_attempt_at : List ExecutedAttempt → ℕ → ExecutedAttempt
 executed_attempt_at rs place = slice_index_or rs place no_executed_attempt
 
+-- how a number was reached, where these are the attempts
+abbrev pub landed_in : List ExecutedAttempt → told.Landing → Landed
+landed_in rs (landing.Attempt place) = LandedBy (executed_attempt_at rs place)
+landed_in rs (landing.Transfer i) = LandedFrom i
+landed_in rs landing.Skipped = NotLanded
+
+-- where a number was reached by an attempt, it is one of the first so many
+abbrev pub IsLandingAmong : ℕ → told.Landing → Type 0
+IsLandingAmong n (landing.Attempt place) = place < n
+IsLandingAmong n (landing.Transfer i) = ⊤
+IsLandingAmong n landing.Skipped = ⊤
+
 abbrev pub section_history_of : ℕ → KeptSection → SectionHistory
 section_history_of e k = record {
   replica = e;
@@ -110,17 +125,17 @@ section_history_of e k = record {
   committed = k.last;
   attempts = executed_attempts k;
   fates = k.fates ++ replicate (open_count k) Open;
-  commits = map (executed_attempt_at (executed_attempts k)) k.commits;
+  landings = map (landed_in (executed_attempts k)) k.landings;
   rollbacks = k.rollbacks;
 }
 
--- The records of each attempt are there, and no more fates than attempts. As many were committed as the last
--- committed number says, and they are there.
+-- The records of each attempt are there, and no more fates than attempts. It is known of each number up to the last how
+-- it was reached, and the attempts that reached one are there.
 pub record IsKept (k : KeptSection) : Type 0 where
   pub within : AllByRecursion (λ a. a.from + length a.attempt.certificate ≤ length k.records) k.attempts
   pub fewer : length k.fates ≤ length k.attempts
-  pub count : length k.commits ≡ k.last
-  pub there : AllByRecursion (λ place. place < length k.attempts) k.commits
+  pub count : length k.landings ≡ k.last
+  pub there : AllByRecursion (IsLandingAmong (length k.attempts)) k.landings
 
 -- ---- while steps come
 
@@ -133,10 +148,11 @@ pub record StandsAt (s : SectionState) (k : KeptSection) : Type 0 where
       ≡ drop (length k.fates) (map (λ a. a.attempt) k.attempts)
   pub fewer : length k.fates ≤ length k.attempts
 
--- Of these attempts the ones after the settled ones are open, and those at these places are committed.
-pub record AreSettled (s : SectionState) (rs : List ExecutedAttempt) (settled : ℕ) (places : List ℕ) : Type 0 where
+-- Of these attempts the ones after the settled ones are open, and by these landings the numbers were reached.
+pub record AreSettled (s : SectionState) (rs : List ExecutedAttempt) (settled : ℕ)
+    (landings : List told.Landing) : Type 0 where
   pub pending : map (λ p. executed_attempt (placed_at p)) s.pending ≡ drop settled rs
-  pub committed : map (executed_attempt_at rs) places ≡ map (λ p. executed_attempt (placed_at p)) s.committed
+  pub landed : map (landed_in rs) landings ≡ landed_from 0 s.landings
 
 -- what becomes of this many open attempts in the steps, that many being open before them
 abbrev pub open_fates : List (ℕ × Step) → ℕ → ℕ → List Fate
@@ -150,7 +166,7 @@ pub record HasCome (t : Trace) (e : ℕ) (rest : List (ℕ × Step)) (k : KeptSe
   pub right : are_right t start front ≡ true
   pub stands : StandsAt (state_after start front) k
   pub attempts : executed_attempts k ≡ map executed_attempt (attempts_among front)
-  pub settled : AreSettled (state_after start front) (executed_attempts k) (length k.fates) k.commits
+  pub settled : AreSettled (state_after start front) (executed_attempts k) (length k.fates) k.landings
   pub is_kept : IsKept k
   pub fates : fates_from 0 (steps_at t e)
       ≡ k.fates ++ (open_fates rest 0 (open_count k) ++ fates_from (open_count k) rest)

@@ -1,43 +1,83 @@
 -- A replica's section, step by step: where it has come to, and which step is right there.
 -- docs/MODEL.md, "Section state, fate".
 use Rattle.std.specs.Prelude.{ℕ, ◌+◌, ◌-◌, nat_lt, nat_le, ◌==◌, Bool, true, false, ◌&&◌, if◌then◌else◌, List, [], ◌∷◌}
-use Rattle.std.specs.Prelude.{◌++◌, map, length, slice_index_or, fold, not}
+use Rattle.std.specs.Prelude.{◌++◌, map, length, replicate, slice_index_or, fold, not}
 use Rattle.std.specs.Bool.{beq}
 use Rattle.std.specs.Cmp.Lexicographic.{pointwise}
-use Rattle.std.specs.List.{list_any}
-use Rattle.eve_grammar.specs.Trace.{Batch, Access, Attempt, Commit, Rollback, Step, Attempts, Commits, RollsBack, Trace}
+use Rattle.std.specs.List.{list_any, flat_map}
+use Rattle.eve_smallbank.specs.declared.versioned.Versioned.{Versioned}
+use Rattle.eve_grammar.specs.Trace.{Batch, Access, Attempt, Commit, Rollback, Transfer}
+use Rattle.eve_grammar.specs.Trace.{Step, Attempts, Commits, RollsBack, Trace}
 use Rattle.eve_grammar.specs.Certificate.{is_certificate}
 use Rattle.eve_grammar.specs.Accesses.{is_right_place}
 
--- an attempt with its frame's offset, and with those on its path: the ones before it that no rollback before it
--- discarded
+-- what happened to the rows: an attempt ran, or a state was taken over, row by row
+pub data Came : Type 0 where
+  Ran : Attempt → Came
+  TookOver : List Versioned → Came
+
+-- an attempt with its frame's offset, and with its path: what happened to the rows before it, but for the attempts
+-- that were discarded before it
 pub record Placed : Type 0 where
   pub offset : ℕ
   pub attempt : Attempt
-  pub path : List Attempt
+  pub path : List Came
 
--- Where a section has come to. Committed, open and discarded attempts stand in the order of their frames.
+-- how a number was reached
+pub data Landing : Type 0 where
+  ByAttempt : Placed → Landing  -- the attempt was committed
+  ByTransfer : ℕ → Transfer → Landing  -- a state of this number was taken over; with its frame's offset
+  Skipped : Landing  -- not at all: a state of a later number was taken over
+
+-- Where a section has come to. Open and discarded attempts stand in the order of their frames.
 pub record SectionState : Type 0 where
   pub view : ℕ
-  pub last : ℕ  -- the last committed number
-  pub committed : List Placed
-  pub pending : List Placed  -- the open ones
+  pub last : ℕ  -- the last number reached
+  pub landings : List Landing  -- how each number was reached, from 1 to the last
+  pub pending : List Placed  -- the open attempts
   pub discarded : List Placed
   pub rolled_back : Bool  -- no attempt came since a rollback
 
 abbrev pub start : SectionState
-start = record { view = 0; last = 0; committed = []; pending = []; discarded = []; rolled_back = false }
+start = record { view = 0; last = 0; landings = []; pending = []; discarded = []; rolled_back = false }
+
+-- ---- what landings tell
+
+-- what happened to the rows where a number was reached so
+abbrev pub came_by : Landing → List Came
+came_by (ByAttempt p) = Ran p.attempt ∷ []
+came_by (ByTransfer at x) = TookOver x.rows ∷ []
+came_by Skipped = []
+
+-- the attempts by which numbers were reached, in order
+abbrev pub attempts_by : List Landing → List Placed
+attempts_by [] = []
+attempts_by (ByAttempt p ∷ landings) = p ∷ attempts_by landings
+attempts_by (ByTransfer at x ∷ landings) = attempts_by landings
+attempts_by (Skipped ∷ landings) = attempts_by landings
 
 -- ---- the next state
 
--- the attempts that were not discarded
-abbrev pub path_of : SectionState → List Attempt
-path_of s = map (λ p. p.attempt) (s.committed ++ s.pending)
+-- what happened to the rows, but for the attempts that were discarded
+abbrev pub path_of : SectionState → List Came
+path_of s = flat_map came_by s.landings ++ map (λ p. Ran p.attempt) s.pending
 
 -- the first open attempt is committed
 abbrev pub committing : SectionState → List Placed → SectionState
 committing s [] = s
-committing s (p ∷ pending) = record s { last = s.last + 1; committed = s.committed ++ p ∷ []; pending = pending }
+committing s (p ∷ pending) =
+    record s { last = s.last + 1; landings = s.landings ++ ByAttempt p ∷ []; pending = pending }
+
+-- A state is taken over: the numbers before its own are skipped, and all open attempts are discarded.
+abbrev pub taking_over : SectionState → ℕ → Transfer → SectionState
+taking_over s at x = record s {
+  view = x.view;
+  last = x.seq;
+  landings = s.landings ++ (replicate (x.seq - (s.last + 1)) Skipped ++ ByTransfer at x ∷ []);
+  pending = [];
+  discarded = s.discarded ++ s.pending;
+  rolled_back = false;
+}
 
 -- after a step, which has its frame's offset
 abbrev pub next : SectionState → ℕ × Step → SectionState
@@ -52,7 +92,7 @@ state_after s steps = fold next s steps
 
 -- committed or discarded
 abbrev pub settled : SectionState → List Placed
-settled s = s.committed ++ s.discarded
+settled s = attempts_by s.landings ++ s.discarded
 
 -- ---- which steps are right
 

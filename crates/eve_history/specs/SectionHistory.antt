@@ -1,14 +1,17 @@
 -- What a replica's section tells: its attempts, what became of each, and in which order each ran.
 -- docs/MODEL.md, "Section state, fate" and "Certificate order, keeps the groups".
-use Rattle.std.specs.Prelude.{ℕ, zero, suc, ◌==◌, IsTrue, if◌then◌else◌, List, [], ◌∷◌, map, Option, None, slice_get}
-use Rattle.std.specs.Prelude.{slice_index_or, Bool, true, false}
+use Rattle.std.specs.Prelude.{◌≡◌, ℕ, zero, suc, ◌-◌, ◌==◌, IsTrue, if◌then◌else◌, List, [], ◌∷◌, map, Option, None}
+use Rattle.std.specs.Prelude.{Some, slice_get, slice_index_or, Bool, true, false}
 use Rattle.eve_grammar.specs.Trace.{Asked, Access, Attempt, Rollback, Step, Attempts, Commits, RollsBack, Trace}
 use Rattle.eve_grammar.specs.Trace.{no_request}
 use Rattle.eve_grammar.specs.Frames.{without_accesses, sections_of}
 use Rattle.eve_grammar.specs.Spelling.{accesses_at, steps_at}
 use Rattle.eve_history.specs.declared.fate.Fate.{Fate}
 use Rattle.eve_history.specs.declared.fate.Fate.TheVariants.{Committed, Discarded, Open}
-use Rattle.eve_history.specs.Section.{Placed, SectionState, start, state_after, batch_at, are_right}
+use Rattle.eve_history.specs.declared.landing.Landing as told
+use Rattle.eve_history.specs.declared.landing.Landing.TheVariants as landing
+use Rattle.eve_history.specs.Section.{Placed, Landing, ByAttempt, ByTransfer, Skipped, SectionState, start}
+use Rattle.eve_history.specs.Section.{state_after, batch_at, are_right}
 use Rattle.eve_history.specs.Fates.{fates_from}
 
 -- the attempts among the steps, with the offsets of their frames
@@ -50,17 +53,46 @@ executed_attempt (at, a) = record { offset = at; attempt = without_accesses a; o
 abbrev pub placed_at : Placed → ℕ × Attempt
 placed_at p = (p.offset, p.attempt)
 
--- Whose section it is, and whether each of its steps is right; its last committed number; its attempts in the order of
--- their frames, and what became of each; its committed attempts, by number; its rollbacks with the offsets of their
--- frames.
+-- how a number was reached, as a section tells it
+pub data Landed : Type 0 where
+  LandedBy : ExecutedAttempt → Landed  -- by an attempt
+  LandedFrom : ℕ → Landed  -- by a state that was taken over: its place among those, from 0
+  NotLanded : Landed  -- it was skipped
+
+-- the same of each number, where this many states were taken over before
+abbrev pub landed_from : ℕ → List Landing → List Landed
+landed_from taken [] = []
+landed_from taken (ByAttempt p ∷ landings) = LandedBy (executed_attempt (placed_at p)) ∷ landed_from taken landings
+landed_from taken (ByTransfer at x ∷ landings) = LandedFrom taken ∷ landed_from (suc taken) landings
+landed_from taken (Skipped ∷ landings) = NotLanded ∷ landed_from taken landings
+
+abbrev pub is_by_attempt : Landed → Bool
+is_by_attempt (LandedBy r) = true
+is_by_attempt (LandedFrom i) = false
+is_by_attempt NotLanded = false
+
+-- Whose section it is, and whether each of its steps is right; the last number reached; its attempts in the order of
+-- their frames, and what became of each; how each number from 1 on was reached; its rollbacks with the offsets of
+-- their frames.
 pub record SectionHistory : Type 0 where
   pub replica : ℕ
   pub right : Bool
   pub committed : ℕ
   pub attempts : List ExecutedAttempt
   pub fates : List Fate
-  pub commits : List ExecutedAttempt
+  pub landings : List Landed
   pub rollbacks : List (ℕ × Rollback)
+
+-- how the section reached number n, of the numbers from 1 on
+abbrev pub landed_at : SectionHistory → ℕ → Landed
+landed_at h n = slice_index_or h.landings (n - 1) NotLanded
+
+-- what a call says of a number is what is told of it: the attempt or the state at this place, or that it was skipped
+abbrev pub IsToldOf : SectionHistory → told.Landing → Landed → Type 0
+IsToldOf h (landing.Attempt i) landed =
+    (r : ExecutedAttempt) × (landed ≡ LandedBy r) × (slice_get h.attempts i ≡ Some r)
+IsToldOf h (landing.Transfer i) landed = landed ≡ LandedFrom i
+IsToldOf h landing.Skipped landed = landed ≡ NotLanded
 
 abbrev pub section_history_by : Trace → ℕ → List (ℕ × Step) → SectionHistory
 section_history_by t e steps = record {
@@ -69,7 +101,7 @@ section_history_by t e steps = record {
   committed = (state_after start steps).last;
   attempts = map executed_attempt (attempts_among steps);
   fates = fates_from 0 steps;
-  commits = map (λ p. executed_attempt (placed_at p)) (state_after start steps).committed;
+  landings = landed_from 0 (state_after start steps).landings;
   rollbacks = rollbacks_among steps;
 }
 
@@ -95,10 +127,31 @@ history t e = state_after start (steps_at t e)
 abbrev pub IsRightSection : Trace → ℕ → Type 0
 IsRightSection t e = IsTrue (are_right t start (steps_at t e))
 
--- the attempt by which replica e committed batch n, of the batches from 1 on
+-- how replica e reached number n, of the numbers from 1 on
+abbrev pub landing_at : Trace → ℕ → ℕ → Option Landing
+landing_at t e zero = None
+landing_at t e (suc n) = slice_get (history t e).landings n
+
+abbrev pub attempt_by : Option Landing → Option Placed
+attempt_by (Some (ByAttempt p)) = Some p
+attempt_by (Some (ByTransfer at x)) = None
+attempt_by (Some Skipped) = None
+attempt_by None = None
+
+-- the attempt by which replica e committed batch n, where it reached the number by one
 abbrev pub committed_at : Trace → ℕ → ℕ → Option Placed
-committed_at t e zero = None
-committed_at t e (suc n) = slice_get (history t e).committed n
+committed_at t e n = attempt_by (landing_at t e n)
+
+abbrev pub is_landing : Option Landing → Bool
+is_landing (Some (ByAttempt p)) = true
+is_landing (Some (ByTransfer at x)) = true
+is_landing (Some Skipped) = false
+is_landing None = false
+
+-- number n is 0, or replica e reached it and didn't skip it
+abbrev pub is_reached : Trace → ℕ → ℕ → Bool
+is_reached t e zero = true
+is_reached t e (suc n) = is_landing (landing_at t e (suc n))
 
 -- the request with this index of the attempt's batch
 abbrev pub asked_in : Trace → Attempt → ℕ → Asked

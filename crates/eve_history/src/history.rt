@@ -8,13 +8,14 @@ ghost use Rattle.eve_frames.specs.Said.{access_said, attempt_said, rollback_said
 ghost use Rattle.eve_views.specs.Form.{IfFound, IsLeast, HasNone, IsFaultIn};
 ghost use Rattle.eve_views.specs.Lent.{HasBytesAt};
 ghost use Rattle.eve_history.specs.SectionHistory.{ExecutedAttempt, section_history, section_histories, IsRightSection};
-ghost use Rattle.eve_history.specs.SectionHistory.{attempts_among};
+ghost use Rattle.eve_history.specs.SectionHistory.{attempts_among, LandedBy, is_by_attempt, landed_at, IsToldOf};
 ghost use Rattle.eve_history.specs.Coming.{kept_section, section_history_of, IsWholeSection};
 ghost use Rattle.eve_history.specs.SideBySide.{AreOrdered};
 ghost use Rattle.eve_history.specs.Structure.{StandsInStructure};
 
 use crate::fate::Fate;
 use crate::frame::{access_at, attempt_at, rollback_at};
+use crate::landing::Landing;
 use crate::side_by_side::order_all;
 use crate::structure::{Notes, take, take_ahead};
 use eve_frames::{AccessView, AttemptView, RollbackView};
@@ -173,22 +174,48 @@ impl<'a> History<'a> {
         self.replica
     }
 
-    /// The last number that the replica committed; 0 where it committed none.
+    /// The last number that the replica reached; 0 where it reached none.
     pub fn committed(&self) -> u32
         ensures number { result ≡ self.now.committed }
-        ensures count { result ≡ length self.now.commits }
+        ensures count { result ≡ length self.now.landings }
     {
         self.notes().last
+    }
+
+    /// How the replica reached number n, of the numbers from 1 on.
+    pub fn landing(&self, n: u32) -> Landing
+        requires one { 1 ≤ n }
+        requires there { n ≤ length self.now.landings }
+        ensures { IsToldOf self.now result (landed_at self.now n) }
+    {
+        self.notes().landings[n as usize - 1]
+    }
+
+    /// Whether the replica reached number n, of the numbers from 1 on, by an attempt.
+    pub fn by_attempt(&self, n: u32) -> bool
+        requires one { 1 ≤ n }
+        requires there { n ≤ length self.now.landings }
+        ensures { result ≡ is_by_attempt (landed_at self.now n) }
+    {
+        match self.landing(n) {
+            Landing::Attempt(_) => true,
+            Landing::Transfer(_) => false,
+            Landing::Skipped => false,
+        }
     }
 
     /// The attempt by which the replica committed batch n, of the batches from 1 on: its number among the attempts.
     pub fn committed_attempt(&self, n: u32) -> usize
         requires one { 1 ≤ n }
-        requires there { n ≤ length self.now.commits }
-        ensures { (r : ExecutedAttempt) × (slice_get self.now.commits (n - 1) ≡ Some r)
+        requires by_attempt { IsTrue (is_by_attempt (landed_at self.now n)) }
+        ensures { (r : ExecutedAttempt) × (slice_get self.now.landings (n - 1) ≡ Some (LandedBy r))
             × (slice_get self.now.attempts result ≡ Some r) }
     {
-        self.notes().commits[n as usize - 1]
+        match self.landing(n) {
+            Landing::Attempt(i) => i as usize,
+            Landing::Transfer(_) => unreachable!(),
+            Landing::Skipped => unreachable!(),
+        }
     }
 
     /// How many attempts there are.

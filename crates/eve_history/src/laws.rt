@@ -1,17 +1,19 @@
 //! Laws about the definitions. Each body is empty: the contract is the law.
 
-ghost use Rattle.std.specs.Prelude.{◌≡◌, ◌≤◌, ℕ, suc, Some, map, length, slice_get};
+ghost use Rattle.std.specs.Prelude.{◌≡◌, ◌≤◌, ◌+◌, ◌-◌, ◌∷◌, ◌++◌, ℕ, suc, List, Some, IsTrue, map, length};
+ghost use Rattle.std.specs.Prelude.{slice_get};
 ghost use Rattle.eve_grammar.specs.Trace.{Step, Access, Attempt, Attempts, Vote, Trace};
 ghost use Rattle.eve_grammar.specs.Frames.{Frame, OfAccess, OfVote};
 ghost use Rattle.eve_history.specs.SectionHistory.{executed_attempt, section_history, IsRightSection, history};
-ghost use Rattle.eve_history.specs.SectionHistory.{placed_at, picked, is_committed};
-ghost use Rattle.eve_history.specs.SectionHistory.{is_discarded, attempts_among};
+ghost use Rattle.eve_history.specs.SectionHistory.{placed_at, picked, is_committed, is_discarded, attempts_among};
+ghost use Rattle.eve_history.specs.SectionHistory.{ExecutedAttempt, LandedBy, is_by_attempt, landed_at, committed_at};
+ghost use Rattle.eve_history.specs.SectionHistory.{is_reached};
 ghost use Rattle.eve_grammar.specs.Spelling.{length_of, frame_text, step_text, frames_at, steps_at, accesses_at};
 ghost use Rattle.eve_grammar.specs.Spelling.{votes_at};
 ghost use Rattle.eve_views.specs.Lent.{HasBytesAt};
 ghost use Rattle.eve_views.specs.declared.fault.Fault.{Fault};
 ghost use Rattle.eve_views.specs.Form.{IsFaultOutside, IsFaultIn};
-ghost use Rattle.eve_history.specs.Section.{Placed};
+ghost use Rattle.eve_history.specs.Section.{Placed, start, state_after, attempts_by};
 ghost use Rattle.eve_history.specs.Fates.{fates_from};
 ghost use Rattle.eve_history.specs.Order.{StandsInOrders};
 ghost use Rattle.eve_history.specs.Structure.{StandsInStructure};
@@ -19,21 +21,36 @@ ghost use Rattle.eve_history.specs.Structure.{StandsInStructure};
 /// The attempts that a section has committed in the end, and those that it has discarded, are the ones with that fate,
 /// in the order of their frames.
 pub fn fates_are_as_the_section_ends()
-    ensures committed { (t : Trace) (e : ℕ) → map placed_at (history t e).committed
+    ensures committed { (t : Trace) (e : ℕ) → map placed_at (attempts_by (history t e).landings)
         ≡ picked is_committed (attempts_among (steps_at t e)) (fates_from 0 (steps_at t e)) }
     ensures discarded { (t : Trace) (e : ℕ) → map placed_at (history t e).discarded
         ≡ picked is_discarded (attempts_among (steps_at t e)) (fates_from 0 (steps_at t e)) }
 {}
 
-/// The committed attempts that a section tells are those that it has committed in the end: as many as its last
-/// committed number says, and the attempt at place n, from 0, is of batch n + 1.
-pub fn committed_attempts_are_the_sections()
-    ensures commits { (t : Trace) (e : ℕ) → (section_history t e).commits
-        ≡ map (λ p. executed_attempt (placed_at p)) (history t e).committed }
-    ensures count { (t : Trace) (e : ℕ) → IsRightSection t e → length (section_history t e).commits
+/// Of each number up to the last, from 1 on, a right section tells how it was reached. It tells an attempt exactly
+/// where it was reached by that attempt, which is of that batch; then the number before it is reached, and 0 always is.
+/// An attempt's number is one more than those that are reached or skipped, and those of the open attempts, before it.
+///
+/// No step takes a state over yet: so each number is reached by an attempt (`by_attempts`, `are_by_attempt`).
+pub fn numbers_are_reached()
+    ensures count { (t : Trace) (e : ℕ) → IsRightSection t e → length (section_history t e).landings
         ≡ (section_history t e).committed }
-    ensures numbers { (t : Trace) (e n : ℕ) (p : Placed) → IsRightSection t e → slice_get (history t e).committed n
-        ≡ Some p → p.attempt.seq ≡ suc n }
+    ensures told { (t : Trace) (e n : ℕ) (p : Placed) → committed_at t e n ≡ Some p
+        → slice_get (section_history t e).landings (n - 1) ≡ Some (LandedBy (executed_attempt (placed_at p))) }
+    ensures tells { (t : Trace) (e n : ℕ) (r : ExecutedAttempt) → 1 ≤ n
+        → slice_get (section_history t e).landings (n - 1) ≡ Some (LandedBy r)
+        → (p : Placed) × (committed_at t e n ≡ Some p) × (r ≡ executed_attempt (placed_at p)) }
+    ensures numbers { (t : Trace) (e n : ℕ) (p : Placed) → IsRightSection t e → committed_at t e n ≡ Some p
+        → p.attempt.seq ≡ n }
+    ensures attempts { (t : Trace) (e at : ℕ) (a : Attempt) (front rest : List (ℕ × Step)) → IsRightSection t e
+        → steps_at t e ≡ front ++ (at, Attempts a) ∷ rest
+        → a.seq ≡ suc (length (state_after start front).landings + length (state_after start front).pending) }
+    ensures before { (t : Trace) (e n : ℕ) (p : Placed) → IsRightSection t e → committed_at t e (suc n) ≡ Some p
+        → IsTrue (is_reached t e n) }
+    ensures by_attempts { (t : Trace) (e n : ℕ) → IsRightSection t e → 1 ≤ n → n ≤ (section_history t e).committed
+        → (p : Placed) × (committed_at t e n ≡ Some p) }
+    ensures are_by_attempt { (t : Trace) (e n : ℕ) → IsRightSection t e → 1 ≤ n
+        → n ≤ (section_history t e).committed → IsTrue (is_by_attempt (landed_at (section_history t e) n)) }
 {}
 
 /// Faults of orders and of structure stand within the trace.

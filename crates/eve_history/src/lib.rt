@@ -8,6 +8,7 @@ mod fate;
 mod frame;
 mod greatest;
 mod history;
+mod landing;
 pub mod laws;
 mod order;
 mod repeats;
@@ -19,4 +20,5 @@ mod wrong;
 
 pub use fate::Fate;
 pub use history::{History, recall_all_right};
+pub use landing::Landing;
 pub use order::{orders, orders_side_by_side};

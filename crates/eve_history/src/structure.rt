@@ -25,6 +25,7 @@ use crate::access_marks::AccessMarks;
 use crate::certificate::{has_every_index, is_right_certificate, read_order};
 use crate::fate::Fate;
 use crate::frame::attempt_at;
+use crate::landing::Landing;
 use crate::wrong::Wrong;
 use eve_frames::{AttemptView, CommitView, RollbackView};
 use eve_grammar::{Head, MOST_REQUESTS, MOST_WORKERS};
@@ -47,7 +48,7 @@ pub struct Notes<'a> {
     pub bytes: &'a [u8],
     /// The section's view.
     pub view: u32,
-    /// The last committed number.
+    /// The last number reached.
     pub last: u32,
     /// Whether no attempt came since a rollback.
     pub rolled_back: bool,
@@ -55,8 +56,8 @@ pub struct Notes<'a> {
     pub attempts: Vec<Attempted>,
     /// What became of those that are settled, which are the first of them.
     pub fates: Vec<Fate>,
-    /// The places among the attempts of those that were committed, by number.
-    pub commits: Vec<usize>,
+    /// How each number was reached, from 1 to the last.
+    pub landings: Vec<Landing>,
     /// The access records of one attempt after another, each attempt's in its certificate's order.
     pub records: Vec<u32>,
     /// The rollbacks, in the order of their frames.
@@ -138,7 +139,7 @@ impl<'a> Notes<'a> {
             rolled_back: false,
             attempts: Vec::new(alloc),
             fates: Vec::new(alloc),
-            commits: Vec::new(alloc),
+            landings: Vec::new(alloc),
             records,
             rollbacks: Vec::new(alloc),
         }
@@ -310,7 +311,9 @@ impl<'a> Notes<'a> {
 
     /// Takes the next commit, of the first open attempt, or says that it is wrong.
     pub fn take_commit(&mut self, e: u8, commit: &CommitView<'_>) -> Result<(), CheckFault>
-        requires { AreFramed self.old }
+        requires framed { AreFramed self.old }
+        requires comes { (t : TraceValue) × (rest : List (ℕ × StepValue)) × AreNotesOf t self.old
+            × HasCome t e ((commit.now.offset, Commits (commit_said commit.now)) ∷ rest) (kept_section self.old) }
         ensures taken { OnOk result ((t : TraceValue) (rest : List (ℕ × StepValue))
             → HasCome t e ((commit.now.offset, Commits (commit_said commit.now)) ∷ rest) (kept_section self.old)
             → HasCome t e rest (kept_section self.new)) }
@@ -331,9 +334,9 @@ impl<'a> Notes<'a> {
             ));
         }
         let place = self.fates.len();
-        self.commits.reserve(1)?;
+        self.landings.reserve(1)?;
         self.fates.push(Fate::Committed)?;
-        self.commits.push_reserved(place);
+        self.landings.push_reserved(Landing::Attempt(place as u32));
         self.last = commit.seq();
         Ok(())
     }

@@ -1,9 +1,10 @@
 -- Where a section has come to, beside the account that the replica kept of it.
 use Rattle.std.proofs.Common.{◌≡◌, ◌+◌, ◌*◌, ◌≤◌, List, map, length, filter}
+use Rattle.std.specs.List.{flat_map}
 use Rattle.eve_smallbank.specs.Access.{is_write}
 use Rattle.eve_smallbank.specs.declared.entry.Entry.{Entry}
 use Rattle.eve_grammar.specs.Trace.{Attempt, Trace, opening_rows}
-use Rattle.eve_history.specs.Section.{SectionState, path_of}
+use Rattle.eve_history.specs.Section.{came_by, SectionState, path_of}
 use Rattle.eve_history.specs.SectionHistory.{names_of}
 use Rattle.eve_chains.specs.Visible.{execution, rows_after}
 use Rattle.eve_chains.specs.Committed.{attempts_of}
@@ -26,7 +27,7 @@ abbrev pub opened_of : Trace → Attempt → Opened
 opened_of t a = record { view = a.view; token = a.token; written = written_by t a }
 
 -- The section has come to where the account has: the same view, last committed number and duty, the same attempts
--- open, and the rows have what the attempts say that they left. The account is of version 1.
+-- open, and the rows have what came as the section says. The account is of version 1.
 pub record AreAlike (t : Trace) (s : SectionState) (l : Ledger) : Type 0 where
   pub version : l.version ≡ 1
   pub view : s.view ≡ l.view
@@ -38,4 +39,4 @@ pub record AreAlike (t : Trace) (s : SectionState) (l : Ledger) : Type 0 where
   pub opened : l.opened ≡ map (opened_of t) (attempts_of s.pending)
   pub due : s.last + length s.pending ≤ length t.batches
   pub now : table_now l ≡ rows_after t (path_of s)
-  pub committed : rows_committed l ≡ rows_after t (attempts_of s.committed)
+  pub committed : rows_committed l ≡ rows_after t (flat_map came_by s.landings)

@@ -1,9 +1,10 @@
 -- Each step of a replica's section is right where its account stands, and leads to where the account goes.
 use Rattle.std.proofs.Common.{◌≡◌, ℕ, zero, suc, ◌+◌, ◌<◌, ◌≤◌, ◌==◌, nat_le, nat_lt, Bool, true, false, ◌&&◌}
 use Rattle.std.proofs.Common.{IsTrue, All, List, [], ◌∷◌, ◌++◌, map, length, replicate, slice_get, Some, refl, sym}
-use Rattle.std.proofs.Common.{subst, ap, ◌∙◌, inl, inr, append_assoc, append-nil, arith, length-append}
+use Rattle.std.proofs.Common.{subst, ap, ◌∙◌, inl, inr, append-nil, arith, length-append}
 use mathlib.Core.Path.{fun_ext}
 use Rattle.std.specs.Prelude.{if◌then◌else◌, slice_index_or}
+use Rattle.std.specs.List.{flat_map}
 use Rattle.std.specs.Bool.{beq}
 use Rattle.std.specs.Cmp.Lexicographic.{bytes_decides, pointwise}
 use Rattle.std.proofs.lemmas.Bool.{and_from, cases_lt, eq-eqb, le-leb, lt-ltb}
@@ -22,7 +23,7 @@ use Rattle.eve_grammar.specs.Frames.{OfReplica}
 use Rattle.eve_grammar.specs.Spelling.{frame_text, step_text, section_start, steps_of, steps_at}
 use Rattle.eve_grammar.proofs.OpeningRows.{length-opening_rows}
 use Rattle.eve_grammar.proofs.Lists.{same_first, same_others, no_item}
-use Rattle.eve_history.specs.Section.{Placed, SectionState, start, path_of, committing, next, state_after}
+use Rattle.eve_history.specs.Section.{Ran, Placed, came_by, SectionState, start, path_of, committing, next, state_after}
 use Rattle.eve_history.specs.Section.{batch_at, request_count, worker_count, is_due, is_right_attempt}
 use Rattle.eve_history.specs.Section.{is_right_certificate, are_right_accesses, commits_first}
 use Rattle.eve_history.specs.Section.{is_right_commit, is_right_rollback, is_right, are_right}
@@ -31,6 +32,7 @@ use Rattle.eve_history.proofs.Rights.{none_at}
 use Rattle.eve_chains.specs.Visible.{opening_of, opening_table, execution, rows_after}
 use Rattle.eve_chains.specs.Committed.{attempts_of}
 use Rattle.eve_agree.specs.Tables.{entries_of}
+use Rattle.eve_agree.proofs.SectionPaths.{came_by_push, path_committed, path_attempted}
 use Rattle.eve_chains.proofs.LeftByRecords.{rows_after-push}
 use Rattle.eve_votes.proofs.Places.{located_values}
 use Rattle.eve_attempts.specs.Ledgers.{Opened, Ledger, ledger_rows, opening, rows_at_first, table_of_rows, table_now}
@@ -148,7 +150,7 @@ module _ (t : Trace) (s : SectionState) (old : Ledger) (alike : AreAlike t s old
   alike_rolled_back : (new : Ledger) (at : ℕ) (r : Rollback) → account.RollsBack old new r
       → AreAlike t (next s (at, RollsBack r)) new
   alike_rolled_back new at r made =
-      let now : table_now new ≡ rows_after t (attempts_of s.committed) = made.rows ∙ alike.committed in
+      let now : table_now new ≡ rows_after t (flat_map came_by s.landings) = made.rows ∙ alike.committed in
       let due = alike.due in
       record {
         version = ap (λ (l : Ledger). l.version) made.changed ∙ alike.version;
@@ -160,7 +162,7 @@ module _ (t : Trace) (s : SectionState) (old : Ledger) (alike : AreAlike t s old
         rows = made.as_many ∙ alike.rows;
         opened = ap (λ (l : Ledger). l.opened) made.changed;
         due = omega arith;
-        now = now ∙ ap (λ (ps : List Placed). rows_after t (attempts_of ps)) (sym (append-nil s.committed));
+        now = now ∙ ap (rows_after t) (sym (append-nil (flat_map came_by s.landings)));
         committed = ap (λ (os : List Opened). values_before (table_now new) (writes_in os))
             (ap (λ (l : Ledger). l.opened) made.changed) ∙ now;
       }
@@ -187,13 +189,13 @@ module _ (t : Trace) (s : SectionState) (old : Ledger) (alike : AreAlike t s old
         opened = ap (λ (l : Ledger). l.opened) made.changed ∙ sym (same_others _ made.first _ made.others opened);
         due = omega arith;
         now = ap table_now made.changed ∙ alike.now
-            ∙ ap (λ (qs : List Placed). rows_after t (attempts_of (s.committed ++ qs))) open_is
-            ∙ ap (λ (qs : List Placed). rows_after t (attempts_of qs)) (sym (append_assoc s.committed (q ∷ []) ps));
+            ∙ ap (rows_after t) (ap (λ (qs : List Placed). flat_map came_by s.landings ++ map (λ r. Ran r.attempt) qs)
+            open_is ∙ path_committed s.landings q ps);
         committed = made.committed
             ∙ (λ i. table_after (alike.committed i) (sym own i).written)
-            ∙ writes_leave t (rows_after t (attempts_of s.committed)) q.attempt
-            ∙ sym (rows_after-push t (attempts_of s.committed) q.attempt)
-            ∙ ap (rows_after t) (sym (attempts_of-push s.committed q));
+            ∙ writes_leave t (rows_after t (flat_map came_by s.landings)) q.attempt
+            ∙ sym (rows_after-push t (flat_map came_by s.landings) q.attempt)
+            ∙ ap (rows_after t) (sym (came_by_push s.landings q));
       }
 
   -- ---- an attempt
@@ -279,8 +281,7 @@ module _ (t : Trace) (s : SectionState) (old : Ledger) (alike : AreAlike t s old
               (sym (executes t (front_of old old.view old.is_next_serial) old new made.batch _ made.records a
               batch_found made.closed) i))
               ∙ sym (rows_after-push t (path_of s) a)
-              ∙ ap (rows_after t) (sym (attempts_of-push (s.committed ++ s.pending) q))
-              ∙ ap (λ (ps : List Placed). rows_after t (attempts_of ps)) (append_assoc s.committed s.pending (q ∷ []));
+              ∙ ap (rows_after t) (sym (path_attempted s.landings s.pending q));
           committed = opens.committed ∙ alike.committed;
         }
 

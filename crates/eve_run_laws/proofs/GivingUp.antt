@@ -3,15 +3,16 @@ use Rattle.std.proofs.Common.{◌≡◌, ℕ, ℤ, ◌+◌, ◌<◌, ◌≤◌, 
 use Rattle.std.proofs.Common.{All, take, drop, length, slice_get, Some, refl, sym, subst, ap, ◌∙◌, append_assoc}
 use Rattle.std.proofs.Common.{arith, length-append, append-nil}
 use Rattle.std.specs.Prelude.{IsTrue, if◌then◌else◌}
+use Rattle.std.specs.List.{flat_map}
 use Rattle.std.proofs.lemmas.Bool.{eq-eqb, ne_eqb}
 use Rattle.std.proofs.lemmas.List.{take_at}
 use Rattle.eve_grammar.specs.Trace.{Rollback, Step, Attempts, Commits, RollsBack, Trace}
 use Rattle.eve_grammar.specs.Spelling.{steps_of, steps_at}
 use Rattle.eve_grammar.proofs.Lists.{same_first, same_others, no_item}
-use Rattle.eve_history.specs.Section.{Placed, SectionState, start, committing, next, state_after}
-use Rattle.eve_history.specs.SectionHistory.{history}
-use Rattle.eve_chains.specs.Committed.{attempts_of, balances_to}
-use Rattle.eve_agree.specs.ByNumber.{is_reached}
+use Rattle.eve_history.specs.Section.{Ran, Placed, Landing, ByAttempt, came_by, SectionState, start, path_of}
+use Rattle.eve_history.specs.Section.{committing, next, state_after}
+use Rattle.eve_history.specs.SectionHistory.{history, is_reached}
+use Rattle.eve_chains.specs.Committed.{balances_to}
 use Rattle.eve_agree.proofs.ByNumber.{reached_up}
 use Rattle.eve_attempts.specs.Ledgers.{Ledger, Opened}
 use Rattle.eve_replica.specs.Deciding.{token_given_up}
@@ -68,27 +69,27 @@ module _ (p : RunPlan) (number : ℕ) (rest : List ℕ) where
 
 -- ---- what is committed stays
 
--- the last committed number is how many are committed
+-- each number up to the last has its landing
 abbrev IsCounted : SectionState → Type 0
-IsCounted s = s.last ≡ length s.committed
+IsCounted s = s.last ≡ length s.landings
 
 counted_committing : (s : SectionState) (pending : List Placed) → IsCounted s → IsCounted (committing s pending)
 counted_committing s [] counted = counted
-counted_committing s (q ∷ pending) counted = omega (arith, counted, length-append s.committed (q ∷ []))
+counted_committing s (q ∷ pending) counted = omega (arith, counted, length-append s.landings (ByAttempt q ∷ []))
 
--- the first committed attempts after steps are those before them
+-- the first numbers after steps were reached as before them
 record KeepsCommitted (s end : SectionState) : Type 0 where
-  more : List Placed
-  is : end.committed ≡ s.committed ++ more
+  more : List Landing
+  is : end.landings ≡ s.landings ++ more
 
 committing_keeps : (s : SectionState) (pending : List Placed) (end : SectionState)
     → KeepsCommitted (committing s pending) end → KeepsCommitted s end
 committing_keeps s [] end keeps = keeps
 committing_keeps s (q ∷ pending) end keeps =
-    record { more = q ∷ keeps.more; is = keeps.is ∙ append_assoc s.committed (q ∷ []) keeps.more }
+    record { more = ByAttempt q ∷ keeps.more; is = keeps.is ∙ append_assoc s.landings (ByAttempt q ∷ []) keeps.more }
 
 committed_stays : (steps : List (ℕ × Step)) (s : SectionState) → KeepsCommitted s (state_after s steps)
-committed_stays [] s = record { more = []; is = sym (append-nil s.committed) }
+committed_stays [] s = record { more = []; is = sym (append-nil s.landings) }
 committed_stays ((at, Attempts a) ∷ steps) s =
     let rest = committed_stays steps (next s (at, Attempts a)) in record { more = rest.more; is = rest.is }
 committed_stays ((at, Commits c) ∷ steps) s =
@@ -102,12 +103,12 @@ committed_stays ((at, RollsBack r) ∷ steps) s =
 module _ (p : RunPlan) (t : Trace) (plan : IsPlanOf p t) (number : ℕ) (rest : List ℕ) where
   -- the token of the batch after so many, run as it is listed from the balances that these left
   abbrev token_from : SectionState → List ℕ
-  token_from end = serial_token p number (balances_along t (attempts_of (take number end.committed)))
+  token_from end = serial_token p number (balances_along t (flat_map came_by (take number end.landings)))
 
-  -- By its rollback to this view a section that ends so gives up that token, and so many batches are committed in it.
+  -- By its rollback to this view a section that ends so gives up that token, and it reaches the number.
   record GivesUpSerial (view : ℕ) (opened : List (List ℕ)) (steps : List Step) (end : SectionState) : Type 0 where
     token : token_given_up view opened steps ≡ Some (token_from end)
-    reached : number ≤ length end.committed
+    reached : number ≤ length end.landings
 
   -- by its second rollback to the number, where it has just gone back to it
   second_gives_up : (view : ℕ) (steps : List (ℕ × Step)) (s : SectionState) (old last : Ledger)
@@ -117,19 +118,20 @@ module _ (p : RunPlan) (t : Trace) (plan : IsPlanOf p t) (number : ℕ) (rest : 
       → GivesUpSerial view [] (map (λ x. x.1) steps) (state_after s steps)
   second_gives_up view steps s old last way alike counted closed serial none here at back =
       let keeps = committed_stays steps s in
-      let many : length s.committed ≡ number = sym counted ∙ alike.last ∙ sym here in
-      let first : take number (state_after s steps).committed ≡ s.committed =
-      ap (take number) keeps.is ∙ take_at s.committed keeps.more number many in
-      let path : old.rows.balances ≡ balances_along t (attempts_of (s.committed ++ s.pending)) =
-      balances_now t old (attempts_of (s.committed ++ s.pending)) alike.rows alike.now in
+      let many : length s.landings ≡ number = sym counted ∙ alike.last ∙ sym here in
+      let first : take number (state_after s steps).landings ≡ s.landings =
+      ap (take number) keeps.is ∙ take_at s.landings keeps.more number many in
+      let path : old.rows.balances ≡ balances_along t (path_of s) =
+      balances_now t old (path_of s) alike.rows alike.now in
       record {
         token = serial_given_up p number rest view (map (λ x. x.1) steps) old last way at here back serial none
             alike.version
             ∙ ap (λ (balances : List ℤ). Some (serial_token p number balances))
             (path
-            ∙ ap (λ (ps : List Placed). balances_along t (attempts_of ps))
-            (ap (λ (ps : List Placed). s.committed ++ ps) closed ∙ append-nil s.committed ∙ sym first));
-        reached = omega (arith, many, ap length keeps.is, length-append s.committed keeps.more);
+            ∙ ap (balances_along t)
+            (ap (λ (ps : List Placed). flat_map came_by s.landings ++ map (λ q. Ran q.attempt) ps) closed
+            ∙ append-nil (flat_map came_by s.landings) ∙ ap (flat_map came_by) (sym first)));
+        reached = omega (arith, many, ap length keeps.is, length-append s.landings keeps.more);
       }
 
   -- a rollback to a view before this one gives nothing up for it

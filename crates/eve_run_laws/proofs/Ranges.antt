@@ -1,9 +1,9 @@
 -- The balances and the replies of a replica lie within the range of money.
 use Rattle.std.proofs.Common.{◌≡◌, ℕ, ℤ, pos, zero, suc, ◌*◌, ◌==◌, nat_le, nat_lt, Bool, true, false, cond, ◌&&◌}
-use Rattle.std.proofs.Common.{List, [], ◌∷◌, take, length, Some, refl, sym, subst, ◌∙◌, IsTrue}
+use Rattle.std.proofs.Common.{List, [], ◌∷◌, take, fold, length, slice_get, Some, refl, subst, ◌∙◌, IsTrue}
 use Rattle.std.specs.Prelude.{slice_index_or}
 use Rattle.std.specs.Int.RustNames.{int_le}
-use Rattle.std.specs.List.{AllByRecursion, list_all}
+use Rattle.std.specs.List.{AllByRecursion, list_all, flat_map}
 use Rattle.std.proofs.lemmas.Bool.{and_parts, and_from}
 use Rattle.std.proofs.lemmas.List.Folds.{list_all-append}
 use Rattle.eve_accounts.specs.Money.{is_balance, is_saving}
@@ -18,29 +18,28 @@ use Rattle.eve_grammar.specs.Spelling.{steps_at}
 use Rattle.eve_grammar.specs.declared.limits.TheConstants.{MOST_REQUESTS, MOST_VERSIONS}
 use Rattle.eve_grammar.specs.Limits.{is_between, is_number, is_token, is_reply, is_customer, is_entry}
 use Rattle.eve_grammar.specs.Limits.{is_access, is_attempt, is_whole_attempt, row_count, HasLimits}
-use Rattle.eve_grammar.proofs.Lists.{all-append}
-use Rattle.eve_history.specs.Section.{Placed}
+use Rattle.eve_history.specs.Section.{Placed, Landing, ByAttempt, ByTransfer, Skipped, came_by, attempts_by}
 use Rattle.eve_history.specs.Fates.{fates_from}
 use Rattle.eve_history.specs.SectionHistory.{attempts_among, history, committed_at, is_committed, placed_at}
+use Rattle.eve_history.proofs.AttemptsAlone.{IsByAttempt, all_by_attempts}
 use Rattle.eve_history.proofs.FateLaws.{committed_are_picked}
-use Rattle.eve_chains.specs.Visible.{opening_table, entries_with, executed_in, execution, executions}
-use Rattle.eve_chains.specs.Committed.{attempts_of, committed_to, first_rows, values_to, balances_to}
-use Rattle.eve_chains.proofs.LeftByRecords.{rows_after-append}
+use Rattle.eve_chains.specs.Visible.{opening_table, entries_with, executed_in, execution, with_came}
+use Rattle.eve_chains.specs.Committed.{first_rows, values_to, balances_to}
 use Rattle.eve_chains.proofs.Attempts.{in_picked}
 use Rattle.eve_chains.proofs.Distinct.{in_map}
-use Rattle.eve_chains.proofs.Linked.{none≢some, in_at}
+use Rattle.eve_chains.proofs.Linked.{none≢some, landing_by, in_attempts}
 use Rattle.eve_chains.proofs.AttemptRecords.{its_entries, whole_section}
 use Rattle.eve_audit.proofs.SameBanks.{rows_length}
 
 -- ---- what is committed lies within the limits of the format
 
-committed_whole : (t : Trace) (e : ℕ) → HasLimits t → (q : Placed) → In q (history t e).committed
-    → IsTrue (is_whole_attempt (row_count (head_of t)) q.attempt)
+committed_whole : (t : Trace) (e : ℕ) → HasLimits t → (q : Placed)
+    → In q (attempts_by (history t e).landings) → IsTrue (is_whole_attempt (row_count (head_of t)) q.attempt)
 committed_whole t e limits q i =
     all_in (λ x. IsTrue (is_whole_attempt (row_count (head_of t)) x.1)) (whole_section t e limits)
     (in_picked is_committed (attempts_among (steps_at t e)) (fates_from 0 (steps_at t e))
     (subst (λ (xs : List (ℕ × Attempt)). In (placed_at q) xs) (committed_are_picked t e)
-    (in_map placed_at (history t e).committed i)))
+    (in_map placed_at (attempts_by (history t e).landings) i)))
 
 -- ---- replies
 
@@ -58,7 +57,8 @@ pub replies_within : (t : Trace) (e n : ℕ) (q : Placed) → HasLimits t → co
 replies_within t e zero q limits at = none≢some q at
 replies_within t e (suc n) q limits at =
     whole_replies (row_count (head_of t)) q.attempt
-    (committed_whole t e limits q (in_at (history t e).committed n q at))
+    (committed_whole t e limits q (in_attempts (history t e).landings n q
+    (landing_by (slice_get (history t e).landings n) q at)))
 
 -- ---- tables of balances
 
@@ -141,23 +141,22 @@ execution_within rows t a (index ∷ order) h = (
   execution_within rows t a order h,
 )
 
-executions_within : (rows : ℕ) (t : Trace) (ps : List Placed) (n : ℕ)
-    → ((q : Placed) → In q ps → IsTrue (is_whole_attempt rows q.attempt))
-    → AllByRecursion (NotesWithin rows) (executions t (attempts_of (take n ps)))
-executions_within rows t ps zero whole = tt
-executions_within rows t [] (suc n) whole = tt
-executions_within rows t (p ∷ ps) (suc n) whole =
-    all-append (NotesWithin rows) (execution t p.attempt) (executions t (attempts_of (take n ps)))
-    (execution_within rows t p.attempt p.attempt.certificate (whole p here))
-    (executions_within rows t ps n (λ q i. whole q (there i)))
+-- no number is reached by a state that is taken over
+values_along : (rows : ℕ) (t : Trace) (ls : List Landing) (n : ℕ) → AllByRecursion IsByAttempt ls
+    → ((q : Placed) → In q (attempts_by ls) → IsTrue (is_whole_attempt rows q.attempt))
+    → (table : Table) → AreBalances table → AreBalances (fold (with_came t) table (flat_map came_by (take n ls)))
+values_along rows t ls zero by whole table all = all
+values_along rows t [] (suc n) by whole table all = all
+values_along rows t (ByAttempt p ∷ ls) (suc n) by whole table all =
+    values_along rows t ls n by.1 (λ q i. whole q (there i)) (table_after_all table (execution t p.attempt))
+    (balances_after_all rows table (execution t p.attempt) all
+    (execution_within rows t p.attempt p.attempt.certificate (whole p here)))
+values_along rows t (ByTransfer at x ∷ ls) (suc n) by whole table all = absurd by.0
+values_along rows t (Skipped ∷ ls) (suc n) by whole table all = absurd by.0
 
 values_within : (t : Trace) (e n : ℕ) → HasLimits t → (row : ℕ) → IsTrue (is_balance (values_to t e n row))
-values_within t e n limits =
-    subst AreBalances
-    (sym (rows_after-append t [] (committed_to t e n)))
-    (balances_after_all (row_count (head_of t)) (opening_table t) (executions t (committed_to t e n))
-    (opening_balances t limits)
-    (executions_within (row_count (head_of t)) t (history t e).committed n (committed_whole t e limits)))
+values_within t e n limits = values_along (row_count (head_of t)) t (history t e).landings n (all_by_attempts t e)
+    (committed_whole t e limits) (opening_table t) (opening_balances t limits)
 
 first_within : (values : ℕ → ℤ) → ((row : ℕ) → IsTrue (is_balance (values row))) → (n : ℕ)
     → IsTrue (list_all is_balance (first_rows n values))

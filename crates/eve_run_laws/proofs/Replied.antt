@@ -16,9 +16,9 @@ use Rattle.eve_workload.specs.Workload.{Workload}
 use Rattle.eve_replica.specs.Sending.{answered, requests_there, requests_numbered, answers_of, sent_along, sent_from_on}
 use Rattle.eve_replica.specs.Run.{IsTraceOf}
 use Rattle.eve_votes.proofs.Places.{get_between, located_values}
-use Rattle.eve_history.specs.Section.{Placed, SectionState, start, path_of, committing, next, state_after, no_batch}
-use Rattle.eve_history.specs.Section.{batch_at}
-use Rattle.eve_history.specs.SectionHistory.{history, committed_at, IsRightSection}
+use Rattle.eve_history.specs.Section.{Placed, Landing, ByAttempt, SectionState, start, path_of, committing, next}
+use Rattle.eve_history.specs.Section.{state_after, no_batch, batch_at}
+use Rattle.eve_history.specs.SectionHistory.{history, attempt_by, committed_at, IsRightSection}
 use Rattle.eve_chains.specs.Committed.{attempts_of}
 use Rattle.eve_chains.proofs.Linked.{committed_number}
 use Rattle.eve_agree.specs.SentReplies.{IsReplied, AllReplied}
@@ -69,50 +69,51 @@ all_answer e n (asked ∷ requests) (reply ∷ replies) = (
       (all_in (IsAnswer e n requests replies) (all_answer e n requests replies) i)),
 )
 
--- ---- what is committed stays
+-- ---- what was reached stays
 
-stays_committing : (s : SectionState) (pending : List Placed) (n : ℕ) (p : Placed) → slice_get s.committed n ≡ Some p
-    → slice_get (committing s pending).committed n ≡ Some p
-stays_committing s [] n p there = there
-stays_committing s (q ∷ qs) n p there = get_in_front s.committed (q ∷ []) n p there
+stays_committing : (s : SectionState) (pending : List Placed) (n : ℕ) (l : Landing) → slice_get s.landings n ≡ Some l
+    → slice_get (committing s pending).landings n ≡ Some l
+stays_committing s [] n l there = there
+stays_committing s (q ∷ qs) n l there = get_in_front s.landings (ByAttempt q ∷ []) n l there
 
-stays_next : (s : SectionState) (step : ℕ × Step) (n : ℕ) (p : Placed) → slice_get s.committed n ≡ Some p
-    → slice_get (next s step).committed n ≡ Some p
-stays_next s (at, Attempts a) n p there = there
-stays_next s (at, Commits c) n p there = stays_committing s s.pending n p there
-stays_next s (at, RollsBack r) n p there = there
+stays_next : (s : SectionState) (step : ℕ × Step) (n : ℕ) (l : Landing) → slice_get s.landings n ≡ Some l
+    → slice_get (next s step).landings n ≡ Some l
+stays_next s (at, Attempts a) n l there = there
+stays_next s (at, Commits c) n l there = stays_committing s s.pending n l there
+stays_next s (at, RollsBack r) n l there = there
 
-stays_committed : (s : SectionState) (steps : List (ℕ × Step)) (n : ℕ) (p : Placed) → slice_get s.committed n ≡ Some p
-    → slice_get (state_after s steps).committed n ≡ Some p
-stays_committed s [] n p there = there
-stays_committed s (step ∷ steps) n p there = stays_committed (next s step) steps n p (stays_next s step n p there)
+stays_reached : (s : SectionState) (steps : List (ℕ × Step)) (n : ℕ) (l : Landing) → slice_get s.landings n ≡ Some l
+    → slice_get (state_after s steps).landings n ≡ Some l
+stays_reached s [] n l there = there
+stays_reached s (step ∷ steps) n l there = stays_reached (next s step) steps n l (stays_next s step n l there)
 
 -- ---- the replies of a section
 
 -- it is an answer by one of the attempts that are committed
-record IsByCommitted (batches : List Batch) (e : ℕ) (committed : List Placed) (s : Sent) : Type 0 where
+record IsByCommitted (batches : List Batch) (e : ℕ) (landings : List Landing) (s : Sent) : Type 0 where
   place : ℕ
   placed : Placed
-  there : slice_get committed place ≡ Some placed
+  there : slice_get landings place ≡ Some (ByAttempt placed)
   answer : IsAnswer e placed.attempt.seq (requests_numbered batches placed.attempt.seq) placed.attempt.replies s
 
 module _ (batches : List Batch) (e : ℕ) where
   -- what is sent along these steps, with these attempts open before them, is by what is committed after them
   abbrev AreByCommitted : SectionState → List Attempt → List (ℕ × Step) → Type 0
-  AreByCommitted s opened steps = AllByRecursion (IsByCommitted batches e (state_after s steps).committed)
+  AreByCommitted s opened steps = AllByRecursion (IsByCommitted batches e (state_after s steps).landings)
       (sent_along batches e opened (map (λ x. x.1) steps))
 
   -- what is sent at a commit of the first open attempt
   of_first : (s : SectionState) (p : Placed) (ps : List Placed) (steps : List (ℕ × Step))
-      → AllByRecursion (IsByCommitted batches e (state_after (committing s (p ∷ ps)) steps).committed)
+      → AllByRecursion (IsByCommitted batches e (state_after (committing s (p ∷ ps)) steps).landings)
       (answers_of batches e p.attempt)
   of_first s p ps steps =
-      all_from_in (IsByCommitted batches e (state_after (committing s (p ∷ ps)) steps).committed)
+      all_from_in (IsByCommitted batches e (state_after (committing s (p ∷ ps)) steps).landings)
       (answers_of batches e p.attempt)
       (λ x i. record {
-        place = length s.committed;
+        place = length s.landings;
         placed = p;
-        there = stays_committed (committing s (p ∷ ps)) steps (length s.committed) p (get_between s.committed p []);
+        there = stays_reached (committing s (p ∷ ps)) steps (length s.landings) (ByAttempt p)
+            (get_between s.landings (ByAttempt p) []);
         answer = all_in (IsAnswer e p.attempt.seq (requests_numbered batches p.attempt.seq) p.attempt.replies)
             (all_answer e p.attempt.seq (requests_numbered batches p.attempt.seq) p.attempt.replies) i;
       })
@@ -121,11 +122,11 @@ module _ (batches : List Batch) (e : ℕ) where
       → s.pending ≡ pending
       → ((opened : List Attempt) → attempts_of (committing s pending).pending ≡ opened
       → AreByCommitted (committing s pending) opened steps)
-      → AllByRecursion (IsByCommitted batches e (state_after (committing s pending) steps).committed)
+      → AllByRecursion (IsByCommitted batches e (state_after (committing s pending) steps).landings)
       (sent_along batches e (attempts_of pending) (map (λ x. x.1) ((at, Commits c) ∷ steps)))
   by_commit s [] at c steps is later = later [] (ap attempts_of is)
   by_commit s (p ∷ ps) at c steps is later =
-      all-append (IsByCommitted batches e (state_after (committing s (p ∷ ps)) steps).committed)
+      all-append (IsByCommitted batches e (state_after (committing s (p ∷ ps)) steps).landings)
       (answers_of batches e p.attempt) (sent_along batches e (attempts_of ps) (map (λ x. x.1) steps))
       (of_first s p ps steps) (later (attempts_of ps) refl)
 
@@ -142,10 +143,10 @@ module _ (batches : List Batch) (e : ℕ) where
   along s opened ((at, RollsBack r) ∷ steps) is = along (next s (at, RollsBack r)) [] steps refl
 
 section_by_committed : (t : Trace) (e : ℕ)
-    → AllByRecursion (IsByCommitted t.batches e (history t e).committed) (sent_along t.batches e [] (steps_of t e))
+    → AllByRecursion (IsByCommitted t.batches e (history t e).landings) (sent_along t.batches e [] (steps_of t e))
 unfolding history steps_at
 section_by_committed t e =
-    subst (λ (steps : List Step). AllByRecursion (IsByCommitted t.batches e (history t e).committed)
+    subst (λ (steps : List Step). AllByRecursion (IsByCommitted t.batches e (history t e).landings)
     (sent_along t.batches e [] steps))
     (located_values step_text (section_start t e + length (frame_text (OfReplica e))) (steps_of t e))
     (along t.batches e start [] (steps_at t e) refl)
@@ -165,10 +166,11 @@ requests_at t n = requests_found t.batches n ∙ ap (λ (k : ℕ). (get_or t.bat
     one_less n = omega arith
 
 replied : (t : Trace) (e : ℕ) (s : Sent) → IsRightSection t e
-    → IsByCommitted t.batches e (history t e).committed s → IsReplied t s
+    → IsByCommitted t.batches e (history t e).landings s → IsReplied t s
 replied t e s right by =
     let a = by.placed.attempt in
-    let number : a.seq ≡ suc by.place = committed_number t e (suc by.place) by.placed right by.there in
+    let number : a.seq ≡ suc by.place = committed_number t e (suc by.place) by.placed right
+    (ap attempt_by by.there) in
     let seq : s.seq ≡ suc by.place = by.answer.batch ∙ number in
     let requests : requests_numbered t.batches a.seq ≡ (batch_at t s.seq).requests =
     ap (requests_numbered t.batches) number ∙ requests_at t by.place ∙ ap (λ (n : ℕ). (batch_at t n).requests) (sym seq)
@@ -177,7 +179,7 @@ replied t e s right by =
       placed = by.placed;
       index = by.answer.index;
       committed = ap (committed_at t s.replica) seq ∙ ap (λ (r : ℕ). committed_at t r (suc by.place)) by.answer.replica
-          ∙ by.there;
+          ∙ ap attempt_by by.there;
       request = ap (option_map request_id)
           (ap (λ (xs : List Asked). slice_get xs by.answer.index) (sym requests) ∙ by.answer.request)
           ∙ (λ j. Some (by.answer.client j, by.answer.number j));
@@ -188,7 +190,7 @@ section_replied : (t : Trace) (e : ℕ) → IsRightSection t e
     → AllByRecursion (IsReplied t) (sent_along t.batches e [] (steps_of t e))
 section_replied t e right = all_from_in (IsReplied t) (sent_along t.batches e [] (steps_of t e))
     (λ s i. replied t e s right
-    (all_in (IsByCommitted t.batches e (history t e).committed) (section_by_committed t e) i))
+    (all_in (IsByCommitted t.batches e (history t e).landings) (section_by_committed t e) i))
 
 -- ---- of all replicas
 

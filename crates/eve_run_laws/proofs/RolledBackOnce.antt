@@ -13,10 +13,9 @@ use Rattle.eve_grammar.specs.Limits.{HasLimits}
 use Rattle.eve_grammar.specs.Spelling.{steps_of}
 use Rattle.eve_votes.proofs.Counting.{Counted, counted}
 use Rattle.eve_votes.proofs.Deciding.{quorum_limits}
-use Rattle.eve_history.specs.SectionHistory.{committed_at}
+use Rattle.eve_history.specs.SectionHistory.{is_reached}
 use Rattle.eve_chains.specs.Committed.{balances_to}
-use Rattle.eve_agree.specs.ByNumber.{is_reached}
-use Rattle.eve_agree.proofs.ByNumber.{some_there}
+use Rattle.eve_agree.proofs.ByNumber.{reached_item}
 use Rattle.eve_workload.specs.declared.mixer.Mixer.{Mixer}
 use Rattle.eve_workload.specs.Workload.{Workload}
 use Rattle.eve_replica.specs.Deciding.{is_some_of, token_given_up}
@@ -166,8 +165,8 @@ module _ (w : Workload) (mixer : Mixer) (t : Trace) (run : IsTraceOf w mixer t) 
         → ¬ (balances_to t e n ≡ balances_to t f n) → Collides t
     apart_collide f zero one other apart = absurd (apart refl)
     apart_collide f (suc n) one other apart =
-        let q = some_there (committed_at t e (suc n)) one in
-        let r = some_there (committed_at t f (suc n)) other in
+        let q = reached_item t e n one in
+        let r = reached_item t f n other in
         outcomes_collide t limits (sections_right w mixer t run) (sections_due w mixer t run)
         (votes_sound w mixer t run limits) (all_backed w mixer t run limits) e f (suc n) q.0 r.0 q.1 r.1
         (λ same. apart same.balances)

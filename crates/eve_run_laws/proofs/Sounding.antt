@@ -9,7 +9,8 @@ use Rattle.eve_smallbank.proofs.Chains.{rows_by_chain}
 use Rattle.eve_grammar.specs.Trace.{Attempt, Step, Attempts, Commits, RollsBack, Trace}
 use Rattle.eve_grammar.proofs.Lists.{all-append}
 use Rattle.eve_stamps.specs.Applied.{Applied}
-use Rattle.eve_history.specs.Section.{Placed, SectionState, start, path_of, committing, next}
+use Rattle.eve_history.specs.Section.{Placed, attempts_by, SectionState, start, path_of, committing, next}
+use Rattle.eve_history.proofs.FateLaws.{attempts_by_push}
 use Rattle.eve_history.specs.SectionHistory.{history, names_of}
 use Rattle.eve_chains.specs.Visible.{execution}
 use Rattle.eve_chains.specs.Sound.{IsSoundAlong, SettledAreSound}
@@ -26,7 +27,7 @@ use Rattle.eve_run_laws.proofs.Executing.{batch_due, executes}
 -- each committed, open and discarded one
 abbrev pub AreSoundSoFar : Trace → SectionState → Type 0
 AreSoundSoFar t s =
-    AllByRecursion (IsSoundAlong t) s.committed × AllByRecursion (IsSoundAlong t) s.pending
+    AllByRecursion (IsSoundAlong t) (attempts_by s.landings) × AllByRecursion (IsSoundAlong t) s.pending
     × AllByRecursion (IsSoundAlong t) s.discarded
 
 pub sound_first : (t : Trace) → AreSoundSoFar t start
@@ -35,12 +36,16 @@ sound_first t = (tt, tt, tt)
 sound_committing : (t : Trace) (s : SectionState) (pending : List Placed) → AllByRecursion (IsSoundAlong t) pending
     → AreSoundSoFar t s → AreSoundSoFar t (committing s pending)
 sound_committing t s [] each sound = sound
-sound_committing t s (p ∷ pending) each sound =
-    (all-append (IsSoundAlong t) s.committed (p ∷ []) sound.0 (each.0, tt), each.1, sound.2)
+sound_committing t s (p ∷ pending) each sound = (
+  subst (AllByRecursion (IsSoundAlong t)) (sym (attempts_by_push s.landings p))
+      (all-append (IsSoundAlong t) (attempts_by s.landings) (p ∷ []) sound.0 (each.0, tt)),
+  each.1,
+  sound.2,
+)
 
 pub settled_sound : (t : Trace) (e : ℕ) → AreSoundSoFar t (history t e) → SettledAreSound t e
 settled_sound t e sound =
-    all-append (IsSoundAlong t) (history t e).committed (history t e).discarded sound.0 sound.2
+    all-append (IsSoundAlong t) (attempts_by (history t e).landings) (history t e).discarded sound.0 sound.2
 
 -- ---- one step
 

@@ -27,9 +27,11 @@ fn push_attempts(text: &mut Text, history: &History) {
 /// By which attempts it committed its batches.
 fn push_commits(text: &mut Text, history: &History) {
     for n in 0..history.committed() {
-        let attempt = history.committed_attempt(n + 1);
-        text.value("\n  batch ", u64::from(n + 1));
-        text.value(" by attempt ", attempt as u64);
+        if history.by_attempt(n + 1) {
+            let attempt = history.committed_attempt(n + 1);
+            text.value("\n  batch ", u64::from(n + 1));
+            text.value(" by attempt ", attempt as u64);
+        }
     }
 }
 

@@ -41,7 +41,7 @@ loop-place-preserved c = record {
       let e = c.args.history.now.replica in
       let says = c.ordered-access.ensures.says in
       let own : says.0 ≡ r = same_Some says.0 r (sym says.1 ∙ at) in
-      let f = noted_by c.view.result c.seq.result c.is_committed.result in
+      let f = noted_by 0 c.view.result c.seq.result c.is_committed.result in
       subst (λ (ms : List Noted). EachHasGathered t e c.args.from ms c.note_record.new.rows.items)
       (list_more f ns r.ordered c.loop-place.place (said_at c.ordered-access.result)
       (ap (λ (q : ExecutedAttempt). slice_get q.ordered c.loop-place.place) (sym own) ∙ says.2))
@@ -72,6 +72,6 @@ returns-clause-gathered c = λ ns r fate at its known.
     ∙ ap (λ (a : Attempt). length a.certificate) says.3 ∙ ap (λ (q : ExecutedAttempt). length q.attempt.certificate) own in
     let over : length r.ordered ≤ c.loop-place.place = omega (arith, many, listed, c.loop-place-test.false) in
     subst (λ (ms : List Noted). EachHasGathered t e from (ns ++ ms) rows)
-    ((λ i. flat_map (noted_by (view i) (number i) (commits i)) (take_all c.loop-place.place r.ordered over i))
+    ((λ i. flat_map (noted_by 0 (view i) (number i) (commits i)) (take_all c.loop-place.place r.ordered over i))
     ∙ sym (cond-true (is_settled fate) (noted_along r fate) [] passes))
     (c.loop-place.invariant.gathered ns r at known)

@@ -1,5 +1,5 @@
 use Rattle.std.proofs.Common.{◌≡◌, ◌+◌, ℕ, None, Some, arith, length, refl, sym, subst}
-use Rattle.eve_chains.specs.Visible.{opening_table}
+use Rattle.eve_chains.specs.Rows.{bases_of}
 use Rattle.eve_chains.specs.Rows.{Noted, of_row}
 use Rattle.eve_chains.specs.Walked.{HasGathered, IsPlaceAmong}
 use Rattle.eve_chains.specs.declared.walked_row.GatheredRow.{GatheredRow}
@@ -10,6 +10,7 @@ pub returns-in_default-clause-gathered : goal.returns-in_default-clause-gathered
 returns-in_default-clause-gathered c = λ t e ns known.
     let n : Noted = record {
       offset = c.args.at;
+      taken = 0;
       view = c.args.noting.view;
       number = c.args.noting.number;
       commits = c.args.noting.commits;
@@ -25,6 +26,7 @@ pub returns-clause-gathered : goal.returns-clause-gathered
 returns-clause-gathered c = λ t e ns known.
     let n : Noted = record {
       offset = c.args.at;
+      taken = 0;
       view = c.args.noting.view;
       number = c.args.noting.number;
       commits = c.args.noting.commits;
@@ -33,7 +35,7 @@ returns-clause-gathered c = λ t e ns known.
     let place = c.in-Some.place in
     let from = c.args.noting.from in
     let row = from + place in
-    let v = opening_table t row in
+    let v = bases_of t e row in
     let found : IsPlaceAmong n.entry.row from c.len.result (Some place) =
     subst (IsPlaceAmong n.entry.row from c.len.result) c.in-Some.is c.place_of.ensures in
     let many : c.len.result ≡ length c.args.rows.now.items = omega (arith, c.len.ensures, c.args.rows.now.ok.0) in

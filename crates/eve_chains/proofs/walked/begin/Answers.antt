@@ -4,7 +4,8 @@ use Rattle.std.proofs.lemmas.List.{get_or_default}
 use Rattle.eve_grammar.specs.Limits.{row_count}
 use Rattle.eve_grammar.specs.Trace.{head_of, opening_rows}
 use Rattle.eve_grammar.proofs.OpeningRows.{length-opening_rows}
-use Rattle.eve_chains.specs.Visible.{opening_of, opening_table}
+use Rattle.eve_chains.specs.Visible.{opening_of}
+use Rattle.eve_chains.specs.Rows.{bases_of}
 use Rattle.eve_chains.specs.Walked.{HasGathered}
 use Rattle.eve_chains.specs.declared.walked_row.GatheredRow.{GatheredRow}
 use Rattle.eve_chains.proofs.WalkedRows.{each_more, row_begun}
@@ -41,8 +42,8 @@ loop-number-preserved c =
         c.loop-number.auto.number,
       );
       each = λ e. subst (λ (xs : List GatheredRow). (k : ℕ) (d : GatheredRow) → k < length xs
-          → HasGathered e (from + k) (opening_table t (from + k)) [] (get_or xs k d)) (sym items)
-          (each_more (λ k w. HasGathered e (from + k) (opening_table t (from + k)) [] w) old new (c.loop-number.invariant.each e)
+          → HasGathered e (from + k) (bases_of t e (from + k)) [] (get_or xs k d)) (sym items)
+          (each_more (λ k w. HasGathered e (from + k) (bases_of t e (from + k)) [] w) old new (c.loop-number.invariant.each e)
           (row_begun t i (from + length old) c.index-as_slice-number.result new c.new.ensures
           c.new-in-loop-number.ensures.items c.new-in-loop-number-2.ensures.items value place e));
     }

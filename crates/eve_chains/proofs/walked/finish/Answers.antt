@@ -1,5 +1,5 @@
 use Rattle.std.proofs.Common.{◌≡◌, ◌+◌, ◌-◌, ◌≤◌, ℕ, [], None, List, length, get_or, sym, subst, ap, ◌∙◌, arith}
-use Rattle.eve_chains.specs.Visible.{opening_table}
+use Rattle.eve_chains.specs.Rows.{bases_of}
 use Rattle.eve_chains.specs.Rows.{Noted, told_of, all_noted, of_row}
 use Rattle.eve_chains.specs.Notes.{notes_between}
 use Rattle.eve_chains.specs.Changes.{changes_of_rows}
@@ -33,10 +33,10 @@ loop-row-preserved c =
     let told : ms ≡ ns = all_told t h c.requires.history in
     let item : GatheredRow = c.row-item.result in
     let is : item ≡ get_or c.args.rows.now k item = c.row-item.is in
-    let walked : HasWalked e (opening_table t row) (of_row row ms) item.walked =
-    subst (λ (w : GatheredRow). HasWalked e (opening_table t row) (of_row row ms) w.walked) (sym is) (c.requires.walked k item c.loop-row-test.true) in
-    let here : IsFirstOnRow e (opening_table t row) (notes_on t e row) item.walked.walk.first =
-    subst (λ (ks : List Noted). IsFirstOnRow e (opening_table t row) (of_row row ks) item.walked.walk.first) told
+    let walked : HasWalked e (bases_of t e row) (of_row row ms) item.walked =
+    subst (λ (w : GatheredRow). HasWalked e (bases_of t e row) (of_row row ms) w.walked) (sym is) (c.requires.walked k item c.loop-row-test.true) in
+    let here : IsFirstOnRow e (bases_of t e row) (notes_on t e row) item.walked.walk.first =
+    subst (λ (ks : List Noted). IsFirstOnRow e (bases_of t e row) (of_row row ks) item.walked.walk.first) told
     walked.met.first in
     let next : row + 1 ≡ from + (k + 1) = omega arith in
     let low : from ≤ row = omega arith in

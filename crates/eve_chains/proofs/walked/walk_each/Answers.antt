@@ -1,6 +1,6 @@
 use Rattle.std.proofs.Common.{◌≡◌, ◌+◌, ◌<◌, ℕ, length, sym, subst, ◌∙◌, arith}
 use Rattle.std.proofs.lemmas.List.{length-set}
-use Rattle.eve_chains.specs.Visible.{opening_table}
+use Rattle.eve_chains.specs.Rows.{bases_of}
 use Rattle.eve_chains.specs.Rows.{of_row}
 use Rattle.eve_chains.specs.Walked.{HasWalked, HasGathered}
 use Rattle.eve_chains.specs.declared.walked_row.GatheredRow.{GatheredRow}
@@ -29,8 +29,8 @@ loop-place-preserved c =
       as_many = length-set items p new ∙ c.loop-place.invariant.as_many;
       gathered = λ t ns known.
           let each = c.loop-place.invariant.gathered t ns known in
-          let v = opening_table t row in
-          each_set (λ k w. HasGathered e (from + k) (opening_table t (from + k)) (of_row (from + k) ns) w) items p new
+          let v = bases_of t e row in
+          each_set (λ k w. HasGathered e (from + k) (bases_of t e (from + k)) (of_row (from + k) ns) w) items p new
           there
           (all_walked e row v (of_row row ns) new
           (c.in_ok-walk_row.ensures.walked v (of_row row ns)
@@ -40,9 +40,9 @@ loop-place-preserved c =
       walked = λ t ns known.
           let each = c.loop-place.invariant.gathered t ns known in
           let done = c.loop-place.invariant.walked t ns known in
-          let v = opening_table t row in
+          let v = bases_of t e row in
           each_set
-          (λ k w. k < p + 1 → HasWalked e (opening_table t (from + k)) (of_row (from + k) ns) w.walked) items p new
+          (λ k w. k < p + 1 → HasWalked e (bases_of t e (from + k)) (of_row (from + k) ns) w.walked) items p new
           there
           (λ last. c.in_ok-walk_row.ensures.walked v (of_row row ns)
           (subst (λ (r : ℕ). HasGathered e r v (of_row row ns) old) (sym at)

@@ -1,6 +1,6 @@
 use Rattle.std.proofs.Common.{◌≡◌, ◌+◌, ◌<◌, ℕ, List, length, slice_index_or}
 use Rattle.eve_grammar.specs.Trace.{Trace}
-use Rattle.eve_chains.specs.Visible.{opening_table}
+use Rattle.eve_chains.specs.Rows.{bases_of}
 use Rattle.eve_chains.specs.Rows.{Noted, of_row}
 use Rattle.eve_chains.specs.Walked.{HasWalked, EachHasGathered}
 use Rattle.eve_chains.specs.declared.walked_row.GatheredRow.{GatheredRow}
@@ -13,6 +13,6 @@ invariant-loop-place l = record {
       → EachHasGathered t l.replica l.from ns l.rows.items;
   walked : (t : Trace) (ns : List Noted) → EachHasGathered t l.replica l.from ns l.fn.rows.items
       → (place : ℕ) (d : GatheredRow) → place < length l.rows.items → place < l.place
-      → HasWalked l.replica (opening_table t (l.from + place)) (of_row (l.from + place) ns)
+      → HasWalked l.replica (bases_of t l.replica (l.from + place)) (of_row (l.from + place) ns)
       (slice_index_or l.rows.items place d).walked;
 }

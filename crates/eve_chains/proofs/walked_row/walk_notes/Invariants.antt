@@ -1,4 +1,4 @@
-use Rattle.std.proofs.Common.{List, ◌++◌, map, take}
+use Rattle.std.proofs.Common.{ℕ, List, ◌++◌, map, take}
 use Rattle.eve_smallbank.specs.declared.versioned.Versioned.{Versioned}
 use Rattle.eve_chains.specs.Rows.{Noted}
 use Rattle.eve_chains.specs.Notes.{noted_at}
@@ -7,5 +7,5 @@ use Rattle.eve_chains.proofs.walked_row.walk_notes.Given as goal
 
 abbrev pub invariant-loop-note : goal.invariant-loop-note
 invariant-loop-note l =
-    (v : Versioned) (ns : List Noted) → HasWalked l.replica v ns l.fn.on
-    → HasWalked l.replica v (ns ++ map (noted_at l.row) (take l.note-index l.notes)) l.on
+    (bases : ℕ → Versioned) (ns : List Noted) → HasWalked l.replica bases ns l.fn.on
+    → HasWalked l.replica bases (ns ++ map (noted_at l.row) (take l.note-index l.notes)) l.on

@@ -28,6 +28,16 @@ returns-in-Attempt-clause-wrong c =
     c.in-Attempt.accesses (subst (λ s. IsStep s next) c.in-Attempt.is is) come in
     wrong rest found.0 found.1) h)
 
+pub take_commit-requires-clause-comes : goal.take_commit-requires-clause-comes
+take_commit-requires-clause-comes c =
+    let comes = c.requires.comes in (
+      c.args.trace.now,
+      comes.0,
+      c.requires.noted,
+      come_as c.args.trace.now c.args.e comes.0 (kept_section c.args.notes.now) comes.1 _
+          (commit_next comes.1 c.in-Commit.commit (subst (λ s. IsStep s comes.1) c.in-Commit.is comes.3)) comes.2,
+    )
+
 pub returns-in-Commit-clause-taken : goal.returns-in-Commit-clause-taken
 returns-in-Commit-clause-taken c =
     on_ok_weaker c.take_commit.result (λ taken rest next come is.

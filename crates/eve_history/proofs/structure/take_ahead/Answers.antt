@@ -15,6 +15,17 @@ taken : {T E : Type 0} (r : Result T E) (P : Type 0) → IsOk r → OnOk r P →
 taken (Ok x) P ok holds = holds
 taken (Err e) P ok holds = absurd (cc)
 
+pub take_commit-requires-clause-comes : goal.take_commit-requires-clause-comes
+take_commit-requires-clause-comes c =
+    let comes = c.requires in (
+      c.args.trace.now,
+      comes.0,
+      comes.2.notes,
+      come_as c.args.trace.now c.args.e comes.0 (kept_section c.args.notes.now) comes.1 _
+          (commit_next comes.1 c.in-Commit.commit (subst (λ s. IsStep s comes.1) c.in-Commit.is comes.3))
+          comes.2.come,
+    )
+
 pub returns-then-right : goal.returns-then-right
 returns-then-right c = λ rest next ahead is.
     let t = c.args.trace.now in

@@ -10,24 +10,30 @@ use Rattle.eve_chains.proofs.WalkedRows.{first_noted, pair_more}
 use Rattle.eve_chains.proofs.row_walk.RowWalk.meet.Goals as goal
 
 pub returns : goal.returns
-returns c = λ row v ns met.
+returns c = λ row bases ns met.
     let n = noted_at row c.args.note.now in
     let e = c.args.replica in
     let w = c.args.self.now in
-    let working : c.after_own-working.result ≡ after_own (met_by (pair_of w) n) n.entry =
-    c.after_own-working.ensures row ∙ ap (λ (m : Versioned). after_own m n.entry) (c.met_by-met.ensures row) in
+    let working : c.after_own-working.result ≡ after_own (met_by bases (pair_of w) n) n.entry =
+    c.after_own-working.ensures row ∙ ap (λ (m : Versioned). after_own m n.entry) (c.met_by-met.ensures row bases) in
     let next : ◌≡◌ {A = Pair} (record {
+      taken = 0;
       view = n.view;
       committed = c.committed_by-committed.result;
       working = c.after_own-working.result;
-    }) (next_pair (pair_of w) n) =
-    (λ i. record { view = n.view; committed = c.committed_by-committed.ensures row i; working = working i }) in
+    }) (next_pair bases (pair_of w) n) =
+    (λ i. record {
+      taken = 0;
+      view = n.view;
+      committed = c.committed_by-committed.ensures row bases i;
+      working = working i;
+    }) in
     record {
-      pair = next ∙ ap (λ (p : Pair). next_pair p n) met.pair ∙ sym (pair_more v ns n);
-      first = subst (IsFirstOnRow e v (ns ++ n ∷ []))
+      pair = next ∙ ap (λ (p : Pair). next_pair bases p n) met.pair ∙ sym (pair_more bases ns n);
+      first = subst (IsFirstOnRow e bases (ns ++ n ∷ []))
           (sym (c.first_with-first.ensures
           ∙ ap (λ (at : ℕ). first_of w.first (fault_if e at c.mismatch-wrong.result)) c.from.ensures))
-          (first_noted e v ns n w.first c.mismatch-wrong.result met.first
+          (first_noted e bases ns n w.first c.mismatch-wrong.result met.first
           (subst (λ (m : Versioned). IsMismatch m n.entry c.mismatch-wrong.result)
-          (c.met_by-met.ensures row ∙ ap (λ (p : Pair). met_by p n) met.pair) (c.mismatch-wrong.ensures row)));
+          (c.met_by-met.ensures row bases ∙ ap (λ (p : Pair). met_by bases p n) met.pair) (c.mismatch-wrong.ensures row)));
     }

@@ -2,15 +2,15 @@ use Rattle.std.proofs.Common.{◌≡◌, ℕ, suc, ◌-◌, ◌<◌, Some, lengt
 use Rattle.std.proofs.Common.{arith, rules}
 use Rattle.std.proofs.lemmas.List.{get_or_default}
 use Rattle.eve_chains.specs.Changes.{change_of}
-use Rattle.eve_chains.specs.Settling.{Settling}
-use Rattle.eve_chains.proofs.ByNumber.{starts_counted, starts_at}
+use Rattle.eve_chains.specs.Settling.{Settling, Wrote}
+use Rattle.eve_chains.proofs.ByNumber.{wrote_counted, wrote_at}
 use Rattle.eve_chains.proofs.settled.Settled.changes_of.Goals as goal
 
 pub index-from-requires : goal.index-from-requires
 index-from-requires c =
     let x = c.self.inside.numbered in
     let many = c.self.invariant.many in
-    let count : x.count ≡ length c.args.self.now.numbers = sym (starts_counted x.count x.starts.items x.changes.items)
+    let count : x.count ≡ length c.args.self.now.numbers = sym (wrote_counted x.count x.starts.items x.changes.items)
     ∙ ap (λ (s : Settling). length s.numbers) c.self.view_is in
     let lt : c.args.n - 1 < length x.starts.items = omega (arith, many, count, c.requires.there) in
     search rules
@@ -19,7 +19,7 @@ pub index-to-requires : goal.index-to-requires
 index-to-requires c =
     let x = c.self.inside.numbered in
     let many = c.self.invariant.many in
-    let count : x.count ≡ length c.args.self.now.numbers = sym (starts_counted x.count x.starts.items x.changes.items)
+    let count : x.count ≡ length c.args.self.now.numbers = sym (wrote_counted x.count x.starts.items x.changes.items)
     ∙ ap (λ (s : Settling). length s.numbers) c.self.view_is in
     let lt : c.args.n < length x.starts.items = omega (arith, many, count, c.requires.there) in
     search rules
@@ -29,7 +29,7 @@ prove-unreachable-requires c =
     let x = c.self.inside.numbered in
     let many = c.self.invariant.many in
     let n = c.args.n - 1 in
-    let count : x.count ≡ length c.args.self.now.numbers = sym (starts_counted x.count x.starts.items x.changes.items)
+    let count : x.count ≡ length c.args.self.now.numbers = sym (wrote_counted x.count x.starts.items x.changes.items)
     ∙ ap (λ (s : Settling). length s.numbers) c.self.view_is in
     let next : c.args.n ≡ suc n = omega (arith, c.requires.one) in
     let from : c.index-from.result.now ≡ get_or x.starts.items n 0 = c.index-from.ensures
@@ -49,7 +49,7 @@ pub prove-unreachable-requires-2 : goal.prove-unreachable-requires-2
 prove-unreachable-requires-2 c =
     let x = c.self.inside.numbered in
     let many = c.self.invariant.many in
-    let count : x.count ≡ length c.args.self.now.numbers = sym (starts_counted x.count x.starts.items x.changes.items)
+    let count : x.count ≡ length c.args.self.now.numbers = sym (wrote_counted x.count x.starts.items x.changes.items)
     ∙ ap (λ (s : Settling). length s.numbers) c.self.view_is in
     let to : c.index-to.result.now ≡ get_or x.starts.items c.args.n 0 = c.index-to.ensures
     ∙ get_or_default x.starts.items c.args.n c.index-to.result.now 0
@@ -63,7 +63,7 @@ returns-clause-says c =
     let x = c.self.inside.numbered in
     let many = c.self.invariant.many in
     let n = c.args.n - 1 in
-    let count : x.count ≡ length c.args.self.now.numbers = sym (starts_counted x.count x.starts.items x.changes.items)
+    let count : x.count ≡ length c.args.self.now.numbers = sym (wrote_counted x.count x.starts.items x.changes.items)
     ∙ ap (λ (s : Settling). length s.numbers) c.self.view_is in
     let next : c.args.n ≡ suc n = omega (arith, c.requires.one) in
     let from : get_or x.starts.items n 0 ≡ c.index-from.result.now = sym (c.index-from.ensures
@@ -72,5 +72,5 @@ returns-clause-says c =
     ∙ get_or_default x.starts.items c.args.n c.index-to.result.now 0 (omega (arith, many, count, c.requires.there))
     ∙ ap (λ (k : ℕ). get_or x.starts.items k 0) next) in
     ap (λ (s : Settling). slice_get s.numbers n) (sym c.self.view_is)
-    ∙ starts_at x.count x.starts.items x.changes.items n (omega (arith, count, c.requires.one, c.requires.there))
-    ∙ (λ i. Some (map change_of (take (to i - from i) (drop (from i) (sym c.deref.ensures.value i)))))
+    ∙ wrote_at x.count x.starts.items x.changes.items n (omega (arith, count, c.requires.one, c.requires.there))
+    ∙ (λ i. Some (Wrote (map change_of (take (to i - from i) (drop (from i) (sym c.deref.ensures.value i))))))

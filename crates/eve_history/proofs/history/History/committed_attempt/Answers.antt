@@ -1,30 +1,28 @@
-use Rattle.std.proofs.Common.{◌≡◌, ◌-◌, ◌<◌, ◌≤◌, length, slice_get, Some, ap, sym, subst, ◌∙◌, arith}
-use Rattle.std.proofs.lemmas.List.{length-map}
-use Rattle.std.proofs.lemmas.Option.{slice_get-get_or}
-use Rattle.eve_grammar.proofs.Lists.{all-slice_get}
-use Rattle.eve_history.specs.SectionHistory.{ExecutedAttempt, SectionHistory}
-use Rattle.eve_history.specs.Coming.{kept_section, kept_executed_attempt, executed_attempts, no_executed_attempt}
-use Rattle.eve_history.specs.Coming.{executed_attempt_at}
-use Rattle.eve_history.proofs.Finding.{get_mapped, get_is}
+use Rattle.std.proofs.Common.{sym, subst, ◌∙◌}
+use Rattle.std.proofs.lemmas.Bool.{false≢true}
+use Rattle.eve_history.specs.SectionHistory.{IsToldOf, landed_at}
+use Rattle.eve_history.proofs.Landed.{number_there, attempt_told, told_by_transfer, told_skipped}
 use Rattle.eve_history.proofs.history.History.committed_attempt.Goals as goal
+
+pub landing-requires-clause-there : goal.landing-requires-clause-there
+landing-requires-clause-there c = number_there c.args.self.now c.args.n c.requires.one c.requires.by_attempt
+
+pub unreachable-requires : goal.unreachable-requires
+unreachable-requires c =
+    let h = c.args.self.now in
+    let landed = landed_at h c.args.n in
+    absurd (false≢true (sym (told_by_transfer h _ landed
+    (subst (λ l. IsToldOf h l landed) c.in-Transfer.is c.landing.ensures)) ∙ c.requires.by_attempt))
+
+pub unreachable-requires-in-Skipped : goal.unreachable-requires-in-Skipped
+unreachable-requires-in-Skipped c =
+    let h = c.args.self.now in
+    let landed = landed_at h c.args.n in
+    absurd (false≢true (sym (told_skipped h landed
+    (subst (λ l. IsToldOf h l landed) c.in-Skipped.is c.landing.ensures)) ∙ c.requires.by_attempt))
 
 pub returns : goal.returns
 returns c =
-    let k = kept_section c.notes.result.now in
-    let n = c.args.n in
-    let place = c.index.result.now in
-    let one : 1 ≤ n = c.requires.one in
-    let many : length c.args.self.now.commits ≡ length k.commits = ap (λ (v : SectionHistory). length v.commits)
-    (sym c.notes.ensures.tells) ∙ length-map k.commits (executed_attempt_at (executed_attempts k)) in
-    let there : n ≤ length c.args.self.now.commits = c.requires.there in
-    let at : slice_get k.commits (n - 1) ≡ Some place = get_is k.commits (n - 1) place (omega arith) c.index.ensures in
-    let within : place < length k.attempts =
-    all-slice_get _ k.commits (n - 1) place c.notes.ensures.whole.kept.there at in
-    subst (λ (v : SectionHistory). (r : ExecutedAttempt) × (slice_get v.commits (n - 1) ≡ Some r)
-    × (slice_get v.attempts place ≡ Some r))
-    c.notes.ensures.tells (
-      executed_attempt_at (executed_attempts k) place,
-      get_mapped (executed_attempt_at (executed_attempts k)) k.commits (n - 1) place at,
-      slice_get-get_or (executed_attempts k) place no_executed_attempt
-          (omega (arith, length-map k.attempts (kept_executed_attempt k.records))),
-    )
+    let h = c.args.self.now in
+    attempt_told h c.args.n c.in-Attempt.i
+    (subst (λ l. IsToldOf h l (landed_at h c.args.n)) c.in-Attempt.is c.landing.ensures)

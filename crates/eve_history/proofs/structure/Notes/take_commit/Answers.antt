@@ -1,4 +1,4 @@
-use Rattle.std.proofs.Common.{◌≡◌, ℕ, List, [], ◌∷◌, ◌++◌, length, ap, sym, subst, ◌∙◌, rules}
+use Rattle.std.proofs.Common.{◌≡◌, ℕ, List, [], ◌∷◌, ◌++◌, length, ap, sym, subst, ◌∙◌, ◌≤◌, arith, rules}
 use Rattle.eve_grammar.specs.Trace.{Trace, Step, Commits}
 use Rattle.eve_frames.specs.Views.{commit_in}
 use Rattle.eve_views.specs.declared.fault.Code.TheVariants as code
@@ -6,10 +6,13 @@ use Rattle.eve_views.specs.declared.fault.Fault.{Fault}
 use Rattle.eve_views.specs.declared.fault.CheckFault.{CheckFault}
 use Rattle.eve_views.specs.declared.fault.CheckFault.TheVariants.{Found}
 use Rattle.eve_views.specs.Form.{IfFound, IsLeast, IsFaultIn}
+use Rattle.eve_history.specs.declared.landing.Landing as told
+use Rattle.eve_history.specs.declared.landing.Landing.TheVariants as landing
 use Rattle.eve_history.specs.Section.{start, state_after}
 use Rattle.eve_history.specs.FirstWrong.{fault_of}
 use Rattle.eve_history.specs.Coming.{kept_section, HasCome}
 use Rattle.eve_history.proofs.Coming.{come_wrong, come_commit, with_commit}
+use Rattle.eve_history.proofs.Standing.{attempts_small}
 use Rattle.eve_history.proofs.Taking.{commit_wrong, commit_right}
 use Rattle.eve_history.specs.Structure.{StandsInStructure}
 use Rattle.eve_history.proofs.structure.Notes.take_commit.Goals as goal
@@ -37,14 +40,26 @@ returns-clause-taken c = λ t rest come.
     let at = c.args.commit.now.offset in
     let said = commit_in c.args.commit.now.bytes.now in
     let place : length k.fates ≡ c.len-place.result = search rules in
-    let commits : k.commits ++ length k.fates ∷ [] ≡ c.push_reserved.new.self.items =
-    ap (λ (n : ℕ). k.commits ++ n ∷ []) place ∙ ap (λ (ns : List ℕ). ns ++ c.len-place.result ∷ [])
+    let landings : k.landings ++ landing.Attempt (length k.fates) ∷ [] ≡ c.push_reserved.new.self.items =
+    ap (λ (n : ℕ). k.landings ++ landing.Attempt n ∷ []) place
+    ∙ ap (λ (ls : List told.Landing). ls ++ landing.Attempt c.len-place.result ∷ [])
     (sym c.in_ok-reserve.ensures.items) ∙ sym c.push_reserved.ensures.items in
     let is : with_commit k said.seq
     ≡ kept_section (record c.args.self.now
-    { last = c.seq-self.result; fates = c.push.new.self; commits = c.push_reserved.new.self }) =
-    λ i. record k { last = sym c.seq-self.ensures i; fates = sym c.in_ok-push.ensures.items i; commits = commits i } in
+    { last = c.seq-self.result; fates = c.push.new.self; landings = c.push_reserved.new.self }) =
+    λ i. record k { last = sym c.seq-self.ensures i; fates = sym c.in_ok-push.ensures.items i; landings = landings i }
+    in
     subst (HasCome t e rest) is
     (come_commit t e at said rest k come
     (commit_right t (state_after start come.front) at said
     (sym (c.is_right_commit.ensures (state_after start come.front) come.stands) ∙ c.if-not-is_right_commit.false)))
+
+pub overflow_cast-place : goal.overflow_cast-place
+overflow_cast-place c =
+    let k = kept_section c.args.self.now in
+    let comes = c.requires.comes in
+    let small = attempts_small c.args.self.now.bytes.now comes.0 c.args.e comes.1 k c.args.commit.now.offset
+    (commit_in c.args.commit.now.bytes.now) comes.2.spelled comes.3 in
+    let fewer : length k.fates ≤ length k.attempts = comes.3.stands.fewer in
+    let place : length k.fates ≡ c.len-place.result = search rules in
+    record { fits = omega (arith, small) }

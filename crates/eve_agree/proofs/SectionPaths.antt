@@ -1,0 +1,27 @@
+-- Public: other crates cite these lemmas. What happened to a section's rows, one step further.
+use Rattle.std.proofs.Common.{◌≡◌, List, [], ◌∷◌, ◌++◌, map, sym, ap, ◌∙◌, append_assoc}
+use Rattle.std.specs.List.{flat_map}
+use Rattle.std.proofs.lemmas.Grind.{flat_map-append}
+use Rattle.std.proofs.lemmas.List.{map-append}
+use Rattle.eve_history.specs.Section.{Came, Ran, Placed, Landing, ByAttempt, came_by}
+
+-- one number more is reached by an attempt
+pub came_by_push : (ls : List Landing) (p : Placed) → flat_map came_by (ls ++ ByAttempt p ∷ [])
+    ≡ flat_map came_by ls ++ Ran p.attempt ∷ []
+came_by_push ls p = flat_map-append came_by ls (ByAttempt p ∷ [])
+
+-- so it is where the first open attempt is committed
+pub path_committed : (ls : List Landing) (p : Placed) (ps : List Placed)
+    → flat_map came_by ls ++ map (λ q. Ran q.attempt) (p ∷ ps)
+    ≡ flat_map came_by (ls ++ ByAttempt p ∷ []) ++ map (λ q. Ran q.attempt) ps
+path_committed ls p ps =
+    sym (append_assoc (flat_map came_by ls) (Ran p.attempt ∷ []) (map (λ q. Ran q.attempt) ps))
+    ∙ ap (λ (path : List Came). path ++ map (λ q. Ran q.attempt) ps) (sym (came_by_push ls p))
+
+-- one attempt more is open
+pub path_attempted : (ls : List Landing) (ps : List Placed) (p : Placed)
+    → flat_map came_by ls ++ map (λ q. Ran q.attempt) (ps ++ p ∷ [])
+    ≡ (flat_map came_by ls ++ map (λ q. Ran q.attempt) ps) ++ Ran p.attempt ∷ []
+path_attempted ls ps p =
+    ap (λ (path : List Came). flat_map came_by ls ++ path) (map-append (λ (q : Placed). Ran q.attempt) ps (p ∷ []))
+    ∙ sym (append_assoc (flat_map came_by ls) (map (λ q. Ran q.attempt) ps) (Ran p.attempt ∷ []))

@@ -1,0 +1,86 @@
+-- Public: other crates cite these lemmas. Sections in which each number was reached by an attempt, as in all where no
+-- step takes a state over.
+use Rattle.std.proofs.Common.{◌≡◌, ℕ, zero, suc, ◌<◌, List, [], ◌∷◌, ◌++◌, map, length, slice_get, Option, Some, refl}
+use Rattle.std.proofs.Common.{ap, arith}
+use Rattle.std.specs.Prelude.{⊤}
+use Rattle.std.specs.List.{AllByRecursion, flat_map}
+use Rattle.std.proofs.lemmas.Option.{same_Some}
+use Rattle.eve_grammar.specs.Trace.{Step, Attempts, Commits, RollsBack, Trace}
+use Rattle.eve_grammar.specs.Spelling.{steps_at}
+use Rattle.eve_history.specs.Section.{Came, Ran, Placed, Landing, ByAttempt, ByTransfer, Skipped, came_by, attempts_by}
+use Rattle.eve_history.specs.Section.{SectionState, start, committing, next, state_after}
+use Rattle.eve_history.specs.SectionHistory.{history}
+
+abbrev pub IsByAttempt : Landing → Type 0
+IsByAttempt (ByAttempt p) = ⊤
+IsByAttempt (ByTransfer at x) = ⊥
+IsByAttempt Skipped = ⊥
+
+one_more_attempt : (ls : List Landing) (p : Placed) → AllByRecursion IsByAttempt ls
+    → AllByRecursion IsByAttempt (ls ++ ByAttempt p ∷ [])
+one_more_attempt [] p by = (tt, tt)
+one_more_attempt (l ∷ ls) p by = (by.0, one_more_attempt ls p by.1)
+
+attempts_commit : (s : SectionState) (pending : List Placed) → AllByRecursion IsByAttempt s.landings
+    → AllByRecursion IsByAttempt (committing s pending).landings
+attempts_commit s [] by = by
+attempts_commit s (p ∷ ps) by = one_more_attempt s.landings p by
+
+attempts_next : (s : SectionState) (step : ℕ × Step) → AllByRecursion IsByAttempt s.landings
+    → AllByRecursion IsByAttempt (next s step).landings
+attempts_next s (at, Attempts a) by = by
+attempts_next s (at, Commits c) by = attempts_commit s s.pending by
+attempts_next s (at, RollsBack r) by = by
+
+attempts_after : (s : SectionState) (steps : List (ℕ × Step)) → AllByRecursion IsByAttempt s.landings
+    → AllByRecursion IsByAttempt (state_after s steps).landings
+attempts_after s [] by = by
+attempts_after s (step ∷ steps) by = attempts_after (next s step) steps (attempts_next s step by)
+
+pub all_by_attempts : (t : Trace) (e : ℕ) → AllByRecursion IsByAttempt (history t e).landings
+unfolding history
+all_by_attempts t e = attempts_after start (steps_at t e) tt
+
+pub attempt_at : (ls : List Landing) (n : ℕ) → AllByRecursion IsByAttempt ls → n < length ls
+    → (p : Placed) × (slice_get ls n ≡ Some (ByAttempt p))
+attempt_at [] n by lt = absurd (omega (arith, lt))
+attempt_at (ByAttempt p ∷ ls) zero by lt = (p, refl)
+attempt_at (ByTransfer at x ∷ ls) zero by lt = absurd by.0
+attempt_at (Skipped ∷ ls) zero by lt = absurd by.0
+attempt_at (l ∷ ls) (suc n) by lt = attempt_at ls n by.1 (omega (arith, lt))
+
+-- ---- and its attempts alone
+
+-- what happened to the rows is the attempts
+pub came_alone : (ls : List Landing) → AllByRecursion IsByAttempt ls → flat_map came_by ls
+    ≡ map (λ p. Ran p.attempt) (attempts_by ls)
+came_alone [] by = refl
+came_alone (ByAttempt p ∷ ls) by = ap (λ (cs : List Came). Ran p.attempt ∷ cs) (came_alone ls by.1)
+came_alone (ByTransfer at x ∷ ls) by = absurd by.0
+came_alone (Skipped ∷ ls) by = absurd by.0
+
+pub as_many_alone : (ls : List Landing) → AllByRecursion IsByAttempt ls → length (attempts_by ls) ≡ length ls
+as_many_alone [] by = refl
+as_many_alone (ByAttempt p ∷ ls) by = ap suc (as_many_alone ls by.1)
+as_many_alone (ByTransfer at x ∷ ls) by = absurd by.0
+as_many_alone (Skipped ∷ ls) by = absurd by.0
+
+-- the attempt at a place is the landing there
+pub landing_alone : (ls : List Landing) (n : ℕ) (p : Placed) → AllByRecursion IsByAttempt ls
+    → slice_get (attempts_by ls) n ≡ Some p → slice_get ls n ≡ Some (ByAttempt p)
+landing_alone [] n p by e = absurd (cc)
+landing_alone (ByAttempt q ∷ ls) zero p by e = ap (λ (x : Placed). Some (ByAttempt x)) (same_Some q p e)
+landing_alone (ByAttempt q ∷ ls) (suc n) p by e = landing_alone ls n p by.1 e
+landing_alone (ByTransfer at x ∷ ls) n p by e = absurd by.0
+landing_alone (Skipped ∷ ls) n p by e = absurd by.0
+
+same_landing : (p q : Placed) → ◌≡◌ {A = Option Landing} (Some (ByAttempt p)) (Some (ByAttempt q)) → p ≡ q
+same_landing p q e = cc
+
+pub attempt_alone : (ls : List Landing) (n : ℕ) (p : Placed) → AllByRecursion IsByAttempt ls
+    → slice_get ls n ≡ Some (ByAttempt p) → slice_get (attempts_by ls) n ≡ Some p
+attempt_alone [] n p by e = absurd (cc)
+attempt_alone (ByAttempt q ∷ ls) zero p by e = ap (λ (x : Placed). Some x) (same_landing q p e)
+attempt_alone (ByAttempt q ∷ ls) (suc n) p by e = attempt_alone ls n p by.1 e
+attempt_alone (ByTransfer at x ∷ ls) n p by e = absurd by.0
+attempt_alone (Skipped ∷ ls) n p by e = absurd by.0
