@@ -1,0 +1,144 @@
+-- A section, step after step.
+use Rattle.std.proofs.Common.{◌≡◌, ℕ, zero, suc, ◌+◌, ◌<◌, true, false, Vec, List, [], ◌∷◌, ◌++◌, map, length, take, refl, sym, ap, subst, ◌∙◌}
+use Rattle.std.proofs.Common.{append_assoc, arith}
+use Rattle.std.specs.declared.alloc.Global.{Global}
+use Rattle.std.specs.List.{AllByRecursion, take-map}
+use Rattle.std.proofs.lemmas.List.Concat.{flat_map-append}
+use Rattle.std.proofs.lemmas.List.{map-append, length-map, length-append, append-nil}
+use Rattle.eve_grammar.specs.Trace.{Access, Attempt, Rollback, Step, Attempts, Commits, RollsBack}
+use Rattle.eve_grammar.specs.Frames.{without_accesses}
+use Rattle.eve_grammar.specs.Spelling.{accesses_at}
+use Rattle.eve_grammar.proofs.Lists.{all-push}
+use Rattle.eve_frames.specs.Said.{attempt_said, rollback_said}
+use Rattle.eve_frames.specs.declared.attempt.AttemptView.{AttemptView}
+use Rattle.eve_frames.specs.declared.commit.CommitView.{CommitView}
+use Rattle.eve_frames.specs.declared.rollback.RollbackView.{RollbackView}
+use Rattle.eve_views.specs.StepKinds.{IsStep}
+use Rattle.eve_views.specs.declared.steps.Step.TheVariants as of
+use Rattle.eve_history.specs.Section.{Came, Ran, Placed, ByAttempt, came_by, attempts_by, SectionState, next}
+use Rattle.eve_history.specs.Section.{committing, path_of}
+use Rattle.eve_history.specs.SectionHistory.{placed_at}
+use Rattle.eve_history.specs.Structure.{accesses_of}
+use Rattle.eve_history.proofs.FateLaws.{attempts_by_push}
+use Rattle.eve_history.proofs.StructureLaws.{accesses_of-at}
+use Rattle.eve_evidence.specs.declared.course.Course.{Course}
+use Rattle.eve_evidence.specs.declared.course.OnPath.{OnPath}
+use Rattle.eve_evidence.specs.Course.{placed_on, IsOnPath, standing, IsCourse}
+
+-- an attempt that was met, with its access records
+pub attempt_whole : (at : ℕ) (said a : Attempt) (xs : List (ℕ × Access)) → said ≡ without_accesses a
+    → xs ≡ accesses_at at a → record said { accesses = accesses_of xs } ≡ a
+attempt_whole at said a xs is accesses =
+    ap (λ (b : Attempt). record b { accesses = accesses_of xs }) is
+    ∙ ap (λ (ys : List (ℕ × Access)). record a { accesses = accesses_of ys }) accesses
+    ∙ ap (λ (ys : List Access). record a { accesses = ys }) (accesses_of-at at a)
+
+pub standing_count : (s : SectionState) → length (standing s) ≡ length (attempts_by s.landings) + length s.pending
+standing_count s = length-map (attempts_by s.landings ++ s.pending) placed_at
+    ∙ length-append (attempts_by s.landings) s.pending
+
+pub path_count : (s : SectionState) (c : Course) → IsCourse s c → length c.path.items
+    ≡ length (attempts_by s.landings) + length s.pending
+path_count s c is = sym (length-map c.path.items placed_on) ∙ ap length is.path ∙ standing_count s
+
+all-take : {A : Type 0} (P : A → Type 0) (n : ℕ) (xs : List A) → AllByRecursion P xs → AllByRecursion P (take n xs)
+all-take P zero xs all = tt
+all-take P (suc n) [] all = tt
+all-take P (suc n) (x ∷ xs) all = (all.0, all-take P n xs all.1)
+
+take-append-here : {A : Type 0} (xs ys : List A) → take (length xs) (xs ++ ys) ≡ xs
+take-append-here [] ys = refl
+take-append-here (x ∷ xs) ys = ap (λ zs. x ∷ zs) (take-append-here xs ys)
+
+-- ---- one step more
+
+-- an attempt comes
+pub attempt_comes : (s : SectionState) (c : Course) (step : ℕ × Step) (attempt : AttemptView) (xs : List (ℕ × Access))
+    (path : Vec OnPath Global) → IsCourse s c → IsStep (of.Attempt attempt xs) step
+    → path.items ≡ c.path.items ++ record { attempt = attempt; accesses = xs } ∷ []
+    → IsCourse (next s step) (record c { rolled_back = false; path = path })
+attempt_comes s c (at, Attempts a) attempt xs path is stands more =
+    let new : OnPath = record { attempt = attempt; accesses = xs } in
+    let whole : placed_on new ≡ (at, a) =
+    λ i. (stands.0 i, attempt_whole at (attempt_said attempt) a xs stands.1 stands.2 i) in
+    let p : Placed = record { offset = at; attempt = a; path = path_of s } in
+    record {
+      view = is.view;
+      rolled_back = refl;
+      committed = is.committed;
+      last = is.last;
+      alone = is.alone;
+      path = ap (map placed_on) more ∙ map-append placed_on c.path.items (new ∷ [])
+          ∙ ap (λ (ys : List (ℕ × Attempt)). ys ++ placed_on new ∷ []) is.path
+          ∙ ap (λ (y : ℕ × Attempt). standing s ++ y ∷ []) whole
+          ∙ sym (map-append placed_at (attempts_by s.landings ++ s.pending) (p ∷ []))
+          ∙ ap (map placed_at) (append_assoc (attempts_by s.landings) s.pending (p ∷ []));
+      framed = subst (AllByRecursion IsOnPath) (sym more)
+          (all-push IsOnPath c.path.items new is.framed
+          (stands.2 ∙ ap (λ (y : ℕ × Attempt). accesses_at y.0 y.1) (sym whole)));
+    }
+attempt_comes s c (at, Commits d) attempt xs path is stands more = elim stands [ ]
+attempt_comes s c (at, RollsBack r) attempt xs path is stands more = elim stands [ ]
+
+-- a commit comes, where an attempt is open
+one_committed : (s : SectionState) (c : Course) (p : Placed) (ps : List Placed) → IsCourse s c → s.pending ≡ p ∷ ps
+    → IsCourse (committing s (p ∷ ps)) (record c { committed = c.committed + 1 })
+one_committed s c p ps is first =
+    let push : attempts_by (s.landings ++ ByAttempt p ∷ []) ≡ attempts_by s.landings ++ p ∷ [] =
+    attempts_by_push s.landings p in
+    let longer : length (attempts_by (s.landings ++ ByAttempt p ∷ [])) ≡ length (attempts_by s.landings) + 1 =
+    ap length push ∙ length-append (attempts_by s.landings) (p ∷ []) in
+    record {
+      view = is.view;
+      rolled_back = is.rolled_back;
+      committed = ap (λ (n : ℕ). n + 1) is.committed ∙ sym longer;
+      last = ap (λ (n : ℕ). n + 1) is.last ∙ sym longer;
+      alone = flat_map-append came_by s.landings (ByAttempt p ∷ [])
+          ∙ ap (λ (cs : List Came). cs ++ Ran p.attempt ∷ []) is.alone
+          ∙ sym (map-append (λ q. Ran q.attempt) (attempts_by s.landings) (p ∷ []))
+          ∙ ap (map (λ q. Ran q.attempt)) (sym push);
+      path = is.path
+          ∙ ap (λ (qs : List Placed). map placed_at (attempts_by s.landings ++ qs)) first
+          ∙ ap (map placed_at) (sym (append_assoc (attempts_by s.landings) (p ∷ []) ps))
+          ∙ ap (λ (qs : List Placed). map placed_at (qs ++ ps)) (sym push);
+      framed = is.framed;
+    }
+
+pub commit_comes : (s : SectionState) (c : Course) (step : ℕ × Step) (commit : CommitView) → IsCourse s c
+    → IsStep (of.Commit commit) step → c.committed < length c.path.items
+    → IsCourse (next s step) (record c { committed = c.committed + 1 })
+commit_comes s c (at, Commits d) commit is stands some = by s.pending refl
+  where
+    by : (ps : List Placed) → s.pending ≡ ps → IsCourse (committing s ps) (record c { committed = c.committed + 1 })
+    by [] none = absurd (omega (arith, some, path_count s c is, is.committed, ap length none))
+    by (p ∷ ps) first = one_committed s c p ps is first
+commit_comes s c (at, Attempts a) commit is stands some = elim stands [ ]
+commit_comes s c (at, RollsBack r) commit is stands some = elim stands [ ]
+
+-- a rollback comes
+pub rollback_comes : (s : SectionState) (c : Course) (step : ℕ × Step) (rollback : RollbackView) (view : ℕ)
+    (path : Vec OnPath Global) → IsCourse s c → IsStep (of.Rollback rollback) step → view ≡ (rollback_said rollback).view
+    → path.items ≡ take c.committed c.path.items
+    → IsCourse (next s step) (record { view = view; rolled_back = true; committed = c.committed; path = path })
+rollback_comes s c (at, RollsBack r) rollback view path is stands view_is kept = record {
+  view = view_is ∙ ap (λ (q : Rollback). q.view) stands.1;
+  rolled_back = refl;
+  committed = is.committed;
+  last = is.last;
+  alone = is.alone;
+  path = ap (map placed_on) kept ∙ sym (take-map placed_on c.committed c.path.items)
+      ∙ ap (take c.committed) is.path
+      ∙ ap (λ (n : ℕ). take n (standing s)) is.committed
+      ∙ ap (take (length (attempts_by s.landings))) (map-append placed_at (attempts_by s.landings) s.pending)
+      ∙ front
+      ∙ ap (map placed_at) (sym (append-nil (attempts_by s.landings)));
+  framed = subst (AllByRecursion IsOnPath) (sym kept) (all-take IsOnPath c.committed c.path.items is.framed);
+}
+  where
+    front : take (length (attempts_by s.landings)) (map placed_at (attempts_by s.landings) ++ map placed_at s.pending)
+        ≡ map placed_at (attempts_by s.landings)
+    front = ap (λ (n : ℕ). take n (map placed_at (attempts_by s.landings) ++ map placed_at s.pending))
+        (sym (length-map (attempts_by s.landings) placed_at))
+        ∙ take-append-here (map placed_at (attempts_by s.landings)) (map placed_at s.pending)
+rollback_comes s c (at, Attempts a) rollback view path is stands view_is kept = elim stands [ ]
+rollback_comes s c (at, Commits d) rollback view path is stands view_is kept = elim stands [ ]

@@ -1,0 +1,65 @@
+-- A fault that stands ahead in a section's steps, while they come.
+use Rattle.std.proofs.Common.{◌≡◌, ℕ, List, [], ◌∷◌, ◌++◌, refl, sym, subst, ◌∙◌, inl, inr, append_assoc}
+use Rattle.eve_grammar.specs.Trace.{Step, Trace}
+use Rattle.eve_grammar.specs.Spelling.{steps_at}
+use Rattle.eve_views.specs.declared.fault.Code.{Code}
+use Rattle.eve_views.specs.Form.{SomePlace}
+use Rattle.eve_history.specs.Section.{SectionState, start, next, state_after}
+use Rattle.eve_history.proofs.Places.{place_cases, no_place}
+use Rattle.eve_history.proofs.StructureLaws.{state_after-append}
+use Rattle.eve_evidence.specs.declared.course.Course.{Course}
+use Rattle.eve_evidence.specs.declared.evidence.Evidence.{Evidence}
+use Rattle.eve_evidence.specs.Course.{IsCourse}
+use Rattle.eve_evidence.specs.Section.{StandsAtStep, StandsAlong, TellsStep, TellsAlong}
+
+-- These steps are still to come. The section has come to the state that is kept, and the fault stands at one of them.
+pub record Goes (c : Code) (t : Trace) (e place : ℕ) (rest : List (ℕ × Step)) (course : Course) : Type 0 where
+  pub front : List (ℕ × Step)
+  pub split : steps_at t e ≡ front ++ rest
+  pub is : IsCourse (state_after start front) course
+  pub ahead : SomePlace rest (λ before step. StandsAtStep c t place (state_after (state_after start front) before) step)
+
+pub goes_first : (c : Code) (t : Trace) (e place : ℕ) (course : Course) → IsCourse start course → StandsAlong c t e place
+    → Goes c t e place (steps_at t e) course
+goes_first c t e place course is stands = record { front = []; split = refl; is = is; ahead = stands }
+
+-- no step is left where a fault is to come
+pub goes_no_further : (c : Code) (t : Trace) (e place : ℕ) (course : Course) → Goes c t e place [] course → ⊥
+goes_no_further c t e place course goes = no_place _ goes.ahead
+
+module _ (c : Code) (t : Trace) (e place : ℕ) (step : ℕ × Step) (rest : List (ℕ × Step)) (course after : Course)
+    (goes : Goes c t e place (step ∷ rest) course) where
+  abbrev pub now : SectionState
+  now = state_after start goes.front
+
+  further : (s : SectionState) → s ≡ next now step
+      → SomePlace rest (λ before x. StandsAtStep c t place (state_after now (step ∷ before)) x)
+      → SomePlace rest (λ before x. StandsAtStep c t place (state_after s before) x)
+  further s is ahead = record {
+    before = ahead.before;
+    item = ahead.item;
+    rest = ahead.rest;
+    is = ahead.is;
+    holds = subst (λ (u : SectionState). StandsAtStep c t place (state_after u ahead.before) ahead.item) (sym is)
+        ahead.holds;
+  }
+
+  -- it doesn't stand at the next, so behind it
+  pub goes_on : (StandsAtStep c t place now step → ⊥) → IsCourse (next now step) after → Goes c t e place rest after
+  goes_on not_here is =
+      let came : state_after start (goes.front ++ step ∷ []) ≡ next now step =
+      state_after-append start goes.front (step ∷ []) in
+      record {
+        front = goes.front ++ step ∷ [];
+        split = goes.split ∙ sym (append_assoc goes.front (step ∷ []) rest);
+        is = subst (λ (s : SectionState). IsCourse s after) (sym came) is;
+        ahead = further (state_after start (goes.front ++ step ∷ [])) came
+            (elim (place_cases (λ before x. StandsAtStep c t place (state_after now before) x) step rest goes.ahead) [
+              | inl here ↦ absurd (not_here here)
+              | inr there ↦ there
+            ]);
+      }
+
+  -- what tells it at the next tells it along the section
+  pub told_here : (x : Evidence) → TellsStep c t place now step x → TellsAlong c t e place x
+  told_here x told = record { before = goes.front; item = step; rest = rest; is = goes.split; holds = told }

@@ -1,0 +1,12 @@
+pub mod Versions
+pub mod Lists
+pub mod Coursing
+pub mod Telling
+pub mod Lasting
+pub mod Ways
+pub mod Searching
+pub mod Leaving
+pub mod Recording
+pub mod Going
+pub mod Stepping
+pub mod Standing

@@ -1,0 +1,185 @@
+-- Where a fault of a section stands: at one of its steps.
+use Rattle.std.proofs.Common.{◌≡◌, ℕ, ◌⊎◌, inl, inr, List, [], ◌∷◌, ◌++◌, refl, sym, subst}
+use Rattle.std.specs.Prelude.{IsTrue, IsFalse}
+use Rattle.eve_smallbank.proofs.Members.{In, here, there}
+use Rattle.eve_grammar.specs.Accesses.{is_right_place}
+use Rattle.eve_grammar.specs.Trace.{Access, Attempt, Step, Attempts, Commits, RollsBack, Trace}
+use Rattle.eve_grammar.specs.Spelling.{steps_at, accesses_at}
+use Rattle.eve_views.specs.declared.fault.Code.TheVariants as code
+use Rattle.eve_views.specs.Form.{SomePlace}
+use Rattle.eve_history.specs.Section.{Placed, attempts_by, SectionState, start, next, committing, state_after, settled}
+use Rattle.eve_history.specs.Section.{is_right_attempt, is_right_certificate, is_right_access, is_right_commit}
+use Rattle.eve_history.specs.Section.{is_right_rollback, are_right, are_right_accesses}
+use Rattle.eve_history.specs.SectionHistory.{history}
+use Rattle.eve_history.specs.Structure.{OfAttempt, OfCommit, OfRollback, accesses_of, StandsInStructure}
+use Rattle.eve_history.proofs.FateLaws.{attempts_by_push}
+use Rattle.eve_history.proofs.Places.{weaker_place, place_here, place_later}
+use Rattle.eve_chains.proofs.Distinct.{in_right, in_split}
+use Rattle.eve_chains.specs.Visible.{visible_to}
+use Rattle.eve_chains.specs.Faults.{StandsInRecords, StandsInChains}
+use Rattle.eve_evidence.specs.Told.{placed_in}
+use Rattle.eve_evidence.specs.Section.{StandsAtStep, StandsAlong}
+
+-- ---- structure
+
+pub attempt_along : (t : Trace) (e at : ℕ) → StandsInStructure code.Attempt t e at → StandsAlong code.Attempt t e at
+attempt_along t e at stands = weaker_place _ _ (steps_at t e) by stands
+  where
+    by : (before : List (ℕ × Step)) (step : ℕ × Step) → IsTrue (are_right t start before) × ((step.0 ≡ at)
+        × OfAttempt step.1 (λ a. IsFalse (is_right_attempt t (state_after start before) a)))
+        → StandsAtStep code.Attempt t at (state_after start before) step
+    by before (o, Attempts a) h = inl (h.1.0, h.1.1)
+    by before (o, Commits c) h = elim h.1.1 [ ]
+    by before (o, RollsBack r) h = elim h.1.1 [ ]
+
+pub commit_along : (t : Trace) (e at : ℕ) → StandsInStructure code.Commit t e at → StandsAlong code.Commit t e at
+commit_along t e at stands = weaker_place _ _ (steps_at t e) by stands
+  where
+    by : (before : List (ℕ × Step)) (step : ℕ × Step) → IsTrue (are_right t start before) × ((step.0 ≡ at)
+        × OfCommit step.1 (λ c. IsFalse (is_right_commit (state_after start before) c)))
+        → StandsAtStep code.Commit t at (state_after start before) step
+    by before (o, Attempts a) h = elim h.1.1 [ ]
+    by before (o, Commits c) h = (h.1.0, h.1.1)
+    by before (o, RollsBack r) h = elim h.1.1 [ ]
+
+pub rollback_along : (t : Trace) (e at : ℕ) → StandsInStructure code.Rollback t e at → StandsAlong code.Rollback t e at
+rollback_along t e at stands = weaker_place _ _ (steps_at t e) by stands
+  where
+    by : (before : List (ℕ × Step)) (step : ℕ × Step) → IsTrue (are_right t start before) × ((step.0 ≡ at)
+        × OfRollback step.1 (λ r. IsFalse (is_right_rollback t (state_after start before) r)))
+        → StandsAtStep code.Rollback t at (state_after start before) step
+    by before (o, Attempts a) h = elim h.1.1 [ ]
+    by before (o, Commits c) h = elim h.1.1 [ ]
+    by before (o, RollsBack r) h = (h.1.0, h.1.1)
+
+abbrev AtRight : Trace → ℕ → (Attempt → List Access → Access → Type 0) → List (ℕ × Step) → ℕ × Step → Type 0
+AtRight t at P before step = IsTrue (are_right t start before) × OfAttempt step.1 (λ a.
+    IsTrue (is_right_attempt t (state_after start before) a) × IsTrue (is_right_certificate t a)
+    × SomePlace (accesses_at step.0 a) (λ own x. IsTrue (are_right_accesses t a [] (accesses_of own))
+    × ((x.0 ≡ at) × P a (accesses_of own) x.1)))
+
+pub access_along : (t : Trace) (e at : ℕ) → StandsInStructure code.Access t e at → StandsAlong code.Access t e at
+access_along t e at stands = weaker_place _ _ (steps_at t e) by stands
+  where
+    by : (before : List (ℕ × Step)) (step : ℕ × Step)
+        → AtRight t at (λ a own x. IsFalse (is_right_access t a own x)) before step
+        → StandsAtStep code.Access t at (state_after start before) step
+    by before (o, Attempts a) h = inr (weaker_place _ _ (accesses_at o a) (λ own x w. w.1) h.1.2)
+    by before (o, Commits c) h = elim h.1 [ ]
+    by before (o, RollsBack r) h = elim h.1 [ ]
+
+pub place_along : (t : Trace) (e at : ℕ) → StandsInStructure code.WorkerOrder t e at
+    → StandsAlong code.WorkerOrder t e at
+place_along t e at stands = weaker_place _ _ (steps_at t e) by stands
+  where
+    by : (before : List (ℕ × Step)) (step : ℕ × Step)
+        → AtRight t at (λ a own x. IsFalse (is_right_place own x)) before step
+        → StandsAtStep code.WorkerOrder t at (state_after start before) step
+    by before (o, Attempts a) h = inr (weaker_place _ _ (accesses_at o a) (λ own x w. w.1) h.1.2)
+    by before (o, Commits c) h = elim h.1 [ ]
+    by before (o, RollsBack r) h = elim h.1 [ ]
+
+-- ---- settled attempts
+
+-- it is one of the state's attempts
+abbrev Has : Placed → SectionState → Type 0
+Has p s = In p (attempts_by s.landings) ⊎ (In p s.pending ⊎ In p s.discarded)
+
+-- at this step, where the section has come to this state, it comes
+abbrev Comes : Placed → SectionState → ℕ × Step → Type 0
+Comes p s step = (step ≡ (p.offset, Attempts p.attempt)) × (p ≡ placed_in s p.offset p.attempt)
+
+only : {p q : Placed} → In p (q ∷ []) → p ≡ q
+only here = refl
+only (there i) = elim i [ ]
+
+commits_from : (p : Placed) (s : SectionState) (ps : List Placed) → ((q : Placed) → In q ps → Has q s)
+    → Has p (committing s ps) → Has p s
+commits_from p s [] old has = has
+commits_from p s (q ∷ ps) old (inl i) = elim (in_split (attempts_by s.landings) (q ∷ [])
+    (subst (In p) (attempts_by_push s.landings q) i)) [
+      | inl j ↦ inl j
+      | inr j ↦ subst (λ (x : Placed). Has x s) (sym (only j)) (old q here)
+    ]
+commits_from p s (q ∷ ps) old (inr (inl i)) = old p (there i)
+commits_from p s (q ∷ ps) old (inr (inr i)) = inr (inr i)
+
+has_next : (p : Placed) (s : SectionState) (step : ℕ × Step) → Has p (next s step) → Has p s ⊎ Comes p s step
+has_next p s (o, Attempts a) (inl i) = inl (inl i)
+has_next p s (o, Attempts a) (inr (inl i)) = elim (in_split s.pending (placed_in s o a ∷ []) i) [
+  | inl j ↦ inl (inr (inl j))
+  | inr j ↦ inr (subst (λ (x : Placed). Comes x s (o, Attempts a)) (sym (only j)) (refl, refl))
+]
+has_next p s (o, Attempts a) (inr (inr i)) = inl (inr (inr i))
+has_next p s (o, Commits c) has = inl (commits_from p s s.pending (λ q i. inr (inl i)) has)
+has_next p s (o, RollsBack r) (inl i) = inl (inl i)
+has_next p s (o, RollsBack r) (inr (inl i)) = elim i [ ]
+has_next p s (o, RollsBack r) (inr (inr i)) = elim (in_split s.discarded s.pending i) [
+  | inl j ↦ inl (inr (inr j))
+  | inr j ↦ inl (inr (inl j))
+]
+
+has_after : (p : Placed) (s : SectionState) (steps : List (ℕ × Step)) → Has p (state_after s steps)
+    → Has p s ⊎ SomePlace steps (λ before step. Comes p (state_after s before) step)
+has_after p s [] has = inl has
+has_after p s (step ∷ steps) has = elim (has_after p (next s step) steps has) [
+  | inl own ↦ elim (has_next p s step own) [
+    | inl old ↦ inl old
+    | inr comes ↦ inr (place_here _ step steps comes)
+  ]
+  | inr later ↦ inr (place_later _ step steps later)
+]
+
+none_at_start : (p : Placed) → Has p start → ⊥
+none_at_start p (inl i) = elim i [ ]
+none_at_start p (inr (inl i)) = elim i [ ]
+none_at_start p (inr (inr i)) = elim i [ ]
+
+pub settled_comes : (t : Trace) (e : ℕ) (p : Placed) → In p (settled (history t e))
+    → SomePlace (steps_at t e) (λ before step. Comes p (state_after start before) step)
+unfolding history
+settled_comes t e p i = elim (has_after p start (steps_at t e) has) [
+  | inl none ↦ absurd (none_at_start p none)
+  | inr place ↦ place
+]
+  where
+    has : Has p (state_after start (steps_at t e))
+    has = elim (in_split (attempts_by (state_after start (steps_at t e)).landings)
+        (state_after start (steps_at t e)).discarded i) [
+          | inl j ↦ inl j
+          | inr j ↦ inr (inr j)
+        ]
+
+in_middle : (before : List Placed) (p : Placed) (rest : List Placed) → In p (before ++ p ∷ rest)
+in_middle before p rest = in_right before (p ∷ rest) here
+
+-- ---- records and chains
+
+module _ (t : Trace) (e at : ℕ) where
+  pub record_along : StandsInRecords code.Record t e at → StandsAlong code.Record t e at
+  record_along stands =
+      let p = stands.item in
+      let i = subst (λ (ps : List Placed). In p ps) (sym stands.is) (in_middle stands.before p stands.rest) in
+      weaker_place _ _ (steps_at t e) (λ before step comes. subst (StandsAtStep code.Record t at (state_after start before))
+      (sym comes.0) (inr (weaker_place _ _ (accesses_at p.offset p.attempt) (λ own x w. w) stands.holds)))
+      (settled_comes t e p i)
+
+  pub version_along : StandsInChains code.Version t e at → StandsAlong code.Version t e at
+  version_along stands =
+      let p = stands.item in
+      let i = subst (λ (ps : List Placed). In p ps) (sym stands.is) (in_middle stands.before p stands.rest) in
+      weaker_place _ _ (steps_at t e) (λ before step comes. subst (StandsAtStep code.Version t at (state_after start before))
+      (sym comes.0) (inr (subst (λ (q : Placed). SomePlace (accesses_at p.offset p.attempt) (λ own x. (x.0 ≡ at)
+      × SomePlace x.1.entries (λ _ y. y.version ≡ (visible_to t q x.1.index y.row).version → ⊥))) comes.1
+      (weaker_place _ _ (accesses_at p.offset p.attempt) (λ own x w. w) stands.holds))))
+      (settled_comes t e p i)
+
+  pub value_along : StandsInChains code.Value t e at → StandsAlong code.Value t e at
+  value_along stands =
+      let p = stands.item in
+      let i = subst (λ (ps : List Placed). In p ps) (sym stands.is) (in_middle stands.before p stands.rest) in
+      weaker_place _ _ (steps_at t e) (λ before step comes. subst (StandsAtStep code.Value t at (state_after start before))
+      (sym comes.0) (inr (subst (λ (q : Placed). SomePlace (accesses_at p.offset p.attempt) (λ own x. (x.0 ≡ at)
+      × SomePlace x.1.entries (λ _ y. y.seen ≡ (visible_to t q x.1.index y.row).value → ⊥))) comes.1
+      (weaker_place _ _ (accesses_at p.offset p.attempt) (λ own x w. w) stands.holds))))
+      (settled_comes t e p i)

@@ -1,0 +1,34 @@
+use Rattle.eve_frames.specs.Said.{attempt_said}
+use Rattle.eve_evidence.proofs.Leaving.{by_own, has_own, by_path, has_path, has_opening}
+use Rattle.eve_evidence.proofs.sources.left_to.Goals as goal
+
+pub returns-in-Some-clause-by : goal.returns-in-Some-clause-by
+returns-in-Some-clause-by c = λ s a is said xs.
+    by_own c.args.trace.now s c.args.course.now (attempt_said c.args.attempt.now) a c.args.accesses.now
+    c.args.attempt.now.offset c.args.index c.place_of.result c.args.row is said xs c.place_of.ensures.before c.in-Some.left
+    c.in-Some.ensures.last
+
+pub returns-in-Some-clause-has : goal.returns-in-Some-clause-has
+returns-in-Some-clause-has c = λ s a is said xs.
+    has_own c.args.trace.now s c.args.course.now (attempt_said c.args.attempt.now) a c.args.accesses.now
+    c.args.attempt.now.offset c.args.index c.place_of.result c.args.row is said xs c.place_of.ensures.before c.in-Some.left
+    c.in-Some.ensures.last
+
+pub returns-in-Some-last_on_path-clause-by : goal.returns-in-Some-last_on_path-clause-by
+returns-in-Some-last_on_path-clause-by c = λ s a is said xs.
+    by_path c.args.trace.now s c.args.course.now (attempt_said c.args.attempt.now) a c.args.accesses.now
+    c.args.attempt.now.offset c.args.index c.place_of.result c.args.row is said xs c.place_of.ensures.before
+    c.in-Some-last_on_path.left c.in-Some-last_on_path.ensures.last c.in_default.ensures.none
+
+pub returns-in-Some-last_on_path-clause-has : goal.returns-in-Some-last_on_path-clause-has
+returns-in-Some-last_on_path-clause-has c = λ s a is said xs.
+    has_path c.args.trace.now s c.args.course.now (attempt_said c.args.attempt.now) a c.args.accesses.now
+    c.args.attempt.now.offset c.args.index c.place_of.result c.args.row is said xs c.place_of.ensures.before
+    c.in-Some-last_on_path.left c.in-Some-last_on_path.ensures.last c.in_default.ensures.none
+
+pub returns-clause-has : goal.returns-clause-has
+returns-clause-has c = λ s a is said xs.
+    has_opening c.args.trace.now s c.args.course.now (attempt_said c.args.attempt.now) a c.args.accesses.now
+    c.args.attempt.now.offset c.args.index c.place_of.result c.args.row is said xs c.place_of.ensures.before
+    (record { version = 0; value = c.opening_value.result }) (λ i. record { version = 0; value = c.opening_value.ensures i })
+    c.in_default-last_on_path.ensures.none c.in_default.ensures.none

@@ -1,0 +1,9 @@
+pub mod Course
+pub mod Told
+pub mod Structure
+pub mod Record
+pub mod Sources
+pub mod Lasts
+pub mod Chain
+pub mod Section
+pub mod Places

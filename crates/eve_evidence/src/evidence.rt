@@ -1,0 +1,518 @@
+//! What shows why the verdict on a trace is no.
+
+use eve_accounts::{Cents, Row};
+use eve_grammar::{Asked, Choice, FrameKind};
+use eve_smallbank::{Kind, Reply, Versioned};
+
+/// An attempt, as its own frame says it.
+#[derive(Clone, Copy, PartialEq, Eq)]
+pub struct ToldAttempt {
+    /// The number of its batch.
+    pub batch: u32,
+    /// Its view.
+    pub view: u32,
+    /// Whether its mode is serial.
+    pub serial: bool,
+    /// The byte at which its frame begins.
+    pub at: u64,
+}
+
+/// A request of a batch.
+#[derive(Clone, Copy)]
+pub struct ToldRequest<'a> {
+    /// Its index in the batch, from 0.
+    pub index: u16,
+    /// The number of the batch, from 1.
+    pub batch: u32,
+    /// The client, its number, and what is asked for.
+    pub asked: Asked<'a>,
+}
+
+/// A row, with the name of its customer.
+#[derive(Clone, Copy)]
+pub struct ToldRow<'a> {
+    /// The row: an even number is a saving balance, an odd one a checking balance.
+    pub row: Row,
+    /// The name of the customer whose balance it is.
+    pub name: &'a [u8],
+}
+
+/// A row, with a version and a value.
+#[derive(Clone, Copy)]
+pub struct ToldState<'a> {
+    /// The row.
+    pub row: ToldRow<'a>,
+    /// Its version and its value.
+    pub has: Versioned,
+}
+
+/// A number that was found, and the one that was due.
+#[derive(Clone, Copy, PartialEq, Eq)]
+pub struct Numbers {
+    /// The number that the frame says.
+    pub found: u64,
+    /// The number that it must say, or the bound that it must keep.
+    pub due: u64,
+}
+
+/// What is wrong with the length of the bytes.
+#[derive(Clone, Copy, PartialEq, Eq)]
+pub enum LengthFault {
+    /// There are fewer bytes than a header has.
+    TooShort,
+    /// There are more bytes than a trace may have.
+    TooLong,
+    /// The header says this other total.
+    Another(u64),
+}
+
+/// A field of the header.
+#[derive(Clone, Copy, PartialEq, Eq)]
+pub enum HeadField {
+    /// Byte 6.
+    Version,
+    /// Byte 8.
+    Replicas,
+    /// Byte 9.
+    Verifiers,
+    /// Byte 10.
+    Quorum,
+    /// Byte 11.
+    Window,
+    /// Byte 12.
+    Workers,
+    /// Bytes 13 to 15.
+    Zero,
+    /// Byte 16.
+    Customers,
+    /// Byte 20.
+    Batches,
+}
+
+/// What stands where no frame can.
+#[derive(Clone, Copy, PartialEq, Eq)]
+pub enum FrameFault {
+    /// That many bytes after the end.
+    AfterEnd(u64),
+    /// That many bytes, fewer than five.
+    TooFew(u64),
+    /// A byte that no frame of a kind that may stand there begins with.
+    Kind(u8),
+    /// A frame of a kind that may stand there, whose body has `body` bytes where `left` are left.
+    Cut {
+        kind: FrameKind,
+        body: u32,
+        left: u64,
+    },
+}
+
+/// A field of a frame's body.
+#[derive(Clone, Copy, PartialEq, Eq)]
+pub enum BodyField {
+    /// The first byte behind the last field.
+    End,
+    Length,
+    Name,
+    Saving,
+    Checking,
+    Number,
+    Groups,
+    Size,
+    Client,
+    Code,
+    SecondLength,
+    SecondName,
+    Amount,
+    View,
+    Mode,
+    Requests,
+    Index,
+    ReplyCode,
+    ReplyValue,
+    Token,
+    Worker,
+    Place,
+    Count,
+    Row,
+    Kind,
+    Version,
+    Seen,
+    After,
+    To,
+    Value,
+    Choice,
+    Replica,
+    Batch,
+}
+
+/// The first thing that is wrong with an attempt's number, view, requests or mode.
+#[derive(Clone, Copy, PartialEq, Eq)]
+pub enum AttemptFault {
+    /// Its batch is not the one after the last that is committed or open: due is that one.
+    Number(Numbers),
+    /// There is no such batch: due is the last, at most.
+    PastBatches(Numbers),
+    /// The window has no room for it: due is the last that has, at most.
+    PastWindow(Numbers),
+    /// Its view is not the section's.
+    View(Numbers),
+    /// It has not as many requests as its batch.
+    Requests(Numbers),
+    /// Its mode is not the one that is due: whether it is serial, and whether it must be.
+    Mode { found: bool, due: bool },
+}
+
+/// The first thing that is wrong with a certificate, place after place.
+#[derive(Clone, Copy, PartialEq, Eq)]
+pub enum CertificateFault {
+    /// At this place there is the index of no request: the batch has `requests`.
+    NoRequest {
+        index: u16,
+        place: u16,
+        requests: u16,
+    },
+    /// The index stood at an earlier place, `first`.
+    Again {
+        index: u16,
+        place: u16,
+        first: u16,
+    },
+    /// The attempt is serial, and the index is not its place.
+    OutOfOrder {
+        index: u16,
+        place: u16,
+    },
+    /// The index stands before that of an earlier parallelBatch: `before` is the least of those that are missing yet.
+    BeforeGroup {
+        index: u16,
+        place: u16,
+        before: u16,
+    },
+}
+
+/// The first thing that is wrong with an access record's worker or index.
+#[derive(Clone, Copy, PartialEq, Eq)]
+pub enum AccessFault {
+    /// There is no such worker: due is below this, which is 1 in serial mode.
+    Worker(Numbers),
+    /// There is no such request: due is below this.
+    Index(Numbers),
+    /// An earlier record of the attempt, whose frame begins at byte `first`, has the index.
+    Again { index: u16, first: u64 },
+}
+
+/// The first thing that is wrong with a commit.
+#[derive(Clone, Copy)]
+pub enum CommitFault<'a> {
+    /// Its number is not the next.
+    Number(Numbers),
+    /// No attempt is open.
+    NoneOpen,
+    /// Its view is not that of the first open attempt.
+    View(Numbers),
+    /// Its token is not that of the first open attempt.
+    Token { found: &'a [u8], due: &'a [u8] },
+}
+
+/// The first thing that is wrong with a rollback.
+#[derive(Clone, Copy, PartialEq, Eq)]
+pub enum RollbackFault {
+    /// It doesn't go back to the last committed number.
+    To(Numbers),
+    /// All batches are committed: due is below their number.
+    NothingLeft(Numbers),
+    /// Its view is not the next.
+    View(Numbers),
+}
+
+/// The first thing in which a record differs from what its request must note, given what its entries saw. Entries are
+/// counted from 0.
+#[derive(Clone, Copy)]
+pub enum RecordFault<'a> {
+    /// It has not as many entries as the request touches rows.
+    Entries {
+        found: u8,
+        due: u8,
+    },
+    /// An entry is of another row.
+    Row {
+        entry: u8,
+        found: ToldRow<'a>,
+        due: ToldRow<'a>,
+    },
+    /// An entry is of another kind.
+    Kind {
+        entry: u8,
+        found: Kind,
+        due: Kind,
+    },
+    /// An entry leaves another value.
+    After {
+        entry: u8,
+        found: Cents,
+        due: Cents,
+    },
+    /// The attempt has another reply for the request.
+    Reply {
+        found: Reply,
+        due: Reply,
+    },
+}
+
+/// Who left what an entry must see.
+#[derive(Clone, Copy, PartialEq, Eq)]
+pub enum Source {
+    /// No write came before: it is the row's opening balance, at version 0.
+    Opening,
+    /// The nearest earlier write, by the request of this index and batch, whose Access frame begins at byte `at`.
+    Write { index: u16, batch: u32, at: u64 },
+}
+
+/// The first entry of a record that doesn't see what it must.
+#[derive(Clone, Copy)]
+pub struct WrongEntry<'a> {
+    /// Its place in the record, from 0.
+    pub entry: u8,
+    /// Whether it is a read or a write.
+    pub kind: Kind,
+    /// Its row.
+    pub row: ToldRow<'a>,
+    /// What it says that it saw.
+    pub saw: Versioned,
+    /// What was visible to it.
+    pub due: Versioned,
+    /// Who left that.
+    pub left_by: Source,
+}
+
+/// The first row in which restores differ from those that are due.
+#[derive(Clone, Copy)]
+pub enum RestoreFault<'a> {
+    /// This one is due, and none of its row stands there.
+    Missing(ToldState<'a>),
+    /// This one stands there, and none of its row is due.
+    Extra(ToldState<'a>),
+    /// Of one row another version or value is due.
+    Another {
+        found: ToldState<'a>,
+        due: ToldState<'a>,
+    },
+}
+
+/// A view in which a batch is decided as commit.
+#[derive(Clone, Copy)]
+pub struct ToldDecision {
+    /// The view.
+    pub view: u32,
+    /// The token with which it is decided.
+    pub token: [u8; 32],
+    /// How many verifiers count for it.
+    pub votes: u8,
+}
+
+/// What a verifier did about a batch in a view.
+#[derive(Clone, Copy, PartialEq, Eq)]
+pub enum VerifierVote {
+    /// Its vote, whose frame begins at this byte, is the one that is asked for.
+    For(u64),
+    /// Its vote, whose frame begins at this byte, is another.
+    Otherwise(u64),
+    /// It has none.
+    NoVote,
+}
+
+/// Who voted for a commit or a rollback that has no majority.
+#[derive(Drop)]
+pub struct Poll<'a> {
+    /// The number of the batch.
+    pub batch: u32,
+    /// The view.
+    pub view: u32,
+    /// What is asked for.
+    pub choice: Choice<'a>,
+    /// How many verifiers count for it.
+    pub found: u8,
+    /// How many must.
+    pub due: u8,
+    /// What each verifier did, in their order.
+    pub votes: Vec<VerifierVote>,
+}
+
+/// The first thing in which the outcome of a batch differs from that of the replica that it is compared with.
+#[derive(Clone, Copy)]
+pub enum OutcomeFault<'a> {
+    /// A row has another balance after the batch.
+    Row {
+        row: ToldRow<'a>,
+        found: Cents,
+        due: Cents,
+    },
+    /// A request has another reply.
+    Reply {
+        request: ToldRequest<'a>,
+        found: Reply,
+        due: Reply,
+    },
+}
+
+/// What is wrong with a reply that was sent.
+#[derive(Clone, Copy)]
+pub enum SentFault<'a> {
+    /// The batch has no request with this client and number.
+    NoRequest {
+        client: u32,
+        number: u64,
+        batch: u32,
+    },
+    /// The replica didn't commit the batch by an attempt.
+    NotCommitted {
+        batch: u32,
+        replica: u8,
+    },
+    /// The replica committed another reply to the request.
+    Another {
+        request: ToldRequest<'a>,
+        found: Reply,
+        due: Reply,
+    },
+}
+
+/// Why a verdict is no: what is wrong at the frame that the fault names, what was due there, and what says so.
+#[derive(Drop)]
+pub enum Evidence<'a> {
+    /// F1: how many bytes there are.
+    Length {
+        found: u64,
+        wrong: LengthFault,
+    },
+    /// F2: the first six bytes.
+    Magic {
+        found: [u8; 6],
+    },
+    /// F3: the first wrong field of the header, at byte `at`, what it says, and between which numbers it must lie.
+    Head {
+        field: HeadField,
+        at: u64,
+        found: u32,
+        least: u32,
+        most: u32,
+    },
+    /// F4: what stands where a frame is due, and which kinds of frames may stand there.
+    Frame {
+        wrong: FrameFault,
+        due: Vec<FrameKind>,
+    },
+    /// F5: the frame, and the first field of its body that is wrong, at byte `field_at`.
+    Body {
+        frame: FrameKind,
+        at: u64,
+        field: BodyField,
+        field_at: u64,
+    },
+    /// F10: the name, and the first customer that has it, whose frame begins at byte `first_at`.
+    SameName {
+        name: &'a [u8],
+        first: u32,
+        first_at: u64,
+    },
+    /// F11: the first request of the batch whose client and number stand earlier, and the earliest that has them, whose
+    /// Batch frame begins at byte `first_at`.
+    SameRequest {
+        request: ToldRequest<'a>,
+        first: ToldRequest<'a>,
+        first_at: u64,
+    },
+    /// F20.
+    Attempt(AttemptFault),
+    /// F21.
+    Certificate {
+        attempt: ToldAttempt,
+        wrong: CertificateFault,
+    },
+    /// F22, in the Access frame at the fault's byte.
+    Access {
+        attempt: ToldAttempt,
+        at: u64,
+        wrong: AccessFault,
+    },
+    /// F23, in the Access frame at the fault's byte: its place, and the worker's next.
+    WorkerOrder {
+        attempt: ToldAttempt,
+        at: u64,
+        place: Numbers,
+    },
+    /// F24.
+    Commit(CommitFault<'a>),
+    /// F25.
+    Rollback(RollbackFault),
+    /// F30, in the Access frame at the fault's byte.
+    Record {
+        attempt: ToldAttempt,
+        request: ToldRequest<'a>,
+        at: u64,
+        wrong: RecordFault<'a>,
+    },
+    /// F40 and F41, in the Access frame at the fault's byte: of F40 the first entry whose version is wrong, of F41 the
+    /// first whose value is.
+    Chain {
+        attempt: ToldAttempt,
+        request: ToldRequest<'a>,
+        at: u64,
+        wrong: WrongEntry<'a>,
+    },
+    /// F50.
+    Restore(RestoreFault<'a>),
+    /// F60: the attempt's token, and the one that is due.
+    Token {
+        attempt: ToldAttempt,
+        found: &'a [u8],
+        due: [u8; 32],
+    },
+    /// F70: the byte at which the verifier's earliest vote on that batch in that view begins.
+    TwoVotes {
+        first: u64,
+    },
+    /// F71: the two least views that are decided, of so many verifiers.
+    TwoDecisions {
+        first: ToldDecision,
+        second: ToldDecision,
+        verifiers: u8,
+    },
+    /// F72 and F73.
+    Majority(Poll<'a>),
+    /// F80: the lowest-numbered replica that committed the batch, and its attempt's frame.
+    Outcome {
+        attempt: ToldAttempt,
+        first: u8,
+        first_at: u64,
+        wrong: OutcomeFault<'a>,
+    },
+    /// F90.
+    Reply(SentFault<'a>),
+    /// Evidence of this code is not told yet: the verdict's line is all.
+    Untold,
+}
+
+/// What a replica did, in numbers.
+#[derive(Clone, Copy, PartialEq, Eq)]
+pub struct ReplicaCounts {
+    /// How many numbers it committed by an attempt.
+    pub committed: u32,
+    /// How many states it took over: none in version 1.
+    pub taken_over: u32,
+    /// How many attempts it discarded.
+    pub discarded: u32,
+    /// How many attempts are open at the end.
+    pub open: u32,
+    /// How many rollbacks there are.
+    pub rollbacks: u32,
+}
+
+/// What a trace without a fault has.
+#[derive(Drop)]
+pub struct Counts {
+    /// How many requests all batches have.
+    pub requests: u32,
+    /// What each replica did, in their order.
+    pub replicas: Vec<ReplicaCounts>,
+}

@@ -1,0 +1,20 @@
+//! Evidence of a fault: what is wrong at its frame, what was due there, and what says so.
+#![tactic(auto)]
+
+mod chain;
+mod course;
+mod evidence;
+pub mod laws;
+mod record;
+mod section;
+mod sources;
+mod structure;
+mod told;
+
+pub use evidence::{
+    AccessFault, AttemptFault, BodyField, CertificateFault, CommitFault, Counts, Evidence,
+    FrameFault, HeadField, LengthFault, Numbers, OutcomeFault, Poll, RecordFault, ReplicaCounts,
+    RestoreFault, RollbackFault, SentFault, Source, ToldAttempt, ToldDecision, ToldRequest,
+    ToldRow, ToldState, VerifierVote, WrongEntry,
+};
+pub use section::section_evidence;

@@ -1,0 +1,352 @@
+//! The evidence of a fault in a replica's section.
+
+ghost use Rattle.std.specs.Prelude.{◌≡◌, ◌<◌, ℕ, IfSome, IfNone, IfOk, List, length, take, slice_get, slice_index_or, Some};
+ghost use Rattle.eve_smallbank.specs.Access.{Fits};
+ghost use Rattle.eve_smallbank.specs.declared.request.Reply.TheVariants.{Done};
+ghost use Rattle.eve_views.specs.declared.fault.Code.TheVariants as code;
+ghost use Rattle.eve_history.specs.SectionHistory.{names_of};
+ghost use Rattle.eve_chains.specs.Visible.{executed_by, visible_to};
+ghost use Rattle.eve_chains.specs.Along.{SeesAnother};
+ghost use Rattle.eve_evidence.specs.Told.{placed_in};
+ghost use Rattle.eve_grammar.specs.Trace.{Access as AccessValue, Attempt as AttemptValue, Step as StepValue};
+ghost use Rattle.eve_grammar.specs.Frames.{without_accesses};
+ghost use Rattle.eve_grammar.specs.Spelling.{accesses_at};
+ghost use Rattle.eve_frames.specs.Said.{access_said, attempt_said, commit_said, rollback_said};
+ghost use Rattle.eve_views.specs.Form.{SomePlace};
+ghost use Rattle.eve_views.specs.StepKinds.{IsStep};
+ghost use Rattle.eve_history.specs.Section.{SectionState};
+ghost use Rattle.eve_evidence.specs.Course.{IsCourse};
+ghost use Rattle.eve_evidence.specs.Section.{WrongAttempt, WrongAccess, WrongCommit, WrongRollback, StandsAtStep, StandsAlong};
+ghost use Rattle.eve_evidence.specs.Section.{TellsAttempt, TellsAccess, TellsCommit, TellsRollback, TellsStep, TellsAlong};
+ghost use Rattle.eve_evidence.specs.Places.{TellsPlace, HasNonePlace};
+
+use crate::chain::wrong_entry;
+use crate::course::Course;
+use crate::evidence::Evidence;
+use crate::record::record_fault;
+use crate::structure::{access_fault, attempt_fault, commit_fault, place_fault, rollback_fault};
+use crate::told::{told_attempt, told_request};
+use eve_accounts::Names;
+use eve_frames::{AccessView, AttemptView, CommitView, RollbackView};
+use eve_smallbank::Reply;
+use eve_views::{Accesses, Code, Step, Trace};
+use std::alloc::{AllocError, Global};
+
+/// What shows a fault at an attempt's own frame, if there is one of this code.
+fn at_attempt<'a>(
+    trace: &Trace<'a>,
+    course: &Course<'_, 'a>,
+    attempt: &AttemptView<'a>,
+    code: Code,
+) -> Option<Evidence<'a>>
+    requires { (s : SectionState) × IsCourse s course.now }
+    ensures told { IfSome result (λ x. (s : SectionState) → IsCourse s course.now
+        → TellsAttempt code trace.now s (attempt_said attempt.now) x) }
+    ensures none { IfNone result ((s : SectionState) → IsCourse s course.now
+        → ¬ WrongAttempt code trace.now s (attempt_said attempt.now)) }
+{
+    match code {
+        Code::Attempt => match attempt_fault(trace, course, attempt) {
+            Some(wrong) => Some(Evidence::Attempt(wrong)),
+            None => None,
+        },
+        _ => None,
+    }
+}
+
+/// What shows a fault at an attempt's own frame, if it begins at this byte and there is one of this code.
+fn at_own_frame<'a>(
+    trace: &Trace<'a>,
+    course: &Course<'_, 'a>,
+    attempt: &AttemptView<'a>,
+    code: Code,
+    place: u64,
+) -> Option<Evidence<'a>>
+    requires { (s : SectionState) × IsCourse s course.now }
+    ensures told { IfSome result (λ x. (s : SectionState) → IsCourse s course.now
+        → (attempt.now.offset ≡ place) × TellsAttempt code trace.now s (attempt_said attempt.now) x) }
+    ensures none { IfNone result ((s : SectionState) → IsCourse s course.now → attempt.now.offset ≡ place
+        → ¬ WrongAttempt code trace.now s (attempt_said attempt.now)) }
+{
+    if attempt.offset() != place {
+        return None;
+    }
+    at_attempt(trace, course, attempt, code)
+}
+
+/// What shows a fault at the frame of an access record, if there is one of this code.
+fn at_access<'a>(
+    trace: &Trace<'a>,
+    names: &Names<'_>,
+    course: &Course<'_, 'a>,
+    attempt: &AttemptView<'a>,
+    accesses: &Accesses<'_, 'a>,
+    i: usize,
+    code: Code,
+) -> Option<Evidence<'a>>
+    requires course { (s : SectionState) × IsCourse s course.now }
+    requires names { names.now.items ≡ names_of trace.now }
+    requires there { i < length accesses.now }
+    ensures told { IfSome result (λ e. (x : ℕ × AccessValue) → slice_get accesses.now i ≡ Some x
+        → (s : SectionState) (a : AttemptValue) → IsCourse s course.now
+        → attempt_said attempt.now ≡ without_accesses a → accesses.now ≡ accesses_at attempt.now.offset a
+        → TellsAccess code trace.now s attempt.now.offset a (take i accesses.now) x e) }
+    ensures none { IfNone result ((x : ℕ × AccessValue) → slice_get accesses.now i ≡ Some x
+        → (s : SectionState) (a : AttemptValue) → IsCourse s course.now
+        → attempt_said attempt.now ≡ without_accesses a → accesses.now ≡ accesses_at attempt.now.offset a
+        → ¬ WrongAccess code trace.now s attempt.now.offset a (take i accesses.now) x.1) }
+{
+    match code {
+        Code::Version => chain_at(trace, course, attempt, accesses, i, Code::Version),
+        Code::Value => chain_at(trace, course, attempt, accesses, i, Code::Value),
+        Code::Record => record_at(trace, names, attempt, &accesses.get(i)),
+        Code::Access => match access_fault(trace, attempt, accesses, i) {
+            Some(wrong) => Some(Evidence::Access {
+                attempt: told_attempt(attempt),
+                at: accesses.get(i).offset(),
+                wrong,
+            }),
+            None => None,
+        },
+        Code::WorkerOrder => match place_fault(accesses, i) {
+            Some(place) => Some(Evidence::WorkerOrder {
+                attempt: told_attempt(attempt),
+                at: accesses.get(i).offset(),
+                place,
+            }),
+            None => None,
+        },
+        _ => None,
+    }
+}
+
+/// What shows that an entry of an access record sees another version, or another value, than it must, if one does.
+fn chain_at<'a>(
+    trace: &Trace<'a>,
+    course: &Course<'_, 'a>,
+    attempt: &AttemptView<'a>,
+    accesses: &Accesses<'_, 'a>,
+    i: usize,
+    code: Code,
+) -> Option<Evidence<'a>>
+    requires course { (s : SectionState) × IsCourse s course.now }
+    requires there { i < length accesses.now }
+    ensures told { IfSome result (λ e. (x : ℕ × AccessValue) → slice_get accesses.now i ≡ Some x
+        → (s : SectionState) (a : AttemptValue) → IsCourse s course.now
+        → attempt_said attempt.now ≡ without_accesses a → accesses.now ≡ accesses_at attempt.now.offset a
+        → TellsAccess code trace.now s attempt.now.offset a (take i accesses.now) x e) }
+    ensures none { IfNone result ((x : ℕ × AccessValue) → slice_get accesses.now i ≡ Some x
+        → (s : SectionState) (a : AttemptValue) → IsCourse s course.now
+        → attempt_said attempt.now ≡ without_accesses a → accesses.now ≡ accesses_at attempt.now.offset a
+        → ¬ SomePlace x.1.entries (λ _ y. SeesAnother code
+        (visible_to trace.now (placed_in s attempt.now.offset a) x.1.index y.row) y)) }
+{
+    let access = accesses.get(i);
+    let Some(wrong) = wrong_entry(trace, course, attempt, accesses, &access, code) else {
+        return None;
+    };
+    Some(Evidence::Chain {
+        attempt: told_attempt(attempt),
+        request: told_request(trace, attempt.seq(), access.index()),
+        at: access.offset(),
+        wrong,
+    })
+}
+
+/// What shows that a record doesn't fit its request, if it doesn't.
+fn record_at<'a>(
+    trace: &Trace<'a>,
+    names: &Names<'_>,
+    attempt: &AttemptView<'a>,
+    access: &AccessView<'a>,
+) -> Option<Evidence<'a>>
+    requires { names.now.items ≡ names_of trace.now }
+    ensures told { IfSome result (λ e. (a : AttemptValue) → attempt_said attempt.now ≡ without_accesses a
+        → (s : SectionState) (own : List (ℕ × AccessValue))
+        → TellsAccess code.Record trace.now s attempt.now.offset a own (access.now.offset, access_said access.now) e) }
+    ensures none { IfNone result (Fits (names_of trace.now)
+        (executed_by trace.now (attempt_said attempt.now) (access_said access.now))) }
+{
+    let index = access.index();
+    let request = told_request(trace, attempt.seq(), index);
+    let reply = reply_of(attempt, index);
+    let Some(wrong) = record_fault(trace, names, &request.asked.request, reply, access) else {
+        return None;
+    };
+    Some(Evidence::Record {
+        attempt: told_attempt(attempt),
+        request,
+        at: access.offset(),
+        wrong,
+    })
+}
+
+/// The reply that an attempt has for the request of an index, or `Done` where it has none.
+fn reply_of(attempt: &AttemptView<'_>, index: u16) -> Reply
+    ensures { result ≡ slice_index_or (attempt_said attempt.now).replies index Done }
+{
+    if (index as usize) < attempt.len() {
+        attempt.reply(index as usize)
+    } else {
+        Reply::Done
+    }
+}
+
+/// What shows a fault at the frame of an access record, if it begins at this byte and there is one of this code.
+fn at_place<'a>(
+    trace: &Trace<'a>,
+    names: &Names<'_>,
+    course: &Course<'_, 'a>,
+    attempt: &AttemptView<'a>,
+    accesses: &Accesses<'_, 'a>,
+    i: usize,
+    code: Code,
+    place: u64,
+) -> Option<Evidence<'a>>
+    requires course { (s : SectionState) × IsCourse s course.now }
+    requires names { names.now.items ≡ names_of trace.now }
+    requires there { i < length accesses.now }
+    ensures told { IfSome result (TellsPlace code trace.now course.now attempt.now accesses.now place i) }
+    ensures none { IfNone result (HasNonePlace code trace.now course.now attempt.now accesses.now place i) }
+{
+    if accesses.get(i).offset() != place {
+        return None;
+    }
+    at_access(trace, names, course, attempt, accesses, i, code)
+}
+
+/// What shows a fault at the frame of one of an attempt's access records that begins at this byte, if there is one of
+/// this code.
+fn at_accesses<'a>(
+    trace: &Trace<'a>,
+    names: &Names<'_>,
+    course: &Course<'_, 'a>,
+    attempt: &AttemptView<'a>,
+    accesses: &Accesses<'_, 'a>,
+    code: Code,
+    place: u64,
+) -> Option<Evidence<'a>>
+    requires course { (s : SectionState) × IsCourse s course.now }
+    requires names { names.now.items ≡ names_of trace.now }
+    ensures told { IfSome result (λ e. (s : SectionState) (a : AttemptValue) → IsCourse s course.now
+        → attempt_said attempt.now ≡ without_accesses a → accesses.now ≡ accesses_at attempt.now.offset a
+        → SomePlace accesses.now (λ own x. (x.0 ≡ place)
+        × TellsAccess code trace.now s attempt.now.offset a own x e)) }
+    ensures none { IfNone result ((s : SectionState) (a : AttemptValue) → IsCourse s course.now
+        → attempt_said attempt.now ≡ without_accesses a → accesses.now ≡ accesses_at attempt.now.offset a
+        → ¬ SomePlace accesses.now (λ own x. (x.0 ≡ place)
+        × WrongAccess code trace.now s attempt.now.offset a own x.1)) }
+{
+    for i in 0..accesses.len() {
+        if let Some(found) = at_place(trace, names, course, attempt, accesses, i, code, place) {
+            return Some(found);
+        }
+    }
+    None
+}
+
+/// What shows a fault at a step whose frames begin at this byte, if there is one of this code.
+fn at_step<'a>(
+    trace: &Trace<'a>,
+    names: &Names<'_>,
+    course: &Course<'_, 'a>,
+    step: &Step<'_, 'a>,
+    code: Code,
+    place: u64,
+) -> Option<Evidence<'a>>
+    requires course { (s : SectionState) × IsCourse s course.now }
+    requires names { names.now.items ≡ names_of trace.now }
+    ensures told { IfSome result (λ x. (s : SectionState) (is : ℕ × StepValue) → IsCourse s course.now
+        → IsStep step.now is → TellsStep code trace.now place s is x) }
+    ensures none { IfNone result ((s : SectionState) (is : ℕ × StepValue) → IsCourse s course.now
+        → IsStep step.now is → ¬ StandsAtStep code trace.now place s is) }
+{
+    match step {
+        Step::Attempt(attempt, accesses) => {
+            if let Some(found) = at_own_frame(trace, course, attempt, code, place) {
+                return Some(found);
+            }
+            at_accesses(trace, names, course, attempt, accesses, code, place)
+        }
+        Step::Commit(commit) => if commit.offset() == place {
+            at_commit(course, commit, code)
+        } else {
+            None
+        },
+        Step::Rollback(rollback) => if rollback.offset() == place {
+            at_rollback(trace, course, rollback, code)
+        } else {
+            None
+        },
+    }
+}
+
+/// What shows a fault at a commit, if there is one of this code.
+fn at_commit<'a>(
+    course: &Course<'_, 'a>,
+    commit: &CommitView<'a>,
+    code: Code,
+) -> Option<Evidence<'a>>
+    requires { (s : SectionState) × IsCourse s course.now }
+    ensures told { IfSome result (λ x. (s : SectionState) → IsCourse s course.now
+        → TellsCommit code s (commit_said commit.now) x) }
+    ensures none { IfNone result ((s : SectionState) → IsCourse s course.now
+        → ¬ WrongCommit code s (commit_said commit.now)) }
+{
+    match code {
+        Code::Commit => match commit_fault(course, commit) {
+            Some(wrong) => Some(Evidence::Commit(wrong)),
+            None => None,
+        },
+        _ => None,
+    }
+}
+
+/// What shows a fault at a rollback, if there is one of this code.
+fn at_rollback<'a>(
+    trace: &Trace<'a>,
+    course: &Course<'_, 'a>,
+    rollback: &RollbackView<'a>,
+    code: Code,
+) -> Option<Evidence<'a>>
+    ensures told { IfSome result (λ x. (s : SectionState) → IsCourse s course.now
+        → TellsRollback code trace.now s (rollback_said rollback.now) x) }
+    ensures none { IfNone result ((s : SectionState) → IsCourse s course.now
+        → ¬ WrongRollback code trace.now s (rollback_said rollback.now)) }
+{
+    match code {
+        Code::Rollback => match rollback_fault(trace, course, rollback) {
+            Some(wrong) => Some(Evidence::Rollback(wrong)),
+            None => None,
+        },
+        _ => None,
+    }
+}
+
+/// What shows a fault of a replica's section, by the replica's number from 0: one of this code that stands at this byte.
+///
+/// docs/MODEL.md, "Faults". One pass over the section's frames, up to the one that is wrong; some fifty bytes for each
+/// attempt on the way.
+pub fn section_evidence<'a>(
+    alloc: Global,
+    trace: &Trace<'a>,
+    names: &Names<'_>,
+    e: u8,
+    code: Code,
+    place: u64,
+) -> Result<Evidence<'a>, AllocError>
+    requires there { e < length trace.now.sections }
+    requires names { names.now.items ≡ names_of trace.now }
+    requires stands { StandsAlong code trace.now e place }
+    ensures { IfOk result (TellsAlong code trace.now e place) }
+{
+    let mut course = Course::start(alloc);
+    let mut steps = trace.section(e);
+    while let Some(step) = steps.next() {
+        if let Some(found) = at_step(trace, names, &course, &step, code, place) {
+            return Ok(found);
+        }
+        course.take(step)?;
+    }
+    unreachable!()
+}

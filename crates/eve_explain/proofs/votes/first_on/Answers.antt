@@ -1,0 +1,21 @@
+use Rattle.std.proofs.Common.{◌≡◌, ℕ, sym, ◌∙◌}
+use Rattle.std.specs.Prelude.{IsTrue, IsFalse}
+use Rattle.std.specs.List.{AllByRecursion}
+use Rattle.eve_grammar.specs.Trace.{Vote}
+use Rattle.eve_frames.specs.Said.{vote_said}
+use Rattle.eve_votes.specs.Votes.{is_vote_on}
+use Rattle.eve_evidence.proofs.Lists.{all_more, place_in_front}
+use Rattle.eve_explain.proofs.votes.first_on.Goals as goal
+
+pub returns-then-is_on-clause-first : goal.returns-then-is_on-clause-first
+returns-then-is_on-clause-first c =
+    place_in_front (λ earlier u. (u.0 ≡ c.offset.result) × IsTrue (is_vote_on c.args.n c.args.view u.1)
+    × AllByRecursion (λ z. IsFalse (is_vote_on c.args.n c.args.view z.1)) earlier) c.args.votes.now c.args.count c.loop-i.i
+    (c.get-vote.result.offset, vote_said c.get-vote.result) c.loop-i-test.true c.get-vote.ensures.says
+    (sym c.offset.ensures, sym c.is_on.ensures ∙ c.if-is_on.true, c.loop-i.invariant)
+
+pub loop-i-preserved : goal.loop-i-preserved
+loop-i-preserved c =
+    all_more (λ (z : ℕ × Vote). IsFalse (is_vote_on c.args.n c.args.view z.1)) c.args.votes.now c.loop-i.i
+    (c.get-vote.result.offset, vote_said c.get-vote.result) c.get-vote.ensures.says c.loop-i.invariant
+    (sym c.is_on.ensures ∙ c.if-is_on.false)

@@ -1,0 +1,2 @@
+pub mod Votes
+pub mod Explained

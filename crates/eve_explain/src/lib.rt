@@ -1,0 +1,16 @@
+//! The verdict on a trace, with what shows it.
+#![tactic(auto)]
+
+mod explained;
+mod explaining;
+mod phase;
+mod votes;
+
+pub use eve_evidence::{
+    AccessFault, AttemptFault, BodyField, CertificateFault, CommitFault, Counts, Evidence,
+    FrameFault, HeadField, LengthFault, Numbers, OutcomeFault, Poll, RecordFault, ReplicaCounts,
+    RestoreFault, RollbackFault, SentFault, Source, ToldAttempt, ToldDecision, ToldRequest,
+    ToldRow, ToldState, VerifierVote, WrongEntry,
+};
+pub use explained::Explained;
+pub use explaining::explain;

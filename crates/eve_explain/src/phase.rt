@@ -1,0 +1,17 @@
+//! Which codes' evidence is told.
+
+ghost use Rattle.std.specs.Prelude.{◌≡◌};
+ghost use Rattle.eve_explain.specs.Explained.{is_told_along};
+
+use eve_views::Code;
+
+/// Whether the evidence of a code lies in one replica's section.
+pub fn is_told_along(code: Code) -> bool
+    ensures { result ≡ is_told_along code }
+{
+    match code {
+        Code::Attempt | Code::Access | Code::WorkerOrder | Code::Commit | Code::Rollback => true,
+        Code::Record | Code::Version | Code::Value => true,
+        _ => false,
+    }
+}
