@@ -1,86 +1,287 @@
--- Public: other crates cite these lemmas. The least of the faults of agreement, batch after batch.
-use Rattle.std.proofs.Common.{◌≡◌, ℕ, zero, suc, ◌+◌, ◌<◌, ◌≤◌, Bool, true, false, cond, List, [], ◌∷◌, map}
+-- The least of the faults of agreement, number after number.
+use Rattle.std.proofs.Common.{◌≡◌, ℕ, zero, suc, ◌-◌, ◌<◌, ◌≤◌, Bool, true, false, cond, List, [], ◌∷◌, map}
 use Rattle.std.proofs.Common.{length, slice_get, Option, Some, None, IfSome, refl, sym, ap, subst, ◌∙◌, inl}
-use Rattle.std.proofs.Common.{inr, ◌⊎◌, if◌then◌else◌, arith}
+use Rattle.std.proofs.Common.{inr, arith}
 use Rattle.std.specs.List.{enumerate_from, find}
 use Rattle.std.specs.Option.{is_some}
-use Rattle.std.proofs.lemmas.Bool.{cases_lt}
+use Rattle.std.proofs.lemmas.Bool.{cases_lt, false≢true}
 use Rattle.std.proofs.lemmas.Option.{same_Some}
 use Rattle.eve_smallbank.specs.declared.request.Reply.{Reply}
-use Rattle.eve_grammar.specs.Trace.{Trace}
+use Rattle.eve_grammar.specs.Trace.{Transfer, Trace}
 use Rattle.eve_views.specs.declared.fault.Code.{Code}
 use Rattle.eve_views.specs.declared.fault.Code.TheVariants as code
 use Rattle.eve_views.specs.declared.fault.Fault.{Fault}
-use Rattle.eve_views.specs.Form.{IsUpTo, IsLeast, IsFaultSomewhere}
-use Rattle.eve_views.specs.Code.{code_number, phase_of}
-use Rattle.eve_views.specs.First.{is_before, first_of}
-use Rattle.eve_views.proofs.Firsts.{before_precedes, behind_precedes, up_to_from}
-use Rattle.eve_history.specs.Section.{Placed}
-use Rattle.eve_history.specs.SectionHistory.{SectionHistory, section_history, section_histories, committed_at}
-use Rattle.eve_history.specs.SectionHistory.{IsRightSection}
+use Rattle.eve_views.specs.Form.{IsUpTo, IsLeast, IsFaultIn, IsFaultSomewhere}
+use Rattle.eve_views.specs.Code.{code_number}
+use Rattle.eve_history.specs.Section.{Placed, Landing, ByAttempt, ByTransfer, Skipped}
+use Rattle.eve_history.specs.SectionHistory.{SectionHistory, section_history, section_histories, landing_at}
+use Rattle.eve_history.specs.SectionHistory.{committed_at, attempt_by, IsRightSection, LandedFrom}
 use Rattle.eve_history.proofs.Rights.{as_many_told, section_history_at}
-use Rattle.eve_chains.proofs.Linked.{none≢some}
-use Rattle.eve_agree.specs.Agreement.{first_to_commit, HaveSameOutcome, ReplicasAgree, StandsInAgreement}
-use Rattle.eve_agree.specs.Judging.{NoneBefore, Stand, IsUpToAt, KeepsFound, AgreesOrIsFound}
+use Rattle.eve_chains.proofs.Linked.{landing_by, none≢some}
+use Rattle.eve_agree.specs.Agreement.{first_to_commit, HaveSameOutcome, HasBalancesOfFirst, ReplicasAgree}
+use Rattle.eve_agree.specs.Agreement.{StandsInAgreement}
+use Rattle.eve_agree.specs.Judging.{AgreesIn, offset_of, code_of, IsApart, IsFirstFrom, bound_by, bound_of, JudgedTo}
+use Rattle.eve_agree.proofs.Offsets.{landings_rise, sections_rise}
 use Rattle.eve_agree.proofs.Outcomes.{IsOf, last_told, first_there}
-use Rattle.eve_agree.proofs.ByNumber.{some_there, told_none, committed_low, replica_there}
+use Rattle.eve_agree.proofs.ByNumber.{some_there, there_some, landing_low, landing_there, replica_there}
 
--- ---- the first of two
+-- ---- where a fault stands
+
+no_outcome : (o : Option ℕ) (P : ℕ → Type 0) → IfSome o P → IfSome o (λ f. ¬ P f) → (f : ℕ) → o ≡ Some f → ⊥
+no_outcome None P same apart f is = none≢some f is
+no_outcome (Some g) P same apart f is = apart same
+
+-- replica e reached this number by a frame at this offset, and differs in it
+pub record WhereApart (t : Trace) (e : ℕ) (c : Code) (at : ℕ) : Type 0 where
+  pub n : ℕ
+  pub landing : Landing
+  pub is : landing_at t e n ≡ Some landing
+  pub code : code_of landing ≡ Some c
+  pub offset : offset_of landing ≡ Some at
+  pub apart : ¬ AgreesIn t e n
+
+pub where_apart : (t : Trace) (e : ℕ) (c : Code) (at : ℕ) → StandsInAgreement c t e at → WhereApart t e c at
+where_apart t e code.Outcome at stands = record {
+  n = stands.n;
+  landing = ByAttempt stands.item;
+  is = landing_by (landing_at t e stands.n) stands.item stands.is;
+  code = refl;
+  offset = ap (λ (o : ℕ). Some o) stands.offset;
+  apart = λ agrees.
+      let first = first_there t e stands.n stands.item stands.is in
+      no_outcome (first_to_commit t stands.n) (λ f. HaveSameOutcome t e f stands.n)
+      (agrees.outcome (there_some (committed_at t e stands.n) stands.item stands.is)) stands.holds first.0 first.1;
+}
+where_apart t e code.TransferBalances at stands = record {
+  n = stands.n;
+  landing = ByTransfer at stands.state;
+  is = stands.is;
+  code = refl;
+  offset = refl;
+  apart = λ agrees. stands.holds (agrees.state at stands.state stands.is);
+}
+where_apart t e c at stands = absurd stands
+
+not_transfer : (p : Placed) (at : ℕ) (x : Transfer)
+    → ◌≡◌ {A = Option Landing} (Some (ByAttempt p)) (Some (ByTransfer at x)) → ⊥
+not_transfer p at x e = cc
+
+same_state : (at o : ℕ) (x y : Transfer) → ◌≡◌ {A = Option Landing} (Some (ByTransfer at x)) (Some (ByTransfer o y))
+    → x ≡ y
+same_state at o x y e = cc
+
+-- an outcome that differs
+pub outcome_stands : (t : Trace) (e n : ℕ) (p : Placed) → committed_at t e n ≡ Some p
+    → ¬ IfSome (first_to_commit t n) (λ f. HaveSameOutcome t e f n) → StandsInAgreement code.Outcome t e p.offset
+outcome_stands t e n p at apart =
+    record { n = n; item = p; is = at; offset = refl; holds = by (first_to_commit t n) apart }
+  where
+    by : (o : Option ℕ) → ¬ IfSome o (λ f. HaveSameOutcome t e f n) → IfSome o (λ f. ¬ HaveSameOutcome t e f n)
+    by None apart = tt
+    by (Some f) apart = apart
+
+-- a state with other balances
+pub state_stands : (t : Trace) (e n at : ℕ) (x : Transfer) → landing_at t e n ≡ Some (ByTransfer at x)
+    → ¬ HasBalancesOfFirst t n x → StandsInAgreement code.TransferBalances t e at
+state_stands t e n at x is apart = record { n = n; state = x; is = is; holds = apart }
+
+module _ (t : Trace) (e n : ℕ) where
+  -- of an attempt the outcome is all that is asked
+  pub agrees_by_attempt : (p : Placed) → landing_at t e n ≡ Some (ByAttempt p)
+      → IfSome (first_to_commit t n) (λ f. HaveSameOutcome t e f n) → AgreesIn t e n
+  agrees_by_attempt p at same = record {
+    outcome = λ _. same;
+    state = λ o x is. absurd (not_transfer p o x (sym at ∙ is));
+  }
+
+  -- of a state its balances
+  pub agrees_by_state : (at : ℕ) (x : Transfer) → landing_at t e n ≡ Some (ByTransfer at x)
+      → HasBalancesOfFirst t n x → AgreesIn t e n
+  agrees_by_state at x is has = record {
+    outcome = λ committed.
+        absurd (false≢true (sym (ap (λ (o : Option Landing). is_some (attempt_by o)) is) ∙ committed));
+    state = λ o y its. subst (HasBalancesOfFirst t n) (same_state at o x y (sym is ∙ its)) has;
+  }
+
+  -- and nothing where it didn't reach the number
+  pub agrees_without : committed_at t e n ≡ None
+      → ((at : ℕ) (x : Transfer) → landing_at t e n ≡ Some (ByTransfer at x) → ⊥) → AgreesIn t e n
+  agrees_without none no_state = record {
+    outcome = λ committed. absurd (false≢true (sym (ap (λ (o : Option Placed). is_some o) none) ∙ committed));
+    state = λ o y its. absurd (no_state o y its);
+  }
+
+  pub agrees_missing : ((l : Landing) → landing_at t e n ≡ Some l → ⊥) → AgreesIn t e n
+  agrees_missing none = record {
+    outcome = λ committed.
+        let got = some_there (committed_at t e n) committed in
+        absurd (none (ByAttempt got.0) (landing_by (landing_at t e n) got.0 got.1));
+    state = λ o y its. absurd (none (ByTransfer o y) its);
+  }
+
+  pub apart_stands : (f : Fault) → IsApart t e n f → IsFaultIn StandsInAgreement t e f
+  apart_stands f is = record { stands = by is.landing is.at is.code is.offset; inside = is.inside }
+    where
+      moved : (c : Code) (at : ℕ) → c ≡ f.code → at ≡ f.offset → StandsInAgreement c t e at
+          → StandsInAgreement f.code t e f.offset
+      moved c at same here stands = subst (λ (o : ℕ). StandsInAgreement f.code t e o) here
+          (subst (λ (d : Code). StandsInAgreement d t e at) same stands)
+
+      by : (l : Landing) → landing_at t e n ≡ Some l → code_of l ≡ Some f.code → offset_of l ≡ Some f.offset
+          → StandsInAgreement f.code t e f.offset
+      by (ByAttempt p) at its offset =
+          moved code.Outcome p.offset (same_Some code.Outcome f.code its) (same_Some p.offset f.offset offset)
+          (outcome_stands t e n p (ap attempt_by at) (λ same. is.apart (agrees_by_attempt p at same)))
+      by (ByTransfer o x) at its offset =
+          moved code.TransferBalances o (same_Some code.TransferBalances f.code its) (same_Some o f.offset offset)
+          (state_stands t e n o x at (λ has. is.apart (agrees_by_state o x at has)))
+      by Skipped at its offset = none≢some f.code its
+
+  -- where the numbers before it agree it is the first fault in its section, and in those behind it
+  pub apart_first : (f : Fault) → IsApart t e n f → ((m : ℕ) → m < n → AgreesIn t e m) → IsFirstFrom t e f
+  apart_first f is before = record {
+    stands = apart_stands f is;
+    first = λ i g le stands. by i g le (where_apart t i g.code g.offset stands.stands);
+  }
+    where
+      same_codes : (l : Landing) (c d : Code) → code_of l ≡ Some c → code_of l ≡ Some d → c ≡ d
+      same_codes l c d one two = same_Some c d (sym one ∙ two)
+
+      here : (g : Fault) → WhereApart t e g.code g.offset → IsUpTo f g
+      here g place = elim (cases_lt place.n n) [
+        | inl less ↦ absurd (place.apart (before place.n less))
+        | inr ge ↦ elim (cases_lt n place.n) [
+          | inl later ↦ inl (landings_rise t e n place.n f.offset g.offset is.landing place.landing is.at place.is
+              is.offset place.offset later)
+          | inr le ↦
+              let one : n ≡ place.n = omega arith in
+              let same : is.landing ≡ place.landing = same_Some is.landing place.landing
+              (sym is.at ∙ ap (landing_at t e) one ∙ place.is) in
+              let offsets : f.offset ≡ g.offset = same_Some f.offset g.offset
+              (sym is.offset ∙ ap offset_of same ∙ place.offset) in
+              let codes : f.code ≡ g.code = same_codes place.landing f.code g.code (sym (ap code_of same) ∙ is.code)
+              place.code in
+              let numbers : code_number f.code ≡ code_number g.code = ap code_number codes in
+              inr (offsets, omega arith)
+        ]
+      ]
+
+      by : (i : ℕ) (g : Fault) → e ≤ i → WhereApart t i g.code g.offset → IsUpTo f g
+      by i g le place = elim (cases_lt e i) [
+        | inl lt ↦ inl (sections_rise t e i n place.n f.offset g.offset is.landing place.landing is.at place.is
+            is.offset place.offset lt)
+        | inr ge ↦
+            let one : i ≡ e = omega arith in
+            here g (subst (λ (k : ℕ). WhereApart t k g.code g.offset) one place)
+      ]
+
+-- ---- number after number
+
+module _ (t : Trace) where
+  agrees_in_zero : (e m : ℕ) → m ≤ 0 → AgreesIn t e m
+  agrees_in_zero e zero le = agrees_missing t e 0 (λ l at. none≢some l at)
+  agrees_in_zero e (suc m) le = absurd (omega arith)
+
+  pub judged_start : JudgedTo t 0 None
+  judged_start = record { found = tt; agree = λ e m lt le. agrees_in_zero e m le }
+
+  -- the replica whose fault was found is there
+  pub bound_low : (n : ℕ) (least : Option Fault) → JudgedTo t n least → bound_of (length t.sections) least
+      ≤ length t.sections
+  bound_low n None judged = omega arith
+  bound_low n (Some f) judged =
+      let e = judged.found.0 in
+      let first = judged.found.1 in
+      let place = where_apart t e f.code f.offset first.stands.stands in
+      let there = landing_there t e place.n place.landing place.is in
+      let bound : bound_by (length t.sections) f.replica ≡ e = ap (bound_by (length t.sections)) first.stands.inside in
+      omega arith
+
+  up_to : (e m n : ℕ) → m ≤ n → ((k : ℕ) → k ≤ n - 1 → AgreesIn t e k) → AgreesIn t e n → AgreesIn t e m
+  up_to e m n le before here = elim (cases_lt m n) [
+    | inl lt ↦ before m (omega arith)
+    | inr ge ↦ let same : n ≡ m = omega arith in subst (AgreesIn t e) same here
+  ]
+
+  -- the replicas that are left agree in the next number
+  pub judged_on : (n : ℕ) (least : Option Fault) → JudgedTo t (n - 1) least
+      → ((e : ℕ) → e < bound_of (length t.sections) least → AgreesIn t e n) → JudgedTo t n least
+  judged_on n least judged here = record {
+    found = judged.found;
+    agree = λ e m lt le. up_to e m n le (λ k less. judged.agree e k lt less) (here e lt);
+  }
+
+  -- the lowest of them that doesn't
+  pub judged_apart : (n e : ℕ) (least : Option Fault) (f : Fault) → JudgedTo t (n - 1) least
+      → e < bound_of (length t.sections) least → ((i : ℕ) → i < e → AgreesIn t i n) → IsApart t e n f
+      → JudgedTo t n (Some f)
+  judged_apart n e least f judged there here apart = record {
+    found = (e, apart_first t e n f apart (λ m lt. judged.agree e m there (omega arith)));
+    agree = λ i m lt le.
+        let bound : bound_by (length t.sections) f.replica ≡ e = ap (bound_by (length t.sections)) apart.inside in
+        let less : i < e = omega arith in
+        up_to i m n le (λ k low. judged.agree i k (omega arith) low) (here i less);
+  }
+
+  -- ---- all numbers
+
+  -- up to the last number of all
+  pub all_agree : (hs : List SectionHistory) (n most : ℕ) (least : Option Fault) → hs ≡ section_histories t
+      → ((e : ℕ) → IsRightSection t e)
+      → ((e : ℕ) (h : SectionHistory) → slice_get hs e ≡ Some h → h.committed ≤ most) → most ≤ n → JudgedTo t n least
+      → (e m : ℕ) → e < bound_of (length t.sections) least → AgreesIn t e m
+  all_agree hs n most least told right none_past end judged e m lt = elim (cases_lt n m) [
+    | inl past ↦ agrees_missing t e m (λ l at.
+        let there = landing_there t e m l at in
+        let low = landing_low t e m l (right e) at in
+        let last = last_told t e (section_history t e) refl in
+        let le = none_past e (section_history t e) (ap (λ (xs : List SectionHistory). slice_get xs e) told
+        ∙ section_history_at t e there) in
+        omega arith)
+    | inr le ↦ judged.agree e m lt le
+  ]
+
+  pub they_agree : ((e n : ℕ) → e < length t.sections → AgreesIn t e n) → ReplicasAgree t
+  they_agree agree = record {
+    outcomes = λ e n committed.
+        let got = some_there (committed_at t e n) committed in
+        (agree e n (replica_there t e n got.0 got.1)).outcome committed;
+    states = λ e n at x is. (agree e n (landing_there t e n (ByTransfer at x) is)).state at x is;
+  }
+
+  pub agree_in : ReplicasAgree t → (e n : ℕ) → AgreesIn t e n
+  agree_in agree e n = record { outcome = agree.outcomes e n; state = agree.states e n }
+
+  pub none_stands : ReplicasAgree t → (f : Fault) → ¬ IsFaultSomewhere StandsInAgreement t f
+  none_stands agree f is =
+      let place = where_apart t is.0 f.code f.offset is.1.stands in
+      place.apart (agree_in agree is.0 place.n)
+
+  pub is_least : (n : ℕ) (f : Fault) → JudgedTo t n (Some f)
+      → ((e m : ℕ) → e < bound_of (length t.sections) (Some f) → AgreesIn t e m)
+      → IsLeast (IsFaultSomewhere StandsInAgreement t) f
+  is_least n f judged agree = record {
+    is = (judged.found.0, judged.found.1.stands);
+    least = λ g is.
+        let e = judged.found.0 in
+        let first = judged.found.1 in
+        elim (cases_lt is.0 e) [
+          | inl lt ↦
+              let bound : bound_by (length t.sections) f.replica ≡ e =
+              ap (bound_by (length t.sections)) first.stands.inside in
+              let place = where_apart t is.0 g.code g.offset is.1.stands in
+              absurd (place.apart (agree is.0 place.n (omega arith)))
+          | inr ge ↦ first.first is.0 g ge is.1
+        ];
+  }
+
+-- ---- for those who cite it
 
 -- a fault of replica e at this offset
 abbrev pub outcome_fault : ℕ → ℕ → Fault
 outcome_fault at e = record { code = code.Outcome; offset = at; replica = Some e }
 
--- it, or what was found before it
-abbrev pub with_outcome : Option Fault → ℕ → ℕ → Option Fault
-with_outcome least at e = first_of least (Some (outcome_fault at e))
-
-offset_up : (f g : Fault) → IsUpTo f g → f.offset ≤ g.offset
-offset_up f g (inl lt) = omega (arith, lt)
-offset_up f g (inr same) = omega (arith, same.0)
-
-up_to_both : (f : Fault) (at e n : ℕ) → f.code ≡ code.Outcome → (f.offset ≤ n) ⊎ (at ≤ n)
-    → IsUpToAt (with_outcome (Some f) at e) n
-up_to_both f at e n outcome up = by (is_before g f) refl
-  where
-    g : Fault
-    g = outcome_fault at e
-
-    by : (b : Bool) → is_before g f ≡ b → IsUpToAt (if b then Some g else Some f) n
-    by true is =
-        let le = offset_up g f (up_to_from g f (ap phase_of (sym outcome)) (before_precedes g f is)) in
-        elim up [ inl own ↦ omega (arith, le, own) | inr its ↦ its ]
-    by false is =
-        let le = offset_up f g (up_to_from f g (ap phase_of outcome) (behind_precedes g f is)) in
-        elim up [ inl own ↦ own | inr its ↦ omega (arith, le, its) ]
-
-pub lower_lowers : (t : Trace) (least : Option Fault) (at e : ℕ) → Stand t least
-    → KeepsFound least (with_outcome least at e)
-lower_lowers t None at e stand to up = absurd up
-lower_lowers t (Some f) at e stand to up = up_to_both f at e to stand.0 (inl up)
-
-lower_here : (t : Trace) (least : Option Fault) (at e : ℕ) → Stand t least → IsUpToAt (with_outcome least at e) at
-lower_here t None at e stand = omega arith
-lower_here t (Some f) at e stand = up_to_both f at e at stand.0 (inr (omega arith))
-
-pub lower_stands : (t : Trace) (least : Option Fault) (at e : ℕ) → Stand t least
-    → IsFaultSomewhere StandsInAgreement t (outcome_fault at e)
-    → Stand t (with_outcome least at e)
-lower_stands t None at e stand is = (refl, is)
-lower_stands t (Some f) at e stand is = by (is_before (outcome_fault at e) f)
-  where
-    by : (b : Bool) → Stand t (if b then Some (outcome_fault at e) else Some f)
-    by true = (refl, is)
-    by false = stand
-
-pub judged_later : (t : Trace) (least now : Option Fault) (e n : ℕ) → KeepsFound least now → AgreesOrIsFound t least e n
-    → AgreesOrIsFound t now e n
-judged_later t least now e n lowers judged p at =
-    elim (judged p at) [ inl same ↦ inl same | inr up ↦ inr (lowers p.offset up) ]
-
--- ---- one replica and one batch
-
--- it differs
+-- an outcome that differs is a fault
 pub differs : (t : Trace) (e f n at : ℕ) (rs : List Reply) → IsOf t e n at rs → first_to_commit t n ≡ Some f
     → ¬ HaveSameOutcome t e f n → IsFaultSomewhere StandsInAgreement t (outcome_fault at e)
 differs t e f n at rs own first apart = (
@@ -97,132 +298,11 @@ differs t e f n at rs own first apart = (
   },
 )
 
-pub judged_same : (t : Trace) (least : Option Fault) (e f n : ℕ) → first_to_commit t n ≡ Some f
-    → HaveSameOutcome t e f n → AgreesOrIsFound t least e n
-judged_same t least e f n first same p at =
-    inl (subst (λ (o : Option ℕ). IfSome o (λ g. HaveSameOutcome t e g n)) (sym first) same)
-
-pub judged_apart : (t : Trace) (least : Option Fault) (e n at : ℕ) (rs : List Reply) → Stand t least → IsOf t e n at rs
-    → AgreesOrIsFound t (with_outcome least at e) e n
-judged_apart t least e n at rs stand own p here =
-    let same : p ≡ own.item = same_Some p own.item (sym here ∙ own.at) in
-    inr (subst (IsUpToAt (with_outcome least at e)) (own.offset_is ∙ sym (ap (λ (q : Placed). q.offset) same))
-    (lower_here t least at e stand))
-
--- it didn't commit the batch
-pub judged_none : (t : Trace) (least : Option Fault) (e n : ℕ) → committed_at t e n ≡ None
-    → AgreesOrIsFound t least e n
-judged_none t least e n none p at = none≢some p (sym none ∙ at)
-
--- it is not there
-pub judged_missing : (t : Trace) (least : Option Fault) (e n : ℕ) → length t.sections ≤ e → AgreesOrIsFound t least e n
-judged_missing t least e n past p at = absurd (let there = replica_there t e n p at in omega arith)
-
--- ---- one batch
-
--- of the replicas below this one, the batch is judged
-pub record InBatch (t : Trace) (before : Option Fault) (n e : ℕ) (least : Option Fault) : Type 0 where
-  pub stand : Stand t least
-  pub lowers : KeepsFound before least
-  pub judged : (i : ℕ) → i < e → AgreesOrIsFound t least i n
-
-module _ (t : Trace) (before : Option Fault) (n : ℕ) where
-  pub batch_start : (f : ℕ) (hs : List SectionHistory) → hs ≡ section_histories t → Stand t before
-      → NoneBefore hs n f → f < length t.sections → first_to_commit t n ≡ Some f → InBatch t before n (f + 1) before
-  batch_start f hs told stand none there first = record {
-    stand = stand;
-    lowers = λ at up. up;
-    judged = λ i lt. elim (cases_lt i f) [
-      | inl early ↦
-          let low = none i (section_history t i) early (ap (λ (xs : List SectionHistory). slice_get xs i) told
-          ∙ section_history_at t i (omega arith)) in
-          judged_none t before i n (told_none t i (section_history t i) n refl low)
-      | inr late ↦
-          let same : i ≡ f = omega arith in
-          judged_same t before i f n first
-          (subst (λ (j : ℕ). HaveSameOutcome t j f n) (sym same) (record { balances = refl; replies = refl }))
-    ];
-  }
-
-  pub batch_more : (e : ℕ) (least now : Option Fault) → InBatch t before n e least → Stand t now → KeepsFound least now
-      → AgreesOrIsFound t now e n → InBatch t before n (e + 1) now
-  batch_more e least now known stand lowers here = record {
-    stand = stand;
-    lowers = λ at up. lowers at (known.lowers at up);
-    judged = λ i lt. elim (cases_lt i e) [
-      | inl early ↦ judged_later t least now i n lowers (known.judged i early)
-      | inr late ↦ let same : i ≡ e = omega arith in subst (λ (j : ℕ). AgreesOrIsFound t now j n) (sym same) here
-    ];
-  }
-
-  pub batch_end : (e : ℕ) (least : Option Fault) → InBatch t before n e least → length t.sections ≤ e → (i : ℕ)
-      → AgreesOrIsFound t least i n
-  batch_end e least known past i =
-      elim (cases_lt i e) [ inl there ↦ known.judged i there | inr missing ↦ judged_missing t least i n (omega arith) ]
-
--- ---- all batches
-
--- the batches up to this one are judged
-pub record Judged (t : Trace) (n : ℕ) (least : Option Fault) : Type 0 where
-  pub stand : Stand t least
-  pub judged : (e m : ℕ) → 1 ≤ m → m ≤ n → AgreesOrIsFound t least e m
-
-module _ (t : Trace) where
-  -- nothing was found, up to the last number of all
-  pub all_judged : (hs : List SectionHistory) (n most : ℕ) (least : Option Fault) → hs ≡ section_histories t
-      → ((e : ℕ) → IsRightSection t e)
-      → ((e : ℕ) (h : SectionHistory) → slice_get hs e ≡ Some h → h.committed ≤ most) → most ≤ n → Judged t n least
-      → (e m : ℕ) → AgreesOrIsFound t least e m
-  all_judged hs n most least told right none_past end known e zero p at = none≢some p at
-  all_judged hs n most least told right none_past end known e (suc m) p at =
-      let there = replica_there t e (suc m) p at in
-      let low = committed_low t e (suc m) p (right e) at in
-      let last = last_told t e (section_history t e) refl in
-      let le = none_past e (section_history t e) (ap (λ (xs : List SectionHistory). slice_get xs e) told
-      ∙ section_history_at t e there) in
-      known.judged e (suc m) (omega arith) (omega arith) p at
-
-  pub they_agree : ((e m : ℕ) → AgreesOrIsFound t None e m) → ReplicasAgree t
-  they_agree judged e n has =
-      let got = some_there (committed_at t e n) has in
-      elim (judged e n got.0 got.1) [ inl same ↦ same | inr up ↦ absurd up ]
-
-  -- a fault stands where the outcome differs
-  same_and_not : (o : Option ℕ) (P : ℕ → Type 0) → IfSome o P → IfSome o (λ f. ¬ P f) → (f : ℕ) → o ≡ Some f → ⊥
-  same_and_not None P same apart f is = absurd cc
-  same_and_not (Some g) P same apart f is = apart same
-
-  -- what was found is up to each place at which the outcome differs
-  up_to_each : (least : Option Fault) (e at : ℕ) → ((e m : ℕ) → AgreesOrIsFound t least e m)
-      → StandsInAgreement code.Outcome t e at → IsUpToAt least at
-  up_to_each least e at judged place =
-      let n = place.n in
-      let first = first_there t e n place.item place.is in
-      elim (judged e n place.item place.is) [
-        | inl same ↦ absurd (same_and_not (first_to_commit t n) (λ f. HaveSameOutcome t e f n) same place.holds first.0
-            first.1)
-        | inr up ↦ subst (IsUpToAt least) place.offset up
-      ]
-
-  pub none_stands : ((e m : ℕ) → AgreesOrIsFound t None e m) → (f : Fault) → ¬ IsFaultSomewhere StandsInAgreement t f
-  none_stands judged f is = by f.code is.1.stands
-    where
-      by : (c : Code) → StandsInAgreement c t is.0 f.offset → ⊥
-      by code.Outcome stands = up_to_each None is.0 f.offset judged stands
-      by c stands = absurd stands
-
-  pub is_least : (f : Fault) → ((e m : ℕ) → AgreesOrIsFound t (Some f) e m) → Stand t (Some f)
-      → IsLeast (IsFaultSomewhere StandsInAgreement t) f
-  is_least f judged stand =
-      record { is = stand.1; least = λ g is. by g.code g.offset g.replica is.0 is.1.stands }
-    where
-      by : (c : Code) (at : ℕ) (r : Option ℕ) (e : ℕ) → StandsInAgreement c t e at
-          → IsUpTo f (record { code = c; offset = at; replica = r })
-      by code.Outcome at r e stands =
-          let le : f.offset ≤ at = up_to_each (Some f) e at judged stands in
-          let number : code_number f.code ≡ code_number code.Outcome = ap code_number stand.0 in
-          elim (cases_lt f.offset at) [ inl lt ↦ inl lt | inr ge ↦ inr (omega arith, omega arith) ]
-      by c at r e stands = absurd stands
+-- so is a state with other balances
+pub state_differs : (t : Trace) (e n at : ℕ) (x : Transfer) → landing_at t e n ≡ Some (ByTransfer at x)
+    → ¬ HasBalancesOfFirst t n x
+    → IsFaultSomewhere StandsInAgreement t (record { code = code.TransferBalances; offset = at; replica = Some e })
+state_differs t e n at x is apart = (e, record { stands = state_stands t e n at x is apart; inside = refl })
 
 -- ---- one replica alone
 
@@ -237,16 +317,31 @@ only_first test (x ∷ []) f few is = by (test 0) is
 only_first test (x ∷ y ∷ ys) f few is = absurd (omega arith)
 
 -- it is the first that committed what it committed
-pub alone_judged : (t : Trace) (hs : List SectionHistory) → hs ≡ section_histories t → length hs < 2 → (e n : ℕ)
-    → AgreesOrIsFound t None e n
-alone_judged t hs told few e n p at = inl (by (first_to_commit t n) refl)
+pub alone_agrees : (t : Trace) (hs : List SectionHistory) → hs ≡ section_histories t → length hs < 2
+    → ((e : ℕ) (h : SectionHistory) → slice_get hs e ≡ Some h → h.transfers ≡ [])
+    → ((e n at : ℕ) (x : Transfer) → landing_at t e n ≡ Some (ByTransfer at x) → (i : ℕ)
+    × (slice_get (section_history t e).landings (n - 1) ≡ Some (LandedFrom i))
+    × (slice_get (section_history t e).transfers i ≡ Some (at, x)))
+    → (e n : ℕ) → AgreesIn t e n
+alone_agrees t hs told few none law e n = record {
+  outcome = λ committed.
+      let got = some_there (committed_at t e n) committed in
+      by got.0 got.1 (first_to_commit t n) refl;
+  state = λ at x is.
+      let there = landing_there t e n (ByTransfer at x) is in
+      let from = law e n at x is in
+      let empty = none e (section_history t e) (ap (λ (xs : List SectionHistory). slice_get xs e) told
+      ∙ section_history_at t e there) in
+      none≢some (at, x) (sym (ap (λ (xs : List (ℕ × Transfer)). slice_get xs from.0) empty) ∙ from.2);
+}
   where
     sections : length t.sections < 2
     sections = let count : length hs ≡ length t.sections = ap length told ∙ as_many_told t in omega arith
 
-    by : (o : Option ℕ) → first_to_commit t n ≡ o → IfSome o (λ f. HaveSameOutcome t e f n)
-    by None is = tt
-    by (Some f) is =
+    by : (p : Placed) → committed_at t e n ≡ Some p → (o : Option ℕ) → first_to_commit t n ≡ o
+        → IfSome o (λ f. HaveSameOutcome t e f n)
+    by p at None is = tt
+    by p at (Some f) is =
         let there = replica_there t e n p at in
         let zeroth = only_first (λ i. is_some (committed_at t i n)) t.sections f sections is in
         let same : e ≡ f = let few_sections = sections in omega arith in

@@ -1,19 +1,20 @@
--- Public: other crates cite these lemmas. Which commits and rollbacks no majority voted for, and which is the first.
+-- Which commits, rollbacks and transfers no majority voted for, and which is the first.
 use Rattle.std.proofs.Common.{◌≡◌, ℕ, suc, ◌+◌, ◌-◌, ◌^◌, ◌<◌, ◌≤◌, ◌==◌, nat_lt, List, [], ◌∷◌, ◌++◌}
 use Rattle.std.proofs.Common.{length, Option, Some, None, refl, sym, subst, ap, ◌∙◌, ◌⊎◌, inl, inr, IsTrue, arith}
 use Rattle.std.specs.Prelude.{Bool, true, false, ◌↔◌, IfNone, IfSome}
 use Rattle.std.specs.Cmp.Lexicographic.{pointwise, same_text, other_text}
 use Rattle.std.specs.List.{AllByRecursion}
-use Rattle.std.proofs.lemmas.Bool.{and_parts, eqb-true, ltb-true, cases_lt, false≢true}
-use Rattle.eve_grammar.specs.Trace.{Commit, Rollback, Step, Attempts, Commits, RollsBack, Trace}
+use Rattle.std.proofs.lemmas.Bool.{and_parts, eqb-true, eq-eqb, ltb-true, cases_lt, false≢true}
+use Rattle.eve_grammar.specs.Trace.{Commit, Rollback, Transfer, Step, Attempts, Commits, RollsBack, TakesOver, Trace}
 use Rattle.eve_grammar.specs.Frames.{OfReplica}
 use Rattle.eve_grammar.specs.Spelling.{frame_text, located, section_start, step_text, steps_of, steps_at}
 use Rattle.eve_grammar.specs.Limits.{HasLimits}
 use Rattle.eve_grammar.specs.declared.limits.TheConstants.{MOST_BATCHES}
 use Rattle.eve_grammar.proofs.FrameLaws.{few_batches}
-use Rattle.eve_frames.specs.Views.{commit_in, rollback_in}
+use Rattle.eve_frames.specs.Views.{commit_in, rollback_in, transfer_in}
 use Rattle.eve_frames.specs.declared.commit.CommitView.{CommitView}
 use Rattle.eve_frames.specs.declared.rollback.RollbackView.{RollbackView}
+use Rattle.eve_frames.specs.declared.transfer.TransferView.{TransferView}
 use Rattle.eve_views.specs.StepKinds.{IsStep}
 use Rattle.eve_views.specs.declared.steps.Step as met
 use Rattle.eve_views.specs.declared.steps.Step.TheVariants as of
@@ -24,10 +25,10 @@ use Rattle.eve_views.specs.declared.fault.Code.TheVariants as code
 use Rattle.eve_views.specs.declared.fault.Fault.{Fault}
 use Rattle.eve_history.specs.Section.{SectionState, start, next, is_right, are_right}
 use Rattle.eve_history.specs.SectionHistory.{IsRightSection}
-use Rattle.eve_history.specs.Structure.{OfCommit, OfRollback}
+use Rattle.eve_history.specs.Structure.{OfCommit, OfRollback, OfTransfer}
 use Rattle.eve_votes.specs.Votes.{IsDecided, IsRolledBack}
 use Rattle.eve_history.proofs.Places.{place_here, place_later, no_place, place_cases, located_rising, from_low}
-use Rattle.eve_agree.specs.Majority.{IsBacked, IsBackedSection, AllAreBacked, StandsInMajorities}
+use Rattle.eve_agree.specs.Majority.{SomeDecided, IsBacked, IsBackedSection, AllAreBacked, StandsInMajorities}
 use Rattle.eve_agree.specs.Unbacked.{HasRoom, lacks, IsUnbacked, IsUnbackedIn, IsFirstUnbackedIn}
 use Rattle.eve_views.specs.First.{first_of}
 use Rattle.eve_views.proofs.Firsts.{first_of_two, up_to_from}
@@ -72,6 +73,7 @@ unbacked_from t f fault = by f.code refl fault.1.stands
     commit is at (Commits c) offset holds =
         record { unbacked = holds; lacking = is; offset = offset; inside = fault.1.inside }
     commit is at (RollsBack r) offset holds = absurd holds
+    commit is at (TakesOver x) offset holds = absurd holds
 
     rollback : f.code ≡ code.RollbackNoMajority → (at : ℕ) (step : Step) → at ≡ f.offset
         → OfRollback step (λ r. ¬ IsRolledBack t (r.to + 1) (r.view - 1)) → IsUnbacked t fault.0 (at, step) f
@@ -79,10 +81,20 @@ unbacked_from t f fault = by f.code refl fault.1.stands
     rollback is at (Commits c) offset holds = absurd holds
     rollback is at (RollsBack r) offset holds =
         record { unbacked = holds; lacking = is; offset = offset; inside = fault.1.inside }
+    rollback is at (TakesOver x) offset holds = absurd holds
+
+    transfer : f.code ≡ code.TransferNoMajority → (at : ℕ) (step : Step) → at ≡ f.offset
+        → OfTransfer step (λ x. ¬ SomeDecided t x.seq x.view) → IsUnbacked t fault.0 (at, step) f
+    transfer is at (Attempts a) offset holds = absurd holds
+    transfer is at (Commits c) offset holds = absurd holds
+    transfer is at (RollsBack r) offset holds = absurd holds
+    transfer is at (TakesOver x) offset holds =
+        record { unbacked = holds; lacking = is; offset = offset; inside = fault.1.inside }
 
     by : (c : Code) → f.code ≡ c → StandsInMajorities c t fault.0 f.offset → IsUnbackedIn t fault.0 f
     by code.NoMajority is stands = place_of (λ b s h. commit is s.0 s.1 h.0 h.1) stands
     by code.RollbackNoMajority is stands = place_of (λ b s h. rollback is s.0 s.1 h.0 h.1) stands
+    by code.TransferNoMajority is stands = place_of (λ b s h. transfer is s.0 s.1 h.0 h.1) stands
     by c is stands = absurd stands
 
 pub fault_from : (t : Trace) (e : ℕ) (f : Fault) → IsUnbackedIn t e f → IsFaultSomewhere StandsInMajorities t f
@@ -105,6 +117,16 @@ fault_from t e f place = (e, record { stands = by place.item refl place.holds; i
         (record {
           before = place.before;
           item = (at, RollsBack r);
+          rest = place.rest;
+          is = place.is
+              ∙ ap (λ (s : ℕ × Step). place.before ++ s ∷ place.rest) is;
+          holds = (here.offset, here.unbacked);
+        })
+    by (at, TakesOver x) is here =
+        subst (λ d. StandsInMajorities d t e f.offset) (sym here.lacking)
+        (record {
+          before = place.before;
+          item = (at, TakesOver x);
           rest = place.rest;
           is = place.is
               ∙ ap (λ (s : ℕ × Step). place.before ++ s ∷ place.rest) is;
@@ -141,6 +163,8 @@ room_along t s ((at, RollsBack r) ∷ steps) few right =
     room : (to last view before n : ℕ) → to ≡ last → last < n → n ≤ MOST_BATCHES → view ≡ before + 1 → (to + 1 < 2 ^ 32)
         × (1 ≤ view)
     room to last view before n e lt few f = (omega arith, omega arith)
+room_along t s ((at, TakesOver x) ∷ steps) few right =
+    (tt, room_along t (next s (at, TakesOver x)) steps few (and_parts (is_right t s (TakesOver x)) _ right).1)
 
 -- The steps of replica e that are still to come; those before them are backed.
 pub record AreLeft (t : Trace) (e : ℕ) (left : List (ℕ × Step)) : Type 0 where
@@ -200,6 +224,7 @@ cut offset (s ∷ steps) step left e = record {
     longer (Attempts a) = more offset _
     longer (Commits c) = more offset _
     longer (RollsBack r) = more offset _
+    longer (TakesOver x) = more offset _
 
 -- a step that is backed
 pub left_next : (t : Trace) (e : ℕ) (step : ℕ × Step) (left : List (ℕ × Step)) → AreLeft t e (step ∷ left)
@@ -222,6 +247,8 @@ same_code (Attempts a) c d one two = absurd one
 same_code (Commits x) c d one two =
     (let same : code_number c ≡ code_number d = ap code_number (one ∙ sym two) in omega arith)
 same_code (RollsBack r) c d one two =
+    (let same : code_number c ≡ code_number d = ap code_number (one ∙ sym two) in omega arith)
+same_code (TakesOver x) c d one two =
     (let same : code_number c ≡ code_number d = ap code_number (one ∙ sym two) in omega arith)
 
 -- one that isn't is the first fault
@@ -317,6 +344,7 @@ lacking_phase : (step : Step) (c : Code) → lacks step c → phase_of c ≡ 9
 lacking_phase (Attempts a) c lacking = absurd lacking
 lacking_phase (Commits d) c lacking = ap phase_of lacking
 lacking_phase (RollsBack r) c lacking = ap phase_of lacking
+lacking_phase (TakesOver x) c lacking = ap phase_of lacking
 
 unbacked_phase : (t : Trace) (e : ℕ) (f : Fault) → IsUnbackedIn t e f → phase_of f.code ≡ 9
 unbacked_phase t e f place = lacking_phase place.item.1 f.code place.holds.lacking
@@ -417,6 +445,31 @@ decided_elsewhere t n v b found told tells is apart = (
   λ decided. absurd (apart (ap (λ (x : ℕ × List ℕ). x.0) (told_same told (v, b) (sym is ∙ (tells v b).0 decided)))),
 )
 
+-- of a state: some commit is decided where its view is told
+pub some_decided_with : (t : Trace) (n seq v view : ℕ) (found : Option (ℕ × List ℕ)) (told : ℕ × List ℕ) → n ≡ seq
+    → v ≡ view → Tells t n found → found ≡ Some told → IsTrue (told.0 == v) ↔ SomeDecided t seq view
+some_decided_with t n seq v view found told e f tells is = (
+  λ held.
+      let same : told.0 ≡ view = eqb-true told.0 v held ∙ f in (
+        told.1,
+        subst (λ (m : ℕ). IsDecided t m view told.1) e
+            ((tells view told.1).1 (is ∙ ap (λ (w : ℕ). Some (w, told.1)) same)),
+      ),
+  λ decided.
+      let its = (tells view decided.0).0 (subst (λ (m : ℕ). IsDecided t m view decided.0) (sym e) decided.1) in
+      let same : told.0 ≡ v = ap (λ (x : ℕ × List ℕ). x.0) (told_same told (view, decided.0) (sym is ∙ its)) ∙ sym f in
+      eq-eqb told.0 v same,
+)
+
+-- and none where nothing is told
+pub some_decided_nowhere : (t : Trace) (n seq view : ℕ) (found : Option (ℕ × List ℕ)) → n ≡ seq → Tells t n found
+    → ((told : ℕ × List ℕ) → found ≡ Some told → ⊥) → IsTrue false ↔ SomeDecided t seq view
+some_decided_nowhere t n seq view found e tells none = (
+  λ held. absurd (false≢true held),
+  λ decided. absurd (none (view, decided.0)
+      ((tells view decided.0).0 (subst (λ (m : ℕ). IsDecided t m view decided.0) (sym e) decided.1))),
+)
+
 -- none is told
 pub decided_nowhere : (t : Trace) (n v : ℕ) (b : List ℕ) (found : Option (ℕ × List ℕ)) → Tells t n found → found ≡ None
     → IsTrue false ↔ IsDecided t n v b
@@ -439,6 +492,8 @@ commit_met t m x (at, Commits c) is step decided =
     (subst (λ (k : met.Step). IsStep k (at, Commits c)) is step).1 decided
 commit_met t m x (at, RollsBack r) is step decided =
     absurd (subst (λ (k : met.Step). IsStep k (at, RollsBack r)) is step)
+commit_met t m x (at, TakesOver y) is step decided =
+    absurd (subst (λ (k : met.Step). IsStep k (at, TakesOver y)) is step)
 
 pub rollback_met : (t : Trace) (m : met.Step) (x : RollbackView) (next : ℕ × Step) → m ≡ of.Rollback x → IsStep m next
     → IsRolledBack t ((rollback_in x.bytes.now).to + 1) ((rollback_in x.bytes.now).view - 1) → IsBacked t next.1
@@ -447,3 +502,16 @@ rollback_met t m x (at, Commits c) is step voted = absurd (subst (λ (k : met.St
 rollback_met t m x (at, RollsBack r) is step voted =
     subst (λ (q : Rollback). IsRolledBack t (q.to + 1) (q.view - 1))
     (subst (λ (k : met.Step). IsStep k (at, RollsBack r)) is step).1 voted
+rollback_met t m x (at, TakesOver y) is step voted =
+    absurd (subst (λ (k : met.Step). IsStep k (at, TakesOver y)) is step)
+
+pub transfer_met : (t : Trace) (m : met.Step) (x : TransferView) (next : ℕ × Step) → m ≡ of.Transfer x → IsStep m next
+    → SomeDecided t (transfer_in x.bytes.now).seq (transfer_in x.bytes.now).view → IsBacked t next.1
+transfer_met t m x (at, Attempts a) is step decided =
+    absurd (subst (λ (k : met.Step). IsStep k (at, Attempts a)) is step)
+transfer_met t m x (at, Commits c) is step decided = absurd (subst (λ (k : met.Step). IsStep k (at, Commits c)) is step)
+transfer_met t m x (at, RollsBack r) is step decided =
+    absurd (subst (λ (k : met.Step). IsStep k (at, RollsBack r)) is step)
+transfer_met t m x (at, TakesOver y) is step decided =
+    subst (λ (z : Transfer). SomeDecided t z.seq z.view)
+    (subst (λ (k : met.Step). IsStep k (at, TakesOver y)) is step).1 decided

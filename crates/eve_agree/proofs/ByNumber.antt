@@ -1,33 +1,26 @@
 -- Public: other crates cite these lemmas. What a replica committed, by number, and the list in which it stands.
-use Rattle.std.proofs.Common.{◌≡◌, ℕ, zero, suc, ◌+◌, ◌-◌, ◌<◌, ◌≤◌, Bool, true, false, cond, List, [], ◌∷◌}
-use Rattle.std.proofs.Common.{map, length, take, drop, slice_get, get_or, Option, Some, None, refl, sym, ap}
-use Rattle.std.proofs.Common.{subst, ◌∙◌, inl, inr, arith}
+use Rattle.std.proofs.Common.{◌≡◌, ℕ, zero, suc, ◌-◌, ◌<◌, ◌≤◌, true, false, List, [], ◌∷◌}
+use Rattle.std.proofs.Common.{length, take, drop, slice_get, get_or, Option, Some, None, refl, sym, ap}
+use Rattle.std.proofs.Common.{subst, ◌∙◌, inl, inr, ◌⊎◌, arith}
 use Rattle.std.specs.Prelude.{IsTrue}
 use Rattle.std.specs.List.{AllByRecursion}
 use Rattle.std.specs.Option.{is_some, option_map}
 use Rattle.std.proofs.lemmas.Bool.{cases_lt, false≢true}
 use Rattle.std.proofs.lemmas.Option.{slice_get_within, same_Some, get_or_from_slice_get}
-use Rattle.eve_grammar.specs.Trace.{Attempt, Step, Attempts, Commits, RollsBack, Trace}
-use Rattle.eve_grammar.specs.Frames.{OfReplica}
-use Rattle.eve_grammar.specs.Spelling.{frame_text, step_text, section_start, steps_of, steps_at}
+use Rattle.eve_grammar.specs.Trace.{Transfer, Trace}
 use Rattle.eve_views.specs.Form.{SomePlace}
 use Rattle.eve_views.proofs.Lists.{cut_at}
 use Rattle.eve_votes.proofs.Places.{get_between}
-use Rattle.eve_history.specs.declared.fate.Fate.{Fate}
-use Rattle.eve_history.specs.Section.{Placed, Landing, ByAttempt, ByTransfer, Skipped, attempts_by, start, state_after}
-use Rattle.eve_history.specs.Fates.{fates_from}
+use Rattle.eve_history.specs.Section.{Placed, Landing, ByAttempt, ByTransfer, Skipped, attempts_by, IsByAttempt}
 use Rattle.eve_history.specs.SectionHistory.{ExecutedAttempt, executed_attempt, SectionHistory, section_history}
 use Rattle.eve_history.specs.SectionHistory.{Landed, LandedBy, LandedFrom, NotLanded, is_by_attempt, landed_at}
-use Rattle.eve_history.specs.SectionHistory.{placed_at, history, attempt_by, committed_at, is_landing, is_reached}
-use Rattle.eve_history.specs.SectionHistory.{IsRightSection, attempts_among, is_committed, picked}
-use Rattle.eve_history.proofs.AttemptsAlone.{IsByAttempt, all_by_attempts, attempt_at}
-use Rattle.eve_history.proofs.FateLaws.{committed_are_picked}
+use Rattle.eve_history.specs.SectionHistory.{placed_at, history, landing_at, attempt_by, committed_at, is_landing}
+use Rattle.eve_history.specs.SectionHistory.{is_reached, IsRightSection, ByAttemptsTo}
 use Rattle.eve_history.proofs.LandingLaws.{committed_told, told_committed, committed_after_reached}
-use Rattle.eve_history.proofs.Places.{Rising, located_rising, rising_from}
-use Rattle.eve_history.proofs.Rights.{none_at}
 use Rattle.eve_chains.specs.Settling.{Settling, settling}
 use Rattle.eve_chains.proofs.Linked.{landing_by, last_committed, batches_counted, take_length, none≢some}
-use Rattle.eve_agree.specs.ByNumber.{told_by, told_at, SomeCommitted}
+use Rattle.eve_agree.specs.ByNumber.{told_by, told_at, told_state, told_state_at, SomeCommitted}
+use Rattle.eve_agree.proofs.Offsets.{landings_rise, none_there}
 
 -- ---- options
 
@@ -57,6 +50,15 @@ told_item_at (LandedFrom i ∷ ls) zero r at = none≢some r at
 told_item_at (NotLanded ∷ ls) zero r at = none≢some r at
 told_item_at (l ∷ ls) (suc k) r at = told_item_at ls k r at
 
+told_from_at : (ls : List Landed) (k i : ℕ) → get_or ls k NotLanded ≡ LandedFrom i
+    → slice_get ls k ≡ Some (LandedFrom i)
+told_from_at [] k i at = absurd (not_from i at)
+  where
+    not_from : (i : ℕ) → NotLanded ≡ LandedFrom i → ⊥
+    not_from i e = cc
+told_from_at (l ∷ ls) zero i at = ap Some at
+told_from_at (l ∷ ls) (suc k) i at = told_from_at ls k i at
+
 -- a batch that is told of was reached by an attempt
 pub told_attempt : (h : SectionHistory) (n : ℕ) → IsTrue (is_some (told_at h n)) → (1 ≤ n)
     × (is_by_attempt (landed_at h n) ≡ true)
@@ -67,68 +69,6 @@ pub told_from : (h : SectionHistory) (n : ℕ) (r : ExecutedAttempt) → 1 ≤ n
     → slice_get h.landings (n - 1) ≡ Some (LandedBy r) → told_at h n ≡ Some r
 told_from h zero r one at = absurd (omega arith)
 told_from h (suc n) r one at = ap told_by (get_or_from_slice_get h.landings (suc n - 1) (LandedBy r) NotLanded at)
-
--- ---- offsets that rise
-
-attempts_rising : (low : ℕ) (steps : List (ℕ × Step)) → Rising low steps → Rising low (attempts_among steps)
-attempts_rising low [] rises = tt
-attempts_rising low ((at, Attempts a) ∷ steps) rises = (rises.0, attempts_rising at steps rises.1)
-attempts_rising low ((at, Commits c) ∷ steps) rises =
-    attempts_rising low steps (rising_from low at steps rises.0 rises.1)
-attempts_rising low ((at, RollsBack r) ∷ steps) rises =
-    attempts_rising low steps (rising_from low at steps rises.0 rises.1)
-
-picked_rising : (test : Fate → Bool) (low : ℕ) (xs : List (ℕ × Attempt)) (fates : List Fate) → Rising low xs
-    → Rising low (picked test xs fates)
-picked_rising test low [] fates rises = tt
-picked_rising test low (x ∷ xs) [] rises = tt
-picked_rising test low (x ∷ xs) (f ∷ fates) rises = by (test f) (picked_rising test x.0 xs fates rises.1)
-  where
-    by : (b : Bool) → Rising x.0 (picked test xs fates)
-        → Rising low (cond b (x ∷ picked test xs fates) (picked test xs fates))
-    by true more = (rises.0, more)
-    by false more = rising_from low x.0 (picked test xs fates) rises.0 more
-
--- committed attempts stand in the order of their frames
-committed_rising : (t : Trace) (e : ℕ) → Rising 0 (map placed_at (attempts_by (history t e).landings))
-unfolding steps_at
-committed_rising t e =
-    let from = section_start t e + length (frame_text (OfReplica e)) in
-    subst (Rising 0) (sym (committed_are_picked t e))
-    (picked_rising is_committed 0 (attempts_among (steps_at t e)) (fates_from 0 (steps_at t e))
-    (attempts_rising 0 (steps_at t e)
-    (rising_from 0 from (steps_at t e) (omega arith) (located_rising step_text from (steps_of t e)))))
-
-low_at : (low : ℕ) (ls : List Landing) (n : ℕ) (q : Placed) → Rising low (map placed_at (attempts_by ls))
-    → attempt_by (slice_get ls n) ≡ Some q → low ≤ q.offset
-low_at low [] n q rises at = none≢some q at
-low_at low (ByAttempt p ∷ ls) zero q rises at =
-    let same : p.offset ≡ q.offset = ap (λ (x : Placed). x.offset) (same_Some p q at) in
-    let le = rises.0 in
-    omega arith
-low_at low (ByTransfer o x ∷ ls) zero q rises at = none≢some q at
-low_at low (Skipped ∷ ls) zero q rises at = none≢some q at
-low_at low (ByAttempt p ∷ ls) (suc n) q rises at = low_at low ls n q
-    (rising_from low p.offset (map placed_at (attempts_by ls)) rises.0 rises.1) at
-low_at low (ByTransfer o x ∷ ls) (suc n) q rises at = low_at low ls n q rises at
-low_at low (Skipped ∷ ls) (suc n) q rises at = low_at low ls n q rises at
-
-rising_at : (low : ℕ) (ls : List Landing) (m n : ℕ) (p q : Placed) → Rising low (map placed_at (attempts_by ls))
-    → attempt_by (slice_get ls m) ≡ Some p → attempt_by (slice_get ls n) ≡ Some q → m ≤ n → p.offset ≤ q.offset
-rising_at low [] m n p q rises at also le = none≢some p at
-rising_at low (ByAttempt z ∷ ls) zero n p q rises at also le =
-    let same : z.offset ≡ p.offset = ap (λ (x : Placed). x.offset) (same_Some z p at) in
-    let up = low_at z.offset (ByAttempt z ∷ ls) n q (omega arith, rises.1) also in
-    omega arith
-rising_at low (ByTransfer o x ∷ ls) zero n p q rises at also le = none≢some p at
-rising_at low (Skipped ∷ ls) zero n p q rises at also le = none≢some p at
-rising_at low (l ∷ ls) (suc m) zero p q rises at also le = absurd (omega arith)
-rising_at low (ByAttempt z ∷ ls) (suc m) (suc n) p q rises at also le =
-    rising_at z.offset ls m n p q rises.1 at also (omega arith)
-rising_at low (ByTransfer o x ∷ ls) (suc m) (suc n) p q rises at also le =
-    rising_at low ls m n p q rises at also (omega arith)
-rising_at low (Skipped ∷ ls) (suc m) (suc n) p q rises at also le =
-    rising_at low ls m n p q rises at also (omega arith)
 
 -- ---- along the landings
 
@@ -147,15 +87,6 @@ along_each P (Skipped ∷ ls) zero p all at = none≢some p at
 along_each P (ByAttempt q ∷ ls) (suc n) p all at = along_each P ls n p all.1 at
 along_each P (ByTransfer o x ∷ ls) (suc n) p all at = along_each P ls n p all at
 along_each P (Skipped ∷ ls) (suc n) p all at = along_each P ls n p all at
-
--- where all numbers were reached by attempts, so was one that was reached
-reached_by : (ls : List Landing) (n : ℕ) → AllByRecursion IsByAttempt ls → is_landing (slice_get ls n) ≡ true
-    → (p : Placed) × (attempt_by (slice_get ls n) ≡ Some p)
-reached_by [] n by there = absurd (false≢true there)
-reached_by (ByAttempt p ∷ ls) zero by there = (p, refl)
-reached_by (ByTransfer at x ∷ ls) zero by there = absurd by.0
-reached_by (Skipped ∷ ls) zero by there = absurd by.0
-reached_by (l ∷ ls) (suc n) by there = reached_by ls n by.1 there
 
 module _ (t : Trace) (e : ℕ) where
   -- what is told of is what was committed
@@ -247,43 +178,79 @@ module _ (t : Trace) (e : ℕ) where
   -- attempts that were committed stand in the order of their numbers
   pub offsets_rise : (m n : ℕ) (p q : Placed) → committed_at t e m ≡ Some p → committed_at t e n ≡ Some q → m ≤ n
       → p.offset ≤ q.offset
-  offsets_rise zero n p q at also le = none≢some p at
-  offsets_rise (suc m) zero p q at also le = none≢some q also
-  offsets_rise (suc m) (suc n) p q at also le =
-      rising_at 0 (history t e).landings m n p q (committed_rising t e) at also (omega arith)
+  offsets_rise m n p q at also le = elim (cases_lt m n) [
+    | inl lt ↦
+        let less = landings_rise t e m n p.offset q.offset (ByAttempt p) (ByAttempt q)
+        (landing_by (landing_at t e m) p at) (landing_by (landing_at t e n) q also) refl refl lt in
+        omega arith
+    | inr ge ↦
+        let one : m ≡ n = omega arith in
+        let same : p.offset ≡ q.offset = ap (λ (x : Placed). x.offset)
+        (same_Some p q (sym at ∙ ap (committed_at t e) one ∙ also)) in
+        omega arith
+  ]
 
   -- ---- up to which number
 
-  pub committed_low : (n : ℕ) (p : Placed) → IsRightSection t e → committed_at t e n ≡ Some p → n ≤ (history t e).last
-  committed_low zero p right at = omega arith
-  committed_low (suc n) p right at =
-      let lt = slice_get_within (history t e).landings n (ByAttempt p)
-      (landing_by (slice_get (history t e).landings n) p at) in
+  pub landing_low : (n : ℕ) (l : Landing) → IsRightSection t e → landing_at t e n ≡ Some l → n ≤ (history t e).last
+  landing_low zero l right at = omega arith
+  landing_low (suc n) l right at =
+      let lt = slice_get_within (history t e).landings n l at in
       let last = last_committed t e right in
       omega arith
 
-  -- a replica that is not there committed nothing
-  none_there : length t.sections ≤ e → (history t e).landings ≡ []
-  unfolding history
-  none_there past = ap (λ (xs : List (ℕ × Step)). (state_after start xs).landings) (none_at t e past)
+  pub committed_low : (n : ℕ) (p : Placed) → IsRightSection t e → committed_at t e n ≡ Some p → n ≤ (history t e).last
+  committed_low n p right at = landing_low n (ByAttempt p) right (landing_by (landing_at t e n) p at)
 
-  pub replica_there : (n : ℕ) (p : Placed) → committed_at t e n ≡ Some p → e < length t.sections
-  replica_there zero p at = none≢some p at
-  replica_there (suc n) p at = elim (cases_lt e (length t.sections)) [
+  pub landing_there : (n : ℕ) (l : Landing) → landing_at t e n ≡ Some l → e < length t.sections
+  landing_there zero l at = none≢some l at
+  landing_there (suc n) l at = elim (cases_lt e (length t.sections)) [
     | inl lt ↦ lt
-    | inr past ↦ none≢some p (sym (ap (λ (ls : List Landing). attempt_by (slice_get ls n)) (none_there past)) ∙ at)
+    | inr past ↦ none≢some l (sym (ap (λ (ls : List Landing). slice_get ls n) (none_there t e past)) ∙ at)
   ]
 
-  -- it reached each number up to the last
-  pub reached_up : (n : ℕ) → n ≤ length (history t e).landings → IsTrue (is_reached t e n)
-  reached_up zero le = refl
-  reached_up (suc n) le =
-      let got = attempt_at (history t e).landings n (all_by_attempts t e) (omega arith) in
-      ap is_landing got.1
+  pub replica_there : (n : ℕ) (p : Placed) → committed_at t e n ≡ Some p → e < length t.sections
+  replica_there n p at = landing_there n (ByAttempt p) (landing_by (landing_at t e n) p at)
 
-  -- by an attempt
-  pub reached_item : (n : ℕ) → IsTrue (is_reached t e (suc n)) → (p : Placed) × (committed_at t e (suc n) ≡ Some p)
-  reached_item n there = reached_by (history t e).landings n (all_by_attempts t e) there
+  -- where all numbers so far were reached by attempts, it reached each number up to the last
+  pub reached_up : (n : ℕ) → ByAttemptsTo t e n → n ≤ length (history t e).landings → IsTrue (is_reached t e n)
+  reached_up zero by le = refl
+  reached_up (suc n) by le =
+      let got = get_there (history t e).landings n (omega arith) in
+      own got.0 got.1 (by (suc n) got.0 (omega arith) got.1)
+    where
+      get_there : (ls : List Landing) (k : ℕ) → k < length ls → (l : Landing) × (slice_get ls k ≡ Some l)
+      get_there [] k lt = absurd (omega arith)
+      get_there (l ∷ ls) zero lt = (l, refl)
+      get_there (l ∷ ls) (suc k) lt = get_there ls k (omega arith)
+
+      own : (l : Landing) → landing_at t e (suc n) ≡ Some l → IsByAttempt l
+          → IsTrue (is_landing (landing_at t e (suc n)))
+      own (ByAttempt p) is there = ap is_landing is
+      own (ByTransfer at x) is there = absurd there
+      own Skipped is there = absurd there
+
+  -- a number that it reached, it reached by an attempt or by a state
+  pub reached_so : (n : ℕ) → IsTrue (is_reached t e (suc n))
+      → ((p : Placed) × (committed_at t e (suc n) ≡ Some p))
+      ⊎ ((at : ℕ) × (x : Transfer) × (landing_at t e (suc n) ≡ Some (ByTransfer at x)))
+  reached_so n there = by (landing_at t e (suc n)) refl there
+    where
+      by : (o : Option Landing) → landing_at t e (suc n) ≡ o → is_landing o ≡ true
+          → ((p : Placed) × (committed_at t e (suc n) ≡ Some p))
+          ⊎ ((at : ℕ) × (x : Transfer) × (landing_at t e (suc n) ≡ Some (ByTransfer at x)))
+      by None is landed = absurd (false≢true landed)
+      by (Some (ByAttempt p)) is landed = inl (p, ap attempt_by is)
+      by (Some (ByTransfer at x)) is landed = inr (at, x, is)
+      by (Some Skipped) is landed = absurd (false≢true landed)
+
+  -- by an attempt, where all numbers so far were
+  pub reached_item : (n : ℕ) → ByAttemptsTo t e (suc n) → IsTrue (is_reached t e (suc n))
+      → (p : Placed) × (committed_at t e (suc n) ≡ Some p)
+  reached_item n by there = elim (reached_so n there) [
+    | inl own ↦ own
+    | inr state ↦ absurd (by (suc n) (ByTransfer state.0 state.1) (omega arith) state.2)
+  ]
 
   -- where it committed a batch, it has come to the number before
   pub reached_before : (n : ℕ) (p : Placed) → IsRightSection t e → committed_at t e n ≡ Some p
@@ -294,12 +261,71 @@ module _ (t : Trace) (e : ℕ) where
       subst (λ (m : ℕ). IsTrue (is_reached t e m)) less (committed_after_reached t e n p right at)
 
   -- and it is among those that are settled
-  pub committed_settled : (n : ℕ) (p : Placed) (s : Settling) → s ≡ settling t e → committed_at t e n ≡ Some p
+  pub landing_settled : (n : ℕ) (l : Landing) (s : Settling) → s ≡ settling t e → landing_at t e n ≡ Some l
       → n ≤ length s.numbers
-  committed_settled zero p s is at = omega arith
-  committed_settled (suc n) p s is at =
-      let lt = slice_get_within (history t e).landings n (ByAttempt p)
-      (landing_by (slice_get (history t e).landings n) p at) in
+  landing_settled zero l s is at = omega arith
+  landing_settled (suc n) l s is at =
+      let lt = slice_get_within (history t e).landings n l at in
       let count = batches_counted t e in
       let many = ap (λ (x : Settling). length x.numbers) is in
       omega arith
+
+  pub committed_settled : (n : ℕ) (p : Placed) (s : Settling) → s ≡ settling t e → committed_at t e n ≡ Some p
+      → n ≤ length s.numbers
+  committed_settled n p s is at = landing_settled n (ByAttempt p) s is (landing_by (landing_at t e n) p at)
+
+-- ---- states that were taken over
+
+-- what a section tells of a number that was reached by a state
+abbrev pub ToldFrom : Trace → ℕ → ℕ → ℕ → ℕ → Transfer → Type 0
+ToldFrom t e n i at x = (slice_get (section_history t e).landings (n - 1) ≡ Some (LandedFrom i))
+    × (slice_get (section_history t e).transfers i ≡ Some (at, x))
+
+abbrev pub TellsStates : Trace → ℕ → ℕ → Type 0
+TellsStates t e n = (i : ℕ) → 1 ≤ n → slice_get (section_history t e).landings (n - 1) ≡ Some (LandedFrom i)
+    → (at : ℕ) × (x : Transfer) × (landing_at t e n ≡ Some (ByTransfer at x))
+    × (slice_get (section_history t e).transfers i ≡ Some (at, x))
+
+module _ (t : Trace) (e n : ℕ) (h : SectionHistory) (is : h ≡ section_history t e) where
+  from_told : (m : ℕ) (o : Option (ℕ × Transfer)) → told_state_at h m ≡ o → m ≡ n → TellsStates t e n
+      → (at : ℕ) (x : Transfer) → o ≡ Some (at, x) → landing_at t e n ≡ Some (ByTransfer at x)
+  from_told zero o told same tells at x here = none≢some (at, x) (told ∙ here)
+  from_told (suc m) o told same tells at x here = by (landed_at h (suc m)) refl
+    where
+      both : (i : ℕ) → (o : ℕ) × (y : Transfer) × (landing_at t e n ≡ Some (ByTransfer o y))
+          × (slice_get (section_history t e).transfers i ≡ Some (o, y))
+          → slice_get (section_history t e).transfers i ≡ Some (at, x) → landing_at t e n ≡ Some (ByTransfer at x)
+      both i got own =
+          let same : (got.0, got.1) ≡ (at, x) = same_Some (got.0, got.1) (at, x) (sym got.3 ∙ own) in
+          got.2 ∙ ap (λ (y : ℕ × Transfer). Some (ByTransfer y.0 y.1)) same
+
+      by : (l : Landed) → landed_at h (suc m) ≡ l → landing_at t e n ≡ Some (ByTransfer at x)
+      by (LandedBy r) landed = none≢some (at, x) (sym (ap (told_state h) landed) ∙ told ∙ here)
+      by NotLanded landed = none≢some (at, x) (sym (ap (told_state h) landed) ∙ told ∙ here)
+      by (LandedFrom i) landed =
+          let one : slice_get h.landings (suc m - 1) ≡ Some (LandedFrom i) =
+          told_from_at h.landings (suc m - 1) i landed in
+          let less : suc m - 1 ≡ n - 1 = omega arith in
+          both i (tells i (omega arith)
+          (sym (ap (λ (y : SectionHistory). slice_get y.landings (n - 1)) is)
+          ∙ sym (ap (slice_get h.landings) less) ∙ one))
+          (sym (ap (λ (y : SectionHistory). slice_get y.transfers i) is) ∙ sym (ap (told_state h) landed) ∙ told ∙ here)
+
+  -- a state that is told of was taken over
+  pub state_told : (at : ℕ) (x : Transfer) → TellsStates t e n → told_state_at h n ≡ Some (at, x)
+      → landing_at t e n ≡ Some (ByTransfer at x)
+  state_told at x tells told = from_told n (Some (at, x)) told refl tells at x refl
+
+  -- and each that was is told of
+  pub told_state_there : (at i : ℕ) (x : Transfer) → 1 ≤ n → ToldFrom t e n i at x → told_state_at h n ≡ Some (at, x)
+  told_state_there at i x one from = by n refl
+    where
+      by : (m : ℕ) → m ≡ n → told_state_at h m ≡ Some (at, x)
+      by zero same = absurd (omega arith)
+      by (suc m) same =
+          let less : n - 1 ≡ suc m - 1 = omega arith in
+          let landed : landed_at h (suc m) ≡ LandedFrom i =
+          get_or_from_slice_get h.landings (suc m - 1) (LandedFrom i) NotLanded
+          (ap (slice_get h.landings) (sym less) ∙ ap (λ (y : SectionHistory). slice_get y.landings (n - 1)) is
+          ∙ from.0) in
+          ap (told_state h) landed ∙ ap (λ (y : SectionHistory). slice_get y.transfers i) is ∙ from.1

@@ -7,7 +7,7 @@ use Rattle.eve_smallbank.specs.Chain.{Table, table_after, table_after_all}
 use Rattle.eve_smallbank.specs.SerialOrder.{IsSound}
 use Rattle.eve_smallbank.proofs.Chains.{Follows, follows_chain, chained_by_rows}
 use Rattle.eve_smallbank.proofs.Members.{In, here, there, all_in, in_front}
-use Rattle.eve_grammar.specs.Trace.{Rollback, Step, Attempts, Commits, RollsBack, Trace}
+use Rattle.eve_grammar.specs.Trace.{Rollback, Step, Attempts, Commits, RollsBack, TakesOver, Trace}
 use Rattle.eve_grammar.specs.Spelling.{steps_at, accesses_at}
 use Rattle.eve_grammar.specs.Limits.{HasLimits}
 use Rattle.eve_history.specs.Section.{Came, Ran, Placed, came_by, attempts_by, SectionState, start, path_of, committing}
@@ -41,6 +41,7 @@ placed_next s (at, Commits c) placed = by s.pending refl
     by (p ∷ ps) e = subst (λ (path : List Came). ArePlaced path ps) (sym (came_by_push s.landings p))
         (subst (ArePlaced (flat_map came_by s.landings)) e placed).1
 placed_next s (at, RollsBack r) placed = tt
+placed_next s (at, TakesOver x) placed = tt
 
 placed_after : (s : SectionState) (steps : List (ℕ × Step)) → IsPlaced s → IsPlaced (state_after s steps)
 placed_after s [] placed = placed
@@ -77,6 +78,8 @@ stays_discarded s ((at, Commits c) ∷ steps) p i = stays_discarded (committing 
     by [] = i
     by (q ∷ qs) = i
 stays_discarded s ((at, RollsBack r) ∷ steps) p i = stays_discarded (next s (at, RollsBack r)) steps p
+    (in_front s.pending i)
+stays_discarded s ((at, TakesOver x) ∷ steps) p i = stays_discarded (next s (at, TakesOver x)) steps p
     (in_front s.pending i)
 
 -- after these steps a rollback comes

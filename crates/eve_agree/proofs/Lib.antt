@@ -1,8 +1,10 @@
+mod Offsets
 pub mod ByNumber
-pub mod Outcomes
+mod Outcomes
 pub mod Reaching
-pub mod Agreeing
+mod Agreeing
 mod SameBefore
+mod AtNumber
 pub mod Marking
 pub mod Noting
 pub mod SectionPaths
@@ -10,7 +12,7 @@ pub mod Discarding
 pub mod RestoresInOrder
 pub mod Restoring
 pub mod TokensInOrder
-pub mod Backing
+mod Backing
 pub mod Replicas
 mod Answering
 mod Reading

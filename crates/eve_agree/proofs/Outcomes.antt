@@ -1,5 +1,4 @@
--- Public: other crates cite these lemmas. What a batch came to in a replica, and which replica was the first to commit
--- it.
+-- What a batch came to in a replica, and which replica was the first to commit it.
 use Rattle.std.proofs.Common.{◌≡◌, ℕ, zero, suc, ◌+◌, ◌-◌, ◌<◌, ◌≤◌, ℤ, Bool, true, false, List, [], ◌∷◌}
 use Rattle.std.proofs.Common.{◌++◌, map, length, take, slice_get, get_or, Option, Some, None, refl, sym, ap, subst, ◌∙◌}
 use Rattle.std.proofs.Common.{inl, inr, arith, take_all}
@@ -20,11 +19,12 @@ use Rattle.eve_history.specs.SectionHistory.{section_histories, history, committ
 use Rattle.eve_chains.specs.Committed.{first_rows, values_to, balances_to}
 use Rattle.eve_chains.specs.Settling.{Settling, settling, settlings, values_in}
 use Rattle.eve_history.proofs.Rights.{as_many_told, section_history_at}
+use Rattle.eve_chains.proofs.Linked.{none≢some}
 use Rattle.eve_agree.proofs.TokensInOrder.{rows_are, rows_told}
 use Rattle.eve_agree.specs.ByNumber.{told_at}
 use Rattle.eve_agree.specs.Agreement.{first_to_commit, HaveSameOutcome}
 use Rattle.eve_agree.specs.Judging.{NoneBefore, IsAfter, AreAfter}
-use Rattle.eve_agree.proofs.ByNumber.{told_item, told_none, told_same, replica_there, there_some}
+use Rattle.eve_agree.proofs.ByNumber.{told_item, told_none, told_same, replica_there, some_there, there_some}
 
 -- ---- of each replica
 
@@ -207,8 +207,52 @@ first_there t e n p at = by (first_to_commit t n) refl
         ∙ none_found (λ i. is_some (committed_at t i n)) 0 t.sections e (replica_there t e n p at) is in
         absurd (false≢true (sym out ∙ there_some (committed_at t e n) p at))
 
+-- what was found passes, and nothing before it does
+find_passes : {A : Type 0} (test : ℕ → Bool) (k : ℕ) (xs : List A) (f : ℕ)
+    → find test (map (λ s. s.0) (enumerate_from k xs)) ≡ Some f → test f ≡ true
+find_passes test k [] f found = none≢some f found
+find_passes {A = A} test k (x ∷ xs) f found = by (test k) refl (λ later. find_passes test (k + 1) xs f later)
+  where
+    by : (b : Bool) → test k ≡ b
+        → (find test (map (λ s. s.0) (enumerate_from (k + 1) xs)) ≡ Some f → test f ≡ true) → test f ≡ true
+    by true is more = let same : k ≡ f = same_Some k f (sym (rw is refl) ∙ found) in ap test (sym same) ∙ is
+    by false is more = more (sym (rw is refl) ∙ found)
+
+find_low : {A : Type 0} (test : ℕ → Bool) (k : ℕ) (xs : List A) (f i : ℕ) → i < length xs → test (k + i) ≡ true
+    → find test (map (λ s. s.0) (enumerate_from k xs)) ≡ Some f → f ≤ k + i
+find_low test k [] f i lt passes found = absurd (omega arith)
+find_low {A = A} test k (x ∷ xs) f i lt passes found =
+    by (test k) refl i lt passes (λ j less here later. find_low test (k + 1) xs f j less here later)
+  where
+    by : (b : Bool) → test k ≡ b → (i : ℕ) → i < suc (length xs) → test (k + i) ≡ true
+        → ((j : ℕ) → j < length xs → test (k + 1 + j) ≡ true
+        → find test (map (λ s. s.0) (enumerate_from (k + 1) xs)) ≡ Some f → f ≤ k + 1 + j) → f ≤ k + i
+    by true is i lt passes more = let same : k ≡ f = same_Some k f (sym (rw is refl) ∙ found) in omega arith
+    by false is zero lt passes more =
+        let zeroth : k + 0 ≡ k = omega arith in
+        absurd (false≢true (sym is ∙ ap test (sym zeroth) ∙ passes))
+    by false is (suc j) lt passes more =
+        let same : k + suc j ≡ k + 1 + j = omega arith in
+        let low = more j (omega arith) (ap test (sym same) ∙ passes) (sym (rw is refl) ∙ found) in
+        omega arith
+
+-- the first that committed a batch did so
+pub first_committed : (t : Trace) (n f : ℕ) → first_to_commit t n ≡ Some f → (p : Placed)
+    × (committed_at t f n ≡ Some p)
+first_committed t n f first =
+    some_there (committed_at t f n) (find_passes (λ e. is_some (committed_at t e n)) 0 t.sections f first)
+
+-- and is no later than any that did
+pub first_low : (t : Trace) (n e f : ℕ) (p : Placed) → committed_at t e n ≡ Some p → first_to_commit t n ≡ Some f
+    → f ≤ e
+first_low t n e f p at first =
+    let zeroth : 0 + e ≡ e = omega arith in
+    let low = find_low (λ i. is_some (committed_at t i n)) 0 t.sections f e (replica_there t e n p at)
+    (ap (λ (i : ℕ). is_some (committed_at t i n)) zeroth ∙ there_some (committed_at t e n) p at) first in
+    omega arith
+
 -- an item that is there is read whatever stands for those that aren't
-read_default : {A : Type 0} (xs : List A) (i : ℕ) (x y : A) → i < length xs → get_or xs i x ≡ get_or xs i y
+pub read_default : {A : Type 0} (xs : List A) (i : ℕ) (x y : A) → i < length xs → get_or xs i x ≡ get_or xs i y
 read_default [] i x y lt = absurd (omega arith)
 read_default (z ∷ xs) zero x y lt = refl
 read_default (z ∷ xs) (suc i) x y lt = read_default xs i x y (omega arith)

@@ -9,8 +9,8 @@ use Rattle.std.proofs.lemmas.List.{map-append, length-map, length-append, length
 use Rattle.std.proofs.lemmas.List.{drop-append-le}
 use Rattle.eve_smallbank.specs.Chain.{Table}
 use Rattle.eve_smallbank.specs.declared.entry.Entry.{Entry}
-use Rattle.eve_grammar.specs.Trace.{Access, Attempt, Commit, Rollback, Step, Attempts, Commits, RollsBack, Trace}
-use Rattle.eve_grammar.specs.Trace.{head_of}
+use Rattle.eve_grammar.specs.Trace.{Access, Attempt, Commit, Rollback, Transfer, Step, Attempts, Commits, RollsBack}
+use Rattle.eve_grammar.specs.Trace.{TakesOver, Trace, head_of}
 use Rattle.eve_grammar.specs.Frames.{OfReplica}
 use Rattle.eve_grammar.specs.Spelling.{frame_text, step_text, section_start, steps_of, steps_at}
 use Rattle.eve_grammar.specs.Limits.{HasLimits, is_number, is_step, is_rising}
@@ -19,6 +19,7 @@ use Rattle.eve_frames.specs.Views.{rollback_in}
 use Rattle.eve_frames.specs.declared.attempt.AttemptView.{AttemptView}
 use Rattle.eve_frames.specs.declared.commit.CommitView.{CommitView}
 use Rattle.eve_frames.specs.declared.rollback.RollbackView.{RollbackView}
+use Rattle.eve_frames.specs.declared.transfer.TransferView.{TransferView}
 use Rattle.eve_views.specs.StepKinds.{IsStep}
 use Rattle.eve_views.specs.declared.steps.Step as met
 use Rattle.eve_views.specs.declared.steps.Step.TheVariants as of
@@ -136,6 +137,7 @@ on_attempt t e steps rest first end s v xs comes is judged =
         (judged_attempt t e at a rest first end here, attempt_there t e at a rest first end here)
     by (at, Commits c) own here = absurd own
     by (at, RollsBack r) own here = absurd own
+    by (at, TakesOver x) own here = absurd own
 
 -- ---- a commit
 
@@ -192,6 +194,41 @@ on_commit t e steps rest first end s v right comes is judged =
     by (at, Attempts a) own here = absurd own
     by (at, Commits c) own here = judged_commit t e at c rest first end right here
     by (at, RollsBack r) own here = absurd own
+    by (at, TakesOver x) own here = absurd own
+
+-- ---- a state that is taken over
+
+-- it leaves no attempt open
+judged_transfer : (t : Trace) (e at : ℕ) (x : Transfer) (rest : List (ℕ × Step)) (first end : ℕ)
+    → HasJudged t e ((at, TakesOver x) ∷ rest) first end → HasJudged t e rest end end
+judged_transfer t e at x rest first end judged =
+    let more : attempts_among (judged.front ++ (at, TakesOver x) ∷ []) ≡ attempts_among judged.front =
+    attempts_among-append judged.front ((at, TakesOver x) ∷ []) ∙ append-nil (attempts_among judged.front) in
+    record {
+      front = judged.front ++ (at, TakesOver x) ∷ [];
+      split = one_more t e (at, TakesOver x) rest first end judged;
+      came = ap length more ∙ judged.came;
+      fewer = omega arith;
+      pending = ap (λ (o : SectionState). map placed_at o.pending)
+          (state_next t e (at, TakesOver x) rest first end judged)
+          ∙ sym (ap (drop end) more
+          ∙ drop_all end (attempts_among judged.front) (let came : length (attempts_among judged.front)
+          ≡ end = judged.came in omega arith));
+      rightly = λ sound. rightly-push t start judged.front (at, TakesOver x) (judged.rightly sound) refl;
+    }
+
+pub on_transfer : (t : Trace) (e : ℕ) (steps rest : List (ℕ × Step)) (first end : ℕ) (s : met.Step) (v : TransferView)
+    → ComesNext s steps rest → s ≡ of.Transfer v → HasJudged t e steps first end → HasJudged t e rest end end
+on_transfer t e steps rest first end s v comes is judged =
+    by comes.0 (subst (λ o. IsStep o comes.0) is comes.2)
+    (subst (λ (ys : List (ℕ × Step)). HasJudged t e ys first end) comes.1 judged)
+  where
+    by : (step : ℕ × Step) → IsStep (of.Transfer v) step → HasJudged t e (step ∷ rest) first end
+        → HasJudged t e rest end end
+    by (at, Attempts a) own here = absurd own
+    by (at, Commits c) own here = absurd own
+    by (at, RollsBack r) own here = absurd own
+    by (at, TakesOver x) own here = judged_transfer t e at x rest first end here
 
 -- ---- a rollback
 
@@ -212,6 +249,7 @@ on_rollback t e steps rest first end s v comes is judged =
     by (at, RollsBack r) own here =
         subst (λ (o : ℕ). HasJudged t e ((o, RollsBack (rollback_in v.bytes.now)) ∷ rest) first end) (sym own.0)
         (subst (λ (q : Rollback). HasJudged t e ((at, RollsBack q) ∷ rest) first end) (sym own.1) here)
+    by (at, TakesOver x) own here = absurd own
 
 -- the last of a list's front
 part : {A : Type 0} (xs ys : List A) (first n : ℕ) → first ≤ length xs → n ≡ length xs - first
@@ -337,6 +375,7 @@ none_wrong t s (x ∷ steps) rightly place =
     own (Attempts a) right wrong = wrong
     own (Commits c) right wrong = wrong
     own (RollsBack r) right wrong = false≢true (sym wrong ∙ right)
+    own (TakesOver y) right wrong = wrong
 
 pub faultless : (t : Trace) (e : ℕ) → RestoresAreRight t e → (f : Fault) → ¬ IsFaultIn StandsInRestores t e f
 faultless t e right f is = by f.code is.stands
@@ -397,6 +436,7 @@ none_rolled t s [] none = refl
 none_rolled t s ((at, Attempts a) ∷ steps) none = none_rolled t (next s (at, Attempts a)) steps none
 none_rolled t s ((at, Commits c) ∷ steps) none = none_rolled t (next s (at, Commits c)) steps none
 none_rolled t s ((at, RollsBack r) ∷ steps) none = absurd (omega arith)
+none_rolled t s ((at, TakesOver x) ∷ steps) none = none_rolled t (next s (at, TakesOver x)) steps none
 
 pub right_without : (t : Trace) (e : ℕ) → length (section_history t e).rollbacks ≡ 0 → RestoresAreRight t e
 unfolding section_history

@@ -1,6 +1,7 @@
 -- After a rollback that restores what it must a replica works on what is committed.
 use Rattle.std.proofs.Common.{◌≡◌, ℕ, zero, suc, true, false, cond, ◌==◌, List, [], ◌∷◌, ◌++◌, map, take, slice_get}
-use Rattle.std.proofs.Common.{Some, refl, sym, ap, ◌∙◌, inl, inr, append-nil}
+use Rattle.std.proofs.Common.{Some, refl, sym, ap, ◌∙◌, inl, inr, append-nil, ◌+◌, ◌-◌}
+use Rattle.std.specs.Prelude.{replicate}
 use mathlib.Core.Path.{fun_ext}
 use Rattle.std.specs.List.{list_all, list_any, flat_map}
 use Rattle.std.specs.Ordering.{int_eq}
@@ -13,20 +14,21 @@ use Rattle.eve_smallbank.specs.Chain.{Table, table_after, table_after_all}
 use Rattle.eve_smallbank.proofs.Members.{In, here, there, all_of_list_all}
 use Rattle.eve_smallbank.proofs.Orders.{unwritten}
 use Rattle.eve_smallbank.specs.declared.versioned.Versioned.{Versioned}
-use Rattle.eve_grammar.specs.Trace.{Attempt, Commit, Rollback, Step, Attempts, Commits, RollsBack, Trace}
+use Rattle.eve_grammar.specs.Trace.{Attempt, Commit, Rollback, Transfer, Step, Attempts, Commits, RollsBack, TakesOver}
+use Rattle.eve_grammar.specs.Trace.{Trace}
 use Rattle.eve_grammar.specs.Spelling.{steps_at}
 use Rattle.eve_grammar.specs.declared.restore.Restore.{Restore}
-use Rattle.eve_history.specs.Section.{Ran, Placed, came_by, SectionState, start, path_of}
+use Rattle.eve_history.specs.Section.{Ran, Placed, Landing, ByTransfer, Skipped, came_by, SectionState, start, path_of}
 use Rattle.eve_history.specs.Section.{committing, next, state_after}
-use Rattle.eve_chains.specs.Visible.{opening_table, execution, executions, rows_after}
+use Rattle.eve_chains.specs.Visible.{opening_table, taken_table, execution, executions, rows_after}
 use Rattle.eve_chains.specs.Committed.{attempts_of}
 use Rattle.eve_agree.specs.Marking.{restores_row}
 use Rattle.eve_agree.specs.Tables.{restored, worked, committed_rows, working_table, committed_table, IsRestored}
 use Rattle.eve_agree.specs.Tables.{entries_of, open_entries, is_written_in, are_right_restores, all_restore_rightly}
 use Rattle.eve_agree.specs.Tables.{RestoresAreRight}
-use Rattle.eve_chains.proofs.LeftByRecords.{rows_after-push, rows_after-placed}
+use Rattle.eve_chains.proofs.LeftByRecords.{rows_after-push, rows_after-placed, rows_after-taken}
 use Rattle.eve_agree.proofs.Marking.{is_covered, not_covered}
-use Rattle.eve_agree.proofs.SectionPaths.{path_committed, path_attempted}
+use Rattle.eve_agree.proofs.SectionPaths.{path_committed, path_attempted, path_taken}
 
 -- ---- one rollback
 
@@ -146,6 +148,19 @@ no_rollback a r e = cc
 no_rollback_commit : (c : Commit) (r : Rollback) → Commits c ≡ RollsBack r → ⊥
 no_rollback_commit c r e = cc
 
+no_rollback_transfer : (x : Transfer) (r : Rollback) → TakesOver x ≡ RollsBack r → ⊥
+no_rollback_transfer x r e = cc
+
+-- a state that is taken over is all that is left
+along_taken : (t : Trace) (s : SectionState) (at : ℕ) (x : Transfer) → taken_table x.rows
+    ≡ along t (next s (at, TakesOver x))
+along_taken t s at x =
+    let skips : List Landing = replicate (x.seq - (s.last + 1)) Skipped in
+    sym (ap (rows_after t)
+    (append-nil (flat_map came_by (s.landings ++ (skips ++ ByTransfer at x ∷ [])))
+    ∙ path_taken s.landings (x.seq - (s.last + 1)) at x)
+    ∙ rows_after-taken t (flat_map came_by s.landings) x.rows [])
+
 -- what the replica works on is what its attempts leave that are not discarded
 works_along : (t : Trace) (s : SectionState) (table : Table) (steps : List (ℕ × Step)) (k at : ℕ) (r : Rollback)
     → all_restore_rightly t s steps ≡ true → table ≡ along t s
@@ -156,6 +171,8 @@ works_along t s table ((o, Attempts a) ∷ steps) zero at r right e found =
     absurd (no_rollback a r (found_step (o, Attempts a) (at, RollsBack r) found))
 works_along t s table ((o, Commits c) ∷ steps) zero at r right e found =
     absurd (no_rollback_commit c r (found_step (o, Commits c) (at, RollsBack r) found))
+works_along t s table ((o, TakesOver x) ∷ steps) zero at r right e found =
+    absurd (no_rollback_transfer x r (found_step (o, TakesOver x) (at, RollsBack r) found))
 works_along t s table ((o, RollsBack q) ∷ steps) zero at r right e found =
     ap (λ (old : Table). restored old q.restores) e
     ∙ along_restored t s q.restores
@@ -165,6 +182,8 @@ works_along t s table ((o, Attempts a) ∷ steps) (suc k) at r right e found =
     (ap (λ (old : Table). table_after_all old (execution t a)) e ∙ along_pushed t s o a) found
 works_along t s table ((o, Commits c) ∷ steps) (suc k) at r right e found =
     works_along t (next s (o, Commits c)) table steps k at r right (e ∙ along_committing t s s.pending refl) found
+works_along t s table ((o, TakesOver x) ∷ steps) (suc k) at r right e found =
+    works_along t (next s (o, TakesOver x)) (taken_table x.rows) steps k at r right (along_taken t s o x) found
 works_along t s table ((o, RollsBack q) ∷ steps) (suc k) at r right e found =
     let parts = and_parts (are_right_restores t s q.restores) (all_restore_rightly t (next s (o, RollsBack q)) steps)
     right in

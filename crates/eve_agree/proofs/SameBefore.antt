@@ -1,25 +1,23 @@
--- Replicas that agreed on all batches so far have the same balances before the next.
-use Rattle.std.proofs.Common.{◌≡◌, ℕ, zero, suc, ◌-◌, ◌<◌, ℤ, List, [], ◌∷◌, length, slice_get, get_or, Option}
-use Rattle.std.proofs.Common.{Some, None, IfSome, IfNone, Bool, true, not, ◌++◌, ◌*◌, refl, sym, ap, subst, ◌∙◌, inl}
+-- Replicas that agreed on all numbers so far have the same balances before the next.
+use Rattle.std.proofs.Common.{◌≡◌, ℕ, zero, suc, ◌-◌, ◌<◌, ◌≤◌, ℤ, List, [], ◌∷◌, map, length, slice_get, get_or}
+use Rattle.std.proofs.Common.{Option, Some, IfSome, ◌++◌, ◌*◌, refl, sym, ap, subst, ◌∙◌, inl}
 use Rattle.std.proofs.Common.{inr, arith, length-append}
-use Rattle.std.specs.Prelude.{pos}
-use Rattle.std.specs.Option.{is_some}
-use Rattle.std.proofs.lemmas.Bool.{cases_lt, false≢true}
+use Rattle.std.specs.Prelude.{pos, IsTrue}
+use Rattle.std.proofs.lemmas.Bool.{cases_lt}
 use Rattle.std.proofs.lemmas.Option.{slice_get_read, same_Some}
 use Rattle.eve_smallbank.specs.Access.{balance_of_row}
-use Rattle.eve_grammar.specs.Trace.{Trace}
+use Rattle.eve_grammar.specs.Trace.{Transfer, Trace}
 use Rattle.eve_views.specs.declared.fault.Fault.{Fault}
-use Rattle.eve_history.specs.Section.{Placed}
-use Rattle.eve_history.specs.SectionHistory.{committed_at, IsRightSection}
+use Rattle.eve_history.specs.Section.{Placed, ByTransfer}
+use Rattle.eve_history.specs.SectionHistory.{landing_at, committed_at, is_reached, IsRightSection}
 use Rattle.eve_chains.specs.Committed.{first_rows, values_to, balances_to}
 use Rattle.eve_chains.specs.Settling.{Settling, settling, settlings, values_in, HaveSameBalances}
 use Rattle.eve_agree.specs.Agreement.{first_to_commit, HaveSameOutcome}
-use Rattle.eve_agree.specs.Judging.{IsAfter, AgreesOrIsFound, AllHaveSame}
+use Rattle.eve_agree.specs.Judging.{IsAfter, AgreesIn, AllHaveSame, bound_of, JudgedTo}
 use Rattle.eve_agree.proofs.TokensInOrder.{rows_told}
-use Rattle.eve_agree.proofs.ByNumber.{reached_item, reached_before}
+use Rattle.eve_agree.proofs.ByNumber.{there_some, reached_so, reached_before}
 use Rattle.eve_agree.proofs.Outcomes.{settling_at, settlings_count, first_there}
 use Rattle.eve_agree.proofs.Reaching.{push_left, push_here}
-use Rattle.eve_agree.proofs.Agreeing.{Judged}
 
 -- ---- the rows of a list of balances
 
@@ -79,33 +77,35 @@ module _ (t : Trace) (law : (e n : ℕ) → values_in (settling t e) n ≡ value
         ∙ (λ i. sym (law f n) i row);
   }
 
-  -- it has the balances of the first that committed the batch
-  with_first : (e n : ℕ) (p : Placed) → AgreesOrIsFound t None e n → committed_at t e n ≡ Some p
-      → (g : ℕ) × (first_to_commit t n ≡ Some g) × (balances_to t e n ≡ balances_to t g n)
-  with_first e n p judged at =
-      let first = first_there t e n p at in
-      elim (judged p at) [
-        | inl same ↦
-            let here : IfSome (Some first.0) (λ g. HaveSameOutcome t e g n) =
-            subst (λ (o : Option ℕ). IfSome o (λ g. HaveSameOutcome t e g n)) first.1 same in
-            (first.0, first.1, here.balances)
-        | inr up ↦ absurd up
-      ]
+  module _ (states : (e n at : ℕ) (x : Transfer) → landing_at t e n ≡ Some (ByTransfer at x) → balances_to t e n
+      ≡ map (λ v. v.value) x.rows) where
+    -- it has the balances of the first that committed the batch
+    with_first : (e n : ℕ) → AgreesIn t e (suc n) → IsTrue (is_reached t e (suc n))
+        → (g : ℕ) × (first_to_commit t (suc n) ≡ Some g) × (balances_to t e (suc n) ≡ balances_to t g (suc n))
+    with_first e n agrees there = elim (reached_so t e n there) [
+      | inl own ↦
+          let first = first_there t e (suc n) own.0 own.1 in
+          let same = agrees.outcome (there_some (committed_at t e (suc n)) own.0 own.1) in
+          let here : IfSome (Some first.0) (λ g. HaveSameOutcome t e g (suc n)) =
+          subst (λ (o : Option ℕ). IfSome o (λ g. HaveSameOutcome t e g (suc n))) first.1 same in
+          (first.0, first.1, here.balances)
+      | inr state ↦
+          let has = agrees.state state.0 state.1 state.2 in
+          (has.0, has.1, states e (suc n) state.0 state.1 state.2 ∙ has.2)
+    ]
 
-  have_same : (n : ℕ) → Judged t n None → AllHaveSame t n
-  have_same zero known e f own its = same_opening t e f (settling t e) (settling t f) refl refl
-  have_same (suc n) known e f own its =
-      let p = reached_item t e n own in
-      let q = reached_item t f n its in
-      let mine = with_first e (suc n) p.0 (known.judged e (suc n) (omega arith) (omega arith)) p.1 in
-      let yours = with_first f (suc n) q.0 (known.judged f (suc n) (omega arith) (omega arith)) q.1 in
-      let one : mine.0 ≡ yours.0 = same_Some mine.0 yours.0 (sym mine.1 ∙ yours.1) in
-      same_balances e f (suc n) (mine.2 ∙ ap (λ (g : ℕ). balances_to t g (suc n)) one ∙ sym yours.2)
+    have_same : (n e : ℕ) → ((i m : ℕ) → i ≤ e → m ≤ n → AgreesIn t i m) → AllHaveSame t e n
+    have_same zero e agree i j low also own its = same_opening t i j (settling t i) (settling t j) refl refl
+    have_same (suc n) e agree i j low also own its =
+        let mine = with_first i n (agree i (suc n) low (omega arith)) own in
+        let yours = with_first j n (agree j (suc n) also (omega arith)) its in
+        let one : mine.0 ≡ yours.0 = same_Some mine.0 yours.0 (sym mine.1 ∙ yours.1) in
+        same_balances i j (suc n) (mine.2 ∙ ap (λ (g : ℕ). balances_to t g (suc n)) one ∙ sym yours.2)
 
-  -- as long as nothing was found
-  pub all_have_same : (n k : ℕ) (least : Option Fault) → Judged t n least → n ≡ k → IfNone least (AllHaveSame t k)
-  all_have_same n k (Some f) known is = tt
-  all_have_same n k None known is = subst (AllHaveSame t) is (have_same n known)
+    -- of the replicas that are left
+    pub all_have_same : (n e : ℕ) (least : Option Fault) → JudgedTo t n least
+        → e < bound_of (length t.sections) least → AllHaveSame t e n
+    all_have_same n e least judged lt = have_same n e (λ i m le low. judged.agree i m (omega arith) low)
 
 -- ---- one of all
 
@@ -117,14 +117,11 @@ settling_read t us e s told there is =
     let got = slice_get_read us (length us) e s refl (omega arith) is in
     same_Some s (settling t e) (sym got ∙ ap (λ (xs : List Settling). slice_get xs e) told ∙ settling_at t e there)
 
--- two that committed the next batch have the same balances, if nothing was found
-pub before_next : (t : Trace) (e f n : ℕ) (p q : Placed) (s u : Settling) (least : Option Fault) → s ≡ settling t e
-    → u ≡ settling t f → ((e : ℕ) → IsRightSection t e) → committed_at t e n ≡ Some p → committed_at t f n ≡ Some q
-    → IfNone least (AllHaveSame t (n - 1))
-    → (known : Bool) → is_some least ≡ not known → known ≡ true → HaveSameBalances s u (n - 1)
-before_next t e f n p q s u None is it right own its same known tells so =
+-- two that committed the next batch have the same balances before it
+pub before_next : (t : Trace) (e f n : ℕ) (p q : Placed) (s u : Settling) → s ≡ settling t e → u ≡ settling t f
+    → ((e : ℕ) → IsRightSection t e) → committed_at t e n ≡ Some p → committed_at t f n ≡ Some q → f ≤ e
+    → AllHaveSame t e (n - 1) → HaveSameBalances s u (n - 1)
+before_next t e f n p q s u is it right own its le same =
     subst (λ (x : Settling). HaveSameBalances x u (n - 1)) (sym is)
     (subst (λ (y : Settling). HaveSameBalances (settling t e) y (n - 1)) (sym it)
-    (same e f (reached_before t e n p (right e) own) (reached_before t f n q (right f) its)))
-before_next t e f n p q s u (Some g) is it right own its same known tells so =
-    absurd (false≢true (sym (tells ∙ ap not so)))
+    (same e f (omega arith) le (reached_before t e n p (right e) own) (reached_before t f n q (right f) its)))

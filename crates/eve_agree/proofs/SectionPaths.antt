@@ -1,9 +1,11 @@
 -- Public: other crates cite these lemmas. What happened to a section's rows, one step further.
-use Rattle.std.proofs.Common.{◌≡◌, List, [], ◌∷◌, ◌++◌, map, sym, ap, ◌∙◌, append_assoc}
+use Rattle.std.proofs.Common.{◌≡◌, ℕ, zero, suc, List, [], ◌∷◌, ◌++◌, map, refl, sym, ap, ◌∙◌, append_assoc}
+use Rattle.std.specs.Prelude.{replicate}
 use Rattle.std.specs.List.{flat_map}
 use Rattle.std.proofs.lemmas.Grind.{flat_map-append}
 use Rattle.std.proofs.lemmas.List.{map-append}
-use Rattle.eve_history.specs.Section.{Came, Ran, Placed, Landing, ByAttempt, came_by}
+use Rattle.eve_grammar.specs.Trace.{Transfer}
+use Rattle.eve_history.specs.Section.{Came, Ran, TookOver, Placed, Landing, ByAttempt, ByTransfer, Skipped, came_by}
 
 -- one number more is reached by an attempt
 pub came_by_push : (ls : List Landing) (p : Placed) → flat_map came_by (ls ++ ByAttempt p ∷ [])
@@ -25,3 +27,15 @@ pub path_attempted : (ls : List Landing) (ps : List Placed) (p : Placed)
 path_attempted ls ps p =
     ap (λ (path : List Came). flat_map came_by ls ++ path) (map-append (λ (q : Placed). Ran q.attempt) ps (p ∷ []))
     ∙ sym (append_assoc (flat_map came_by ls) (map (λ q. Ran q.attempt) ps) (Ran p.attempt ∷ []))
+
+-- a state is taken over, and the numbers before its own are skipped
+pub path_taken : (ls : List Landing) (n at : ℕ) (x : Transfer)
+    → flat_map came_by (ls ++ (replicate n Skipped ++ ByTransfer at x ∷ []))
+    ≡ flat_map came_by ls ++ TookOver x.rows ∷ []
+path_taken ls n at x =
+    flat_map-append came_by ls (replicate n Skipped ++ ByTransfer at x ∷ [])
+    ∙ ap (λ (path : List Came). flat_map came_by ls ++ path) (skipped n)
+  where
+    skipped : (m : ℕ) → flat_map came_by (replicate m Skipped ++ ByTransfer at x ∷ []) ≡ TookOver x.rows ∷ []
+    skipped zero = refl
+    skipped (suc m) = skipped m

@@ -1,11 +1,11 @@
 -- A token that another replica's attempt of the batch shows to be due.
-use Rattle.std.proofs.Common.{◌≡◌, ℕ, ℤ, List, Some, refl, sym, subst, ◌∙◌}
+use Rattle.std.proofs.Common.{◌≡◌, ℕ, ℤ, List, Some, sym, subst, ◌∙◌}
 use Rattle.std.specs.List.{flat_map}
 use Rattle.std.proofs.lemmas.Option.{same_Some}
 use Rattle.eve_smallbank.specs.declared.request.Reply.{Reply}
 use Rattle.eve_smallbank.specs.Spelling.{reply_text}
 use Rattle.eve_grammar.specs.Trace.{Attempt, Trace}
-use Rattle.eve_token.specs.Token.{token_of, flat_token}
+use Rattle.eve_token.specs.Token.{token_of}
 use Rattle.eve_history.specs.Section.{Placed}
 use Rattle.eve_history.specs.SectionHistory.{ExecutedAttempt, SectionHistory, section_history}
 use Rattle.eve_history.specs.SectionHistory.{IsRightSection}
@@ -16,16 +16,10 @@ use Rattle.eve_agree.specs.Judging.{IsAfter}
 use Rattle.eve_agree.specs.DueTokens.{due_token, TokensAreDue, IsDueIn}
 use Rattle.eve_agree.proofs.Stretched.{IsOfBatch, of_batch, batch_due}
 
--- replies that are spelled alike have one token
-spelled_alike : (seq : ℕ) (b : List ℤ) (rs ss : List Reply) → flat_map reply_text rs ≡ flat_map reply_text ss
-    → token_of 1 seq b rs ≡ token_of 1 seq b ss
-unfolding token_of flat_token
-spelled_alike seq b rs ss same = rw same refl
-
 -- what was read of replica e's attempt of batch n, and the balances after it
 pub record IsReadOf (t : Trace) (e n offset : ℕ) (said : Attempt) (b : List ℤ) : Type 0 where
   pub of : IsOfBatch t e n offset said
-  pub due : token_of 1 said.seq b said.replies ≡ due_token t e of.item
+  pub due : token_of t.head.version said.seq b said.replies ≡ due_token t e of.item
   pub seq : said.seq ≡ n
 
 number_read : (t : Trace) (e n offset : ℕ) (said : Attempt) → IsOfBatch t e n offset said → said.seq ≡ n
@@ -46,17 +40,20 @@ read_of t e n offset said h s b is settled right law got after =
 
 -- replica f's attempt has its due token
 token_due : (t : Trace) (f n offset : ℕ) (said : Attempt) (b : List ℤ) → IsReadOf t f n offset said b
-    → TokensAreDue t f → said.token ≡ token_of 1 said.seq b said.replies
+    → TokensAreDue t f → said.token ≡ token_of t.head.version said.seq b said.replies
 token_due t f n offset said b read due = read.of.token ∙ due n read.of.item read.of.at ∙ sym read.due
 
 -- where replica f has its due token, replica e has its own, if both are one and what it is made of is the same
-pub shown : (t : Trace) (e f n o q : ℕ) (said other : Attempt) (b c : List ℤ) → IsReadOf t e n o said b
-    → IsReadOf t f n q other c → TokensAreDue t f
+pub shown : (t : Trace) (e f n o q : ℕ) (said other : Attempt) (b c : List ℤ)
+    → ((version seq : ℕ) (d : List ℤ) (rs ss : List Reply) → flat_map reply_text rs ≡ flat_map reply_text ss
+    → token_of version seq d rs ≡ token_of version seq d ss)
+    → IsReadOf t e n o said b → IsReadOf t f n q other c → TokensAreDue t f
     → (said.token ≡ other.token) × (flat_map reply_text said.replies ≡ flat_map reply_text other.replies) × (b ≡ c)
     → IsDueIn t e n
-shown t e f n o q said other b c own its due same p at =
+shown t e f n o q said other b c law own its due same p at =
     let here : p ≡ own.of.item = same_Some p own.of.item (sym at ∙ own.of.at) in
-    let token : said.token ≡ token_of 1 said.seq b said.replies =
-    same.0 ∙ token_due t f n q other c its due ∙ (λ k. token_of 1 ((its.seq ∙ sym own.seq) k) (sym same.2 k)
-    other.replies) ∙ spelled_alike said.seq b other.replies said.replies (sym same.1) in
+    let token : said.token ≡ token_of t.head.version said.seq b said.replies =
+    same.0 ∙ token_due t f n q other c its due
+    ∙ (λ k. token_of t.head.version ((its.seq ∙ sym own.seq) k) (sym same.2 k) other.replies)
+    ∙ law t.head.version said.seq b other.replies said.replies (sym same.1) in
     subst (λ (x : Placed). x.attempt.token ≡ due_token t e x) (sym here) (sym own.of.token ∙ token ∙ own.due)

@@ -8,7 +8,7 @@ use Rattle.eve_grammar.specs.Trace.{Attempt, Trace}
 use Rattle.eve_views.specs.declared.fault.Code.{Code}
 use Rattle.eve_views.specs.declared.fault.Code.TheVariants as code
 use Rattle.eve_views.specs.Form.{IsUpTo, IsLeast, IsFaultIn}
-use Rattle.eve_token.specs.Token.{token_of, flat_token}
+use Rattle.eve_token.specs.Token.{token_of}
 use Rattle.eve_history.specs.Section.{Placed}
 use Rattle.eve_history.specs.SectionHistory.{ExecutedAttempt, executed_attempt, SectionHistory, section_history}
 use Rattle.eve_history.specs.SectionHistory.{committed_at, placed_at, IsRightSection}
@@ -20,9 +20,17 @@ use Rattle.eve_agree.specs.Judging.{IsAfter}
 use Rattle.eve_agree.specs.DueTokens.{due_token, TokensAreDue, StandsInTokens, IsFirstWrong}
 use Rattle.eve_agree.specs.Stretches.{IsReadyStretch, IsJudgedStretch, ReachesBatch, or_else, first_found}
 use Rattle.eve_agree.specs.declared.due_tokens.Stretch.{Stretch}
+use Rattle.eve_agree.proofs.TokensInOrder.{rows_told}
 use Rattle.eve_agree.proofs.Outcomes.{balances_are}
 use Rattle.eve_agree.proofs.ByNumber.{told_item, told_none, not_there, committed_settled, offsets_rise}
-use Rattle.eve_agree.proofs.TokensInOrder.{first_version}
+
+-- ---- rows
+
+pub some_rows : (t : Trace) (e : ℕ) (s : Settling) → s ≡ settling t e → 1 ≤ length t.customers → 0 < length s.opening
+some_rows t e s is some =
+    let told = rows_told t e in
+    let same = ap (λ (x : Settling). length x.opening) is in
+    omega arith
 
 -- ---- one after another
 
@@ -67,18 +75,18 @@ module _ (t : Trace) (e : ℕ) where
   join before mid last (Some at) b low high first rest = wrong_first before mid last at high first
 
   -- of stretches that follow one another, each judged, the first that was found
-  pub all_judged : (s : Settling) (before : ℕ) (xs ys : List Stretch) → length ys ≡ length xs →
-      ReachesBatch before (length s.numbers) xs → All (IsReadyStretch s) xs
+  pub all_judged : (version : ℕ) (s : Settling) (before : ℕ) (xs ys : List Stretch) → length ys ≡ length xs →
+      ReachesBatch before (length s.numbers) xs → All (IsReadyStretch version s) xs
       → ((i : ℕ) (d : Stretch) → i < length xs → IsJudgedStretch t e (get_or xs i d) (get_or ys i d)) →
       (before ≤ length s.numbers) × IsFirstWrong t e before (length s.numbers) (first_found ys)
-  all_judged s before [] [] same follow ready judged = (
+  all_judged version s before [] [] same follow ready judged = (
     (let at = follow in omega arith),
     λ n above below. absurd (let at = follow in omega arith),
   )
-  all_judged s before [] (y ∷ ys) same follow ready judged = absurd (omega (arith, same))
-  all_judged s before (x ∷ xs) [] same follow ready judged = absurd (omega (arith, same))
-  all_judged s before (x ∷ xs) (y ∷ ys) same follow ready judged =
-      let rest = all_judged s x.last xs ys (omega (
+  all_judged version s before [] (y ∷ ys) same follow ready judged = absurd (omega (arith, same))
+  all_judged version s before (x ∷ xs) [] same follow ready judged = absurd (omega (arith, same))
+  all_judged version s before (x ∷ xs) (y ∷ ys) same follow ready judged =
+      let rest = all_judged version s x.last xs ys (omega (
         arith,
         same,
       )) follow.1 (λ k d less. ready (suc k) d (omega arith)) (λ i d less. judged (suc i) d (omega arith)) in
@@ -86,7 +94,7 @@ module _ (t : Trace) (e : ℕ) where
       let is = judged 0 x (omega arith) in
       let first : IsFirstWrong t e before x.last y.wrong = subst (λ (b : ℕ). IsFirstWrong t e b x.last y.wrong) follow.0
       is.wrong in
-      let rising = mine.rising in
+      let rising = mine.coming.rising in
       let at = follow.0 in
       let low : before ≤ x.last = omega arith in (
         (let le = rest.0 in omega arith),
@@ -164,11 +172,11 @@ module _ (t : Trace) (e : ℕ) where
   -- the token that is due, of what was read
   pub batch_due : (n offset : ℕ) (said : Attempt) (b : List ℤ) (of : IsOfBatch n offset said) →
       IsAfter (settling t e) n b → ((m : ℕ) → values_in (settling t e) m ≡ values_to t e m)
-      → token_of 1 said.seq b said.replies ≡ due_token t e of.item
+      → token_of t.head.version said.seq b said.replies ≡ due_token t e of.item
   batch_due n offset said b of after law =
       let all : b ≡ balances_to t e n = balances_are t e n b after (law n) in
       let same : b ≡ balances_to t e of.item.attempt.seq = all ∙ ap (balances_to t e) (sym of.number) in
-      first_version said.seq b said.replies ∙ (λ k. flat_token (of.seq k) (same k) (of.replies k))
+      (λ k. token_of t.head.version (of.seq k) (same k) (of.replies k))
 
   one_due : (n offset : ℕ) (said : Attempt) (of : IsOfBatch n offset said) → said.token ≡ due_token t e of.item
       → IsFirstWrong t e (n - 1) n None
@@ -204,8 +212,8 @@ module _ (t : Trace) (e : ℕ) where
       → ((m : ℕ) → values_in (settling t e) m ≡ values_to t e m) → 1 ≤ n
       → (r : ExecutedAttempt) × (told_at h n ≡ Some r) × (offset ≡ r.offset) × (said ≡ r.attempt)
       → IsAfter s n b
-      → (said.token ≡ token_of 1 said.seq b said.replies → IsFirstWrong t e (n - 1) n None)
-      × ((said.token ≡ token_of 1 said.seq b said.replies → ⊥) → IsFirstWrong t e (n - 1) n (Some offset))
+      → (said.token ≡ token_of t.head.version said.seq b said.replies → IsFirstWrong t e (n - 1) n None)
+      × ((said.token ≡ token_of t.head.version said.seq b said.replies → ⊥) → IsFirstWrong t e (n - 1) n (Some offset))
   one_judged n offset said h s b is settled right law low got after =
       let of = of_batch n offset said h is right got in
       let due = batch_due n offset said b of (subst (λ (x : Settling). IsAfter x n b) settled after) law in (

@@ -3,15 +3,15 @@ use Rattle.std.specs.Prelude.{◌≡◌, ◌≢◌, ◌<◌, ◌≤◌, ℕ, Lis
 use Rattle.eve_grammar.specs.Trace.{Trace}
 use Rattle.eve_views.specs.declared.fault.Code.{Code}
 use Rattle.eve_views.specs.declared.fault.Code.TheVariants as code
-use Rattle.eve_token.specs.Token.{flat_token}
+use Rattle.eve_token.specs.Token.{token_of}
 use Rattle.eve_history.specs.Section.{Placed}
 use Rattle.eve_history.specs.SectionHistory.{committed_at}
 use Rattle.eve_chains.specs.Committed.{balances_to}
 use Rattle.eve_agree.specs.ByNumber.{SomeCommitted}
 
--- version 1's token of the balances after the attempt's batch, as replica e committed it, and of the attempt's replies
+-- the version's token of the balances after the attempt's batch, as replica e committed it, and of its replies
 abbrev pub due_token : Trace → ℕ → Placed → List ℕ
-due_token t e p = flat_token p.attempt.seq (balances_to t e p.attempt.seq) p.attempt.replies
+due_token t e p = token_of t.head.version p.attempt.seq (balances_to t e p.attempt.seq) p.attempt.replies
 
 -- replica e's attempt of batch n, if it committed one, has the token that it must have
 abbrev pub IsDueIn : Trace → ℕ → ℕ → Type 0

@@ -1,18 +1,23 @@
--- What is kept while the batches are judged one after another.
-use Rattle.std.specs.Prelude.{◌≡◌, ℕ, ℤ, ◌≤◌, ◌<◌, List, [], length, Option, Some, None, IfSome, IsTrue}
-use Rattle.std.specs.Prelude.{slice_get, slice_index_or, ◌⊎◌}
+-- What is kept while the numbers are judged one after another.
+use Rattle.std.specs.Prelude.{◌≡◌, ℕ, ℤ, ◌≤◌, ◌<◌, List, [], length, map, Option, Some, None, IfSome, IsTrue}
+use Rattle.std.specs.Prelude.{slice_get, slice_index_or}
 use Rattle.eve_smallbank.specs.Access.{balance_of_row}
-use Rattle.eve_grammar.specs.Trace.{Trace}
+use Rattle.eve_grammar.specs.Trace.{Transfer, Trace}
+use Rattle.eve_views.specs.declared.fault.Code.{Code}
 use Rattle.eve_views.specs.declared.fault.Code.TheVariants as code
 use Rattle.eve_views.specs.declared.fault.Fault.{Fault}
-use Rattle.eve_views.specs.Form.{IsFaultSomewhere}
-use Rattle.eve_history.specs.Section.{Placed}
-use Rattle.eve_history.specs.SectionHistory.{SectionHistory, committed_at, is_reached}
-use Rattle.eve_chains.specs.Settling.{Settling, settling, values_in, HaveSameBalances}
+use Rattle.eve_views.specs.Form.{IsUpTo, IsFaultIn}
+use Rattle.eve_history.specs.Section.{Landing, ByAttempt, ByTransfer, Skipped}
+use Rattle.eve_history.specs.SectionHistory.{SectionHistory, section_histories, landing_at, is_reached, IsRightSection}
+use Rattle.eve_chains.specs.Committed.{values_to, balances_to}
+use Rattle.eve_chains.specs.Settling.{Settling, settling, settlings, values_in, HaveSameBalances}
 use Rattle.eve_agree.specs.ByNumber.{told_at}
-use Rattle.eve_agree.specs.Agreement.{first_to_commit, HaveSameOutcome, StandsInAgreement}
+use Rattle.eve_agree.specs.Agreement.{first_to_commit, HasCommitted, HaveSameOutcome, HasBalancesOfFirst}
+use Rattle.eve_agree.specs.Agreement.{StandsInAgreement}
 
--- the balances are those after the first n batches of the replica, or after all where it has fewer
+-- ---- balances
+
+-- the balances are those after the first n numbers of the replica, or after all where it has fewer
 pub record IsAfter (s : Settling) (n : ℕ) (balances : List ℤ) : Type 0 where
   pub rows : length balances ≡ length s.opening
   pub values : balance_of_row balances ≡ values_in s n
@@ -22,29 +27,74 @@ pub record AreAfter (settled : List Settling) (n : ℕ) (all : List (List ℤ)) 
   pub as_many : length all ≡ length settled
   pub each : (e : ℕ) (s : Settling) → slice_get settled e ≡ Some s → IsAfter s n (slice_index_or all e [])
 
+-- What is known of all replicas where number n is judged: their sections are right, and these are what they tell, what
+-- they committed, and the balances after the number. What is kept gives the balances that a replica has; where it took a
+-- state over they are the state's values.
+pub record AllStandAt (t : Trace) (hs : List SectionHistory) (settled : List Settling) (all : List (List ℤ)) (n : ℕ)
+    : Type 0 where
+  pub histories : hs ≡ section_histories t
+  pub committed : settled ≡ settlings t
+  pub right : (e : ℕ) → IsRightSection t e
+  pub after : AreAfter (settlings t) n all
+  pub values : (e m : ℕ) → values_in (settling t e) m ≡ values_to t e m
+  pub states : (e m at : ℕ) (x : Transfer) → landing_at t e m ≡ Some (ByTransfer at x)
+      → balances_to t e m ≡ map (λ v. v.value) x.rows
+
+-- ---- one number
+
 -- none of the first replicas committed the batch
 abbrev pub NoneBefore : List SectionHistory → ℕ → ℕ → Type 0
 NoneBefore hs n e = (i : ℕ) (h : SectionHistory) → i < e → slice_get hs i ≡ Some h → told_at h n ≡ None
 
--- what was found is a fault of agreement
-abbrev pub Stand : Trace → Option Fault → Type 0
-Stand t least = IfSome least (λ f. (f.code ≡ code.Outcome) × IsFaultSomewhere StandsInAgreement t f)
+-- replica e has the outcome of the first that committed batch n where it committed it too, and its balances where it
+-- took a state over
+pub record AgreesIn (t : Trace) (e n : ℕ) : Type 0 where
+  pub outcome : HasCommitted t e n → IfSome (first_to_commit t n) (λ f. HaveSameOutcome t e f n)
+  pub state : (at : ℕ) (x : Transfer) → landing_at t e n ≡ Some (ByTransfer at x) → HasBalancesOfFirst t n x
 
--- something was found at this offset or before it
-abbrev pub IsUpToAt : Option Fault → ℕ → Type 0
-IsUpToAt None at = ⊥
-IsUpToAt (Some f) at = f.offset ≤ at
+-- the replicas up to e that have reached number n have the same balances after it
+abbrev pub AllHaveSame : Trace → ℕ → ℕ → Type 0
+AllHaveSame t e n = (i j : ℕ) → i ≤ e → j ≤ e → IsTrue (is_reached t i n) → IsTrue (is_reached t j n)
+    → HaveSameBalances (settling t i) (settling t j) n
 
--- what was found stays found, or something before it
-abbrev pub KeepsFound : Option Fault → Option Fault → Type 0
-KeepsFound least now = (at : ℕ) → IsUpToAt least at → IsUpToAt now at
+-- the frame by which a number was reached
+abbrev pub offset_of : Landing → Option ℕ
+offset_of (ByAttempt p) = Some p.offset
+offset_of (ByTransfer at x) = Some at
+offset_of Skipped = None
 
--- where replica e committed batch n it has the outcome of the first that did, or something was found there or before
-abbrev pub AgreesOrIsFound : Trace → Option Fault → ℕ → ℕ → Type 0
-AgreesOrIsFound t least e n = (p : Placed) → committed_at t e n ≡ Some p
-    → IfSome (first_to_commit t n) (λ f. HaveSameOutcome t e f n) ⊎ IsUpToAt least p.offset
+-- the fault where it is apart from the others
+abbrev pub code_of : Landing → Option Code
+code_of (ByAttempt p) = Some code.Outcome
+code_of (ByTransfer at x) = Some code.TransferBalances
+code_of Skipped = None
 
--- the replicas that committed batch n have the same balances after it; all have them before the first
-abbrev pub AllHaveSame : Trace → ℕ → Type 0
-AllHaveSame t n = (e f : ℕ) → IsTrue (is_reached t e n) → IsTrue (is_reached t f n)
-    → HaveSameBalances (settling t e) (settling t f) n
+-- the fault is that replica e differs in number n
+pub record IsApart (t : Trace) (e n : ℕ) (f : Fault) : Type 0 where
+  pub landing : Landing
+  pub at : landing_at t e n ≡ Some landing
+  pub code : code_of landing ≡ Some f.code
+  pub offset : offset_of landing ≡ Some f.offset
+  pub inside : f.replica ≡ Some e
+  pub apart : ¬ AgreesIn t e n
+
+-- ---- all numbers up to one
+
+-- a fault of agreement in replica e, and the first in its section and in those behind it
+pub record IsFirstFrom (t : Trace) (e : ℕ) (f : Fault) : Type 0 where
+  pub stands : IsFaultIn StandsInAgreement t e f
+  pub first : (i : ℕ) (g : Fault) → e ≤ i → IsFaultIn StandsInAgreement t i g → IsUpTo f g
+
+abbrev pub bound_by : ℕ → Option ℕ → ℕ
+bound_by count None = count
+bound_by count (Some e) = e
+
+-- of this many replicas those below it are left to judge
+abbrev pub bound_of : ℕ → Option Fault → ℕ
+bound_of count None = count
+bound_of count (Some f) = bound_by count f.replica
+
+-- What was found is the first fault from its replica on; the replicas that are left agree up to number n.
+pub record JudgedTo (t : Trace) (n : ℕ) (least : Option Fault) : Type 0 where
+  pub found : IfSome least (λ f. (e : ℕ) × IsFirstFrom t e f)
+  pub agree : (e m : ℕ) → e < bound_of (length t.sections) least → m ≤ n → AgreesIn t e m

@@ -4,6 +4,7 @@ pub mod Judging
 pub mod Tables
 pub mod Restores
 pub mod Marking
+pub mod HashedRows
 pub mod DueTokens
 pub mod ShownTokens
 pub mod Majority

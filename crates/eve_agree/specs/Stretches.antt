@@ -1,8 +1,9 @@
 -- Stretches of a replica's committed batches, each judged by itself. docs/ARCHITECTURE.md, "Threads of an audit".
-use Rattle.std.specs.Prelude.{◌≡◌, ℕ, ◌≤◌, List, [], ◌∷◌, length, Option, Some, None, All}
+use Rattle.std.specs.Prelude.{◌≡◌, ℕ, ◌≤◌, List, [], ◌∷◌, length, Option, Some, None, All, IsTrue}
 use Rattle.eve_grammar.specs.Trace.{Trace}
 use Rattle.eve_history.specs.SectionHistory.{SectionHistory, section_history}
 use Rattle.eve_chains.specs.Settling.{Settling, settling}
+use Rattle.eve_agree.specs.HashedRows.{balances_in, can_hash}
 use Rattle.eve_agree.specs.Judging.{IsAfter}
 use Rattle.eve_agree.specs.DueTokens.{IsFirstWrong}
 use Rattle.eve_agree.specs.declared.due_tokens.Stretch.{Stretch}
@@ -13,10 +14,15 @@ pub record AreOfSection (t : Trace) (h : SectionHistory) (s : Settling) : Type 0
   pub settled : s ≡ settling t h.replica
 
 -- it has the balances before it, and its batches are there
-pub record IsReadyStretch (s : Settling) (x : Stretch) : Type 0 where
+pub record IsComingStretch (s : Settling) (x : Stretch) : Type 0 where
   pub rising : x.before ≤ x.last
   pub there : x.last ≤ length s.numbers
-  pub balances : IsAfter s x.before x.balances
+  pub balances : IsAfter s x.before (balances_in x.rows)
+
+-- and it has what the version's tokens are hashed of
+pub record IsReadyStretch (version : ℕ) (s : Settling) (x : Stretch) : Type 0 where
+  pub coming : IsComingStretch s x
+  pub can : IsTrue (can_hash version x.rows)
 
 -- it was judged
 pub record IsJudgedStretch (t : Trace) (e : ℕ) (old new : Stretch) : Type 0 where
@@ -30,9 +36,9 @@ ReachesBatch before last [] = before ≡ last
 ReachesBatch before last (x ∷ xs) = (x.before ≡ before) × ReachesBatch x.last last xs
 
 -- they follow one another, from the first batch up to this one, and are ready
-pub record AreReadyStretches (s : Settling) (last : ℕ) (xs : List Stretch) : Type 0 where
+pub record AreReadyStretches (version : ℕ) (s : Settling) (last : ℕ) (xs : List Stretch) : Type 0 where
   pub reaches : ReachesBatch 0 last xs
-  pub ready : All (IsReadyStretch s) xs
+  pub ready : All (IsReadyStretch version s) xs
 
 abbrev pub or_else : Option ℕ → Option ℕ → Option ℕ
 or_else None other = other

@@ -7,11 +7,11 @@ use Rattle.std.specs.Ordering.{int_eq}
 use Rattle.eve_smallbank.specs.declared.entry.Entry.{Entry}
 use Rattle.eve_smallbank.specs.Access.{Executed, is_write, writes_row}
 use Rattle.eve_smallbank.specs.Chain.{Table, table_after_all}
-use Rattle.eve_grammar.specs.Trace.{Rollback, Step, Attempts, Commits, RollsBack, Trace}
+use Rattle.eve_grammar.specs.Trace.{Rollback, Step, Attempts, Commits, RollsBack, TakesOver, Trace}
 use Rattle.eve_grammar.specs.Spelling.{steps_at}
 use Rattle.eve_grammar.specs.declared.restore.Restore.{Restore}
 use Rattle.eve_history.specs.Section.{came_by, SectionState, start, next, state_after}
-use Rattle.eve_chains.specs.Visible.{opening_table, execution, executions, rows_after}
+use Rattle.eve_chains.specs.Visible.{opening_table, execution, executions, taken_table, rows_after}
 use Rattle.eve_chains.specs.Committed.{attempts_of}
 
 -- ---- the tables
@@ -21,12 +21,13 @@ abbrev pub restored : Table → List Restore → Table
 restored table rs =
     fold (λ now r row. if r.row == row then record { version = r.version; value = r.value } else now row) table rs
 
--- a table after steps: every attempt writes, and a rollback restores
+-- a table after steps: every attempt writes, a rollback restores, and a state that is taken over replaces all rows
 abbrev pub worked : Trace → Table → List (ℕ × Step) → Table
 worked t table [] = table
 worked t table ((at, Attempts a) ∷ steps) = worked t (table_after_all table (execution t a)) steps
 worked t table ((at, Commits c) ∷ steps) = worked t table steps
 worked t table ((at, RollsBack r) ∷ steps) = worked t (restored table r.restores) steps
+worked t table ((at, TakesOver x) ∷ steps) = worked t (taken_table x.rows) steps
 
 -- what came by the numbers that were reached leaves
 abbrev pub committed_rows : Trace → SectionState → Table
@@ -73,6 +74,7 @@ abbrev pub restores_rightly : Trace → SectionState → Step → Bool
 restores_rightly t s (Attempts a) = true
 restores_rightly t s (Commits c) = true
 restores_rightly t s (RollsBack r) = are_right_restores t s r.restores
+restores_rightly t s (TakesOver x) = true
 
 -- each rollback among the steps restores those rows
 abbrev pub all_restore_rightly : Trace → SectionState → List (ℕ × Step) → Bool

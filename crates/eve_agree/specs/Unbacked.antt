@@ -1,6 +1,6 @@
--- The commits and rollbacks that no majority voted for, section by section. docs/MODEL.md, "Majority".
+-- The commits, rollbacks and transfers that no majority voted for, section by section. docs/MODEL.md, "Majority".
 use Rattle.std.specs.Prelude.{◌≡◌, ℕ, ◌+◌, ◌^◌, ◌<◌, ◌≤◌, ⊤, Some}
-use Rattle.eve_grammar.specs.Trace.{Step, Attempts, Commits, RollsBack, Trace}
+use Rattle.eve_grammar.specs.Trace.{Step, Attempts, Commits, RollsBack, TakesOver, Trace}
 use Rattle.eve_grammar.specs.Spelling.{steps_at}
 use Rattle.eve_views.specs.declared.fault.Code.{Code}
 use Rattle.eve_views.specs.declared.fault.Code.TheVariants as code
@@ -18,6 +18,7 @@ abbrev pub lacks : Step → Code → Type 0
 lacks (Attempts a) c = ⊥
 lacks (Commits d) c = c ≡ code.NoMajority
 lacks (RollsBack r) c = c ≡ code.RollbackNoMajority
+lacks (TakesOver x) c = c ≡ code.TransferNoMajority
 
 -- the fault is that no majority voted for this step of replica e
 pub record IsUnbacked (t : Trace) (e : ℕ) (step : ℕ × Step) (f : Fault) : Type 0 where

@@ -1,41 +1,43 @@
 //! The faults of agreement.
 
-ghost use Rattle.std.specs.Prelude.{◌≡◌, ◌≤◌, ◌<◌, ◌-◌, ◌↔◌, ℕ, IsTrue, IfOk, IfErr, IfSome, IfNone, Some, length};
-ghost use Rattle.std.specs.Prelude.{slice_get};
+ghost use Rattle.std.specs.Prelude.{◌≡◌, ◌≤◌, ◌<◌, ◌-◌, ◌↔◌, ℕ, [], IsTrue, IfOk, IfErr, IfSome, IfNone, Some, None};
+ghost use Rattle.std.specs.Prelude.{length, slice_get, slice_index_or};
 ghost use Rattle.std.specs.Option.{is_some};
-ghost use Rattle.eve_frames.specs.Said.{attempt_said};
+ghost use Rattle.eve_frames.specs.Said.{attempt_said, transfer_said};
 ghost use Rattle.eve_views.specs.Form.{IfFound, IsLeast, HasNone, IsFaultSomewhere};
-ghost use Rattle.eve_views.specs.declared.fault.Code.TheVariants as code;
 ghost use Rattle.eve_grammar.specs.Trace.{Trace as TraceValue};
-ghost use Rattle.eve_history.specs.SectionHistory.{ExecutedAttempt, SectionHistory, section_histories, IsRightSection};
-ghost use Rattle.eve_chains.specs.Settling.{settling, settlings, values_in, HaveSameBalances};
-ghost use Rattle.eve_chains.specs.Committed.{values_to};
-ghost use Rattle.eve_agree.specs.ByNumber.{told_at};
-ghost use Rattle.eve_agree.specs.Agreement.{first_to_commit, ReplicasAgree, StandsInAgreement};
-ghost use Rattle.eve_agree.specs.Judging.{NoneBefore, IsAfter, AreAfter, AllHaveSame, Stand, KeepsFound};
-ghost use Rattle.eve_agree.specs.Judging.{AgreesOrIsFound};
+ghost use Rattle.eve_history.specs.SectionHistory.{ExecutedAttempt, SectionHistory, section_histories};
+ghost use Rattle.eve_chains.specs.Settling.{settlings, HaveSameBalances};
+ghost use Rattle.eve_agree.specs.ByNumber.{told_at, told_state_at};
+ghost use Rattle.eve_agree.specs.Agreement.{first_to_commit, HasCommitted, HaveSameOutcome, ReplicasAgree};
+ghost use Rattle.eve_agree.specs.Agreement.{StandsInAgreement};
+ghost use Rattle.eve_agree.specs.Judging.{NoneBefore, IsAfter, AreAfter, AllStandAt, AllHaveSame, AgreesIn};
+ghost use Rattle.eve_agree.specs.Judging.{IsApart, JudgedTo, bound_of};
 
 use eve_accounts::Balances;
 use eve_chains::Settled;
-use eve_chains::laws::settled_values_are_the_banks;
-use eve_frames::AttemptView;
-use eve_history::{History, recall_all_right};
+use eve_chains::laws::{settled_values_are_the_banks, states_are_the_balances};
+use eve_frames::{AttemptView, TransferView};
+use eve_history::laws::numbers_are_reached;
+use eve_history::{History, Landing, recall_all_right};
 use eve_smallbank::Reply;
-use eve_views::{CheckFault, Code, Fault, Trace, first_of};
+use eve_views::{CheckFault, Code, Fault, Trace};
 use std::alloc::{AllocError, Global};
 
-/// Judges the outcomes of all committed batches: each replica has the balances after a batch, and the replies to it, of
-/// the lowest-numbered replica that committed it; else the first attempt where it differs.
+/// Judges what all replicas came to: each has the balances after a batch that it committed, and the replies to it, of
+/// the lowest-numbered replica that committed it; and each state that a replica took over has that replica's balances
+/// after its number. Else the first attempt or state where it is not so.
 ///
 /// docs/MODEL.md, "Agreement". Balances and replies are compared themselves. It keeps the balances of each replica
-/// once, and goes with all of them from batch to batch: as long as no fault was found it is enough to compare of them
-/// what the batch wrote, since before it they were the same. Of one replica alone nothing is asked. Refused memory
-/// decides nothing.
+/// once, and goes with all of them from number to number. Once a fault was found only the replicas below it are judged:
+/// every fault of a later section stands behind it. Those that are left agree so far. So of an attempt's balances it is
+/// enough to compare what the batch wrote, since before it they were the same; a state is compared whole. Of one
+/// replica alone that took no state over nothing is asked. Refused memory decides nothing.
 pub fn equal_balances(
     alloc: Global,
     trace: &Trace<'_>,
     histories: &[History<'_>],
-    settled: &[Settled],
+    settled: &[Settled<'_>],
 ) -> Result<(), CheckFault>
     requires histories { histories.now ≡ section_histories trace.now }
     requires settled { settled.now ≡ settlings trace.now }
@@ -44,16 +46,18 @@ pub fn equal_balances(
     ensures least { IfErr result (λ why. IfFound why (IsLeast (IsFaultSomewhere StandsInAgreement trace.now))) }
 {
     recall_all_right(histories);
-    if histories.len() < 2 {
+    trace.recall_limits();
+    numbers_are_reached();
+    settled_values_are_the_banks();
+    states_are_the_balances();
+    if is_alone(histories) {
         return Ok(());
     }
-    trace.recall_limits();
-    settled_values_are_the_banks();
     let mut all = opening_of_each(alloc, settled)?;
     let mut least = None;
     for n in 0..last_of_all(histories) {
         advance_all(settled, n + 1, &mut all);
-        least = judge_batch(trace, histories, settled, &all, n + 1, least);
+        least = judge_number(trace, histories, settled, &all, n + 1, least);
     }
     match least {
         Some(fault) => Err(CheckFault::Found(fault)),
@@ -61,8 +65,29 @@ pub fn equal_balances(
     }
 }
 
+/// Whether there is nothing to compare: there is one replica at most, and no state was taken over.
+fn is_alone(histories: &[History<'_>]) -> bool
+    ensures few { IsTrue result → length histories.now < 2 }
+    ensures none { IsTrue result → (e : ℕ) (h : SectionHistory) → slice_get histories.now e ≡ Some h
+        → h.transfers ≡ [] }
+{
+    histories.len() < 2 && took_none_over(histories)
+}
+
+/// Whether no replica took a state over.
+fn took_none_over(histories: &[History<'_>]) -> bool
+    ensures { IsTrue result → (e : ℕ) (h : SectionHistory) → slice_get histories.now e ≡ Some h → h.transfers ≡ [] }
+{
+    for each in histories {
+        if each.transfers() != 0 {
+            return false;
+        }
+    }
+    true
+}
+
 /// The opening balances, for each replica.
-fn opening_of_each(alloc: Global, settled: &[Settled]) -> Result<Vec<Balances>, AllocError>
+fn opening_of_each(alloc: Global, settled: &[Settled<'_>]) -> Result<Vec<Balances>, AllocError>
     ensures { IfOk result (λ all. AreAfter settled.now 0 all.items) }
 {
     let mut all = Vec::new(alloc);
@@ -73,7 +98,7 @@ fn opening_of_each(alloc: Global, settled: &[Settled]) -> Result<Vec<Balances>, 
     Ok(all)
 }
 
-/// The greatest number that a replica committed, 0 where there is none.
+/// The greatest number that a replica reached, 0 where there is none.
 fn last_of_all(histories: &[History<'_>]) -> u32
     ensures { (e : ℕ) (h : SectionHistory) → slice_get histories.now e ≡ Some h → h.committed ≤ result }
 {
@@ -84,8 +109,8 @@ fn last_of_all(histories: &[History<'_>]) -> u32
     last
 }
 
-/// Goes with each replica from its balances after the batch before to those after batch n.
-fn advance_all(settled: &[Settled], n: u32, all: &mut Vec<Balances>)
+/// Goes with each replica from its balances after the number before to those after number n.
+fn advance_all(settled: &[Settled<'_>], n: u32, all: &mut Vec<Balances>)
     requires one { 1 ≤ n }
     requires before { AreAfter settled.now (n - 1) all.old.items }
     ensures { AreAfter settled.now n all.new.items }
@@ -95,8 +120,8 @@ fn advance_all(settled: &[Settled], n: u32, all: &mut Vec<Balances>)
     }
 }
 
-/// Goes from a replica's balances after the batch before to those after batch n, the same where it didn't commit it.
-pub(crate) fn advance(settled: &Settled, n: u32, balances: &mut Balances)
+/// Goes from a replica's balances after the number before to those after number n, the same where it didn't reach it.
+pub(crate) fn advance(settled: &Settled<'_>, n: u32, balances: &mut Balances)
     requires one { 1 ≤ n }
     requires before { IsAfter settled.now (n - 1) balances.old }
     ensures { IsAfter settled.now n balances.new }
@@ -106,63 +131,142 @@ pub(crate) fn advance(settled: &Settled, n: u32, balances: &mut Balances)
     }
 }
 
-/// Judges batch n: gives the least of the fault found so far and of those that stand in this batch.
-fn judge_batch(
+/// Judges number n, of the replicas that are left: gives the fault found so far, or one of a lower replica.
+fn judge_number(
     trace: &Trace<'_>,
     histories: &[History<'_>],
-    settled: &[Settled],
+    settled: &[Settled<'_>],
     all: &[Balances],
     n: u32,
     least: Option<Fault>,
 ) -> Option<Fault>
     requires one { 1 ≤ n }
-    requires histories { histories.now ≡ section_histories trace.now }
-    requires settled { settled.now ≡ settlings trace.now }
-    requires right { (e : ℕ) → IsRightSection trace.now e }
-    requires after { AreAfter (settlings trace.now) n all.now }
-    requires law { (e : ℕ) → values_in (settling trace.now e) n ≡ values_to trace.now e n }
-    requires stand { Stand trace.now least }
-    requires before { IfNone least (AllHaveSame trace.now (n - 1)) }
-    ensures stand { Stand trace.now result }
-    ensures lowers { KeepsFound least result }
-    ensures judged { (e : ℕ) → AgreesOrIsFound trace.now result e n }
+    requires after { AllStandAt trace.now histories.now settled.now all.now n }
+    requires before { JudgedTo trace.now (n - 1) least }
+    ensures { JudgedTo trace.now n result }
 {
-    let Some(first) = first_to_commit(histories, n) else {
-        return least;
-    };
-    let reference = committed_attempt(&histories[first], n);
-    let before = least.is_none();
-    let mut least = least;
-    for e in first + 1..histories.len() {
-        if has_committed(&histories[e], n) {
-            let attempt = committed_attempt(&histories[e], n);
-            let same = is_same(
-                &attempt,
-                &settled[e],
-                &all[e],
-                &reference,
-                &settled[first],
-                &all[first],
-                n,
-                before,
-            );
-            if !same {
-                least = first_of(
-                    least,
-                    Some(fault_at(attempt.offset(), histories[e].replica())),
-                );
-            }
+    let first = first_to_commit(histories, n);
+    for e in 0..bound(histories.len(), &least) {
+        if let Some(fault) = wrong_in(trace, histories, settled, all, n, first, e) {
+            return Some(fault);
         }
     }
     least
 }
 
-/// The fault of an attempt whose outcome differs.
-fn fault_at(offset: u64, replica: u8) -> Fault
-    ensures { result ≡ record { code = code.Outcome; offset = offset; replica = Some replica } }
+/// How many replicas are left to judge, of this many: those below the one with the fault that was found.
+fn bound(count: usize, least: &Option<Fault>) -> usize
+    ensures { result ≡ bound_of count least.now }
+{
+    match least {
+        Some(fault) => match fault.replica {
+            Some(e) => e as usize,
+            None => count,
+        },
+        None => count,
+    }
+}
+
+/// What is wrong where replica e reached number n: its outcome is not that of the first that committed the batch, or
+/// the state that it took over hasn't the balances of that one.
+fn wrong_in(
+    trace: &Trace<'_>,
+    histories: &[History<'_>],
+    settled: &[Settled<'_>],
+    all: &[Balances],
+    n: u32,
+    first: Option<usize>,
+    e: usize,
+) -> Option<Fault>
+    requires one { 1 ≤ n }
+    requires there { e < length trace.now.sections }
+    requires after { AllStandAt trace.now histories.now settled.now all.now n }
+    requires first { first ≡ first_to_commit trace.now n }
+    requires before { AllHaveSame trace.now e (n - 1) }
+    ensures agrees { IfNone result (AgreesIn trace.now e n) }
+    ensures apart { IfSome result (IsApart trace.now e n) }
+{
+    numbers_are_reached();
+    let history = &histories[e];
+    if has_committed(history, n) {
+        if has_outcome_of(trace, histories, settled, all, n, first, e) {
+            return None;
+        }
+        let attempt = committed_attempt(history, n);
+        return Some(fault_at(Code::Outcome, attempt.offset(), history.replica()));
+    }
+    let Some(state) = taken_over(history, n) else {
+        return None;
+    };
+    let same = has_balances_of(all, first, e);
+    if same {
+        return None;
+    }
+    Some(fault_at(Code::TransferBalances, state.offset(), history.replica()))
+}
+
+/// Whether the attempt by which replica e committed batch n has the outcome of the first that committed it.
+fn has_outcome_of(
+    trace: &Trace<'_>,
+    histories: &[History<'_>],
+    settled: &[Settled<'_>],
+    all: &[Balances],
+    n: u32,
+    first: Option<usize>,
+    e: usize,
+) -> bool
+    requires one { 1 ≤ n }
+    requires committed { HasCommitted trace.now e n }
+    requires after { AllStandAt trace.now histories.now settled.now all.now n }
+    requires first { first ≡ first_to_commit trace.now n }
+    requires before { AllHaveSame trace.now e (n - 1) }
+    ensures { IsTrue result ↔ IfSome (first_to_commit trace.now n) (λ f. HaveSameOutcome trace.now e f n) }
+{
+    let Some(f) = first else {
+        return true;
+    };
+    if f == e {
+        return true;
+    }
+    let attempt = committed_attempt(&histories[e], n);
+    let other = committed_attempt(&histories[f], n);
+    is_same(
+        &attempt,
+        &settled[e],
+        &all[e],
+        &other,
+        &settled[f],
+        &all[f],
+        n,
+    )
+}
+
+/// Whether the balances of replica e are those of the first that committed the batch; no others are where none did.
+fn has_balances_of(all: &[Balances], first: Option<usize>, e: usize) -> bool
+    requires there { e < length all.now }
+    requires first { IfSome first (λ f. f < length all.now) }
+    ensures { IsTrue result
+        ↔ ((f : ℕ) × (first ≡ Some f) × (slice_index_or all.now e [] ≡ slice_index_or all.now f [])) }
+{
+    match first {
+        Some(f) => are_same(&all[e], &all[f]),
+        None => false,
+    }
+}
+
+/// Whether all balances are the same.
+fn are_same(balances: &Balances, others: &Balances) -> bool
+    ensures { IsTrue result ↔ (balances.now ≡ others.now) }
+{
+    balances.as_slice() == others.as_slice()
+}
+
+/// The fault of a replica at an offset.
+fn fault_at(code: Code, offset: u64, replica: u8) -> Fault
+    ensures { result ≡ record { code = code; offset = offset; replica = Some replica } }
 {
     Fault {
-        code: Code::Outcome,
+        code,
         offset,
         replica: Some(replica),
     }
@@ -200,30 +304,44 @@ pub(crate) fn committed_attempt<'a>(history: &History<'a>, n: u32) -> AttemptVie
     history.attempt(history.committed_attempt(n))
 }
 
-/// Whether two replicas' attempts of batch n have the same replies, and the balances after them are the same.
-/// `before` says that those after the batch before are known to be.
+/// The state by which a replica reached number n, if it took one over there.
+fn taken_over<'a>(history: &History<'a>, n: u32) -> Option<TransferView<'a>>
+    ensures some { IfSome result (λ x. told_state_at history.now n ≡ Some (x.offset, transfer_said x)) }
+    ensures none { IfNone result (told_state_at history.now n ≡ None) }
+{
+    if n == 0 || history.committed() < n {
+        return None;
+    }
+    match history.landing(n) {
+        Landing::Attempt(_) => None,
+        Landing::Transfer(i) => Some(history.transfer(i as usize)),
+        Landing::Skipped => None,
+    }
+}
+
+/// Whether two replicas' attempts of batch n have the same replies, and the balances after them are the same. Those
+/// after the batch before are.
 fn is_same(
     attempt: &AttemptView<'_>,
-    settled: &Settled,
+    settled: &Settled<'_>,
     balances: &Balances,
     other: &AttemptView<'_>,
-    others_settled: &Settled,
+    others_settled: &Settled<'_>,
     others: &Balances,
     n: u32,
-    before: bool,
 ) -> bool
     requires one { 1 ≤ n }
     requires there { n ≤ length settled.now.numbers }
     requires others_there { n ≤ length others_settled.now.numbers }
     requires after { IsAfter settled.now n balances.now }
     requires others_after { IsAfter others_settled.now n others.now }
-    requires before { IsTrue before → HaveSameBalances settled.now others_settled.now (n - 1) }
+    requires before { HaveSameBalances settled.now others_settled.now (n - 1) }
     ensures { IsTrue result ↔
         ((balances.now ≡ others.now)
         × ((attempt_said attempt.now).replies ≡ (attempt_said other.now).replies)) }
 {
     let replies = have_same_replies(attempt, other);
-    replies && settled.are_same_after(n, balances, others_settled, others, before)
+    replies && settled.are_same_after(n, balances, others_settled, others, true)
 }
 
 /// Whether two attempts have the same replies, by request index.

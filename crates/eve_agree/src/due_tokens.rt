@@ -1,24 +1,28 @@
 //! The faults of tokens.
 
-ghost use Rattle.std.specs.Prelude.{◌≡◌, ◌≤◌, ◌<◌, ◌-◌, ◌↔◌, ℕ, All, IsTrue, OnOk, IfOk, IfErr, length, slice_index_or};
+ghost use Rattle.std.specs.Prelude.{◌≡◌, ◌≤◌, ◌<◌, ◌-◌, ◌↔◌, ℕ, All, IsTrue, OnOk, IfOk, IfErr, length};
+ghost use Rattle.std.specs.Prelude.{slice_index_or};
+ghost use Rattle.std.specs.Option.{is_some};
 ghost use Rattle.eve_frames.specs.Said.{attempt_said};
 ghost use Rattle.eve_token.specs.Token.{token_of};
 ghost use Rattle.eve_views.specs.Form.{IfFound, IsLeast, HasNone, IsFaultIn};
 ghost use Rattle.eve_history.specs.SectionHistory.{section_history};
 ghost use Rattle.eve_chains.specs.Settling.{settling};
+ghost use Rattle.eve_agree.specs.ByNumber.{told_at};
 ghost use Rattle.eve_agree.specs.DueTokens.{TokensAreDue, IsFirstWrong, StandsInTokens};
+ghost use Rattle.eve_agree.specs.HashedRows.{balances_in, can_hash};
 ghost use Rattle.eve_agree.specs.Judging.{IsAfter};
-ghost use Rattle.eve_agree.specs.Stretches.{AreOfSection, IsReadyStretch, IsJudgedStretch, AreReadyStretches};
-ghost use Rattle.eve_agree.specs.Stretches.{first_found};
+ghost use Rattle.eve_agree.specs.Stretches.{AreOfSection, IsComingStretch, IsReadyStretch, IsJudgedStretch};
+ghost use Rattle.eve_agree.specs.Stretches.{AreReadyStretches, first_found};
 ghost use Rattle.eve_agree.specs.declared.due_tokens.Stretch.{Stretch as StretchValue};
 
 use crate::agreement::{committed_attempt, has_committed};
-use eve_accounts::Balances;
+use crate::hashed_rows::HashedRows;
 use eve_chains::Settled;
 use eve_chains::laws::settled_values_are_the_banks;
 use eve_frames::AttemptView;
+use eve_grammar::laws::right_heads_have_limits;
 use eve_history::History;
-use eve_token::token_of_spelled;
 use eve_views::{CheckFault, Code, Fault, Trace};
 use std::alloc::{AllocError, Global};
 use std::thread;
@@ -27,12 +31,18 @@ use std::thread::Threads;
 /// The fewest batches of a stretch but the last.
 const LEAST_BATCHES: u32 = 16;
 
-/// Whether the attempt has the token of these balances and of its replies.
-fn is_due(attempt: &AttemptView<'_>, balances: &Balances) -> bool
-    ensures { IsTrue result ↔ ((attempt_said attempt.now).token
-        ≡ token_of 1 (attempt_said attempt.now).seq balances.now (attempt_said attempt.now).replies) }
+/// In version 2, how many rows a stretch's tree may have for each request of the replica's attempts that falls to the
+/// stretch: what its tree takes at first is then at most about half of what its tokens take.
+const ROWS_A_REQUEST: usize = 4;
+
+/// Whether the attempt has the version's token of these balances and of its replies.
+fn is_due(attempt: &AttemptView<'_>, version: u16, rows: &mut HashedRows) -> bool
+    requires can { IsTrue (can_hash version rows.old) }
+    ensures due { IsTrue result ↔ ((attempt_said attempt.now).token
+        ≡ token_of version (attempt_said attempt.now).seq (balances_in rows.old) (attempt_said attempt.now).replies) }
+    ensures same { rows.new ≡ rows.old }
 {
-    let due = token_of_spelled(attempt.seq(), balances, attempt.reply_bytes());
+    let due = rows.token(version, attempt.seq(), attempt.reply_bytes());
     attempt.token() == due.as_slice()
 }
 
@@ -44,35 +54,57 @@ struct Stretch {
     /// The number of the last of them.
     last: u32,
     /// The balances before them; once they were judged, those after what was judged.
-    balances: Balances,
+    rows: HashedRows,
     /// Once they were judged, the offset of the first attempt that has not the token that is due.
     wrong: Option<u64>,
 }
 
-/// The offset of the attempt of batch n, from 1, if its token is not the one that is due of the balances after it.
-pub(crate) fn wrong_at(
+/// The offset of the attempt by which the replica committed batch n, if its token is not the one that is due of the
+/// balances after it.
+pub(crate) fn wrong_of(
     trace: &Trace<'_>,
     history: &History<'_>,
-    settled: &Settled,
+    settled: &Settled<'_>,
     n: u32,
-    balances: &Balances,
+    rows: &mut HashedRows,
 ) -> Option<u64>
     requires section { AreOfSection trace.now history.now settled.now }
     requires one { 1 ≤ n }
-    requires after { IsAfter settled.now n balances.now }
-    ensures { IsFirstWrong trace.now history.now.replica (n - 1) n result }
+    requires there { IsTrue (is_some (told_at history.now n)) }
+    requires after { IsAfter settled.now n (balances_in rows.old) }
+    requires can { IsTrue (can_hash trace.now.head.version rows.old) }
+    ensures wrong { IsFirstWrong trace.now history.now.replica (n - 1) n result }
+    ensures same { rows.new ≡ rows.old }
 {
     trace.recall_limits();
     history.recall_right();
     settled_values_are_the_banks();
-    if !has_committed(history, n) {
-        return None;
-    }
     let attempt = committed_attempt(history, n);
-    if is_due(&attempt, balances) {
+    if is_due(&attempt, trace.head().version, rows) {
         return None;
     }
     Some(attempt.offset())
+}
+
+/// The same of batch n, from 1, if the replica committed one.
+fn wrong_at(
+    trace: &Trace<'_>,
+    history: &History<'_>,
+    settled: &Settled<'_>,
+    n: u32,
+    rows: &mut HashedRows,
+) -> Option<u64>
+    requires section { AreOfSection trace.now history.now settled.now }
+    requires one { 1 ≤ n }
+    requires after { IsAfter settled.now n (balances_in rows.old) }
+    requires can { IsTrue (can_hash trace.now.head.version rows.old) }
+    ensures wrong { IsFirstWrong trace.now history.now.replica (n - 1) n result }
+    ensures same { rows.new ≡ rows.old }
+{
+    if !has_committed(history, n) {
+        return None;
+    }
+    wrong_of(trace, history, settled, n, rows)
 }
 
 /// The offset of the first of a replica's attempts with a token that is not due, of the batches after the first
@@ -81,19 +113,20 @@ pub(crate) fn wrong_at(
 fn first_wrong(
     trace: &Trace<'_>,
     history: &History<'_>,
-    settled: &Settled,
+    settled: &Settled<'_>,
     before: u32,
     last: u32,
-    balances: &mut Balances,
+    rows: &mut HashedRows,
 ) -> Option<u64>
     requires section { AreOfSection trace.now history.now settled.now }
     requires there { last ≤ length settled.now.numbers }
-    requires balances { IsAfter settled.now before balances.old }
+    requires balances { IsAfter settled.now before (balances_in rows.old) }
+    requires can { IsTrue (can_hash trace.now.head.version rows.old) }
     ensures { IsFirstWrong trace.now history.now.replica before last result }
 {
     for n in before..last {
-        settled.advance(n + 1, balances);
-        let wrong = wrong_at(trace, history, settled, n + 1, balances);
+        rows.advance(settled, n + 1);
+        let wrong = wrong_at(trace, history, settled, n + 1, rows);
         if wrong.is_some() {
             return wrong;
         }
@@ -102,9 +135,9 @@ fn first_wrong(
 }
 
 /// Judges a stretch, from the balances that the batches before it leave.
-fn judge(trace: &Trace<'_>, history: &History<'_>, settled: &Settled, stretch: &mut Stretch)
+fn judge(trace: &Trace<'_>, history: &History<'_>, settled: &Settled<'_>, stretch: &mut Stretch)
     requires section { AreOfSection trace.now history.now settled.now }
-    requires ready { IsReadyStretch settled.now stretch.old }
+    requires ready { IsReadyStretch trace.now.head.version settled.now stretch.old }
     ensures { IsJudgedStretch trace.now history.now.replica stretch.old stretch.new }
 {
     stretch.wrong = first_wrong(
@@ -113,35 +146,40 @@ fn judge(trace: &Trace<'_>, history: &History<'_>, settled: &Settled, stretch: &
         settled,
         stretch.before,
         stretch.last,
-        &mut stretch.balances,
+        &mut stretch.rows,
     );
 }
 
-/// Appends a stretch that follows the others.
+/// The stretch with what its tokens are hashed of, and appended to those that it follows.
 fn append(
-    settled: &Settled,
+    alloc: Global,
+    trace: &Trace<'_>,
+    settled: &Settled<'_>,
     stretch: Stretch,
     stretches: &mut Vec<Stretch>,
 ) -> Result<(), AllocError>
-    requires stretch { IsReadyStretch settled.now stretch }
-    requires ready { AreReadyStretches settled.now stretch.before stretches.old.items }
-    ensures { OnOk result (AreReadyStretches settled.now stretch.last stretches.new.items) }
+    requires some { 0 < length settled.now.opening }
+    requires stretch { IsComingStretch settled.now stretch }
+    requires ready { AreReadyStretches trace.now.head.version settled.now stretch.before stretches.old.items }
+    ensures { OnOk result (AreReadyStretches trace.now.head.version settled.now stretch.last stretches.new.items) }
 {
+    let mut stretch = stretch;
+    stretch.rows.grow(alloc, trace.head().version)?;
     stretches.push(stretch)?;
     Ok(())
 }
 
 /// Goes on with a stretch to a later start: the batches up to there are left out.
-fn start_at(settled: &Settled, before: u32, rest: &mut Stretch)
+fn start_at(settled: &Settled<'_>, before: u32, rest: &mut Stretch)
     requires later { rest.old.before ≤ before }
     requires there { before ≤ rest.old.last }
-    requires rest { IsReadyStretch settled.now rest.old }
+    requires rest { IsComingStretch settled.now rest.old }
     ensures before { rest.new.before ≡ before }
     ensures last { rest.new.last ≡ rest.old.last }
-    ensures rest { IsReadyStretch settled.now rest.new }
+    ensures rest { IsComingStretch settled.now rest.new }
 {
     for n in rest.before..before {
-        settled.advance(n + 1, &mut rest.balances);
+        rest.rows.advance(settled, n + 1);
     }
     rest.before = before;
 }
@@ -149,17 +187,20 @@ fn start_at(settled: &Settled, before: u32, rest: &mut Stretch)
 /// Cuts the given number of batches off the stretch that is still to come, where it has more: they are appended.
 fn cut_off(
     alloc: Global,
-    settled: &Settled,
+    trace: &Trace<'_>,
+    settled: &Settled<'_>,
     size: u32,
     rest: &mut Stretch,
     stretches: &mut Vec<Stretch>,
 ) -> Result<(), AllocError>
+    requires some { 0 < length settled.now.opening }
     requires last { rest.old.last ≡ length settled.now.numbers }
-    requires rest { IsReadyStretch settled.now rest.old }
-    requires ready { AreReadyStretches settled.now rest.old.before stretches.old.items }
+    requires rest { IsComingStretch settled.now rest.old }
+    requires ready { AreReadyStretches trace.now.head.version settled.now rest.old.before stretches.old.items }
     ensures last { rest.new.last ≡ rest.old.last }
-    ensures rest { OnOk result (IsReadyStretch settled.now rest.new) }
-    ensures ready { OnOk result (AreReadyStretches settled.now rest.new.before stretches.new.items) }
+    ensures rest { OnOk result (IsComingStretch settled.now rest.new) }
+    ensures ready { OnOk result (AreReadyStretches trace.now.head.version settled.now rest.new.before
+        stretches.new.items) }
 {
     if rest.last - rest.before <= size {
         return Ok(());
@@ -167,32 +208,63 @@ fn cut_off(
     let first = Stretch {
         before: rest.before,
         last: rest.before + size,
-        balances: rest.balances.copy(alloc)?,
+        rows: HashedRows::Plain(rest.rows.balances().copy(alloc)?),
         wrong: None,
     };
     start_at(settled, first.last, rest);
-    append(settled, first, stretches)
+    append(alloc, trace, settled, first, stretches)
 }
 
-/// Cuts a replica's committed batches into stretches, no more than there are jobs, all but the last of one length: one
-/// pass over what the batches changed gives each the balances before it.
-fn cut(alloc: Global, settled: &Settled, jobs: u8) -> Result<Vec<Stretch>, AllocError>
+/// How many requests the replica's attempts have, by which stretches are cut: no clause says it.
+fn requests_of(history: &History<'_>) -> usize {
+    let mut requests: usize = 0;
+    for i in 0..history.attempts() {
+        requests = requests.saturating_add(history.attempt(i).len());
+    }
+    requests
+}
+
+/// How many stretches there may be: as many as there are jobs, and in version 2 no more than pay for a tree each.
+fn most_stretches(version: u16, history: &History<'_>, rows: usize, jobs: u8) -> u8
     requires { 1 ≤ jobs }
-    ensures { IfOk result (λ stretches. AreReadyStretches settled.now (length settled.now.numbers) stretches.items) }
+    ensures { 1 ≤ result }
+{
+    if version == 1 {
+        return jobs;
+    }
+    let paid = requests_of(history).saturating_mul(ROWS_A_REQUEST) / rows.max(1);
+    paid.min(jobs as usize).max(1) as u8
+}
+
+/// Cuts a replica's numbers into at most that many stretches, all but the last of one length: one pass over what the
+/// numbers changed gives each the balances before it.
+fn cut(
+    alloc: Global,
+    trace: &Trace<'_>,
+    history: &History<'_>,
+    settled: &Settled<'_>,
+    jobs: u8,
+) -> Result<Vec<Stretch>, AllocError>
+    requires some { 0 < length settled.now.opening }
+    requires jobs { 1 ≤ jobs }
+    ensures { IfOk result (λ stretches.
+        AreReadyStretches trace.now.head.version settled.now (length settled.now.numbers) stretches.items) }
 {
     let last = settled.committed();
-    let size = last.div_ceil(u32::from(jobs)).max(LEAST_BATCHES);
+    let balances = settled.balances_after(alloc, 0)?;
+    let most = most_stretches(trace.head().version, history, balances.len(), jobs);
+    let size = last.div_ceil(u32::from(most)).max(LEAST_BATCHES);
     let mut stretches = Vec::new(alloc);
     let mut rest = Stretch {
         before: 0,
         last,
-        balances: settled.balances_after(alloc, 0)?,
+        rows: HashedRows::Plain(balances),
         wrong: None,
     };
-    for _ in 1..jobs {
-        cut_off(alloc, settled, size, &mut rest, &mut stretches)?;
+    for _ in 1..most {
+        cut_off(alloc, trace, settled, size, &mut rest, &mut stretches)?;
     }
-    append(settled, rest, &mut stretches)?;
+    append(alloc, trace, settled, rest, &mut stretches)?;
     Ok(stretches)
 }
 
@@ -201,13 +273,13 @@ fn judge_all<R: Threads + Sync>(
     rt: &R,
     trace: &Trace<'_>,
     history: &History<'_>,
-    settled: &Settled,
+    settled: &Settled<'_>,
     stretches: &mut [Stretch],
     jobs: u8,
 )
     requires some { 1 ≤ jobs }
     requires section { AreOfSection trace.now history.now settled.now }
-    requires ready { All (IsReadyStretch settled.now) stretches.old }
+    requires ready { All (IsReadyStretch trace.now.head.version settled.now) stretches.old }
     ensures len { length stretches.new ≡ length stretches.old }
     ensures judged { (i : ℕ) (d : StretchValue) → i < length stretches.old
         → IsJudgedStretch trace.now history.now.replica (slice_index_or stretches.old i d)
@@ -218,7 +290,8 @@ fn judge_all<R: Threads + Sync>(
         stretches,
         jobs as usize,
         &|_: usize, stretch: &mut Stretch|
-            requires { AreOfSection trace.now history.now settled.now × IsReadyStretch settled.now stretch.old }
+            requires { AreOfSection trace.now history.now settled.now
+                × IsReadyStretch trace.now.head.version settled.now stretch.old }
             ensures { IsJudgedStretch trace.entry.now history.entry.now.replica stretch.old stretch.new }
         { judge(trace, history, settled, stretch) },
     );
@@ -242,14 +315,16 @@ fn first_in<R: Threads + Sync>(
     alloc: Global,
     trace: &Trace<'_>,
     history: &History<'_>,
-    settled: &Settled,
+    settled: &Settled<'_>,
     jobs: u8,
 ) -> Result<Option<u64>, AllocError>
     requires section { AreOfSection trace.now history.now settled.now }
     requires some { 1 ≤ jobs }
     ensures { IfOk result (IsFirstWrong trace.now history.now.replica 0 (length settled.now.numbers)) }
 {
-    let mut stretches = cut(alloc, settled, jobs)?;
+    trace.recall_limits();
+    right_heads_have_limits();
+    let mut stretches = cut(alloc, trace, history, settled, jobs)?;
     judge_all(rt, trace, history, settled, stretches.as_mut_slice(), jobs);
     Ok(first_of_all(&stretches))
 }
@@ -258,7 +333,7 @@ fn first_in<R: Threads + Sync>(
 pub(crate) fn answer(
     trace: &Trace<'_>,
     history: &History<'_>,
-    settled: &Settled,
+    settled: &Settled<'_>,
     wrong: Option<u64>,
 ) -> Result<(), CheckFault>
     requires section { AreOfSection trace.now history.now settled.now }
@@ -281,17 +356,18 @@ pub(crate) fn answer(
 /// Judges the tokens of a replica's committed attempts: each is that of the balances after its batch and of its
 /// replies; else the first that is not.
 ///
-/// docs/MODEL.md, "Due tokens"; docs/TRACE.md, "Token". It hashes each batch's balances once. The batches are cut into
-/// as many stretches as there are jobs at most, from 1 on, and judged in as many threads; of one job none is started.
-/// Each thread has balances of its own: one pass over what the batches changed copies them where a stretch begins. What
-/// is found doesn't depend on which ends first. `tokens_beside`, which is lent another replica whose tokens are due,
-/// hashes less. Refused memory decides nothing.
+/// docs/MODEL.md, "Due tokens"; docs/TRACE.md, "Token" and "Merkle token". In version 1 it hashes each batch's balances
+/// once, in version 2 what the batch changed of a tree over them. The batches are cut into as many stretches as there
+/// are jobs at most, from 1 on, and judged in as many threads; of one job none is started. In version 2 there are no
+/// more than pay for the tree that each begins with. Each thread has balances of its own: one pass over what the
+/// batches changed copies them where a stretch begins. What is found doesn't depend on which ends first.
+/// `tokens_beside`, which is lent another replica whose tokens are due, hashes less. Refused memory decides nothing.
 pub fn tokens<R: Threads + Sync>(
     rt: &R,
     alloc: Global,
     trace: &Trace<'_>,
     history: &History<'_>,
-    settled: &Settled,
+    settled: &Settled<'_>,
     jobs: u8,
 ) -> Result<(), CheckFault>
     requires history { history.now ≡ section_history trace.now history.now.replica }

@@ -5,6 +5,7 @@ mod agreement;
 mod batch_request_ids;
 mod due_tokens;
 mod first_seen;
+mod hashed_rows;
 pub mod laws;
 mod majority;
 mod restores;

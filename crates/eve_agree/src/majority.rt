@@ -3,16 +3,16 @@
 ghost use Rattle.std.specs.Prelude.{◌≡◌, ◌≢◌, ◌<◌, ◌≤◌, ◌+◌, ◌-◌, ◌^◌, ℕ, ◌↔◌, IsTrue, length};
 ghost use Rattle.std.specs.Prelude.{IfSome, IfNone, IfOk, IfErr};
 ghost use Rattle.eve_grammar.specs.Trace.{Step as StepValue};
-ghost use Rattle.eve_frames.specs.Said.{commit_said, rollback_said};
+ghost use Rattle.eve_frames.specs.Said.{commit_said, rollback_said, transfer_said};
 ghost use Rattle.eve_views.specs.Form.{IfFound, IsLeast, HasNone, IsFaultSomewhere};
 ghost use Rattle.eve_views.specs.StepKinds.{IsStep};
 ghost use Rattle.eve_views.specs.declared.fault.CheckFault.TheVariants.{Memory};
 ghost use Rattle.eve_history.specs.SectionHistory.{section_histories, IsRightSection};
 ghost use Rattle.eve_votes.specs.Votes.{IsDecided, IsRolledBack};
-ghost use Rattle.eve_agree.specs.Majority.{IsBacked, IsBackedSection, AllAreBacked, StandsInMajorities};
+ghost use Rattle.eve_agree.specs.Majority.{SomeDecided, IsBacked, IsBackedSection, AllAreBacked, StandsInMajorities};
 ghost use Rattle.eve_agree.specs.Unbacked.{HasRoom, IsUnbacked, IsFirstUnbackedIn};
 
-use eve_frames::{CommitView, RollbackView};
+use eve_frames::{CommitView, RollbackView, TransferView};
 use eve_history::{History, recall_all_right};
 use eve_views::{CheckFault, Code, Fault, Step, Trace, first_of};
 use eve_votes::Tally;
@@ -39,6 +39,17 @@ fn is_rolled_back(tally: &Tally<'_, '_>, rollback: &RollbackView<'_>) -> bool
     tally.rolled_back(rollback.to() + 1, rollback.view() - 1)
 }
 
+/// Whether a majority decided some commit of the number whose state is taken over, in the state's view.
+fn is_some_decided(tally: &Tally<'_, '_>, transfer: &TransferView<'_>) -> bool
+    ensures { IsTrue result ↔ SomeDecided tally.now (transfer_said transfer.now).seq
+        (transfer_said transfer.now).view }
+{
+    let Some(said) = tally.decided(transfer.seq()) else {
+        return false;
+    };
+    said.0 == transfer.view()
+}
+
 /// What is wrong with a step of a replica: no majority voted for it.
 fn unbacked(tally: &Tally<'_, '_>, e: u8, step: Step<'_, '_>) -> Option<Fault>
     requires { (next : ℕ × StepValue) × IsStep step next × HasRoom next.1 }
@@ -60,6 +71,12 @@ fn unbacked(tally: &Tally<'_, '_>, e: u8, step: Step<'_, '_>) -> Option<Fault>
             }
             (Code::RollbackNoMajority, rollback.offset())
         }
+        Step::Transfer(transfer) => {
+            if is_some_decided(tally, &transfer) {
+                return None;
+            }
+            (Code::TransferNoMajority, transfer.offset())
+        }
     };
     Some(Fault {
         code,
@@ -68,7 +85,7 @@ fn unbacked(tally: &Tally<'_, '_>, e: u8, step: Step<'_, '_>) -> Option<Fault>
     })
 }
 
-/// The first commit or rollback of a replica that no majority voted for.
+/// The first commit, rollback or transfer of a replica that no majority voted for.
 fn first_in(trace: &Trace<'_>, tally: &Tally<'_, '_>, e: u8) -> Option<Fault>
     requires there { e < length trace.now.sections }
     requires right { IsRightSection trace.now e }
@@ -86,11 +103,11 @@ fn first_in(trace: &Trace<'_>, tally: &Tally<'_, '_>, e: u8) -> Option<Fault>
     None
 }
 
-/// Judges the commits and rollbacks of all replicas: a majority of the verifiers voted for each; else the first
-/// without.
+/// Judges the commits, rollbacks and transfers of all replicas: a majority of the verifiers voted for each; else the
+/// first without. Of a transfer some commit of its number is decided in its view, whatever the token.
 ///
-/// docs/MODEL.md, "Majority". The votes are those of the trace. It takes no memory, and never
-/// answers Memory. For a commit it looks up the decision that is kept of its number; for a rollback it counts votes.
+/// docs/MODEL.md, "Majority". The votes are those of the trace. It takes no memory, and never answers Memory. For a
+/// commit or a transfer it looks up the decision that is kept of its number; for a rollback it counts votes.
 pub fn majorities(
     trace: &Trace<'_>,
     histories: &[History<'_>],

@@ -111,6 +111,8 @@ pub(crate) fn judge(
                 }
                 first = end;
             }
+            // what it discards is no rollback's to restore
+            Step::Transfer(_) => first = end,
         }
     }
     Ok(())

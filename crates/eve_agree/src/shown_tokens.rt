@@ -8,17 +8,21 @@ ghost use Rattle.eve_views.specs.Form.{IfFound, IsLeast, HasNone, IsFaultIn};
 ghost use Rattle.eve_history.specs.SectionHistory.{section_history};
 ghost use Rattle.eve_chains.specs.Settling.{settling, HaveSameBalances};
 ghost use Rattle.eve_agree.specs.DueTokens.{TokensAreDue, IsDueIn, IsFirstWrong, StandsInTokens};
+ghost use Rattle.eve_agree.specs.HashedRows.{balances_in};
 ghost use Rattle.eve_agree.specs.Judging.{IsAfter};
 ghost use Rattle.eve_agree.specs.ShownTokens.{IsDueReplica};
 ghost use Rattle.eve_agree.specs.Stretches.{AreOfSection};
 
 use crate::agreement::{advance, committed_attempt, has_committed};
-use crate::due_tokens::{answer, wrong_at};
+use crate::due_tokens::{answer, wrong_of};
+use crate::hashed_rows::HashedRows;
 use eve_accounts::Balances;
 use eve_chains::Settled;
 use eve_chains::laws::settled_values_are_the_banks;
 use eve_frames::AttemptView;
-use eve_history::History;
+use eve_grammar::laws::right_heads_have_limits;
+use eve_history::{History, Landing};
+use eve_token::laws::replies_are_hashed_as_spelled;
 use eve_views::{CheckFault, Trace};
 use std::alloc::{AllocError, Global};
 
@@ -28,17 +32,17 @@ pub struct Peer<'b, 'a> {
     /// What its section tells.
     pub history: &'b History<'a>,
     /// What its committed batches wrote.
-    pub settled: &'b Settled,
+    pub settled: &'b Settled<'a>,
 }
 
 /// Whether two replicas' attempts of batch n have the same token and the same replies, and the balances after them are
 /// the same. `before` says that those after the batch before are known to be.
 fn is_alike(
     attempt: &AttemptView<'_>,
-    settled: &Settled,
+    settled: &Settled<'_>,
     balances: &Balances,
     other: &AttemptView<'_>,
-    others_settled: &Settled,
+    others_settled: &Settled<'_>,
     others: &Balances,
     n: u32,
     before: bool,
@@ -61,11 +65,12 @@ fn is_alike(
 
 /// Whether the peer shows the token of batch n, from 1, to be due: it committed the batch too, with that token and
 /// those replies, and the balances after it are the same. `before` says that those after the batch before are known
-/// to be.
+/// to be. Where they aren't, version 1 compares all balances, which takes less than to hash them all; from version 2 on
+/// a token may take less than that, and nothing is shown.
 fn is_shown(
     trace: &Trace<'_>,
     history: &History<'_>,
-    settled: &Settled,
+    settled: &Settled<'_>,
     n: u32,
     balances: &Balances,
     peer: Peer<'_, '_>,
@@ -85,6 +90,10 @@ fn is_shown(
     history.recall_right();
     peer.history.recall_right();
     settled_values_are_the_banks();
+    replies_are_hashed_as_spelled();
+    if !before && trace.head().version != 1 {
+        return false;
+    }
     if !has_committed(history, n) || !has_committed(peer.history, n) {
         return false;
     }
@@ -105,53 +114,124 @@ fn is_shown(
 /// The offset of the attempt of batch n, from 1, if its token is not the one that is due. Where the peer shows it to be
 /// due nothing is hashed.
 fn wrong_beside(
+    alloc: Global,
     trace: &Trace<'_>,
     history: &History<'_>,
-    settled: &Settled,
+    settled: &Settled<'_>,
     n: u32,
-    balances: &Balances,
+    rows: &mut HashedRows,
     shown: bool,
-) -> Option<u64>
+) -> Result<Option<u64>, AllocError>
     requires section { AreOfSection trace.now history.now settled.now }
     requires one { 1 ≤ n }
-    requires after { IsAfter settled.now n balances.now }
+    requires after { IsAfter settled.now n (balances_in rows.old) }
     requires shown { IsTrue shown → IsDueIn trace.now history.now.replica n }
-    ensures { IsFirstWrong trace.now history.now.replica (n - 1) n result }
+    ensures wrong { IfOk result (IsFirstWrong trace.now history.now.replica (n - 1) n) }
+    ensures same { balances_in rows.new ≡ balances_in rows.old }
 {
     if shown {
-        return None;
+        return Ok(None);
     }
-    wrong_at(trace, history, settled, n, balances)
+    if !has_committed(history, n) {
+        return Ok(None);
+    }
+    trace.recall_limits();
+    right_heads_have_limits();
+    rows.grow(alloc, trace.head().version)?;
+    Ok(wrong_of(trace, history, settled, n, rows))
+}
+
+/// Whether the replica took a state over at number n.
+fn took_over(history: &History<'_>, n: u32) -> bool
+    requires { 1 ≤ n }
+{
+    if history.committed() < n {
+        return false;
+    }
+    match history.landing(n) {
+        Landing::Attempt(_) => false,
+        Landing::Transfer(_) => true,
+        Landing::Skipped => false,
+    }
+}
+
+/// Whether the balances of both after number n, from 1, are known to be the same: the peer shows the token there, or
+/// one of both took a state over, which is as long as what is compared, and they are.
+fn are_known_same(
+    history: &History<'_>,
+    settled: &Settled<'_>,
+    n: u32,
+    balances: &Balances,
+    peer: Peer<'_, '_>,
+    others: &Balances,
+    shown: bool,
+) -> bool
+    requires one { 1 ≤ n }
+    requires there { n ≤ length settled.now.numbers }
+    requires after { IsAfter settled.now n balances.now }
+    requires others { IsAfter peer.settled.now n others.now }
+    requires shown { IsTrue shown → HaveSameBalances settled.now peer.settled.now n }
+    ensures { IsTrue result → HaveSameBalances settled.now peer.entry.settled.now n }
+{
+    if shown {
+        return true;
+    }
+    if peer.settled.committed() < n {
+        return false;
+    }
+    if !took_over(history, n) && !took_over(peer.history, n) {
+        return false;
+    }
+    settled.are_same_after(n, balances, peer.settled, others, false)
 }
 
 /// The offset of the first of a replica's attempts with a token that is not due, of all its committed batches, from the
 /// opening balances of both replicas.
 #[tactic(auto, using(crate::proofs::Stretched::one_more, crate::proofs::Stretched::wrong_first))]
 fn first_wrong_beside(
+    alloc: Global,
     trace: &Trace<'_>,
     history: &History<'_>,
-    settled: &Settled,
+    settled: &Settled<'_>,
     peer: Peer<'_, '_>,
-    balances: &mut Balances,
+    rows: &mut HashedRows,
     others: &mut Balances,
-) -> Option<u64>
+) -> Result<Option<u64>, AllocError>
     requires section { AreOfSection trace.now history.now settled.now }
     requires peer { IsDueReplica trace.now peer.history.now peer.settled.now }
-    requires balances { IsAfter settled.now 0 balances.old }
+    requires balances { IsAfter settled.now 0 (balances_in rows.old) }
     requires others { IsAfter peer.settled.now 0 others.old }
-    ensures { IsFirstWrong trace.now history.now.replica 0 (length settled.now.numbers) result }
+    ensures { IfOk result (IsFirstWrong trace.now history.now.replica 0 (length settled.now.numbers)) }
 {
     let mut same = true;
     for n in 0..settled.committed() {
-        settled.advance(n + 1, balances);
+        rows.advance(settled, n + 1);
         advance(peer.settled, n + 1, others);
-        same = is_shown(trace, history, settled, n + 1, balances, peer, others, same);
-        let wrong = wrong_beside(trace, history, settled, n + 1, balances, same);
+        let shown = is_shown(
+            trace,
+            history,
+            settled,
+            n + 1,
+            rows.balances(),
+            peer,
+            others,
+            same,
+        );
+        let wrong = wrong_beside(alloc, trace, history, settled, n + 1, rows, shown)?;
         if wrong.is_some() {
-            return wrong;
+            return Ok(wrong);
         }
+        same = are_known_same(
+            history,
+            settled,
+            n + 1,
+            rows.balances(),
+            peer,
+            others,
+            shown,
+        );
     }
-    None
+    Ok(None)
 }
 
 /// The offset of the first of a replica's attempts with a token that is not due, of all its committed batches.
@@ -159,31 +239,33 @@ fn first_beside(
     alloc: Global,
     trace: &Trace<'_>,
     history: &History<'_>,
-    settled: &Settled,
+    settled: &Settled<'_>,
     peer: Peer<'_, '_>,
 ) -> Result<Option<u64>, AllocError>
     requires section { AreOfSection trace.now history.now settled.now }
     requires peer { IsDueReplica trace.now peer.history.now peer.settled.now }
     ensures { IfOk result (IsFirstWrong trace.now history.now.replica 0 (length settled.now.numbers)) }
 {
-    let mut balances = settled.balances_after(alloc, 0)?;
+    let mut rows = HashedRows::Plain(settled.balances_after(alloc, 0)?);
     let mut others = peer.settled.balances_after(alloc, 0)?;
-    Ok(first_wrong_beside(trace, history, settled, peer, &mut balances, &mut others))
+    first_wrong_beside(alloc, trace, history, settled, peer, &mut rows, &mut others)
 }
 
 /// Judges the tokens of a replica's committed attempts, as `tokens` does, beside another replica whose tokens are due:
 /// each is that of the balances after its batch and of its replies; else the first that is not.
 ///
-/// docs/MODEL.md, "Due tokens"; docs/TRACE.md, "Token". A batch that both committed with one token, the same replies
-/// and the same balances after it has its due token here as it has there, and nothing of it is hashed; every other
-/// batch's balances are hashed once, as `tokens` hashes them. It keeps the balances of both replicas and goes with them
-/// from batch to batch, in one thread: after such a batch it is enough to compare of them what the next one wrote.
-/// Refused memory decides nothing.
+/// docs/MODEL.md, "Due tokens"; docs/TRACE.md, "Token" and "Merkle token". A batch that both committed with one token,
+/// the same replies and the same balances after it has its due token here as it has there, and nothing of it is hashed;
+/// every other batch's balances are hashed, as `tokens` hashes them. It keeps the balances of both replicas and goes
+/// with them from batch to batch, in one thread: after such a batch it is enough to compare of them what the next one
+/// wrote. After another batch version 1 compares all balances at the next one that both committed alike. In version 2
+/// they are hashed from there on, until one of both takes a state over: there all balances are compared, which are no
+/// more than the state has. Refused memory decides nothing.
 pub fn tokens_beside(
     alloc: Global,
     trace: &Trace<'_>,
     history: &History<'_>,
-    settled: &Settled,
+    settled: &Settled<'_>,
     peer: Peer<'_, '_>,
 ) -> Result<(), CheckFault>
     requires history { history.now ≡ section_history trace.now history.now.replica }

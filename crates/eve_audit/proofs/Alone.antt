@@ -15,9 +15,9 @@ use Rattle.eve_views.specs.Form.{SomePlace}
 use Rattle.eve_history.specs.Section.{Placed, came_by, SectionState, start, state_after, settled, are_right}
 use Rattle.eve_history.specs.Section.{is_right_attempt}
 use Rattle.eve_history.specs.Section.{is_right_certificate, is_right_access, is_right_commit, is_right_rollback}
-use Rattle.eve_history.specs.Section.{are_right_accesses}
+use Rattle.eve_history.specs.Section.{is_right_transfer, are_right_accesses}
 use Rattle.eve_history.specs.SectionHistory.{history, attempt_by, committed_at, names_of}
-use Rattle.eve_history.specs.Structure.{StandsInStructure, OfAttempt, OfCommit, OfRollback, accesses_of}
+use Rattle.eve_history.specs.Structure.{StandsInStructure, OfAttempt, OfCommit, OfRollback, OfTransfer, accesses_of}
 use Rattle.eve_chains.specs.Visible.{executed_by, visible_to, rows_after}
 use Rattle.eve_chains.specs.Committed.{first_rows, balances_to}
 use Rattle.eve_chains.specs.Faults.{StandsInRecords, StandsInChains}
@@ -26,7 +26,7 @@ use Rattle.eve_agree.specs.Restores.{StandsInRestores}
 use Rattle.eve_agree.specs.DueTokens.{StandsInTokens}
 use Rattle.eve_audit.specs.Verdict.{IsOwnFault, of_structure, of_records, of_chains, of_restores, of_tokens}
 use Rattle.eve_audit.specs.Alone.{AgreeFor}
-use Rattle.eve_token.specs.Token.{flat_token}
+use Rattle.eve_token.specs.Token.{token_of}
 
 -- the trace, had the others done, voted and sent something else
 abbrev besides : Trace → List (List Step) → List (List Vote) → List Sent → Trace
@@ -71,6 +71,8 @@ module _ (t : Trace) (sections : List (List Step)) (verifiers : List (List Vote)
       subst (AtStepOf t at (λ s step. OfCommit step (λ c. IsFalse (is_right_commit s c)))) same
   structure_alone code.Rollback at =
       subst (AtStepOf t at (λ s step. OfRollback step (λ r. IsFalse (is_right_rollback t s r)))) same
+  structure_alone code.Transfer at =
+      subst (AtStepOf t at (λ s step. OfTransfer step (λ x. IsFalse (is_right_transfer t s x)))) same
   structure_alone c at = λ stands. absurd stands
 
   records_alone : (c : Code) (at : ℕ) → StandsInRecords c t e at
@@ -119,7 +121,7 @@ module _ (t : Trace) (sections : List (List Step)) (verifiers : List (List Vote)
     is = sym (committed_alone stands.n) ∙ stands.is;
     offset = stands.offset;
     holds = subst (λ (balances : List ℤ). stands.item.attempt.token
-        ≢ flat_token stands.item.attempt.seq balances stands.item.attempt.replies)
+        ≢ token_of t.head.version stands.item.attempt.seq balances stands.item.attempt.replies)
         (balances_alone stands.item.attempt.seq) stands.holds;
   }
   tokens_alone c at stands = absurd stands

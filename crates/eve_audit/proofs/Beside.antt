@@ -6,11 +6,10 @@ use Rattle.eve_history.specs.SectionHistory.{SectionHistory}
 use Rattle.eve_chains.specs.Settling.{Settling, settling}
 use Rattle.eve_agree.specs.DueTokens.{TokensAreDue}
 use Rattle.eve_agree.specs.ShownTokens.{IsDueReplica}
-use Rattle.eve_agree.proofs.Outcomes.{replica_told}
 use Rattle.eve_audit.specs.declared.replicas.Report.{Report}
 use Rattle.eve_audit.specs.Peers.{AreDueReplicas}
 use Rattle.eve_audit.specs.Reports.{IsReportOf}
-use Rattle.eve_audit.proofs.Told.{section_history_by_its_own}
+use Rattle.eve_audit.proofs.Told.{replica_told, section_history_by_its_own}
 
 -- the tokens of a replica with no fault of its own are due
 pub due_of_report : (t : Trace) (e : ℕ) (report : Report) → IsReportOf t e report

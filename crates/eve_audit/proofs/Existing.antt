@@ -3,9 +3,9 @@ use Rattle.std.proofs.Common.{◌≡◌, ℕ, zero, suc, ◌+◌, ◌-◌, ◌<�
 use Rattle.std.proofs.lemmas.Bool.{cases_lt}
 use Rattle.eve_smallbank.specs.Access.{Executed, Fits}
 use Rattle.eve_grammar.specs.Trace.{Trace, head_of}
+use Rattle.eve_grammar.specs.Limits.{HasLimits}
 use Rattle.eve_grammar.specs.Spelling.{length_of}
 use Rattle.eve_grammar.specs.Following.{Spells}
-use Rattle.eve_grammar.proofs.Spelled.{limits_of_spelled}
 use Rattle.eve_views.specs.Form.{IsLeast, StandsInForm, IsFaultOutside}
 use Rattle.eve_views.specs.declared.fault.CheckFault.TheVariants.{Found}
 use Rattle.eve_views.specs.declared.fault.Fault.{Fault}
@@ -77,18 +77,18 @@ summary_of t some =
 -- ---- the verdict
 
 module _ (fits : (names : List (List ℕ)) (x : Executed) → Decided (Fits names x)) (once : (bytes : List ℕ) (t u : Trace)
-    → Spells bytes t → Spells bytes u → t ≡ u)
+    → Spells bytes t → Spells bytes u → t ≡ u) (limits : (bytes : List ℕ) (t : Trace) → Spells bytes t → HasLimits t)
     (orders : (t : Trace) (f : Fault) → IsFaultOutside StandsInOrders t f → f.offset ≤ length_of t)
     (fates : (t : Trace) (e : ℕ) → FatesAreAsItEnds t e) where
   of_trace : (bytes : List ℕ) (t : Trace) → IsRead bytes t → (v : Verdict) × IsVerdict bytes v
-  of_trace bytes t read = elim (first_in_trace t (fates t) (limits_of_spelled bytes t read.spells) fits (orders t)) [
+  of_trace bytes t read = elim (first_in_trace t (fates t) (limits bytes t read.spells) fits (orders t)) [
     | inl found ↦ (
       No found.0,
       trace_first bytes t read.spells (λ u other. once bytes u t other read.spells) found.0
           read.none found.1,
     )
     | inr none ↦
-        let summary = summary_of t (some_replica (head_of t) (limits_of_spelled bytes t read.spells).head) in (
+        let summary = summary_of t (some_replica (head_of t) (limits bytes t read.spells).head) in (
           Yes summary.0,
           (
             t,

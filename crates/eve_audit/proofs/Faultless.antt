@@ -10,7 +10,6 @@ use Rattle.eve_smallbank.specs.Execution.{executed_on}
 use Rattle.eve_grammar.specs.Trace.{Trace}
 use Rattle.eve_grammar.specs.Limits.{HasLimits}
 use Rattle.eve_grammar.specs.Following.{Spells}
-use Rattle.eve_grammar.proofs.Spelled.{limits_of_spelled}
 use Rattle.eve_views.specs.declared.fault.Code.TheVariants as code
 use Rattle.eve_history.specs.SectionHistory.{names_of, IsRightSection}
 use Rattle.eve_history.specs.Order.{StandsInOrders}
@@ -72,7 +71,7 @@ module _ (laws : Laws) (t : Trace) (limits : HasLimits t) where
     together : IsSoundTogether t
     together = record {
       votes = sound_votes t limits (λ f is. none f (in_common (of_votes is)));
-      backed = all_backed t (λ f is. none f (in_common (of_majorities is)));
+      backed = all_backed t limits (λ f is. none f (in_common (of_majorities is)));
       agree = all_agree t (λ f is. none f (in_common (of_agreement is)));
       replied = all_replied t (λ f is. none f (in_common (of_replies is)));
     }
@@ -87,14 +86,15 @@ pub faultless_trace : (bytes : List ℕ) (t : Trace) → ((u : Trace) → Spells
 faultless_trace bytes t once spells none f is = none f (stands_in_bytes bytes t spells once f is)
 
 -- a yes is said of such bytes alone
-pub yes_audited : Laws → ((t : Trace) → IsAccepted t → IsAudited t)
+pub yes_audited : Laws → ((bytes : List ℕ) (t : Trace) → Spells bytes t → HasLimits t)
+    → ((t : Trace) → IsAccepted t → IsAudited t)
     → ((bytes : List ℕ) (t u : Trace) → Spells bytes t → Spells bytes u → t ≡ u) → (bytes : List ℕ) (s : Summary)
     → IsVerdict bytes (Yes s) → SpellsAudited bytes
-yes_audited laws audited once bytes s is =
+yes_audited laws limits audited once bytes s is =
     let t : Trace = is.0 in
     let spells : Spells bytes t = is.1 in (
       t,
       spells,
-      audited t (unfaulted_accepted laws t (limits_of_spelled bytes t spells)
+      audited t (unfaulted_accepted laws t (limits bytes t spells)
           (faultless_trace bytes t (λ u other. once bytes u t other spells) spells is.2)),
     )

@@ -196,7 +196,7 @@ all_decided t limits fits c at =
     (decided_either (records_decided t at e fits c) (decided_either (chains_decided t at e c)
     (decided_either (restores_decided t at e c) (tokens_decided t at e c))))))
     (decided_either (votes_decided t at limits c)
-    (decided_either (of_some t (λ e. StandsInMajorities c t e at) (λ e. majorities_decided t at e c))
+    (decided_either (of_some t (λ e. StandsInMajorities c t e at) (λ e. majorities_decided t at e limits c))
     (decided_either (of_some t (λ e. StandsInAgreement c t e at) (λ e. agreement_decided t at e c))
     (replies_decided t at c)))))
 

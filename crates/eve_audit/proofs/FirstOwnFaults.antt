@@ -8,7 +8,6 @@ use Rattle.eve_views.specs.declared.fault.Fault.{Fault}
 use Rattle.eve_audit.specs.Verdict.{IsOwnFault}
 use Rattle.eve_audit.specs.Reports.{IsFirstOf, IsFoundBelow, IsLeastBelow, last_of, IsFaultBelow}
 use Rattle.eve_views.proofs.Firsts.{up_to-trans}
-use Rattle.eve_agree.proofs.Backing.{below_more}
 
 -- ---- the order of faults
 
@@ -19,6 +18,9 @@ precedes-trans f g h (inr a) (inl b) = inl (omega (arith, a.0, b))
 precedes-trans f g h (inr a) (inr b) = inr (omega (arith, a.0, b.0), up_to-trans f g h a.1 b.1)
 
 -- ---- replica by replica
+
+pub below_more : (k e : ℕ) → k < e + 1 → (k < e) ⊎ (k ≡ e)
+below_more k e less = elim (cases_lt k e) [ inl lower ↦ inl lower | inr up ↦ inr (omega (arith, less, up)) ]
 
 -- a fault below the next number is one below this, or this replica's
 fault_below : (t : Trace) (e : ℕ) (f : Fault) → IsFaultBelow t (e + 1) f → IsFaultBelow t e f ⊎ IsOwnFault t e f

@@ -6,7 +6,7 @@ use Rattle.std.specs.List.{AllByRecursion}
 use Rattle.std.proofs.lemmas.Bool.{cases_lt}
 use Rattle.eve_grammar.specs.Trace.{Step, Trace}
 use Rattle.eve_grammar.proofs.Numbered.{numbered_more, numbered_all}
-use Rattle.eve_history.specs.Section.{SectionState, start, state_after, settled}
+use Rattle.eve_history.specs.Section.{SectionState, start, settled}
 use Rattle.eve_history.specs.SectionHistory.{SectionHistory, section_history, section_histories, history}
 use Rattle.eve_chains.specs.Settling.{Settling, settling, settlings}
 use Rattle.eve_chains.specs.Sound.{IsSoundAlong}
@@ -15,18 +15,13 @@ use Rattle.eve_views.specs.declared.fault.Fault.{Fault}
 use Rattle.eve_audit.specs.Verdict.{IsOwnFault}
 use Rattle.eve_views.specs.Form.{HasNone}
 use Rattle.eve_audit.specs.Reports.{IsFirstOf, IsSoundReplica, AreKept, IsJudgedBelow, IsFoundBelow, IsFaultBelow}
-use Rattle.eve_agree.proofs.Backing.{below_more}
-use Rattle.eve_agree.proofs.ByNumber.{replica_there}
-use Rattle.eve_audit.proofs.FirstOwnFaults.{none_more, least_more, first_more, both_more}
+use Rattle.eve_audit.proofs.Reached.{state_of_none, committed_there}
+use Rattle.eve_audit.proofs.FirstOwnFaults.{below_more, none_more, least_more, first_more, both_more}
 use Rattle.eve_views.specs.First.{first_of}
 use Rattle.eve_views.proofs.Firsts.{first_of_two}
 use Rattle.eve_history.proofs.Rights.{none_at, right_beyond}
 
 -- ---- beyond the last replica there are no steps, and what there is none of is sound
-
-pub state_of_none : (t : Trace) (e : ℕ) → length t.sections ≤ e → history t e ≡ start
-unfolding history
-state_of_none t e le = ap (state_after start) (none_at t e le)
 
 pub sound_beyond : (t : Trace) (e : ℕ) → length t.sections ≤ e → IsSoundReplica t e
 sound_beyond t e le =
@@ -36,7 +31,7 @@ sound_beyond t e le =
       right = right_beyond t e le;
       sound = subst (λ (s : SectionState). AllByRecursion (IsSoundAlong t) (settled s)) state tt;
       restores = subst (λ (xs : List (ℕ × Step)). IsTrue (all_restore_rightly t start xs)) none refl;
-      tokens = λ n p at. absurd (let there = replica_there t e n p at in omega arith);
+      tokens = λ n p at. absurd (let there = committed_there t e n p at in omega arith);
     }
 
 -- ---- what is kept

@@ -14,6 +14,7 @@ pub mod Unique
 pub mod Within
 pub mod Answering
 pub mod Deciding
+pub mod DecidedVotes
 pub mod FittingRecords
 pub mod Unfaulted
 pub mod UnfaultedTogether
@@ -25,6 +26,8 @@ pub mod FirstOfAll
 pub mod Existing
 pub mod Alone
 pub mod SameBanks
+pub mod Reached
 pub mod Outcomes
 pub mod Decisions
 pub mod Sentences
+pub mod OfVersion1

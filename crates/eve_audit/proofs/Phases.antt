@@ -45,6 +45,7 @@ structure_phase t e f is = by f.code is.stands
     by code.WorkerOrder stands = refl
     by code.Commit stands = refl
     by code.Rollback stands = refl
+    by code.Transfer stands = refl
     by c stands = absurd stands
 
 pub record_phase : (t : Trace) (e : ℕ) (f : Fault) → IsFaultIn StandsInRecords t e f → phase_of f.code ≡ 4
@@ -90,6 +91,7 @@ majority_phase t f is = by f.code is.1.stands
     by : (c : Code) → StandsInMajorities c t is.0 f.offset → phase_of c ≡ 9
     by code.NoMajority stands = refl
     by code.RollbackNoMajority stands = refl
+    by code.TransferNoMajority stands = refl
     by c stands = absurd stands
 
 pub outcome_phase : (t : Trace) (f : Fault) → IsFaultSomewhere StandsInAgreement t f → phase_of f.code ≡ 10
@@ -97,6 +99,7 @@ outcome_phase t f is = by f.code is.1.stands
   where
     by : (c : Code) → StandsInAgreement c t is.0 f.offset → phase_of c ≡ 10
     by code.Outcome stands = refl
+    by code.TransferBalances stands = refl
     by c stands = absurd stands
 
 pub reply_phase : (t : Trace) (f : Fault) → IsFaultOutside StandsInReplies t f → phase_of f.code ≡ 11

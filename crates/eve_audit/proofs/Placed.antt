@@ -1,8 +1,8 @@
 -- Each fault that stands names the replica in whose section it lies, or none.
-use Rattle.std.proofs.Common.{◌≡◌, ℕ, List, [], None, Some, refl, ap, subst}
+use Rattle.std.proofs.Common.{◌≡◌, ℕ, zero, suc, List, [], None, Some, refl, ap, subst}
 use Rattle.std.specs.Prelude.{IsTrue, IsFalse, ◌≢◌, Bool, true, false, ◌&&◌, ◌||◌, ◌==◌, nat_le}
 use Rattle.eve_smallbank.specs.Access.{Fits}
-use Rattle.eve_grammar.specs.Trace.{Access, Attempt, Step, Attempts, Commits, RollsBack, Trace}
+use Rattle.eve_grammar.specs.Trace.{Access, Attempt, Transfer, Step, Attempts, Commits, RollsBack, TakesOver, Trace}
 use Rattle.eve_grammar.specs.Spelling.{steps_at, accesses_at}
 use Rattle.eve_views.specs.Code.{phase_of}
 use Rattle.eve_views.specs.declared.fault.Code.{Code}
@@ -10,18 +10,17 @@ use Rattle.eve_views.specs.declared.fault.Code.TheVariants as code
 use Rattle.eve_views.specs.declared.fault.Fault.{Fault}
 use Rattle.eve_grammar.specs.Accesses.{is_right_place}
 use Rattle.eve_grammar.specs.Following.{Spells}
-use Rattle.eve_history.specs.Section.{Placed, SectionState, start, state_after, settled, is_right_attempt}
+use Rattle.eve_history.specs.Section.{Placed, ByTransfer, SectionState, start, state_after, settled, is_right_attempt}
 use Rattle.eve_history.specs.Section.{is_right_certificate, is_right_access, is_right_commit, is_right_rollback}
-use Rattle.eve_history.specs.Section.{are_right_accesses}
-use Rattle.eve_history.specs.SectionHistory.{history, committed_at, names_of}
+use Rattle.eve_history.specs.Section.{is_right_transfer, are_right_accesses}
+use Rattle.eve_history.specs.SectionHistory.{history, landing_at, committed_at, names_of}
 use Rattle.eve_views.specs.Form.{SomePlace}
-use Rattle.eve_history.specs.Structure.{accesses_of, OfAttempt, OfCommit, OfRollback, AtStep, AtAccess}
-use Rattle.eve_history.specs.Structure.{StandsInStructure}
+use Rattle.eve_history.specs.Structure.{accesses_of, OfAttempt, OfCommit, OfRollback, OfTransfer, AtStep}
+use Rattle.eve_history.specs.Structure.{AtAccess, StandsInStructure}
 use Rattle.eve_chains.specs.Visible.{executed_by, visible_to}
 use Rattle.eve_chains.specs.Faults.{AtSettledAccess, StandsInRecords, StandsInChains}
 use Rattle.eve_agree.specs.Restores.{StandsInRestores}
 use Rattle.eve_agree.specs.DueTokens.{StandsInTokens}
-use Rattle.eve_agree.proofs.ByNumber.{all_each}
 use Rattle.eve_agree.specs.Majority.{StandsInMajorities}
 use Rattle.eve_agree.specs.Agreement.{StandsInAgreement}
 use Rattle.eve_audit.specs.Verdict.{Stands, in_form, in_trace, IsTraceFault, in_orders, in_section, in_common, of_votes}
@@ -30,7 +29,9 @@ use Rattle.eve_audit.specs.Verdict.{of_chains, of_restores, of_tokens}
 use Rattle.eve_audit.proofs.Sections.{LiesIn, FatesAreAsItEnds}
 use Rattle.eve_audit.proofs.Phases.{form_phase, order_phase, structure_phase, record_phase, chain_phase, restore_phase}
 use Rattle.eve_audit.proofs.Phases.{token_phase, vote_phase, majority_phase, outcome_phase, reply_phase}
-use Rattle.eve_audit.proofs.Where.{StepIn, at_place, steps_in, starts_in, step_in, access_in, committed_in, settled_in}
+use Rattle.eve_audit.proofs.Where.{StepIn, OfLanding, at_place, steps_in, states_in, starts_in, step_in}
+use Rattle.eve_audit.proofs.Where.{access_in, committed_in, settled_in}
+use Rattle.eve_audit.proofs.Reached.{none_there, each_at, each_committed}
 
 module _ (t : Trace) (e : ℕ) where
   at_step : (at : ℕ) (P : SectionState → Step → Type 0) → AtStep t e at P
@@ -55,6 +56,7 @@ module _ (t : Trace) (e : ℕ) where
           h.2.item h.2.rest h.2.is)
       by (Commits c) is h = absurd h
       by (RollsBack r) is h = absurd h
+      by (TakesOver x) is h = absurd h
 
   pub structure_lies : (c : Code) (at : ℕ) → StandsInStructure c t e at → LiesIn t e at
   structure_lies code.Attempt at stands = at_step at (λ s step. OfAttempt step (λ a. IsFalse (is_right_attempt t s a)))
@@ -67,6 +69,8 @@ module _ (t : Trace) (e : ℕ) where
       stands
   structure_lies code.Rollback at stands =
       at_step at (λ s step. OfRollback step (λ r. IsFalse (is_right_rollback t s r))) stands
+  structure_lies code.Transfer at stands =
+      at_step at (λ s step. OfTransfer step (λ x. IsFalse (is_right_transfer t s x))) stands
   structure_lies c at stands = absurd stands
 
   pub restore_lies : (c : Code) (at : ℕ) → StandsInRestores c t e at → LiesIn t e at
@@ -79,7 +83,15 @@ module _ (t : Trace) (e : ℕ) where
       subst (LiesIn t e) stands.holds.0 (step_in t e stands.before stands.item stands.rest stands.is)
   majority_lies code.RollbackNoMajority at stands =
       subst (LiesIn t e) stands.holds.0 (step_in t e stands.before stands.item stands.rest stands.is)
+  majority_lies code.TransferNoMajority at stands =
+      subst (LiesIn t e) stands.holds.0 (step_in t e stands.before stands.item stands.rest stands.is)
   majority_lies c at stands = absurd stands
+
+  -- where a state that was taken over stands
+  taken_lies : (n at : ℕ) (x : Transfer) → landing_at t e n ≡ Some (ByTransfer at x) → LiesIn t e at
+  taken_lies zero at x is = none_there (ByTransfer at x) is
+  taken_lies (suc n) at x is = starts_in t e (at, TakesOver x)
+      (each_at (OfLanding (StepIn t e)) (history t e).landings n (ByTransfer at x) (states_in t e) is)
 
   module _ (law : FatesAreAsItEnds t e) where
     at_settled : (at : ℕ) (P : Placed → Access → Type 0) → AtSettledAccess t e at P → LiesIn t e at
@@ -90,8 +102,10 @@ module _ (t : Trace) (e : ℕ) where
 
     -- where an attempt that was committed stands
     committed_lies : (n : ℕ) (p : Placed) → committed_at t e n ≡ Some p → LiesIn t e p.offset
-    committed_lies n p at = starts_in t e (p.offset, Attempts p.attempt)
-        (all_each t e (λ q. StepIn t e (q.offset, Attempts q.attempt)) (committed_in t e law) n p at)
+    committed_lies zero p at = none_there p at
+    committed_lies (suc n) p at = starts_in t e (p.offset, Attempts p.attempt)
+        (each_committed (λ q. StepIn t e (q.offset, Attempts q.attempt)) (history t e).landings n p
+        (committed_in t e law) at)
 
     pub record_lies : (c : Code) (at : ℕ) → StandsInRecords c t e at → LiesIn t e at
     record_lies code.Record at stands = at_settled at (λ p x. ¬ Fits (names_of t) (executed_by t p.attempt x)) stands
@@ -112,6 +126,7 @@ module _ (t : Trace) (e : ℕ) where
     pub outcome_lies : (c : Code) (at : ℕ) → StandsInAgreement c t e at → LiesIn t e at
     outcome_lies code.Outcome at stands =
         subst (LiesIn t e) stands.offset (committed_lies stands.n stands.item stands.is)
+    outcome_lies code.TransferBalances at stands = taken_lies stands.n at stands.state stands.is
     outcome_lies c at stands = absurd stands
 
 -- whether the faults of a phase lie in sections

@@ -1,24 +1,25 @@
 -- What a yes says follows from what the phases find.
-use Rattle.std.proofs.Common.{◌≡◌, ℕ, ◌-◌, length, slice_get, Some}
+use Rattle.std.proofs.Common.{◌≡◌, ℕ, zero, suc, ◌-◌, length, map, slice_get, Some, subst, arith}
 use Rattle.std.specs.Prelude.{IsTrue, AllPairs, ◌≢◌}
-use Rattle.eve_smallbank.proofs.Members.{all_in}
-use Rattle.eve_grammar.specs.Trace.{Sent, Trace}
+use Rattle.eve_grammar.specs.Trace.{Transfer, Sent, TakesOver, Trace}
 use Rattle.eve_grammar.specs.Spelling.{steps_at}
 use Rattle.eve_grammar.specs.Certificate.{keeps_groups}
-use Rattle.eve_history.specs.Section.{Placed, batch_at}
-use Rattle.eve_history.specs.SectionHistory.{committed_at}
+use Rattle.eve_history.specs.Section.{Placed, ByTransfer, batch_at}
+use Rattle.eve_history.specs.SectionHistory.{landing_at, committed_at, is_reached, ByAttemptsTo}
 use Rattle.eve_votes.specs.Votes.{IsDecided}
 use Rattle.eve_votes.proofs.Deciding.{quorum_limits}
-use Rattle.eve_chains.proofs.Linked.{in_at, committed_number}
 use Rattle.eve_chains.specs.Visible.{execution, executions}
-use Rattle.eve_chains.specs.Committed.{opening_bank, bank_after, committed_to, Leads, IsSerialBetween}
-use Rattle.eve_chains.specs.Committed.{committed_request_ids}
+use Rattle.eve_chains.specs.Committed.{opening_bank, bank_after, balances_to, committed_to, Leads}
+use Rattle.eve_chains.specs.Committed.{IsSerialBetween, committed_request_ids}
+use Rattle.eve_agree.specs.Agreement.{HasBalancesOfFirst}
+use Rattle.eve_agree.specs.Majority.{SomeDecided}
 use Rattle.eve_agree.specs.Tables.{IsRestored}
 use Rattle.eve_agree.specs.SentReplies.{IsReplied}
 use Rattle.eve_audit.specs.Accepted.{IsAccepted}
 use Rattle.eve_audit.specs.Audited.{IsAudited}
-use Rattle.eve_audit.proofs.Outcomes.{replicas_agree}
-use Rattle.eve_audit.proofs.Decisions.{committed_decided, commit_backed, rollback_backed}
+use Rattle.eve_audit.proofs.Reached.{none_there, each_at}
+use Rattle.eve_audit.proofs.Outcomes.{replies_agree, all_agree, all_have_firsts, by_firsts}
+use Rattle.eve_audit.proofs.Decisions.{committed_decided, commit_backed, rollback_backed, transfer_backed}
 
 module _ (t : Trace) (accepted : IsAccepted t) where
   attempt_decided : (e n : ℕ) (p : Placed) → committed_at t e n ≡ Some p → IsDecided t n p.attempt.view p.attempt.token
@@ -34,27 +35,58 @@ module _ (t : Trace) (accepted : IsAccepted t) where
       )
 
   reply_given : (k : ℕ) (s : Sent) → slice_get t.sent k ≡ Some s → IsReplied t s
-  reply_given k s at = all_in (IsReplied t) accepted.replied (in_at t.sent k s at)
+  reply_given k s at = each_at (IsReplied t) t.sent k s accepted.replied at
 
-  -- with the laws of serial order, of groups, of requests and of rollbacks
-  pub audited_with : ((e n : ℕ) (p : Placed) → committed_at t e n ≡ Some p
-      → IsSerialBetween (bank_after t e (n - 1)) (bank_after t e n) (execution t p.attempt))
-      → ((e n : ℕ) → Leads (opening_bank t) (executions t (committed_to t e n)) (bank_after t e n))
-      → ((e n : ℕ) (p : Placed) → committed_at t e n ≡ Some p
-      → IsTrue (keeps_groups (batch_at t n).sizes (length (batch_at t n).requests) p.attempt.certificate))
-      → ((e : ℕ) → AllPairs (λ a b. a ≢ b) (committed_request_ids t e)) → ((e k : ℕ) → IsRestored t e k) → IsAudited t
-  audited_with serial from_opening keeps_groups once restored = record {
-    numbered = λ e n p at. committed_number t e n p (accepted.right e) at;
-    serial = serial;
-    from_opening = from_opening;
-    keeps_groups = keeps_groups;
-    agree = replicas_agree t accepted.agree;
-    restored = restored;
-    once = once;
-    replied = reply_given;
-    majority = (quorum_limits t accepted.limits).1;
-    decided = attempt_decided;
-    commits = λ e k at c found. commit_backed t (steps_at t e) k at c (accepted.backed e) found;
-    rollbacks = λ e k at r found. rollback_backed t (steps_at t e) k at r (accepted.backed e) found;
-    one_decision = same_decision;
-  }
+  -- what the laws of the crates below say of a trace that is accepted
+  pub record Laws : Type 0 where
+    pub numbers : (e n : ℕ) (p : Placed) → committed_at t e n ≡ Some p → p.attempt.seq ≡ n
+    pub before : (e n : ℕ) (p : Placed) → committed_at t e (suc n) ≡ Some p → IsTrue (is_reached t e n)
+    pub lands : (e k at : ℕ) (x : Transfer) → slice_get (steps_at t e) k ≡ Some (at, TakesOver x)
+        → landing_at t e x.seq ≡ Some (ByTransfer at x)
+    pub states : (e n at : ℕ) (x : Transfer) → landing_at t e n ≡ Some (ByTransfer at x)
+        → balances_to t e n ≡ map (λ v. v.value) x.rows
+    pub serial : (e n : ℕ) (p : Placed) → committed_at t e n ≡ Some p
+        → IsSerialBetween (bank_after t e (n - 1)) (bank_after t e n) (execution t p.attempt)
+    pub from_opening : (e n : ℕ) → ByAttemptsTo t e n
+        → Leads (opening_bank t) (executions t (committed_to t e n)) (bank_after t e n)
+    pub groups : (e n : ℕ) (p : Placed) → committed_at t e n ≡ Some p
+        → IsTrue (keeps_groups (batch_at t n).sizes (length (batch_at t n).requests) p.attempt.certificate)
+    pub once : (e : ℕ) → AllPairs (λ a b. a ≢ b) (committed_request_ids t e)
+    pub restored : (e k : ℕ) → IsRestored t e k
+
+  module _ (laws : Laws) where
+    reached_before : (e n : ℕ) (p : Placed) → committed_at t e n ≡ Some p → IsTrue (is_reached t e (n - 1))
+    reached_before e zero p at = none_there p at
+    reached_before e (suc n) p at =
+        let less : n ≡ suc n - 1 = omega arith in
+        subst (λ (m : ℕ). IsTrue (is_reached t e m)) less (laws.before e n p at)
+
+    taken_over : (e k at : ℕ) (x : Transfer) → slice_get (steps_at t e) k ≡ Some (at, TakesOver x)
+        → HasBalancesOfFirst t x.seq x × SomeDecided t x.seq x.view
+    taken_over e k at x there = (
+      accepted.agree.states e x.seq at x (laws.lands e k at x there),
+      transfer_backed t (steps_at t e) k at x (accepted.backed e) there,
+    )
+
+    pub audited_with : IsAudited t
+    audited_with = record {
+      numbered = laws.numbers;
+      serial = laws.serial;
+      before = reached_before;
+      from_opening = laws.from_opening;
+      by_firsts = λ e n. by_firsts t accepted.agree laws.states laws.before laws.serial n e;
+      have_firsts = λ e n m. all_have_firsts t accepted.agree laws.states laws.before n e m;
+      keeps_groups = laws.groups;
+      agree = all_agree t accepted.agree laws.states;
+      same_replies = replies_agree t accepted.agree;
+      reached = laws.lands;
+      taken_over = taken_over;
+      restored = laws.restored;
+      once = laws.once;
+      replied = reply_given;
+      majority = (quorum_limits t accepted.limits).1;
+      decided = attempt_decided;
+      commits = λ e k at c found. commit_backed t (steps_at t e) k at c (accepted.backed e) found;
+      rollbacks = λ e k at r found. rollback_backed t (steps_at t e) k at r (accepted.backed e) found;
+      one_decision = same_decision;
+    }

@@ -1,26 +1,25 @@
 -- Whether a fault stands at an offset under a code can be decided.
-use Rattle.std.proofs.Common.{◌≡◌, ◌≢◌, ℕ, suc, ◌+◌, ◌-◌, ◌<◌, ◌≤◌, ◌⊎◌, inl, inr, List, [], ◌∷◌, length}
-use Rattle.std.proofs.Common.{get_or, IfSome, refl, sym, subst, ◌∙◌, arith}
+use Rattle.std.proofs.Common.{◌≡◌, ◌≢◌, ℕ, zero, suc, ◌+◌, ◌-◌, ◌<◌, ◌≤◌, ◌⊎◌, inl, inr, List, [], ◌∷◌, length}
+use Rattle.std.proofs.Common.{Option, Some, None, IfSome, refl, sym, ap, subst, ◌∙◌, arith}
 use Rattle.std.specs.Prelude.{IsTrue, IsFalse, Contains, slice_index_or, Bool}
-use Rattle.std.specs.List.{All, list_any}
+use Rattle.std.specs.List.{list_any}
 use Rattle.std.proofs.lemmas.Bool.{cases_Bool, cases_lt, false≢true}
-use Rattle.std.proofs.lemmas.List.{get_or_default}
+use Rattle.std.proofs.lemmas.Option.{same_Some, slice_get_within}
 use Rattle.eve_smallbank.specs.Access.{Executed, Fits}
-use Rattle.eve_grammar.specs.Trace.{Choice, ForRollback, ForCommit, Vote, Access, Attempt, Commit, Rollback, Step}
-use Rattle.eve_grammar.specs.Trace.{Attempts, Commits, RollsBack, Trace}
+use Rattle.eve_grammar.specs.Trace.{ForRollback, ForCommit, Vote, Access, Attempt, Commit, Rollback, Transfer, Step}
+use Rattle.eve_grammar.specs.Trace.{Attempts, Commits, RollsBack, TakesOver, Trace}
 use Rattle.eve_grammar.specs.Accesses.{is_right_place}
 use Rattle.eve_grammar.specs.Limits.{HasLimits}
-use Rattle.eve_grammar.specs.Spelling.{customers_at, batches_at, steps_at, accesses_at, votes_at, votes_of, sent_at}
+use Rattle.eve_grammar.specs.Spelling.{customers_at, batches_at, steps_at, accesses_at, votes_at, sent_at}
 use Rattle.eve_views.specs.Form.{SomePlace}
 use Rattle.eve_views.specs.declared.fault.Code.{Code}
 use Rattle.eve_views.specs.declared.fault.Code.TheVariants as code
 use Rattle.eve_history.specs.Section.{Placed, Landing, ByAttempt, ByTransfer, Skipped, SectionState, start, state_after}
-use Rattle.eve_history.specs.Section.{settled, is_right_attempt}
-use Rattle.eve_history.specs.Section.{is_right_certificate, is_right_access, is_right_commit, is_right_rollback}
-use Rattle.eve_history.specs.Section.{are_right_accesses, are_right}
-use Rattle.eve_history.specs.SectionHistory.{history, names_of}
+use Rattle.eve_history.specs.Section.{settled, is_right_attempt, is_right_certificate, is_right_access, is_right_commit}
+use Rattle.eve_history.specs.Section.{is_right_rollback, is_right_transfer, are_right_accesses, are_right}
+use Rattle.eve_history.specs.SectionHistory.{history, landing_at, attempt_by, committed_at, names_of}
 use Rattle.eve_history.specs.Order.{request_ids_at, StandsInOrders}
-use Rattle.eve_history.specs.Structure.{accesses_of, OfAttempt, OfCommit, OfRollback, StandsInStructure}
+use Rattle.eve_history.specs.Structure.{accesses_of, OfAttempt, OfCommit, OfRollback, OfTransfer, StandsInStructure}
 use Rattle.eve_history.proofs.Places.{place_here, place_later, place_cases, no_place}
 use Rattle.eve_chains.specs.Visible.{executed_by, visible_to}
 use Rattle.eve_chains.specs.Faults.{AtSettledAccess, StandsInRecords, StandsInChains}
@@ -30,15 +29,15 @@ use Rattle.eve_agree.specs.DueTokens.{due_token, StandsInTokens}
 use Rattle.eve_votes.specs.Votes.{is_vote_on, IsDecided, backers}
 use Rattle.eve_votes.specs.Faults.{HasTwoDecisions, StandsInVotes, IsFurther}
 use Rattle.eve_votes.proofs.Casting.{none_behind}
-use Rattle.eve_votes.proofs.Counting.{decided_backs}
 use Rattle.eve_agree.specs.Majority.{StandsInMajorities}
-use Rattle.eve_agree.specs.Agreement.{first_to_commit, HaveSameOutcome, StandsInAgreement}
-use Rattle.eve_agree.specs.ByNumber.{SomeCommitted}
-use Rattle.eve_agree.proofs.ByNumber.{IsBy, some_from_place, place_from_some}
+use Rattle.eve_agree.specs.Agreement.{first_to_commit, HaveSameOutcome, HasBalancesOfFirst, StandsInAgreement}
+use Rattle.eve_agree.specs.ByNumber.{SomeCommitted, SomeTakenOver}
 use Rattle.eve_agree.specs.SentReplies.{StandsInReplies}
 use Rattle.eve_audit.proofs.Deciding.{Decided, HasEquality, decided_both, decided_not, decided_as, some_if}
 use Rattle.eve_audit.proofs.Deciding.{below_or_none, numbers, integers, lists, pairs}
-use Rattle.eve_audit.proofs.UnfaultedTogether.{some_quorum, enough, same_outcome, replied}
+use Rattle.eve_audit.proofs.DecidedVotes.{enough, vote, AtVote, at_vote, IsFor, is_for, voted, some_decided}
+use Rattle.eve_audit.proofs.Reached.{none_there, landed_by}
+use Rattle.eve_audit.proofs.UnfaultedTogether.{same_outcome, balances_of_first, replied}
 
 -- ---- tests, places and elements
 
@@ -75,107 +74,104 @@ of_attempt : (step : Step) (P : Attempt → Type 0) → ((a : Attempt) → Decid
 of_attempt (Attempts a) P decided = decided a
 of_attempt (Commits c) P decided = inr (λ is. is)
 of_attempt (RollsBack r) P decided = inr (λ is. is)
+of_attempt (TakesOver x) P decided = inr (λ is. is)
 
 of_commit : (step : Step) (P : Commit → Type 0) → ((c : Commit) → Decided (P c)) → Decided (OfCommit step P)
 of_commit (Attempts a) P decided = inr (λ is. is)
 of_commit (Commits c) P decided = decided c
 of_commit (RollsBack r) P decided = inr (λ is. is)
+of_commit (TakesOver x) P decided = inr (λ is. is)
 
 of_rollback : (step : Step) (P : Rollback → Type 0) → ((r : Rollback) → Decided (P r)) → Decided (OfRollback step P)
 of_rollback (Attempts a) P decided = inr (λ is. is)
 of_rollback (Commits c) P decided = inr (λ is. is)
 of_rollback (RollsBack r) P decided = decided r
+of_rollback (TakesOver x) P decided = inr (λ is. is)
 
-of_landing : (l : Landing) (P : Placed → Type 0) → ((p : Placed) → Decided (P p)) → Decided (IsBy P l)
-of_landing (ByAttempt p) P decided = decided p
-of_landing (ByTransfer at x) P decided = inr (λ is. is)
-of_landing Skipped P decided = inr (λ is. is)
+of_transfer : (step : Step) (P : Transfer → Type 0) → ((x : Transfer) → Decided (P x)) → Decided (OfTransfer step P)
+of_transfer (Attempts a) P decided = inr (λ is. is)
+of_transfer (Commits c) P decided = inr (λ is. is)
+of_transfer (RollsBack r) P decided = inr (λ is. is)
+of_transfer (TakesOver x) P decided = decided x
+
+-- ---- numbers that were reached
+
+-- at some number that replica e reached or skipped
+module _ (t : Trace) (e : ℕ) (P : ℕ → Landing → Type 0) (decided : (n : ℕ) (l : Landing) → Decided (P n l)) where
+  AtNumber : ℕ → Type 0
+  AtNumber n = (l : Landing) × (landing_at t e n ≡ Some l) × P n l
+
+  number_decided : (n : ℕ) → Decided (AtNumber n)
+  unfolding AtNumber
+  number_decided n = by (landing_at t e n) refl
+    where
+      by : (o : Option Landing) → landing_at t e n ≡ o → Decided (AtNumber n)
+      by None is = inr (λ found. none_there found.0 (sym is ∙ found.1))
+      by (Some l) is =
+          decided_as (λ holds. (l, is, holds))
+          (λ found. subst (P n) (same_Some found.0 l (sym found.1 ∙ is)) found.2) (decided n l)
+
+  number_low : (n : ℕ) (l : Landing) → landing_at t e n ≡ Some l → n < suc (length (history t e).landings)
+  number_low zero l is = omega arith
+  number_low (suc n) l is = (let low = slice_get_within (history t e).landings n l is in omega (arith, low))
+
+  some_number : Decided ((n : ℕ) × (l : Landing) × (landing_at t e n ≡ Some l) × P n l)
+  unfolding AtNumber
+  some_number =
+      decided_as (λ found. (found.0, found.2.0, found.2.1, found.2.2))
+      (λ found. (found.0, number_low found.0 found.1 found.2, (found.1, found.2, found.3)))
+      (below_or_none AtNumber number_decided (suc (length (history t e).landings)))
+
+-- what holds where a number was reached by an attempt, or by a state
+abbrev IsBy : (Placed → Type 0) → Landing → Type 0
+IsBy P (ByAttempt p) = P p
+IsBy P (ByTransfer at x) = ⊥
+IsBy P Skipped = ⊥
+
+abbrev IsByState : (ℕ → Transfer → Type 0) → Landing → Type 0
+IsByState P (ByAttempt p) = ⊥
+IsByState P (ByTransfer at x) = P at x
+IsByState P Skipped = ⊥
+
+is_by : (P : Placed → Type 0) → ((p : Placed) → Decided (P p)) → (l : Landing) → Decided (IsBy P l)
+is_by P decided (ByAttempt p) = decided p
+is_by P decided (ByTransfer at x) = inr (λ is. is)
+is_by P decided Skipped = inr (λ is. is)
+
+is_by_state : (P : ℕ → Transfer → Type 0) → ((at : ℕ) (x : Transfer) → Decided (P at x)) → (l : Landing)
+    → Decided (IsByState P l)
+is_by_state P decided (ByAttempt p) = inr (λ is. is)
+is_by_state P decided (ByTransfer at x) = decided at x
+is_by_state P decided Skipped = inr (λ is. is)
 
 -- ---- two decisions
 
-no_vote : Vote
-no_vote = record { seq = 0; view = 0; choice = ForRollback }
-
 module _ (t : Trace) where
-  vote : ℕ → ℕ → Vote
-  vote v i = get_or (votes_of t v) i no_vote
-
-  -- at some place among the votes
-  AtVote : (Vote → Type 0) → Type 0
-  AtVote P = (v : ℕ) × (v < length t.verifiers) × ((i : ℕ) × (i < length (votes_of t v)) × P (vote v i))
-
-  at_vote : (P : Vote → Type 0) → ((w : Vote) → Decided (P w)) → Decided (AtVote P)
-  unfolding AtVote
-  at_vote P decided =
-      below_or_none (λ v. (i : ℕ) × (i < length (votes_of t v)) × P (vote v i))
-      (λ v. below_or_none (λ i. P (vote v i)) (λ i. decided (vote v i)) (length (votes_of t v)))
-      (length t.verifiers)
-
-  -- a vote for a commit that is decided
-  IsFor : ℕ → Vote → Type 0
-  IsFor n w = (token : List ℕ) × (w.choice ≡ ForCommit token) × IsDecided t n w.view token
-
-  is_for : (n : ℕ) (w : Vote) → Decided (IsFor n w)
-  unfolding IsFor
-  is_for n w = by w.choice refl
-    where
-      other : (token : List ℕ) → ◌≡◌ {A = Choice} ForRollback (ForCommit token) → ⊥
-      other token e = cc
-
-      same : (a b : List ℕ) → ForCommit a ≡ ForCommit b → a ≡ b
-      same a b e = cc
-
-      by : (c : Choice) → w.choice ≡ c
-          → Decided ((token : List ℕ) × (w.choice ≡ ForCommit token) × IsDecided t n w.view token)
-      by ForRollback is = inr (λ found. other found.0 (sym is ∙ found.1))
-      by (ForCommit token) is =
-          decided_as (λ decided. (token, is, decided))
-          (λ found. subst (λ (b : List ℕ). IsDecided t n w.view b) (same found.0 token (sym found.1 ∙ is)) found.2)
-          (enough t.head.quorum (backers t n w.view (ForCommit token)))
-
   -- two votes for commits in two views, both of them decided
   Clash : ℕ → Vote → Vote → Type 0
-  Clash n w x = (w.view ≢ x.view) × (IsFor n w × IsFor n x)
+  Clash n w x = (w.view ≢ x.view) × (IsFor t n w × IsFor t n x)
 
-  clashes : (n : ℕ) → Decided (AtVote (λ w. AtVote (Clash n w)))
+  clashes : (n : ℕ) → Decided (AtVote t (λ w. AtVote t (Clash n w)))
   unfolding Clash
-  clashes n = at_vote (λ w. AtVote (Clash n w))
-      (λ w. at_vote (Clash n w)
-      (λ x. decided_both (decided_not (numbers w.view x.view)) (decided_both (is_for n w) (is_for n x))))
+  clashes n = at_vote t (λ w. AtVote t (Clash n w))
+      (λ w. at_vote t (Clash n w)
+      (λ x. decided_both (decided_not (numbers w.view x.view)) (decided_both (is_for t n w) (is_for t n x))))
 
-  two_of : (n : ℕ) → AtVote (λ w. AtVote (Clash n w)) → HasTwoDecisions t n
+  two_of : (n : ℕ) → AtVote t (λ w. AtVote t (Clash n w)) → HasTwoDecisions t n
   unfolding AtVote Clash IsFor
   two_of n found =
-      let w = vote found.0 found.2.0 in
+      let w = vote t found.0 found.2.0 in
       let also = found.2.2 in
-      let x = vote also.0 also.2.0 in
+      let x = vote t also.0 also.2.0 in
       let clash = also.2.2 in
       (w.view, x.view, clash.1.0.0, clash.1.1.0, clash.0, clash.1.0.2, clash.1.1.2)
 
-  -- a decided commit has a vote for it
   module _ (limits : HasLimits t) where
-    IsOne : Vote → Type 0
-    IsOne w = AtVote (λ x. x ≡ w)
-
-    all_ones : (v : ℕ) → v + t.head.quorum ≤ length t.verifiers → All IsOne (votes_of t v)
-    unfolding IsOne AtVote vote
-    all_ones v early k d lt =
-        let some = some_quorum t limits in
-        (v, omega (arith, some, early), (k, lt, get_or_default (votes_of t v) k no_vote d lt))
-
-    voted : (P : Vote → Type 0) (n view : ℕ) (token : List ℕ) → IsDecided t n view token
-        → ((w : Vote) → w.view ≡ view → w.choice ≡ ForCommit token → P w) → AtVote P
-    unfolding IsOne AtVote
-    voted P n view token decided holds =
-        let back = decided_backs t IsOne n view token (some_quorum t limits) all_ones decided in
-        let one : AtVote (λ x. x ≡ back.vote) = back.holds in
-        (one.0, one.1, (one.2.0, one.2.1, subst P (sym one.2.2) (holds back.vote back.in_view back.commit)))
-
-    clash_of : (n : ℕ) → HasTwoDecisions t n → AtVote (λ w. AtVote (Clash n w))
+    clash_of : (n : ℕ) → HasTwoDecisions t n → AtVote t (λ w. AtVote t (Clash n w))
     unfolding Clash IsFor
     clash_of n two =
-        voted (λ w. AtVote (Clash n w)) n two.0 two.2 two.5 (λ w in_view commit.
-        voted (Clash n w) n two.1 two.3 two.6 (λ x in_other also. (
+        voted t limits (λ w. AtVote t (Clash n w)) n two.0 two.2 two.5 (λ w in_view commit.
+        voted t limits (Clash n w) n two.1 two.3 two.6 (λ x in_other also. (
           (λ same. two.4 (sym in_view ∙ same ∙ in_other)),
           (
             (two.2, commit, subst (λ (v : ℕ). IsDecided t n v two.2) (sym in_view) two.5),
@@ -262,6 +258,10 @@ module _ (t : Trace) (at : ℕ) where
         place_decided _ (λ before step. decided_both (decided_true (are_right t start before))
         (decided_both (numbers step.0 at)
         (of_rollback step.1 _ (λ r. decided_false (is_right_rollback t (state before) r))))) (steps_at t e)
+    structure_decided code.Transfer =
+        place_decided _ (λ before step. decided_both (decided_true (are_right t start before))
+        (decided_both (numbers step.0 at)
+        (of_transfer step.1 _ (λ x. decided_false (is_right_transfer t (state before) x))))) (steps_at t e)
     structure_decided c = inr (λ stands. absurd stands)
 
     settled_access : (P : Placed → Access → Type 0) → ((p : Placed) (x : Access) → Decided (P p x))
@@ -295,9 +295,45 @@ module _ (t : Trace) (at : ℕ) where
 
     committed_somewhere : (Q : ℕ → Placed → Type 0) → ((n : ℕ) (p : Placed) → Decided (Q n p))
         → Decided (SomeCommitted t e at Q)
-    committed_somewhere Q decided = decided_as (some_from_place t e at Q) (place_from_some t e at Q)
-        (place_decided _ (λ before l. of_landing l _ (λ p.
-        decided_both (numbers p.offset at) (decided (suc (length before)) p))) (history t e).landings)
+    committed_somewhere Q decided =
+        decided_as (λ found. from found.0 found.1 found.2 found.3)
+        (λ some. (
+          some.n,
+          ByAttempt some.item,
+          landed some.n some.item some.is,
+          (some.offset, some.holds),
+        ))
+        (some_number t e (λ n. IsBy (λ p. (p.offset ≡ at) × Q n p))
+        (λ n. is_by _ (λ p. decided_both (numbers p.offset at) (decided n p))))
+      where
+        from : (n : ℕ) (l : Landing) → landing_at t e n ≡ Some l → IsBy (λ p. (p.offset ≡ at) × Q n p) l
+            → SomeCommitted t e at Q
+        from n (ByAttempt p) is holds =
+            record { n = n; item = p; is = ap attempt_by is; offset = holds.0; holds = holds.1 }
+        from n (ByTransfer place x) is holds = absurd holds
+        from n Skipped is holds = absurd holds
+
+        landed : (n : ℕ) (p : Placed) → committed_at t e n ≡ Some p → landing_at t e n ≡ Some (ByAttempt p)
+        landed n p is = landed_by (landing_at t e n) p is
+
+    taken_somewhere : (Q : ℕ → Transfer → Type 0) → ((n : ℕ) (x : Transfer) → Decided (Q n x))
+        → Decided (SomeTakenOver t e at Q)
+    taken_somewhere Q decided =
+        decided_as (λ found. from found.0 found.1 found.2 found.3)
+        (λ some. (some.n, ByTransfer at some.state, some.is, (refl, some.holds)))
+        (some_number t e (λ n. IsByState (λ place x. (place ≡ at) × Q n x))
+        (λ n. is_by_state _ (λ place x. decided_both (numbers place at) (decided n x))))
+      where
+        from : (n : ℕ) (l : Landing) → landing_at t e n ≡ Some l → IsByState (λ place x. (place ≡ at) × Q n x) l
+            → SomeTakenOver t e at Q
+        from n (ByAttempt p) is holds = absurd holds
+        from n (ByTransfer place x) is holds = record {
+          n = n;
+          state = x;
+          is = is ∙ ap (λ (k : ℕ). Some (ByTransfer k x)) holds.0;
+          holds = holds.1;
+        }
+        from n Skipped is holds = absurd holds
 
     pub tokens_decided : (c : Code) → Decided (StandsInTokens c t e at)
     tokens_decided code.Token =
@@ -305,20 +341,26 @@ module _ (t : Trace) (at : ℕ) where
         (λ n p. decided_not (lists numbers p.attempt.token (due_token t e p)))
     tokens_decided c = inr (λ stands. absurd stands)
 
-    pub majorities_decided : (c : Code) → Decided (StandsInMajorities c t e at)
-    majorities_decided code.NoMajority =
+    pub majorities_decided : HasLimits t → (c : Code) → Decided (StandsInMajorities c t e at)
+    majorities_decided limits code.NoMajority =
         place_decided _ (λ _ step. decided_both (numbers step.0 at)
         (of_commit step.1 _ (λ c. decided_not (enough t.head.quorum (backers t c.seq c.view (ForCommit c.token))))))
         (steps_at t e)
-    majorities_decided code.RollbackNoMajority =
+    majorities_decided limits code.RollbackNoMajority =
         place_decided _ (λ _ step. decided_both (numbers step.0 at)
         (of_rollback step.1 _ (λ r. decided_not
         (enough t.head.quorum (backers t (r.to + 1) (r.view - 1) ForRollback)))))
         (steps_at t e)
-    majorities_decided c = inr (λ stands. absurd stands)
+    majorities_decided limits code.TransferNoMajority =
+        place_decided _ (λ _ step. decided_both (numbers step.0 at)
+        (of_transfer step.1 _ (λ x. decided_not (some_decided t limits x.seq x.view))))
+        (steps_at t e)
+    majorities_decided limits c = inr (λ stands. absurd stands)
 
     pub agreement_decided : (c : Code) → Decided (StandsInAgreement c t e at)
     agreement_decided code.Outcome =
         committed_somewhere (λ n p. IfSome (first_to_commit t n) (λ f. ¬ HaveSameOutcome t e f n))
         (λ n p. some_if _ (λ f. decided_not (same_outcome t e n f)) (first_to_commit t n))
+    agreement_decided code.TransferBalances =
+        taken_somewhere (λ n x. ¬ HasBalancesOfFirst t n x) (λ n x. decided_not (balances_of_first t n x))
     agreement_decided c = inr (λ stands. absurd stands)

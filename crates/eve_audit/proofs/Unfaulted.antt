@@ -5,7 +5,7 @@ use Rattle.std.specs.List.{AllByRecursion}
 use Rattle.std.specs.Prelude.{IsTrue}
 use Rattle.std.proofs.lemmas.Bool.{cases_Bool, and_from}
 use Rattle.eve_smallbank.specs.Access.{Executed, Fits}
-use Rattle.eve_grammar.specs.Trace.{Access, Step, Attempts, Commits, RollsBack, Trace}
+use Rattle.eve_grammar.specs.Trace.{Access, Step, Attempts, Commits, RollsBack, TakesOver, Trace}
 use Rattle.eve_grammar.specs.Spelling.{steps_at}
 use Rattle.eve_views.specs.declared.fault.Code.TheVariants as code
 use Rattle.eve_history.specs.declared.wrong.Wrong.{Wrong}
@@ -70,6 +70,8 @@ module _ (t : Trace) (e : ℕ) where
         by (at, Attempts a) same later =
             subst (λ (x : ℕ × Step). IsTrue (all_restore_rightly t (next (state_after start before) x) rest)) same later
         by (at, Commits c) same later =
+            subst (λ (x : ℕ × Step). IsTrue (all_restore_rightly t (next (state_after start before) x) rest)) same later
+        by (at, TakesOver x) same later =
             subst (λ (x : ℕ × Step). IsTrue (all_restore_rightly t (next (state_after start before) x) rest)) same later
         by (at, RollsBack r) same later =
             elim (cases_Bool (are_right_restores t (state_after start before) r.restores)) [

@@ -1,45 +1,40 @@
 -- Where no phase finds a fault, all is as it must be, of all replicas together.
-use Rattle.std.proofs.Common.{◌≡◌, ℕ, ◌+◌, ◌-◌, ◌<◌, ◌≤◌, inl, inr, List, [], ◌∷◌, length, Option, Some, None}
+use Rattle.std.proofs.Common.{◌≡◌, ℕ, ◌+◌, ◌-◌, ◌<◌, ◌≤◌, inl, inr, List, [], ◌∷◌, ◌++◌, length, Option, Some, None}
 use Rattle.std.proofs.Common.{IfSome, slice_get, get_or, refl, sym, ap, subst, ◌∙◌, arith, option_map, map}
 use Rattle.std.specs.List.{AllByRecursion, All, list_all}
 use Rattle.std.specs.Prelude.{IsTrue}
-use Rattle.std.proofs.lemmas.Bool.{cases_lt, cases_eq}
+use Rattle.std.proofs.lemmas.Bool.{cases_eq}
 use Rattle.std.proofs.lemmas.Option.{slice_get-get_or, slice_get_within, same_Some, slice_get-map}
 use Rattle.std.proofs.lemmas.List.{length-map}
-use Rattle.eve_grammar.specs.Trace.{ForRollback, ForCommit, Asked, Sent, Batch, Step, Attempts, Commits, RollsBack}
-use Rattle.eve_grammar.specs.Trace.{Trace, request_id}
+use Rattle.eve_grammar.specs.Trace.{ForRollback, ForCommit, Asked, Sent, Transfer, Batch, Step, Attempts, Commits}
+use Rattle.eve_grammar.specs.Trace.{RollsBack, TakesOver, Trace, request_id}
 use Rattle.eve_grammar.specs.Frames.{OfSent}
 use Rattle.eve_grammar.specs.Spelling.{frame_text, located, batches_at, sent_start, sent_at, steps_at, votes_of}
 use Rattle.eve_grammar.specs.Limits.{HasLimits, is_vote}
+use Rattle.eve_grammar.proofs.Grouping.{all_at}
+use Rattle.eve_views.specs.Form.{HasNone, IsFaultSomewhere, IsFaultOutside}
 use Rattle.eve_views.specs.declared.fault.Code.TheVariants as code
 use Rattle.eve_views.specs.declared.fault.Fault.{Fault}
-use Rattle.eve_history.specs.Section.{Placed, no_batch, batch_at}
-use Rattle.eve_history.specs.SectionHistory.{committed_at}
+use Rattle.eve_history.specs.Section.{Placed, ByTransfer, no_batch, batch_at}
+use Rattle.eve_history.specs.SectionHistory.{landing_at, committed_at}
+use Rattle.eve_history.proofs.OrderLaws.{batch_count}
 use Rattle.eve_chains.specs.Committed.{balances_to}
-use Rattle.eve_chains.proofs.Linked.{none≢some}
 use Rattle.eve_votes.specs.Votes.{IsDecided, backers}
 use Rattle.eve_votes.specs.Faults.{HasTwoDecisions, AreVotesSound, StandsInVotes}
-use Rattle.eve_grammar.proofs.Grouping.{all_at}
-use Rattle.eve_history.proofs.OrderLaws.{batch_count}
 use Rattle.eve_votes.proofs.Counting.{decided_backs, one_token}
 use Rattle.eve_votes.proofs.Deciding.{IsRight, right_vote, quorum_limits, decisions_stand}
 use Rattle.eve_votes.proofs.Tallying.{votes_once}
 use Rattle.eve_agree.specs.Majority.{IsBacked, AllAreBacked, StandsInMajorities}
-use Rattle.eve_agree.specs.Unbacked.{IsUnbacked}
-use Rattle.eve_agree.proofs.Backing.{fault_from}
-use Rattle.eve_agree.specs.Agreement.{first_to_commit, HaveSameOutcome, ReplicasAgree, StandsInAgreement}
-use Rattle.eve_agree.proofs.Agreeing.{differs, they_agree}
+use Rattle.eve_agree.specs.Agreement.{first_to_commit, HaveSameOutcome, HasBalancesOfFirst, ReplicasAgree}
+use Rattle.eve_agree.specs.Agreement.{StandsInAgreement}
 use Rattle.eve_agree.specs.SentReplies.{IsReplied, AllReplied, StandsInReplies}
-use Rattle.eve_views.specs.Form.{HasNone, IsFaultSomewhere, IsFaultOutside}
 use Rattle.eve_audit.proofs.Deciding.{Decided, decided_both, decided_as, all_or_place, all_if_none, below_or_none}
 use Rattle.eve_audit.proofs.Deciding.{numbers, integers}
 use Rattle.eve_audit.proofs.Deciding.{lists, options, replies}
+use Rattle.eve_audit.proofs.DecidedVotes.{some_quorum, enough, some_decided}
+use Rattle.eve_audit.proofs.Reached.{none_there, some_there}
 
 -- ---- votes
-
--- a quorum is one verifier or more
-pub some_quorum : (t : Trace) → HasLimits t → 1 ≤ t.head.quorum
-some_quorum t limits = let quorum = quorum_limits t limits in omega (arith, quorum.1)
 
 votes_right : (t : Trace) → HasLimits t → (v : ℕ) → v + t.head.quorum ≤ length t.verifiers
     → All (IsRight (length t.batches)) (votes_of t v)
@@ -89,37 +84,55 @@ module _ (t : Trace) (limits : HasLimits t) where
 
 -- ---- majorities
 
-pub enough : (quorum votes : ℕ) → Decided (quorum ≤ votes)
-enough quorum votes = elim (cases_lt votes quorum) [
-  | inl few ↦ inr (λ le. absurd (omega (arith, few, le)))
-  | inr le
-      ↦ inl le
-]
-
 module _ (t : Trace) where
-  backed : (step : Step) → Decided (IsBacked t step)
-  backed (Attempts a) = inl tt
-  backed (Commits c) = enough t.head.quorum (backers t c.seq c.view (ForCommit c.token))
-  backed (RollsBack r) = enough t.head.quorum (backers t (r.to + 1) (r.view - 1) ForRollback)
+  backed : HasLimits t → (step : Step) → Decided (IsBacked t step)
+  backed limits (Attempts a) = inl tt
+  backed limits (Commits c) = enough t.head.quorum (backers t c.seq c.view (ForCommit c.token))
+  backed limits (RollsBack r) = enough t.head.quorum (backers t (r.to + 1) (r.view - 1) ForRollback)
+  backed limits (TakesOver x) = some_decided t limits x.seq x.view
 
-  unbacked : (e at : ℕ) (step : Step) → ¬ IsBacked t step → (f : Fault) × IsUnbacked t e (at, step) f
-  unbacked e at (Attempts a) wrong = absurd (wrong tt)
-  unbacked e at (Commits c) wrong = (
+  -- where no majority voted for a step, a fault stands
+  unbacked : (e : ℕ) (before : List (ℕ × Step)) (step : ℕ × Step) (rest : List (ℕ × Step))
+      → steps_at t e ≡ before ++ step ∷ rest → ¬ IsBacked t step.1 → (f : Fault)
+      × IsFaultSomewhere StandsInMajorities t f
+  unbacked e before (at, Attempts a) rest is wrong = absurd (wrong tt)
+  unbacked e before (at, Commits c) rest is wrong = (
     record { code = code.NoMajority; offset = at; replica = Some e },
-    record { unbacked = wrong; lacking = refl; offset = refl; inside = refl },
+    (
+      e,
+      record {
+        stands = record { before = before; item = (at, Commits c); rest = rest; is = is; holds = (refl, wrong) };
+        inside = refl;
+      },
+    ),
   )
-  unbacked e at (RollsBack r) wrong = (
+  unbacked e before (at, RollsBack r) rest is wrong = (
     record { code = code.RollbackNoMajority; offset = at; replica = Some e },
-    record { unbacked = wrong; lacking = refl; offset = refl; inside = refl },
+    (
+      e,
+      record {
+        stands = record { before = before; item = (at, RollsBack r); rest = rest; is = is; holds = (refl, wrong) };
+        inside = refl;
+      },
+    ),
+  )
+  unbacked e before (at, TakesOver x) rest is wrong = (
+    record { code = code.TransferNoMajority; offset = at; replica = Some e },
+    (
+      e,
+      record {
+        stands = record { before = before; item = (at, TakesOver x); rest = rest; is = is; holds = (refl, wrong) };
+        inside = refl;
+      },
+    ),
   )
 
-  pub all_backed : HasNone (IsFaultSomewhere StandsInMajorities t) → AllAreBacked t
-  all_backed none e = elim (all_or_place (λ s. IsBacked t s.1) (λ s. backed s.1) (steps_at t e)) [
+  pub all_backed : HasLimits t → HasNone (IsFaultSomewhere StandsInMajorities t) → AllAreBacked t
+  all_backed limits none e = elim (all_or_place (λ s. IsBacked t s.1) (λ s. backed limits s.1) (steps_at t e)) [
     | inl all ↦ all
     | inr place ↦
-        let wrong = unbacked e place.item.0 place.item.1 place.holds in
-        absurd (none wrong.0 (fault_from t e wrong.0
-        (record { before = place.before; item = place.item; rest = place.rest; is = place.is; holds = wrong.1 })))
+        let wrong = unbacked e place.before place.item place.rest place.is place.holds in
+        absurd (none wrong.0 wrong.1)
   ]
 
   -- ---- agreement
@@ -129,21 +142,53 @@ module _ (t : Trace) where
       decided_as (λ both. record { balances = both.0; replies = both.1 }) (λ h. (h.balances, h.replies))
       (decided_both (lists integers (balances_to t e n) (balances_to t f n)) (options (lists replies) _ _))
 
-  outcome_is : HasNone (IsFaultSomewhere StandsInAgreement t) → (e n : ℕ) (p : Placed) → committed_at t e n ≡ Some p
-      → IfSome (first_to_commit t n) (λ f. HaveSameOutcome t e f n)
-  outcome_is none e n p at = by (first_to_commit t n) refl
+  pub balances_of_first : (n : ℕ) (x : Transfer) → Decided (HasBalancesOfFirst t n x)
+  balances_of_first n x = by (first_to_commit t n) refl
     where
-      by : (o : Option ℕ) → first_to_commit t n ≡ o → IfSome o (λ f. HaveSameOutcome t e f n)
-      by None is = tt
-      by (Some f) is = elim (same_outcome e n f) [
-        | inl same ↦ same
-        | inr apart ↦ absurd (none _
-            (differs t e f n p.offset p.attempt.replies
-            (record { item = p; at = at; offset_is = refl; replies_are = refl }) is apart))
-      ]
+      by : (o : Option ℕ) → first_to_commit t n ≡ o → Decided (HasBalancesOfFirst t n x)
+      by None is = inr (λ has. none_there has.0 (sym is ∙ has.1))
+      by (Some f) is =
+          decided_as (λ same. (f, is, same))
+          (λ has. subst (λ (g : ℕ). map (λ v. v.value) x.rows ≡ balances_to t g n)
+          (same_Some has.0 f (sym has.1 ∙ is)) has.2)
+          (lists integers (map (λ v. v.value) x.rows) (balances_to t f n))
 
-  pub all_agree : HasNone (IsFaultSomewhere StandsInAgreement t) → ReplicasAgree t
-  all_agree none = they_agree t (λ e n p at. inl (outcome_is none e n p at))
+  module _ (none : HasNone (IsFaultSomewhere StandsInAgreement t)) where
+    outcome_is : (e n : ℕ) (p : Placed) → committed_at t e n ≡ Some p
+        → IfSome (first_to_commit t n) (λ f. HaveSameOutcome t e f n)
+    outcome_is e n p at = by (first_to_commit t n) refl
+      where
+        by : (o : Option ℕ) → first_to_commit t n ≡ o → IfSome o (λ f. HaveSameOutcome t e f n)
+        by None is = tt
+        by (Some f) is = elim (same_outcome e n f) [
+          | inl same ↦ same
+          | inr apart ↦ absurd (none (record { code = code.Outcome; offset = p.offset; replica = Some e }) (
+            e,
+            record {
+              stands = record {
+                n = n;
+                item = p;
+                is = at;
+                offset = refl;
+                holds = subst (λ (o : Option ℕ). IfSome o (λ g. ¬ HaveSameOutcome t e g n)) (sym is) apart;
+              };
+              inside = refl;
+            },
+          ))
+        ]
+
+    state_is : (e n at : ℕ) (x : Transfer) → landing_at t e n ≡ Some (ByTransfer at x) → HasBalancesOfFirst t n x
+    state_is e n at x is = elim (balances_of_first n x) [
+      | inl has ↦ has
+      | inr wrong ↦ absurd (none (record { code = code.TransferBalances; offset = at; replica = Some e })
+          (e, record { stands = record { n = n; state = x; is = is; holds = wrong }; inside = refl }))
+    ]
+
+    pub all_agree : ReplicasAgree t
+    all_agree = record {
+      outcomes = λ e n has. (let got = some_there (committed_at t e n) has in outcome_is e n got.0 got.1);
+      states = state_is;
+    }
 
 -- ---- replies
 
@@ -157,7 +202,7 @@ module _ (t : Trace) (s : Sent) where
   answered p i = by (slice_get (batch_at t s.seq).requests i) refl
     where
       by : (o : Option Asked) → slice_get (batch_at t s.seq).requests i ≡ o → Decided (IsAnswered t s p i)
-      by None is = inr (λ a. none≢some (s.client, s.number) (sym (ap (option_map request_id) is) ∙ a.request))
+      by None is = inr (λ a. none_there (s.client, s.number) (sym (ap (option_map request_id) is) ∙ a.request))
       by (Some x) is =
           decided_as
           (λ h. record {
@@ -184,7 +229,7 @@ module _ (t : Trace) (s : Sent) where
   replied = by (committed_at t s.replica s.seq) refl
     where
       by : (o : Option Placed) → committed_at t s.replica s.seq ≡ o → Decided (IsReplied t s)
-      by None is = inr (λ r. none≢some r.placed (sym is ∙ r.committed))
+      by None is = inr (λ r. none_there r.placed (sym is ∙ r.committed))
       by (Some p) is =
           decided_as (λ found. record {
             placed = p;

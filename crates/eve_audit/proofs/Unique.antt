@@ -38,6 +38,7 @@ code_with n =
     else if n == 23 then code.WorkerOrder
     else if n == 24 then code.Commit
     else if n == 25 then code.Rollback
+    else if n == 26 then code.Transfer
     else if n == 30 then code.Record
     else if n == 40 then code.Version
     else if n == 41 then code.Value
@@ -47,7 +48,9 @@ code_with n =
     else if n == 71 then code.TwoDecisions
     else if n == 72 then code.NoMajority
     else if n == 73 then code.RollbackNoMajority
+    else if n == 74 then code.TransferNoMajority
     else if n == 80 then code.Outcome
+    else if n == 81 then code.TransferBalances
     else code.Reply
 
 pub with_its_number : (c : Code) → code_with (code_number c) ≡ c

@@ -1,20 +1,22 @@
 -- In which section the frames of a replica stand.
 use Rattle.std.proofs.Common.{◌≡◌, ℕ, zero, suc, ◌+◌, ◌-◌, ◌<◌, ◌≤◌, inl, inr, List, [], ◌∷◌, ◌++◌, map, length, take}
 use Rattle.std.proofs.Common.{sym, ap, subst, ◌∙◌, arith}
-use Rattle.std.specs.Prelude.{slice_index_or}
+use Rattle.std.specs.Prelude.{slice_index_or, replicate, ⊤}
 use Rattle.std.specs.List.{flat_map, enumerate_from, AllByRecursion}
 use Rattle.std.proofs.lemmas.Bool.{cases_lt}
 use Rattle.std.proofs.lemmas.List.{length-append}
 use Rattle.std.proofs.lemmas.List.Folds.{flat_map-map}
 use Rattle.std.specs.Int.{bytes_high_first}
-use Rattle.eve_grammar.specs.Trace.{Access, Attempt, Step, Attempts, Commits, RollsBack, Trace}
+use Rattle.eve_grammar.specs.Trace.{Access, Attempt, Step, Attempts, Commits, RollsBack, TakesOver, Trace}
 use Rattle.eve_grammar.specs.Frames.{Frame, OfReplica, OfAttempt as AttemptFrame, OfAccess, OfCommit, OfRollback}
+use Rattle.eve_grammar.specs.Frames.{OfTransfer}
 use Rattle.eve_grammar.specs.Frames.{kind_of, without_accesses}
 use Rattle.eve_grammar.specs.Spelling.{body_text, frame_text, frames_text, located, step_text, section_text}
 use Rattle.eve_grammar.specs.Spelling.{section_start, steps_of, steps_at, accesses_at}
 use Rattle.eve_grammar.proofs.Lists.{all-append, all-weaker, all_unmapped}
 use Rattle.eve_views.proofs.Locating.{section_is}
-use Rattle.eve_history.specs.Section.{attempts_by, settled}
+use Rattle.eve_history.specs.Section.{Placed, Landing, ByAttempt, ByTransfer, Skipped, SectionState, start, committing}
+use Rattle.eve_history.specs.Section.{next, state_after, attempts_by, settled}
 use Rattle.eve_history.specs.SectionHistory.{attempts_among, placed_at, is_committed, is_discarded, history}
 use Rattle.eve_history.specs.Fates.{fates_from}
 use Rattle.eve_audit.proofs.Sections.{LiesIn, FatesAreAsItEnds}
@@ -150,6 +152,7 @@ step_has_text : (s : Step) → 1 ≤ length (step_text s)
 step_has_text (Attempts a) = first_has_text (AttemptFrame (without_accesses a)) (map OfAccess a.accesses)
 step_has_text (Commits c) = first_has_text (OfCommit c) []
 step_has_text (RollsBack r) = first_has_text (OfRollback r) []
+step_has_text (TakesOver x) = first_has_text (OfTransfer x) []
 
 -- a step lies in the section, as a whole
 abbrev pub StepIn : Trace → ℕ → ℕ × Step → Type 0
@@ -161,6 +164,36 @@ attempts_in P [] all = tt
 attempts_in P ((at, Attempts a) ∷ steps) all = (all.0, attempts_in P steps all.1)
 attempts_in P ((at, Commits c) ∷ steps) all = attempts_in P steps all.1
 attempts_in P ((at, RollsBack r) ∷ steps) all = attempts_in P steps all.1
+attempts_in P ((at, TakesOver x) ∷ steps) all = attempts_in P steps all.1
+
+-- what holds of the steps by which states were taken over, where a number was reached so
+abbrev pub OfLanding : (ℕ × Step → Type 0) → Landing → Type 0
+OfLanding P (ByAttempt p) = ⊤
+OfLanding P (ByTransfer at x) = P (at, TakesOver x)
+OfLanding P Skipped = ⊤
+
+all_skipped : (P : ℕ × Step → Type 0) (n : ℕ) (l : Landing) → OfLanding P l
+    → AllByRecursion (OfLanding P) (replicate n Skipped ++ l ∷ [])
+all_skipped P zero l last = (last, tt)
+all_skipped P (suc n) l last = (tt, all_skipped P n l last)
+
+states_next : (P : ℕ × Step → Type 0) (s : SectionState) (step : ℕ × Step) → P step
+    → AllByRecursion (OfLanding P) s.landings → AllByRecursion (OfLanding P) (next s step).landings
+states_next P s (at, Attempts a) own all = all
+states_next P s (at, Commits c) own all = by s.pending
+  where
+    by : (pending : List Placed) → AllByRecursion (OfLanding P) (committing s pending).landings
+    by [] = all
+    by (p ∷ pending) = all-append (OfLanding P) s.landings (ByAttempt p ∷ []) all (tt, tt)
+states_next P s (at, RollsBack r) own all = all
+states_next P s (at, TakesOver x) own all =
+    all-append (OfLanding P) s.landings (replicate (x.seq - (s.last + 1)) Skipped ++ ByTransfer at x ∷ []) all
+    (all_skipped P (x.seq - (s.last + 1)) (ByTransfer at x) own)
+
+states_after : (P : ℕ × Step → Type 0) (s : SectionState) (steps : List (ℕ × Step)) → AllByRecursion P steps
+    → AllByRecursion (OfLanding P) s.landings → AllByRecursion (OfLanding P) (state_after s steps).landings
+states_after P s [] own all = all
+states_after P s (step ∷ steps) own all = states_after P (next s step) steps own.1 (states_next P s step own.0 all)
 
 module _ (t : Trace) (e : ℕ) where
   pub steps_in : AllByRecursion (StepIn t e) (steps_at t e)
@@ -203,6 +236,11 @@ module _ (t : Trace) (e : ℕ) where
       (flat_map-map frame_text OfAccess a.accesses) in
       let some = frame_has_text (OfAccess item.1) in
       (omega (arith, step.0, within.0), omega (arith, step.1, within.1, long, some))
+
+  -- and so does each by which a state was taken over
+  pub states_in : AllByRecursion (OfLanding (StepIn t e)) (history t e).landings
+  unfolding history
+  states_in = states_after (StepIn t e) start (steps_at t e) steps_in tt
 
   module _ (law : FatesAreAsItEnds t e) where
     -- an attempt that was committed or discarded is one of the steps

@@ -1,32 +1,71 @@
 -- What a yes says of a trace. docs/MODEL.md, "The audit theorem".
-use Rattle.std.specs.Prelude.{◌≡◌, ℕ, ◌+◌, ◌-◌, ◌*◌, ◌<◌, length, slice_get, Some, IsTrue, AllPairs, ◌≢◌, suc}
-use Rattle.eve_grammar.specs.Trace.{Commit, Rollback, Sent, Commits, RollsBack, Trace}
+use Rattle.std.specs.Prelude.{◌≡◌, ℕ, zero, suc, ◌+◌, ◌-◌, ◌*◌, ◌<◌, ◌≤◌, List, [], ◌++◌, length, slice_get, Option}
+use Rattle.std.specs.Prelude.{Some, None, IsTrue, AllPairs, ◌≢◌}
+use Rattle.std.specs.Option.{is_some}
+use Rattle.eve_smallbank.specs.Access.{Executed}
+use Rattle.eve_grammar.specs.Trace.{Commit, Rollback, Transfer, Sent, Commits, RollsBack, TakesOver, Trace}
 use Rattle.eve_grammar.specs.Spelling.{steps_at}
 use Rattle.eve_grammar.specs.Certificate.{keeps_groups}
-use Rattle.eve_history.specs.Section.{Placed, batch_at}
-use Rattle.eve_history.specs.SectionHistory.{committed_at}
+use Rattle.eve_history.specs.Section.{Placed, ByTransfer, batch_at}
+use Rattle.eve_history.specs.SectionHistory.{landing_at, committed_at, is_reached, ByAttemptsTo}
 use Rattle.eve_chains.specs.Visible.{execution, executions}
 use Rattle.eve_chains.specs.Committed.{opening_bank, bank_after, committed_to, Leads, IsSerialBetween}
 use Rattle.eve_chains.specs.Committed.{committed_request_ids}
 use Rattle.eve_votes.specs.Votes.{IsDecided, IsRolledBack}
+use Rattle.eve_agree.specs.Agreement.{first_to_commit, HasBalancesOfFirst}
+use Rattle.eve_agree.specs.Majority.{SomeDecided}
 use Rattle.eve_agree.specs.SentReplies.{IsReplied}
 use Rattle.eve_agree.specs.Tables.{working_table, committed_table}
 
--- Each committed batch of each replica is SmallBank on one thread, and what else a yes says.
+-- what an attempt executed, if there is one
+abbrev pub execution_by : Trace → Option Placed → List Executed
+execution_by t (Some p) = execution t p.attempt
+execution_by t None = []
+
+-- what a replica executed for batch n, if there is one that committed it
+abbrev pub execution_of : Trace → ℕ → Option ℕ → List Executed
+execution_of t n (Some e) = execution_by t (committed_at t e n)
+execution_of t n None = []
+
+-- what was executed for the batches from 1 to n, one after another: for each by the lowest-numbered replica that
+-- committed it
+abbrev pub first_executions : Trace → ℕ → List Executed
+first_executions t zero = []
+first_executions t (suc n) = first_executions t n ++ execution_of t (suc n) (first_to_commit t (suc n))
+
+-- Each committed batch of each replica is SmallBank on one thread, and what else a yes says. A replica reached a number
+-- by an attempt, where it committed the batch of that number, or by a state that it took over, where it skipped the
+-- numbers between. All reached number 0: there the bank has the opening balances.
 pub record IsAudited (t : Trace) : Type 0 where
-  -- the attempt by which a replica committed its n-th batch is of batch n
+  -- the attempt by which a replica committed batch n is of batch n
   pub numbered : (e n : ℕ) (p : Placed) → committed_at t e n ≡ Some p → p.attempt.seq ≡ n
-  -- each batch, from the bank before it to the bank after it, in its certificate's order
+  -- each committed batch, from the bank before it to the bank after it, in its certificate's order
   pub serial : (e n : ℕ) (p : Placed) → committed_at t e n ≡ Some p
       → IsSerialBetween (bank_after t e (n - 1)) (bank_after t e n) (execution t p.attempt)
-  -- and all of them, from the opening balances
-  pub from_opening : (e n : ℕ) → Leads (opening_bank t) (executions t (committed_to t e n)) (bank_after t e n)
+  -- and that before it is one that the replica reached
+  pub before : (e n : ℕ) (p : Placed) → committed_at t e n ≡ Some p → IsTrue (is_reached t e (n - 1))
+  -- all of them, from the opening balances, up to where a replica took a state over first
+  pub from_opening : (e n : ℕ) → ByAttemptsTo t e n
+      → Leads (opening_bank t) (executions t (committed_to t e n)) (bank_after t e n)
+  -- And behind that: after whatever number a replica reached, its bank comes from the opening balances by all batches
+  -- up to that number, each as the lowest-numbered replica that committed it executed it. Each batch has such a one.
+  pub by_firsts : (e n : ℕ) → IsTrue (is_reached t e n)
+      → Leads (opening_bank t) (first_executions t n) (bank_after t e n)
+  pub have_firsts : (e n m : ℕ) → IsTrue (is_reached t e n) → 1 ≤ m → m ≤ n → IsTrue (is_some (first_to_commit t m))
   -- the certificate of each committed batch has every index once, parallelBatch after parallelBatch
   pub keeps_groups : (e n : ℕ) (p : Placed) → committed_at t e n ≡ Some p
       → IsTrue (keeps_groups (batch_at t n).sizes (length (batch_at t n).requests) p.attempt.certificate)
-  -- replicas that committed a batch have the same bank after it, and the same replies by request index
-  pub agree : (e f n : ℕ) (p q : Placed) → committed_at t e n ≡ Some p → committed_at t f n ≡ Some q
-      → (bank_after t e n ≡ bank_after t f n) × (p.attempt.replies ≡ q.attempt.replies)
+  -- replicas that reached a number have the same bank after it, and those that committed its batch have the same
+  -- replies, by request index
+  pub agree : (e f n : ℕ) → IsTrue (is_reached t e n) → IsTrue (is_reached t f n) → bank_after t e n ≡ bank_after t f n
+  pub same_replies : (e f n : ℕ) (p q : Placed) → committed_at t e n ≡ Some p → committed_at t f n ≡ Some q
+      → p.attempt.replies ≡ q.attempt.replies
+  -- By each state that a replica took over it reached the state's number. The state has the balances after that number
+  -- of the lowest-numbered replica that committed its batch, and some commit of it is decided in the state's view.
+  pub reached : (e k at : ℕ) (x : Transfer) → slice_get (steps_at t e) k ≡ Some (at, TakesOver x)
+      → landing_at t e x.seq ≡ Some (ByTransfer at x)
+  pub taken_over : (e k at : ℕ) (x : Transfer) → slice_get (steps_at t e) k ≡ Some (at, TakesOver x)
+      → HasBalancesOfFirst t x.seq x × SomeDecided t x.seq x.view
   -- after each rollback a replica works on what is committed
   pub restored : (e k at : ℕ) (r : Rollback) → slice_get (steps_at t e) k ≡ Some (at, RollsBack r)
       → working_table t e (suc k) ≡ committed_table t e (suc k)

@@ -74,7 +74,7 @@ fn judge_together(
     alloc: Global,
     trace: &Trace<'_>,
     histories: &[History<'_>],
-    settled: &[Settled],
+    settled: &[Settled<'_>],
 ) -> Result<(), CheckFault>
     requires histories { histories.now ≡ section_histories trace.now }
     requires settled { settled.now ≡ settlings trace.now }

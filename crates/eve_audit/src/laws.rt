@@ -1,10 +1,14 @@
 //! Laws about the definitions. A body calls the laws that its own stands on: the contract is the law.
 
-ghost use Rattle.std.specs.Prelude.{◌≡◌, ◌≤◌, ℕ, List, length};
+ghost use Rattle.std.specs.Prelude.{◌≡◌, ◌≤◌, ℕ, List, Some, length};
 ghost use Rattle.eve_grammar.specs.Trace.{Trace};
 ghost use Rattle.eve_grammar.specs.Places.{IsBytes};
 ghost use Rattle.eve_grammar.specs.Following.{Spells};
 ghost use Rattle.eve_views.specs.declared.fault.Fault.{Fault};
+ghost use Rattle.eve_history.specs.Section.{Placed};
+ghost use Rattle.eve_history.specs.SectionHistory.{committed_at, ByAttemptsTo};
+ghost use Rattle.eve_chains.specs.Visible.{executions};
+ghost use Rattle.eve_chains.specs.Committed.{opening_bank, bank_after, committed_to, Leads};
 ghost use Rattle.eve_audit.specs.Audited.{IsAudited};
 ghost use Rattle.eve_audit.specs.declared.verdict.Summary.{Summary};
 ghost use Rattle.eve_audit.specs.declared.verdict.Verdict.{Verdict};
@@ -17,7 +21,9 @@ ghost use Rattle.eve_audit.specs.Accepted.{IsAccepted};
 use eve_agree::laws::rollbacks_restore_what_is_committed;
 use eve_chains::laws::{
     committed_orders_keep_the_groups, requests_take_effect_once, serial_order_of_a_section,
+    states_are_the_balances,
 };
+use eve_history::laws::numbers_are_reached;
 
 /// Bytes have one verdict at most.
 ///
@@ -36,6 +42,7 @@ pub fn bytes_have_a_verdict()
     ensures { (bytes : List ℕ) → IsBytes bytes → (v : Verdict) × IsVerdict bytes v }
 {
     eve_grammar::laws::bytes_spell_one_trace();
+    eve_grammar::laws::spelled_parts_are_within_limits();
     eve_views::laws::form_is_decided();
     eve_history::laws::faults_lie_within();
     eve_history::laws::fates_are_as_the_section_ends();
@@ -84,6 +91,7 @@ pub fn a_yes_is_audited()
         → IsAudited t }
 {
     eve_grammar::laws::bytes_spell_one_trace();
+    eve_grammar::laws::spelled_parts_are_within_limits();
     eve_smallbank::laws::requests_fit();
     eve_smallbank::laws::fitting_records_are_unique();
     eve_chains::laws::requests_take_effect_once();
@@ -99,8 +107,28 @@ pub fn a_yes_is_audited()
 pub fn accepted_traces_are_audited()
     ensures { (t : Trace) → IsAccepted t → IsAudited t }
 {
+    numbers_are_reached();
+    states_are_the_balances();
     serial_order_of_a_section();
     committed_orders_keep_the_groups();
     requests_take_effect_once();
     rollbacks_restore_what_is_committed();
+}
+
+/// In version 1 of the format no replica takes a state over: each replica reached each of its numbers by an attempt. So
+/// what `IsAudited` says of numbers that were reached it says of committed batches, and each replica's bank after each
+/// of its batches comes from the opening balances by its own attempts.
+///
+/// docs/MODEL.md, "The audit theorem".
+pub fn version_1_takes_nothing_over()
+    ensures attempts { (bytes : List ℕ) (t : Trace) (e n : ℕ) → Spells bytes t → t.head.version ≡ 1
+        → ByAttemptsTo t e n }
+    ensures from_opening { (bytes : List ℕ) (t : Trace) (e n : ℕ) → Spells bytes t → t.head.version ≡ 1 → IsAudited t
+        → Leads (opening_bank t) (executions t (committed_to t e n)) (bank_after t e n) }
+    ensures agree { (t : Trace) (e f n : ℕ) (p q : Placed) → IsAudited t → committed_at t e n ≡ Some p
+        → committed_at t f n ≡ Some q
+        → (bank_after t e n ≡ bank_after t f n) × (p.attempt.replies ≡ q.attempt.replies) }
+{
+    eve_grammar::laws::spelled_parts_are_within_limits();
+    numbers_are_reached();
 }

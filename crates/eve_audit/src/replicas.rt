@@ -26,7 +26,7 @@ pub struct Report<'a> {
     /// What its section tells.
     pub history: History<'a>,
     /// What its committed batches wrote.
-    pub settled: Settled,
+    pub settled: Settled<'a>,
 }
 
 impl<'a> Report<'a> {
@@ -48,7 +48,7 @@ pub struct Reports<'a> {
     /// What each section tells.
     pub histories: Vec<History<'a>>,
     /// What the committed batches of each wrote.
-    pub settled: Vec<Settled>,
+    pub settled: Vec<Settled<'a>>,
     /// The least last committed number over the replicas.
     pub committed: u32,
 }
@@ -131,7 +131,7 @@ fn settle<'a, R: Threads + Sync>(
     history: &History<'a>,
     jobs: u8,
     peer: Option<Peer<'_, 'a>>,
-) -> Result<Settled, CheckFault>
+) -> Result<Settled<'a>, CheckFault>
     requires history { history.now ≡ section_history trace.now history.now.replica }
     requires none { HasNone (IsFaultIn StandsInStructure trace.now history.now.replica) }
     requires names { names.now.items ≡ names_of trace.now }

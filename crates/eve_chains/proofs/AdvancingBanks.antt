@@ -3,9 +3,7 @@ use Rattle.std.proofs.Common.{◌≡◌, ℕ, ℤ, zero, suc, ◌-◌, ◌*◌, 
 use Rattle.std.proofs.Common.{flat_map, pos}
 use Rattle.std.proofs.Common.{take, fold, length, slice_get, Option, Some, None, refl, sym, ap, ◌∙◌, arith}
 use Rattle.std.specs.List.{AllByRecursion, list_all}
-use Rattle.std.proofs.lemmas.Bool.{and_parts, ltb-true, le-leb}
-use Rattle.std.proofs.Math.Dec.{leb-suc-suc, leb-suc-zero}
-use Rattle.std.specs.Prelude.{nat_le}
+use Rattle.std.proofs.lemmas.Bool.{and_parts, ltb-true}
 use Rattle.std.proofs.lemmas.List.Sums.{fold-append}
 use Rattle.std.specs.Prelude.{option_map}
 use Rattle.std.proofs.lemmas.Option.{slice_get-map}
@@ -29,7 +27,7 @@ use Rattle.eve_chains.proofs.CommittedBatches.{batches_within}
 use Rattle.eve_chains.proofs.Linked.{in_attempts}
 use Rattle.eve_chains.proofs.SerialSections.{take_one_more, take_no_more, rows_next}
 use Rattle.eve_chains.proofs.Advancing.{advance_along}
-use Rattle.eve_chains.specs.Settling.{Change, Wrote, Settling, change_at, settling, values_with, values_in, is_change}
+use Rattle.eve_chains.specs.Settling.{Change, Settling, change_at, settling, values_with, values_in, is_change}
 use Rattle.eve_chains.specs.Settling.{defined, AreBankAfter}
 
 -- ---- one number
@@ -44,13 +42,12 @@ pub values_next : (s : Settling) (n : ℕ) (c : Change) → slice_get s.numbers 
 unfolding values_in
 values_next s n c at = one_more (balance_of_row s.opening) s.numbers n c at
 
--- the same, where the number is that of a batch
-pub values_then : (s : Settling) (n : ℕ) (cs : List (ℕ × ℤ)) (old new : ℕ → ℤ) → 1 ≤ n
-    → slice_get s.numbers (n - 1) ≡ Some (Wrote cs) → old ≡ values_in s (n - 1) → new ≡ values_changed old cs
-    → new ≡ values_in s n
-values_then s n cs old new le at so step =
+-- the same of a number from 1 on
+pub values_then : (s : Settling) (n : ℕ) (c : Change) (old new : ℕ → ℤ) → 1 ≤ n
+    → slice_get s.numbers (n - 1) ≡ Some c → old ≡ values_in s (n - 1) → new ≡ values_with old c → new ≡ values_in s n
+values_then s n c old new le at so step =
     let is : suc (n - 1) ≡ n = omega arith in
-    step ∙ ap (λ (values : ℕ → ℤ). values_changed values cs) so ∙ sym (values_next s (n - 1) (Wrote cs) at)
+    step ∙ ap (λ (values : ℕ → ℤ). values_with values c) so ∙ sym (values_next s (n - 1) c at)
     ∙ ap (values_in s) is
 
 pub values_opening : (s : Settling) → balance_of_row s.opening ≡ values_in s 0
@@ -100,7 +97,7 @@ changed_is_written t e n p values limits at =
     (in_attempts (history t e).landings n p at)))
 
 -- a state that was taken over has the values of its rows
-values_taken : (rows : List Versioned) → balance_of_row (map (λ v. v.value) rows) ≡ values_of (taken_table rows)
+pub values_taken : (rows : List Versioned) → balance_of_row (map (λ v. v.value) rows) ≡ values_of (taken_table rows)
 values_taken rows = λ i row. get_or-map (λ (v : Versioned). v.value) rows row (record { version = 0; value = pos 0 }) i
 
 stays : (t : Trace) (e n : ℕ) → slice_get (history t e).landings n ≡ None → values_to t e (suc n) ≡ values_to t e n
@@ -135,17 +132,6 @@ settled_are : (t : Trace) (e n : ℕ) → HasLimits t → IsRightSection t e →
 settled_are t e zero limits right = refl
 settled_are t e (suc n) limits right = one_settled t e n limits right (settled_are t e n limits right)
     (slice_get (history t e).landings n) refl
-
--- where each number is a batch's, there are balances after each up to the last
-pub wrote_defined : (s : Settling) (ns : List (List (ℕ × ℤ))) (n : ℕ) → s.numbers ≡ map Wrote ns
-    → nat_le n (length ns) ≡ defined s n
-wrote_defined s ns zero is = le-leb 0 (length ns) (omega arith)
-wrote_defined s ns (suc n) is = sym (ap (λ (cs : List Change). is_change (slice_get cs n)) is ∙ there ns n)
-  where
-    there : (xs : List (List (ℕ × ℤ))) (n : ℕ) → is_change (slice_get (map Wrote xs) n) ≡ nat_le (suc n) (length xs)
-    there [] n = sym (leb-suc-zero n)
-    there (x ∷ xs) zero = sym (le-leb 1 (suc (length xs)) (omega arith))
-    there (x ∷ xs) (suc n) = there xs n ∙ sym (leb-suc-suc (suc n) (length xs))
 
 -- there are balances after a number that was reached
 pub reached_is_defined : (t : Trace) (e n : ℕ) → defined (settling t e) n ≡ is_reached t e n

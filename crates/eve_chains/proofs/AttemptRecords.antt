@@ -6,7 +6,8 @@ use Rattle.std.specs.Prelude.{nat_le}
 use Rattle.std.specs.List.{AllByRecursion, list_all}
 use Rattle.std.proofs.lemmas.Bool.{and_parts, and_from, eqb-true}
 use Rattle.eve_smallbank.proofs.Members.{all_in, all_from_in}
-use Rattle.eve_grammar.specs.Trace.{Access, Attempt, Step, Attempts, Commits, RollsBack, Trace, head_of}
+use Rattle.eve_grammar.specs.Trace.{Access, Attempt, Step, Attempts, Commits, RollsBack, TakesOver, Trace}
+use Rattle.eve_grammar.specs.Trace.{head_of}
 use Rattle.eve_grammar.specs.Frames.{OfAccess}
 use Rattle.eve_grammar.specs.Spelling.{frame_text, located, steps_at, accesses_at}
 use Rattle.eve_grammar.specs.Limits.{is_number, is_entry, is_access, is_attempt, is_whole_attempt, is_step, row_count}
@@ -80,6 +81,8 @@ whole_among rows ((at, Commits c) ∷ steps) h = whole_among rows steps
     (and_parts (is_step rows (Commits c)) (list_all (λ x. is_step rows x.1) steps) h).1
 whole_among rows ((at, RollsBack r) ∷ steps) h = whole_among rows steps
     (and_parts (is_step rows (RollsBack r)) (list_all (λ x. is_step rows x.1) steps) h).1
+whole_among rows ((at, TakesOver x) ∷ steps) h = whole_among rows steps
+    (and_parts (is_step rows (TakesOver x)) (list_all (λ x. is_step rows x.1) steps) h).1
 
 -- all attempts of a section
 pub whole_section : (t : Trace) (e : ℕ) → HasLimits t

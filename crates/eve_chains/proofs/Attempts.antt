@@ -5,7 +5,7 @@ use Rattle.std.proofs.Common.{refl, sym, subst, ap, ◌∙◌, inl, inr, ◌⊎�
 use Rattle.std.proofs.lemmas.Bool.{and_parts, eqb-true, leb-true, eq-eqb, ne_eqb, cond-true, cond-false}
 use Rattle.std.specs.List.{AllByRecursion}
 use Rattle.eve_smallbank.proofs.Members.{In, here, there, all_in, all_from_in, in_front, in_cons}
-use Rattle.eve_grammar.specs.Trace.{Access, Attempt, Step, Attempts, Commits, RollsBack, Trace}
+use Rattle.eve_grammar.specs.Trace.{Access, Attempt, Step, Attempts, Commits, RollsBack, TakesOver, Trace}
 use Rattle.eve_grammar.specs.Frames.{OfAccess, OfAttempt}
 use Rattle.eve_grammar.specs.Spelling.{frame_text, located, steps_at, accesses_at}
 use Rattle.eve_history.specs.declared.fate.Fate.{Fate}
@@ -120,6 +120,9 @@ have_batches t s ((at, Commits c) ∷ steps) right =
 have_batches t s ((at, RollsBack r) ∷ steps) right =
     have_batches t (next s (at, RollsBack r)) steps
     (and_parts (is_right t s (RollsBack r)) (are_right t (next s (at, RollsBack r)) steps) right).1
+have_batches t s ((at, TakesOver x) ∷ steps) right =
+    have_batches t (next s (at, TakesOver x)) steps
+    (and_parts (is_right t s (TakesOver x)) (are_right t (next s (at, TakesOver x)) steps) right).1
 
 pub batch_there : (t : Trace) (e : ℕ) → IsRightSection t e → (x : ℕ × Attempt) → In x (attempts_among (steps_at t e))
     → (1 ≤ x.1.seq) × (x.1.seq ≤ length t.batches)

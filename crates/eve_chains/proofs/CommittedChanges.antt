@@ -14,7 +14,6 @@ use Rattle.eve_grammar.proofs.Lists.{same_first, same_others, no_item}
 use Rattle.eve_history.specs.declared.fate.Fate.{Fate}
 use Rattle.eve_history.specs.declared.fate.Fate.TheVariants.{Committed, Discarded, Open}
 use Rattle.eve_history.specs.Section.{Placed, Landing, ByAttempt, ByTransfer, Skipped, attempts_by}
-use Rattle.eve_history.proofs.AttemptsAlone.{IsByAttempt, all_by_attempts}
 use Rattle.eve_history.specs.SectionHistory.{SectionHistory, section_history, ordered, history, IsRightSection}
 use Rattle.eve_chains.specs.Along.{entries_along}
 use Rattle.eve_chains.specs.Rows.{Fated, Noted, told_of, noted_by, all_noted, of_row}
@@ -25,7 +24,6 @@ use Rattle.eve_chains.specs.declared.walked.Walked.{Walked}
 use Rattle.eve_chains.specs.Changes.{last_written, changes_below, with_change, change_by, changes_along, changes_of_rows}
 use Rattle.eve_chains.specs.Changes.{by_number}
 use Rattle.eve_chains.specs.Numbered.{HasNumber, IsRowBelow}
-use Rattle.eve_chains.specs.Settling.{Change, Wrote, change_at, settling}
 use Rattle.eve_chains.specs.Walked.{IsWalked, AreWalked}
 use Rattle.eve_chains.proofs.Linked.{AreLinked, linked_history, last_committed}
 use Rattle.eve_chains.proofs.Paths.{all_placed, will_commit, committed_told}
@@ -137,7 +135,7 @@ module _ (row : ℕ) where
 -- ---- a row, number after number
 
 -- the entries of the attempt by which a number was reached, in its certificate's order
-abbrev entries_by : Landing → List Entry
+abbrev pub entries_by : Landing → List Entry
 entries_by (ByAttempt p) = entries_along (ordered p.offset p.attempt)
 entries_by (ByTransfer at x) = []
 entries_by Skipped = []
@@ -288,22 +286,14 @@ module _ (t : Trace) (e : ℕ) (right : IsRightSection t e) where
         (weaker (IsOneOf (2 * length t.customers) (length (history t e).landings)) (IsRowBelow (2 * length t.customers))
         (λ x is. is.row) joined ones)
 
-    -- where each number was reached by an attempt, what the rows' walks give is all that it changed
-    wrote_all : (ls : List Landing) → AllByRecursion IsByAttempt ls
-        → map Wrote (map (changes_below (2 * length t.customers)) (entries_of_all ls)) ≡ map (change_at t) ls
-    wrote_all [] by = refl
-    wrote_all (ByAttempt p ∷ ls) by = ap (λ (cs : List Change). change_at t (ByAttempt p) ∷ cs) (wrote_all ls by.1)
-    wrote_all (ByTransfer at x ∷ ls) by = absurd by.0
-    wrote_all (Skipped ∷ ls) by = absurd by.0
-
-    pub joined_by_number : map Wrote (by_number (length (history t e).landings) joined) ≡ (settling t e).numbers
-    unfolding settling
+    -- what the rows' walks give is what the attempts wrote by which numbers were reached
+    pub joined_by_number : by_number (length (history t e).landings) joined
+        ≡ map (changes_below (2 * length t.customers)) batch_entries
     joined_by_number =
-        (λ i. map Wrote (by_number (sym counted i) (joined_are i)))
-        ∙ ap (map Wrote) (numbers_are (2 * length t.customers) batch_entries (length batch_entries) (omega arith)
+        (λ i. by_number (sym counted i) (joined_are i))
+        ∙ numbers_are (2 * length t.customers) batch_entries (length batch_entries) (omega arith)
         ∙ ap (map (changes_below (2 * length t.customers)))
-        (take_all (length batch_entries) batch_entries (omega arith)))
-        ∙ wrote_all (history t e).landings (all_by_attempts t e)
+        (take_all (length batch_entries) batch_entries (omega arith))
 
 last_told : (t : Trace) (e : ℕ) → (section_history t e).committed ≡ (history t e).last
 unfolding section_history history

@@ -1,4 +1,5 @@
 pub mod AttemptRecords
+mod TakenStates
 mod Told
 mod ByRow
 mod WalkedRows
@@ -36,4 +37,6 @@ mod ChangedRows
 mod CommittedChanges
 mod SettingRows
 mod AdvancingBanks
+mod LandedChanges
+mod TakenRows
 mod SameAgain

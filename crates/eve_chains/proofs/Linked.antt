@@ -2,15 +2,16 @@
 -- reached stands on what came by the landings before it.
 use Rattle.std.proofs.Common.{◌≡◌, ℕ, zero, suc, ◌+◌, ◌≤◌, ◌==◌, nat_le, length, length-append, arith, ◌&&◌, List}
 use Rattle.std.proofs.Common.{[], ◌∷◌, ◌++◌, map, flat_map, take, drop, slice_get, Option, Some, None, refl, sym, subst, ap, ◌∙◌}
-use Rattle.std.proofs.Common.{append_assoc, append-nil, IsTrue}
-use Rattle.std.proofs.lemmas.Bool.{and_parts, eqb-true, leb-true}
+use Rattle.std.proofs.Common.{append_assoc, append-nil, IsTrue, ◌-◌, ◌<◌, nat_lt, replicate}
+use Rattle.std.proofs.lemmas.Bool.{and_parts, eqb-true, leb-true, ltb-true}
 use Rattle.std.specs.Prelude.{⊤}
 use Rattle.std.proofs.lemmas.List.{length-map, map-append}
 use Rattle.std.proofs.lemmas.Grind.{flat_map-append}
 use Rattle.std.proofs.lemmas.Option.{same_Some}
-use Rattle.eve_grammar.specs.Trace.{Attempt, Step, Attempts, Commits, RollsBack, Trace}
+use Rattle.eve_grammar.specs.Trace.{Attempt, Transfer, Step, Attempts, Commits, RollsBack, TakesOver, Trace}
 use Rattle.eve_grammar.specs.Spelling.{steps_at}
-use Rattle.eve_history.specs.Section.{Came, Ran, Placed, Landing, ByAttempt, ByTransfer, Skipped, came_by, attempts_by}
+use Rattle.eve_history.specs.Section.{Came, Ran, TookOver, Placed, Landing, ByAttempt, ByTransfer, Skipped}
+use Rattle.eve_history.specs.Section.{came_by, attempts_by}
 use Rattle.eve_history.specs.Section.{SectionState, start, path_of, committing, next, state_after, is_due}
 use Rattle.eve_history.specs.Section.{is_right_attempt, is_right_certificate, are_right_accesses, is_right, are_right}
 use Rattle.eve_history.specs.SectionHistory.{history, attempt_by, committed_at, IsRightSection}
@@ -47,6 +48,32 @@ linked-push t before (l ∷ ls) last linked is = (
 linked-front : (t : Trace) (before ls ms : List Landing) → AreLinked t before (ls ++ ms) → AreLinked t before ls
 linked-front t before [] ms linked = tt
 linked-front t before (l ∷ ls) ms linked = (linked.0, linked-front t (before ++ l ∷ []) ls ms linked.1)
+
+-- ---- a state is taken over
+
+-- the landings that it adds
+abbrev pub taking : ℕ → ℕ → Transfer → List Landing
+taking skipped at x = replicate skipped Skipped ++ ByTransfer at x ∷ []
+
+pub attempts_taking : (ls : List Landing) (skipped at : ℕ) (x : Transfer)
+    → attempts_by (ls ++ taking skipped at x) ≡ attempts_by ls
+attempts_taking [] zero at x = refl
+attempts_taking [] (suc n) at x = attempts_taking [] n at x
+attempts_taking (ByAttempt p ∷ ls) skipped at x = ap (λ (ps : List Placed). p ∷ ps) (attempts_taking ls skipped at x)
+attempts_taking (ByTransfer from y ∷ ls) skipped at x = attempts_taking ls skipped at x
+attempts_taking (Skipped ∷ ls) skipped at x = attempts_taking ls skipped at x
+
+pub came_taking : (skipped at : ℕ) (x : Transfer) → flat_map came_by (taking skipped at x) ≡ TookOver x.rows ∷ []
+came_taking zero at x = refl
+came_taking (suc n) at x = came_taking n at x
+
+-- it is linked to nothing
+linked-taking : (t : Trace) (before ls : List Landing) (skipped at : ℕ) (x : Transfer) → AreLinked t before ls
+    → AreLinked t before (ls ++ taking skipped at x)
+linked-taking t before [] zero at x linked = (tt, tt)
+linked-taking t before [] (suc n) at x linked = (tt, linked-taking t (before ++ Skipped ∷ []) [] n at x tt)
+linked-taking t before (l ∷ ls) skipped at x linked =
+    (linked.0, linked-taking t (before ++ l ∷ []) ls skipped at x linked.1)
 
 -- each attempt's path is what stands before it
 abbrev pub ArePlaced : List Came → List Placed → Type 0
@@ -136,6 +163,26 @@ ordered_next t s (at, RollsBack r) right ordered = record {
       (linked-front t [] s.landings (map ByAttempt s.pending) ordered.linked);
   last = ordered.last;
 }
+ordered_next t s (at, TakesOver x) right ordered =
+    let parts = and_parts (nat_lt s.last x.seq) (nat_le x.seq (length t.batches) && nat_le s.view x.view) right in
+    let skipped = x.seq - (s.last + 1) in
+    let behind : s.last < x.seq = ltb-true s.last x.seq parts.0 in
+    record {
+      linked = subst (AreLinked t [])
+          (sym (append-nil (s.landings ++ taking skipped at x)))
+          (linked-taking t [] s.landings skipped at x
+          (linked-front t [] s.landings (map ByAttempt s.pending) ordered.linked));
+      last = sym (length-append s.landings (taking skipped at x)
+          ∙ (λ i. sym ordered.last i + (length-append (replicate skipped Skipped) (ByTransfer at x ∷ [])
+          ∙ ap (λ (n : ℕ). n + 1) (length-replicate skipped)) i) ∙ up s.last x.seq behind);
+    }
+  where
+    up : (m n : ℕ) → m < n → m + (n - (m + 1) + 1) ≡ n
+    up m n less = omega arith
+
+    length-replicate : (n : ℕ) → length (replicate n Skipped) ≡ n
+    length-replicate zero = refl
+    length-replicate (suc n) = ap suc (length-replicate n)
 
 ordered_after : (t : Trace) (s : SectionState) (steps : List (ℕ × Step)) → IsTrue (are_right t s steps) → IsOrdered t s
     → IsOrdered t (state_after s steps)

@@ -1,21 +1,22 @@
 -- What the rows have after an attempt's path is what those leave that count of the attempts before it.
 use Rattle.std.proofs.Common.{◌≡◌, ℕ, zero, suc, ◌+◌, ◌≤◌, ◌<◌, ◌==◌, Bool, true, false, cond, ◌||◌, List, [], ◌∷◌}
 use Rattle.std.proofs.Common.{◌++◌, map, fold, flat_map, length, filter, refl, sym, subst, ap, ◌∙◌, append_assoc, append-nil, arith}
-use Rattle.std.proofs.Common.{IsTrue, add-zero, suc-add, add-suc}
+use Rattle.std.proofs.Common.{IsTrue, add-zero, suc-add, add-suc, ◌-◌, get_or, length-append}
 use Rattle.std.specs.List.{AllByRecursion}
 use Rattle.std.specs.Prelude.{nat_le, nat_lt, ◌&&◌}
 use Rattle.std.specs.Bool.{beq}
-use Rattle.std.proofs.lemmas.Bool.{and_parts, eqb-true, eq-eqb, ne_eqb, false≢true}
+use Rattle.std.proofs.lemmas.Bool.{and_parts, eqb-true, eq-eqb, ne_eqb, leb-true, false≢true}
 use Rattle.std.proofs.lemmas.List.{map-append}
 use Rattle.std.proofs.lemmas.List.Elements.{filter-append}
-use Rattle.eve_grammar.specs.Trace.{Attempt, Commit, Rollback, Step, Attempts, Commits, RollsBack, Trace}
+use Rattle.eve_grammar.specs.Trace.{Attempt, Commit, Rollback, Transfer, Step, Attempts, Commits, RollsBack, TakesOver}
+use Rattle.eve_grammar.specs.Trace.{Trace}
 use Rattle.eve_grammar.specs.Spelling.{steps_at}
 use Rattle.eve_grammar.proofs.Lists.{all-weaker, all-append}
 use Rattle.eve_history.specs.declared.fate.Fate.TheVariants.{Committed}
-use Rattle.eve_history.specs.Section.{Came, Ran, Landing, ByAttempt, ByTransfer, Skipped, came_by, attempts_by}
+use Rattle.eve_history.specs.Section.{Came, Ran, TookOver, Landing, ByAttempt, ByTransfer, Skipped, came_by, attempts_by}
 use Rattle.eve_history.specs.Section.{Placed, SectionState, start, path_of, committing, next, state_after, is_right}
 use Rattle.eve_history.specs.Section.{are_right, is_due, is_right_attempt, is_right_certificate, are_right_accesses}
-use Rattle.eve_history.specs.Section.{request_count, commits_first, is_right_rollback}
+use Rattle.eve_history.specs.Section.{request_count, commits_first, is_right_rollback, taking_over, is_right_transfer}
 use Rattle.eve_history.specs.Fates.{fate_in}
 use Rattle.eve_history.specs.SectionHistory.{is_committed, is_discarded, history, IsRightSection}
 use Rattle.eve_history.proofs.FateLaws.{attempts_by_push}
@@ -23,9 +24,10 @@ use Rattle.eve_smallbank.specs.declared.versioned.Versioned.{Versioned}
 use Rattle.eve_smallbank.specs.Chain.{Table, table_after_all}
 use Rattle.std.proofs.lemmas.List.Sums.{fold-append}
 use Rattle.std.proofs.lemmas.Grind.{flat_map-append}
-use Rattle.eve_chains.specs.Visible.{opening_table, execution, with_came, rows_after}
+use Rattle.eve_chains.specs.Visible.{opening_table, execution, with_came, rows_after, taken_table}
 use Rattle.eve_chains.specs.Rows.{states_by, bases_of, Fated, to_come, settles, told_of}
 use Rattle.eve_chains.proofs.LeftByRecords.{rows_after-push}
+use Rattle.eve_chains.proofs.Linked.{taking, attempts_taking, came_taking}
 
 abbrev pub all_placed : List Fated → List Placed
 all_placed xs = map (λ x. x.placed) xs
@@ -90,6 +92,65 @@ taken_more (ByAttempt q ∷ ls) p = taken_more ls p
 taken_more (ByTransfer at x ∷ ls) p = ap (λ (xs : List (List Versioned)). x.rows ∷ xs) (taken_more ls p)
 taken_more (Skipped ∷ ls) p = taken_more ls p
 
+-- ---- a state is taken over
+
+states_more : (ls ms : List Landing) → states_by (ls ++ ms) ≡ states_by ls ++ states_by ms
+states_more [] ms = refl
+states_more (ByAttempt p ∷ ls) ms = states_more ls ms
+states_more (ByTransfer at x ∷ ls) ms = ap (λ (xs : List (List Versioned)). x.rows ∷ xs) (states_more ls ms)
+states_more (Skipped ∷ ls) ms = states_more ls ms
+
+states_taking : (skipped at : ℕ) (x : Transfer) → states_by (taking skipped at x) ≡ x.rows ∷ []
+states_taking zero at x = refl
+states_taking (suc n) at x = states_taking n at x
+
+pub state_more : (s : SectionState) (at : ℕ) (x : Transfer)
+    → states_by (taking_over s at x).landings ≡ states_by s.landings ++ x.rows ∷ []
+state_more s at x = states_more s.landings (taking (x.seq - (s.last + 1)) at x)
+    ∙ ap (λ (xs : List (List Versioned)). states_by s.landings ++ xs) (states_taking (x.seq - (s.last + 1)) at x)
+
+pub one_more_state : (s : SectionState) (at : ℕ) (x : Transfer)
+    → length (states_by (taking_over s at x).landings) ≡ suc (length (states_by s.landings))
+one_more_state s at x = ap (λ (xs : List (List Versioned)). length xs) (state_more s at x)
+    ∙ length-append (states_by s.landings) (x.rows ∷ []) ∙ omega arith
+
+since_taking : (ps : List Placed) (skipped at : ℕ) (x : Transfer) → fold since_next ps (taking skipped at x) ≡ []
+since_taking ps zero at x = refl
+since_taking ps (suc n) at x = since_taking ps n at x
+
+none_since : (ls : List Landing) (skipped at : ℕ) (x : Transfer) → since (ls ++ taking skipped at x) ≡ []
+none_since ls skipped at x =
+    fold-append since_next [] ls (taking skipped at x) ∙ since_taking (since ls) skipped at x
+
+-- the states that these steps take over
+abbrev states_among : List (ℕ × Step) → List (List Versioned)
+states_among [] = []
+states_among ((at, Attempts a) ∷ steps) = states_among steps
+states_among ((at, Commits c) ∷ steps) = states_among steps
+states_among ((at, RollsBack r) ∷ steps) = states_among steps
+states_among ((at, TakesOver x) ∷ steps) = x.rows ∷ states_among steps
+
+states_committing : (s : SectionState) (ps : List Placed) → states_by (committing s ps).landings ≡ states_by s.landings
+states_committing s [] = refl
+states_committing s (p ∷ ps) = taken_more s.landings p
+
+states_after : (s : SectionState) (steps : List (ℕ × Step))
+    → states_by (state_after s steps).landings ≡ states_by s.landings ++ states_among steps
+states_after s [] = sym (append-nil (states_by s.landings))
+states_after s ((at, Attempts a) ∷ steps) = states_after (next s (at, Attempts a)) steps
+states_after s ((at, Commits c) ∷ steps) =
+    states_after (next s (at, Commits c)) steps
+    ∙ ap (λ (xs : List (List Versioned)). xs ++ states_among steps) (states_committing s s.pending)
+states_after s ((at, RollsBack r) ∷ steps) = states_after (next s (at, RollsBack r)) steps
+states_after s ((at, TakesOver x) ∷ steps) =
+    states_after (next s (at, TakesOver x)) steps
+    ∙ ap (λ (xs : List (List Versioned)). xs ++ states_among steps) (state_more s at x)
+    ∙ append_assoc (states_by s.landings) (x.rows ∷ []) (states_among steps)
+
+item_behind : {A : Type 0} (xs : List A) (x : A) (ys : List A) (d : A) → get_or (xs ++ x ∷ ys) (length xs) d ≡ x
+item_behind [] x ys d = refl
+item_behind (y ∷ xs) x ys d = item_behind xs x ys d
+
 -- ---- the open attempts and what becomes of them
 
 abbrev opened : ℕ → ℕ → List (ℕ × Step) → List Placed → List Fated
@@ -131,6 +192,16 @@ all_fall : (taken n at : ℕ) (r : Rollback) (rest : List (ℕ × Step)) (ps : L
     → all_placed (filter will_fall (opened taken n ((at, RollsBack r) ∷ rest) ps)) ≡ ps
 all_fall taken n at r rest [] = refl
 all_fall taken n at r rest (p ∷ ps) = ap (λ qs. p ∷ qs) (all_fall taken (suc n) at r rest ps)
+
+none_commits_behind : (taken n at : ℕ) (x : Transfer) (rest : List (ℕ × Step)) (ps : List Placed)
+    → filter will_commit (opened taken n ((at, TakesOver x) ∷ rest) ps) ≡ []
+none_commits_behind taken n at x rest [] = refl
+none_commits_behind taken n at x rest (p ∷ ps) = none_commits_behind taken (suc n) at x rest ps
+
+all_fall_behind : (taken n at : ℕ) (x : Transfer) (rest : List (ℕ × Step)) (ps : List Placed)
+    → all_placed (filter will_fall (opened taken n ((at, TakesOver x) ∷ rest) ps)) ≡ ps
+all_fall_behind taken n at x rest [] = refl
+all_fall_behind taken n at x rest (p ∷ ps) = ap (λ qs. p ∷ qs) (all_fall_behind taken (suc n) at x rest ps)
 
 none_commits_at_end : (taken n : ℕ) (ps : List Placed) → filter will_commit (opened taken n [] ps) ≡ []
 none_commits_at_end taken n [] = refl
@@ -304,6 +375,43 @@ come_rollback taken view behind done pending discarded at r rest xs later known 
     stay : filter (stays_in taken) xs ≡ map (sure taken) behind ++ []
     stay = known.stays ∙ ap (λ (ys : List Fated). map (sure taken) behind ++ ys) (none_commits taken 0 at r rest pending)
 
+-- ---- a state is taken over
+
+-- nothing that came counts behind one state more
+none_behind : (taken view : ℕ) (test : Fated → Bool) (xs : List Fated) → AllByRecursion (IsNoLater taken view) xs
+    → filter (λ y. (y.taken == suc taken) && test y) xs ≡ []
+none_behind taken view test [] all = refl
+none_behind taken view test (y ∷ xs) all =
+    ap (λ (b : Bool). cond (b && test y) (y ∷ kept) kept) (ne_eqb y.taken (suc taken) other)
+    ∙ none_behind taken view test xs all.1
+  where
+    kept : List Fated
+    kept = filter (λ z. (z.taken == suc taken) && test z) xs
+
+    other : y.taken ≡ suc taken → ⊥
+    other e = omega (arith, all.0.0)
+
+come_transfer : (taken view : ℕ) (behind done pending discarded : List Placed) (at : ℕ) (x : Transfer)
+    (rest : List (ℕ × Step)) (xs : List Fated) → view ≤ x.view
+    → HasCome taken view behind done pending discarded ((at, TakesOver x) ∷ rest) xs
+    → HasCome (suc taken) x.view [] done [] (discarded ++ pending) rest xs
+come_transfer taken view behind done pending discarded at x rest xs later known = record {
+  counts = none_behind taken view (λ y. is_committed y.fate || (y.placed.attempt.view == x.view)) xs known.within;
+  stays = none_behind taken view (λ y. is_committed y.fate) xs known.within;
+  commit = known.commit
+      ∙ ap (λ (ys : List Fated). done ++ all_placed ys) (none_commits_behind taken 0 at x rest pending);
+  fall = known.fall ∙ ap (λ (qs : List Placed). discarded ++ qs) (all_fall_behind taken 0 at x rest pending)
+      ∙ sym (append-nil (discarded ++ pending));
+  within = all-weaker (IsNoLater taken view) (IsNoLater (suc taken) x.view) xs
+      (λ y h. (more y.taken h.0, up (view_of y) h.1)) known.within;
+}
+  where
+    more : (n : ℕ) → n ≤ taken → n ≤ suc taken
+    more n h = omega arith
+
+    up : (n : ℕ) → n ≤ view → n ≤ x.view
+    up n h = omega (arith, later)
+
 module _ (t : Trace) where
   its_view : (s : SectionState) (a : Attempt) → IsTrue (is_right t s (Attempts a)) → a.view ≡ s.view
   its_view s a right =
@@ -326,6 +434,11 @@ module _ (t : Trace) where
       let is : r.view ≡ s.view + 1 =
       eqb-true r.view (s.view + 1) (and_parts (nat_lt s.last (length t.batches)) (r.view == s.view + 1) one.1).1 in
       omega (arith, is)
+
+  no_lower_view : (s : SectionState) (x : Transfer) → IsTrue (is_right_transfer t s x) → s.view ≤ x.view
+  no_lower_view s x right =
+      let one = and_parts (nat_lt s.last x.seq) (nat_le x.seq (length t.batches) && nat_le s.view x.view) right in
+      leb-true s.view x.view (and_parts (nat_le x.seq (length t.batches)) (nat_le s.view x.view) one.1).1
 
   abbrev new : SectionState → ℕ → Attempt → List (ℕ × Step) → Fated
   new s at a rest = record {
@@ -365,6 +478,22 @@ module _ (t : Trace) where
       come_rollback (length (states_by s.landings)) s.view (since s.landings) (attempts_by s.landings) s.pending
       s.discarded at r rest xs (later_view s r right) known
 
+  transfer_comes : (s : SectionState) (at : ℕ) (x : Transfer) (rest : List (ℕ × Step)) → IsTrue (is_right_transfer t s x)
+      → (xs : List Fated) → AreCome s ((at, TakesOver x) ∷ rest) xs → AreCome (next s (at, TakesOver x)) rest xs
+  transfer_comes s at x rest right xs known =
+      let k = length (states_by s.landings) in
+      let skipped = x.seq - (s.last + 1) in
+      let ls = s.landings ++ taking skipped at x in
+      let fell = s.discarded ++ s.pending in
+      let now : HasCome (suc k) x.view [] (attempts_by s.landings) [] fell rest xs =
+      come_transfer k s.view (since s.landings) (attempts_by s.landings) s.pending s.discarded at x rest xs
+      (no_lower_view s x right) known in
+      subst (λ (m : ℕ). HasCome m x.view (since ls) (attempts_by ls) [] fell rest xs) (sym (one_more_state s at x))
+      (subst (λ (qs : List Placed). HasCome (suc k) x.view qs (attempts_by ls) [] fell rest xs)
+      (sym (none_since s.landings skipped at x))
+      (subst (λ (qs : List Placed). HasCome (suc k) x.view [] qs [] fell rest xs)
+      (sym (attempts_taking s.landings skipped at x)) now))
+
   -- ---- what the rows have
 
   -- of what came by landings, and of what they had after as many states
@@ -388,6 +517,16 @@ module _ (t : Trace) where
       ∙ (λ i. fold (with_came t) (bases (length (sym (taken_more s.landings p) i)))
       (ran (sym (fold-append since_next [] s.landings (ByAttempt p ∷ [])) i)))
 
+  based_transfer : (bases : ℕ → Table) (s : SectionState) (at : ℕ) (x : Transfer)
+      → bases (suc (length (states_by s.landings))) ≡ taken_table x.rows → AreBased bases (next s (at, TakesOver x)).landings
+  based_transfer bases s at x has =
+      let skipped = x.seq - (s.last + 1) in
+      ap (rows_after t) (flat_map-append came_by s.landings (taking skipped at x)
+      ∙ ap (λ (cs : List Came). flat_map came_by s.landings ++ cs) (came_taking skipped at x))
+      ∙ fold-append (with_came t) (opening_table t) (flat_map came_by s.landings) (TookOver x.rows ∷ [])
+      ∙ sym has
+      ∙ (λ i. fold (with_came t) (bases (sym (one_more_state s at x) i)) (ran (sym (none_since s.landings skipped at x) i)))
+
   -- after the path of an attempt
   based_path : (bases : ℕ → Table) (s : SectionState) → AreBased bases s.landings
       → rows_after t (path_of s)
@@ -409,6 +548,7 @@ module _ (t : Trace) where
   settles_before ((at, Commits c) ∷ rest) (suc m) zero up done = absurd (omega arith)
   settles_before ((at, Commits c) ∷ rest) (suc m) (suc n) up done = settles_before rest m n (omega arith) done
   settles_before ((at, RollsBack r) ∷ rest) m n up done = refl
+  settles_before ((at, TakesOver x) ∷ rest) m n up done = refl
 
   all_settle : (taken : ℕ) (rest : List (ℕ × Step)) (from n : ℕ) (ps : List Placed) → from + length ps ≤ n
       → (is_committed (fate_in rest n) || is_discarded (fate_in rest n)) ≡ true
@@ -429,11 +569,16 @@ module _ (t : Trace) where
   placed_opened taken n rest [] = refl
   placed_opened taken n rest (p ∷ ps) = ap (λ qs. p ∷ qs) (placed_opened taken (suc n) rest ps)
 
+  -- what the rows have after each of these states
+  abbrev HaveStates : (ℕ → Table) → List (List Versioned) → Type 0
+  HaveStates bases states = (k : ℕ) → bases (suc k) ≡ taken_table (get_or states k [])
+
   come_all : (bases : ℕ → Table) (s : SectionState) (rest : List (ℕ × Step)) (xs : List Fated)
       → IsTrue (are_right t s rest) → AreCome s rest xs → AreBased bases s.landings
+      → HaveStates bases (states_by s.landings ++ states_among rest)
       → AreCounting t bases xs (to_come s rest)
-  come_all bases s [] xs right known based = tt
-  come_all bases s ((at, Attempts a) ∷ rest) xs right known based =
+  come_all bases s [] xs right known based has = tt
+  come_all bases s ((at, Attempts a) ∷ rest) xs right known based has =
       let parts = and_parts (is_right t s (Attempts a)) (are_right t (next s (at, Attempts a)) rest) right in
       let k = length (states_by s.landings) in
       let steps = (at, Attempts a) ∷ rest in
@@ -451,20 +596,31 @@ module _ (t : Trace) where
             (sure_settle k (since s.landings))
             (all_settle k steps 0 (length s.pending) s.pending none done)),
         come_all bases (next s (at, Attempts a)) rest (xs ++ new s at a rest ∷ []) parts.1
-            (attempt_comes s at a rest parts.0 xs known) based,
+            (attempt_comes s at a rest parts.0 xs known) based has,
       )
     where
       none : 0 + length s.pending ≤ length s.pending
       none = omega arith
-  come_all bases s ((at, Commits c) ∷ rest) xs right known based =
+  come_all bases s ((at, Commits c) ∷ rest) xs right known based has =
       let parts = and_parts (is_right t s (Commits c)) (are_right t (next s (at, Commits c)) rest) right in
       come_all bases (next s (at, Commits c)) rest xs parts.1
       (commit_comes s at c rest s.pending refl
       (and_parts (c.seq == s.last + 1) (commits_first s.pending c) parts.0).1 xs known)
       (based_commit bases s s.pending based)
-  come_all bases s ((at, RollsBack r) ∷ rest) xs right known based =
+      (subst (λ (states : List (List Versioned)). HaveStates bases (states ++ states_among rest))
+      (sym (states_committing s s.pending)) has)
+  come_all bases s ((at, RollsBack r) ∷ rest) xs right known based has =
       let parts = and_parts (is_right t s (RollsBack r)) (are_right t (next s (at, RollsBack r)) rest) right in
       come_all bases (next s (at, RollsBack r)) rest xs parts.1 (rollback_comes s at r rest parts.0 xs known) based
+      has
+  come_all bases s ((at, TakesOver x) ∷ rest) xs right known based has =
+      let parts = and_parts (is_right t s (TakesOver x)) (are_right t (next s (at, TakesOver x)) rest) right in
+      come_all bases (next s (at, TakesOver x)) rest xs parts.1 (transfer_comes s at x rest parts.0 xs known)
+      (based_transfer bases s at x
+      (has (length (states_by s.landings))
+      ∙ ap taken_table (item_behind (states_by s.landings) x.rows (states_among rest) [])))
+      (subst (HaveStates bases) (sym (ap (λ (states : List (List Versioned)). states ++ states_among rest)
+      (state_more s at x) ∙ append_assoc (states_by s.landings) (x.rows ∷ []) (states_among rest))) has)
 
   -- where the section ends
   record HasEnded (s : SectionState) (xs : List Fated) : Type 0 where
@@ -496,6 +652,9 @@ module _ (t : Trace) where
   come_end s ((at, RollsBack r) ∷ rest) xs right known =
       let parts = and_parts (is_right t s (RollsBack r)) (are_right t (next s (at, RollsBack r)) rest) right in
       come_end (next s (at, RollsBack r)) rest xs parts.1 (rollback_comes s at r rest parts.0 xs known)
+  come_end s ((at, TakesOver x) ∷ rest) xs right known =
+      let parts = and_parts (is_right t s (TakesOver x)) (are_right t (next s (at, TakesOver x)) rest) right in
+      come_end (next s (at, TakesOver x)) rest xs parts.1 (transfer_comes s at x rest parts.0 xs known)
 
   none_came : (rest : List (ℕ × Step)) → AreCome start rest []
   none_came rest = record { counts = refl; stays = refl; commit = refl; fall = refl; within = tt }
@@ -507,7 +666,9 @@ module _ (t : Trace) where
   rows_of e k row = bases_of t e row k
 
   pub counting_told : (e : ℕ) → IsRightSection t e → AreCounting t (rows_of e) [] (told_of t e)
+  unfolding history
   counting_told e right = come_all (rows_of e) start (steps_at t e) [] right (none_came (steps_at t e)) refl
+      (λ k. ap (λ (states : List (List Versioned)). taken_table (get_or states k [])) (states_after start (steps_at t e)))
 
   pub committed_told : (e : ℕ) → IsRightSection t e → all_placed (filter will_commit (told_of t e))
       ≡ attempts_by (history t e).landings

@@ -1,15 +1,19 @@
 -- Two replicas that had the same balances before a batch have the same after it where they have the same in the rows
 -- that the batch changed in the one or in the other.
 use Rattle.std.proofs.Common.{◌≡◌, ℕ, ℤ, zero, suc, ◌-◌, ◌<◌, ◌≤◌, ◌==◌, Bool, true, false, cond, List, [], ◌∷◌, length}
-use Rattle.std.proofs.Common.{slice_get, get_or, Some, refl, sym, subst, ap, ◌∙◌, inl, inr, ◌⊎◌, arith}
+use Rattle.std.proofs.Common.{slice_get, get_or, Option, Some, None, refl, sym, subst, ap, ◌∙◌, inl, inr, ◌⊎◌, arith}
 use Rattle.std.specs.List.{list_all}
 use Rattle.std.proofs.lemmas.Bool.{and_parts, eqb-true}
 use Rattle.std.proofs.lemmas.Bool.Decides.{Decides-int_eq}
 use Rattle.std.proofs.lemmas.List.{same_lists}
+use Rattle.std.proofs.lemmas.Option.{same_Some}
 use Rattle.eve_smallbank.specs.Access.{balance_of_row}
 use Rattle.eve_chains.specs.Changes.{values_changed}
 use Rattle.eve_chains.specs.Numbered.{is_same_where_changed}
-use Rattle.eve_chains.specs.Settling.{Change, Wrote, Settling, values_in, HaveSameBalances}
+use Rattle.eve_chains.specs.Landed.{some_rows, some_rows_of, rows_changed_at}
+use Rattle.eve_chains.specs.Settling.{Change, Wrote, TookOverValues, Nothing, Settling, values_with, values_in}
+use Rattle.eve_chains.specs.Settling.{HaveSameBalances}
+use Rattle.eve_chains.proofs.Linked.{none≢some}
 use Rattle.eve_chains.proofs.AdvancingBanks.{values_next}
 
 -- ---- the rows that are changed
@@ -59,23 +63,35 @@ all_same b (x ∷ cs) =
 -- ---- a batch of the one and of the other
 
 -- the balances after batch n, row by row, of those after the batch before and its changes
-after_batch : (s : Settling) (n : ℕ) (cs : List (ℕ × ℤ)) (b : List ℤ) → 1 ≤ n
-    → slice_get s.numbers (n - 1) ≡ Some (Wrote cs)
+after_batch : (s : Settling) (n : ℕ) (cs : List (ℕ × ℤ)) (b : List ℤ) → 1 ≤ n → rows_changed_at s n ≡ Some cs
     → balance_of_row b ≡ values_in s n → balance_of_row b ≡ values_changed (values_in s (n - 1)) cs
 after_batch s n cs b one at after =
     let is : n ≡ suc (n - 1) = omega arith in
-    after ∙ ap (values_in s) is ∙ values_next s (n - 1) (Wrote cs) at
+    let found = changed_by (slice_get s.numbers (n - 1)) cs at in
+    after ∙ ap (values_in s) is ∙ values_next s (n - 1) found.0 found.1
+    ∙ values_of_some found.0 cs (values_in s (n - 1)) found.2
+  where
+    changed_by : (o : Option Change) (ds : List (ℕ × ℤ)) → some_rows_of o ≡ Some ds
+        → (c : Change) × (o ≡ Some c) × (some_rows c ≡ Some ds)
+    changed_by (Some c) ds is = (c, refl, is)
+    changed_by None ds is = none≢some ds is
+
+    values_of_some : (c : Change) (ds : List (ℕ × ℤ)) (values : ℕ → ℤ) → some_rows c ≡ Some ds
+        → values_with values c ≡ values_changed values ds
+    values_of_some (Wrote changes) ds values is = ap (values_changed values) (same_Some changes ds is)
+    values_of_some (TookOverValues balances) ds values is = none≢some ds is
+    values_of_some Nothing ds values is = ap (values_changed values) (same_Some [] ds is)
 
 -- what was compared of the batch: its changes, and whether both have the same in the rows that it changes
-pub record IsCompared (numbers : List Change) (n : ℕ) (b c : List ℤ) (found : Bool) : Type 0 where
+pub record IsCompared (s : Settling) (n : ℕ) (b c : List ℤ) (found : Bool) : Type 0 where
   pub cs : List (ℕ × ℤ)
-  pub at : slice_get numbers (n - 1) ≡ Some (Wrote cs)
+  pub at : rows_changed_at s n ≡ Some cs
   pub is : found ≡ list_all (is_same_where_changed b c) cs
 
 -- the same in both
 pub same_again : (s u : Settling) (n : ℕ) (b c : List ℤ) (own its : Bool) → 1 ≤ n → length b ≡ length s.opening
     → length c ≡ length b → balance_of_row b ≡ values_in s n → balance_of_row c ≡ values_in u n
-    → HaveSameBalances s u (n - 1) → IsCompared s.numbers n b c own → IsCompared u.numbers n b c its
+    → HaveSameBalances s u (n - 1) → IsCompared s n b c own → IsCompared u n b c its
     → own ≡ true → its ≡ true → b ≡ c
 same_again s u n b c own its one rows many after other before mine yours here there =
     same_lists b c (sym many) (λ row d lt.
@@ -90,8 +106,8 @@ same_again s u n b c own its one rows many after other before mine yours here th
     read (z ∷ xs) (suc i) d lt = read xs i d (omega arith)
 
 -- where the balances are the same, so are those of the rows that a batch changes
-pub changed_alike : (numbers : List Change) (n : ℕ) (b c : List ℤ) (found : Bool)
-    → IsCompared numbers n b c found → b ≡ c → found ≡ true
-changed_alike numbers n b c found told same =
+pub changed_alike : (s : Settling) (n : ℕ) (b c : List ℤ) (found : Bool)
+    → IsCompared s n b c found → b ≡ c → found ≡ true
+changed_alike s n b c found told same =
     told.is ∙ (λ i. list_all (is_same_where_changed b (sym same i)) told.cs)
     ∙ all_same b told.cs

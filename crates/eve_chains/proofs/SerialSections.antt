@@ -19,8 +19,8 @@ use Rattle.eve_smallbank.proofs.SerialOrders.{serial}
 use Rattle.eve_grammar.specs.Trace.{Trace}
 use Rattle.eve_grammar.specs.Certificate.{is_permutation, keeps_groups}
 use Rattle.eve_history.specs.Section.{Came, Placed, Landing, ByAttempt, ByTransfer, Skipped, came_by, attempts_by}
-use Rattle.eve_history.specs.Section.{batch_at, request_count}
-use Rattle.eve_history.specs.SectionHistory.{history, committed_at, IsRightSection, names_of}
+use Rattle.eve_history.specs.Section.{batch_at, request_count, IsByAttempt}
+use Rattle.eve_history.specs.SectionHistory.{ByAttemptsTo, history, committed_at, IsRightSection, names_of}
 use Rattle.eve_chains.specs.Visible.{opening_table, executed_at, executed_in, execution, executions, with_came}
 use Rattle.eve_chains.specs.Visible.{rows_after}
 use Rattle.eve_chains.specs.Committed.{attempts_of, committed_to, path_to, bank_after, opening_bank, Leads}
@@ -29,8 +29,6 @@ use Rattle.eve_chains.specs.Sound.{IsSoundAlong, SettledAreSound}
 use Rattle.eve_chains.proofs.Permutations.{reordering_of_permutations}
 use Rattle.eve_chains.proofs.Linked.{linked_history, linked_number, none≢some, linked_at, landing_by, in_attempts}
 use Rattle.eve_history.proofs.FateLaws.{attempts_by_push}
-use Rattle.eve_history.proofs.AttemptsAlone.{IsByAttempt, all_by_attempts}
-use Rattle.eve_grammar.proofs.Lists.{all-slice_get}
 
 -- ---- lists
 
@@ -194,9 +192,8 @@ module _ (t : Trace) (e : ℕ) (right : IsRightSection t e) (sound : SettledAreS
       leads_next n (leads_by_attempts n (λ m l less. alone m l (omega arith))) (slice_get (history t e).landings n) refl
       (λ l. alone n l (omega arith))
 
-  pub leads_from_opening : (n : ℕ) → leads n
-  leads_from_opening n = leads_by_attempts n (λ m l less at.
-      all-slice_get IsByAttempt (history t e).landings m l (all_by_attempts t e) at)
+  pub leads_from_opening : (n : ℕ) → ByAttemptsTo t e n → leads n
+  leads_from_opening n alone = leads_by_attempts n (λ m l less at. alone (suc m) l (omega arith) at)
 
 -- ---- orders of the indexes
 

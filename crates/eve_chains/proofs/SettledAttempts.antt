@@ -1,10 +1,10 @@
 -- What holds of each attempt among a section's steps holds of each that is settled.
-use Rattle.std.proofs.Common.{◌≡◌, ℕ, ◌&&◌, ◌==◌, List, [], ◌∷◌, length}
+use Rattle.std.proofs.Common.{◌≡◌, ℕ, ◌+◌, ◌-◌, ◌&&◌, ◌==◌, List, [], ◌∷◌, length}
 use Rattle.std.proofs.Common.{IsTrue, sym, subst}
 use Rattle.std.specs.Prelude.{⊤}
 use Rattle.std.proofs.lemmas.Bool.{and_parts, eqb-true}
 use Rattle.std.specs.List.{AllByRecursion, list_all}
-use Rattle.eve_grammar.specs.Trace.{Attempt, Step, Attempts, Commits, RollsBack, Trace, head_of}
+use Rattle.eve_grammar.specs.Trace.{Attempt, Step, Attempts, Commits, RollsBack, TakesOver, Trace, head_of}
 use Rattle.eve_grammar.specs.Spelling.{steps_at}
 use Rattle.eve_grammar.specs.Limits.{is_attempt, is_access, is_step, row_count, HasLimits}
 use Rattle.eve_grammar.proofs.Lists.{all-append}
@@ -15,6 +15,7 @@ use Rattle.eve_history.specs.Section.{is_right, are_right}
 use Rattle.eve_history.specs.SectionHistory.{history, IsRightSection}
 use Rattle.eve_history.proofs.Coming.{steps_fit}
 use Rattle.eve_history.proofs.FateLaws.{attempts_by_push}
+use Rattle.eve_chains.proofs.Linked.{attempts_taking}
 
 -- ---- of any fact on attempts
 
@@ -55,6 +56,13 @@ all_next P s (at, RollsBack r) own known =
       discarded = all-append (λ q. P q.attempt) s.discarded s.pending
           known.discarded known.pending;
     }
+all_next P s (at, TakesOver x) own known =
+    record {
+      committed = subst (AllByRecursion (λ q. P q.attempt))
+          (sym (attempts_taking s.landings (x.seq - (s.last + 1)) at x)) known.committed;
+      pending = tt;
+      discarded = all-append (λ q. P q.attempt) s.discarded s.pending known.discarded known.pending;
+    }
 
 all_after : (P : Attempt → Type 0) (s : SectionState) (steps : List (ℕ × Step))
     → AllByRecursion (λ step. IfAttempt step.1 P) steps → AreAll P s → AreAll P (state_after s steps)
@@ -89,6 +97,7 @@ right_step t s (Attempts a) right =
     }
 right_step t s (Commits c) right = tt
 right_step t s (RollsBack r) right = tt
+right_step t s (TakesOver x) right = tt
 
 right_steps : (t : Trace) (s : SectionState) (steps : List (ℕ × Step)) → IsTrue (are_right t s steps)
     → AllByRecursion (λ step. IfAttempt step.1 (IsRightAlone t)) steps
@@ -114,6 +123,7 @@ complete_step rows (Attempts a) h =
     (and_parts (is_attempt a) _ h).1).0
 complete_step rows (Commits c) h = tt
 complete_step rows (RollsBack r) h = tt
+complete_step rows (TakesOver x) h = tt
 
 complete_steps : (rows : ℕ) (steps : List (ℕ × Step)) → IsTrue (list_all (λ x. is_step rows x.1) steps)
     → AllByRecursion (λ step. IfAttempt step.1 IsComplete) steps

@@ -9,7 +9,7 @@ use Rattle.std.proofs.lemmas.List.{take_all}
 use Rattle.eve_grammar.specs.Trace.{Trace}
 use Rattle.eve_grammar.proofs.Lists.{item_within}
 use Rattle.eve_history.specs.declared.fate.Fate.{Fate}
-use Rattle.eve_history.specs.SectionHistory.{ExecutedAttempt, SectionHistory}
+use Rattle.eve_history.specs.SectionHistory.{SectionHistory}
 use Rattle.eve_chains.specs.Unfit.{by_fates, by_fates_between, records_if_settled, records_between, IsLeastUnfit}
 use Rattle.eve_chains.specs.Unfit.{IsLeastOfAttempt, lesser}
 use Rattle.eve_chains.specs.Looked.{IsLooked}
@@ -39,25 +39,25 @@ stretch_more start from to xs up known = record {
 
 -- ---- what attempts give, one after another
 
-module _ {A : Type 0} (of : ExecutedAttempt → Fate → List A) where
+module _ {A B : Type 0} (of : B → Fate → List A) where
   none_here : (n : ℕ) (fates : List Fate) → by_fates of (take n []) fates ≡ []
   none_here zero fates = refl
   none_here (suc n) fates = refl
 
-  no_fates : (n : ℕ) (rs : List ExecutedAttempt) → by_fates of rs (take n []) ≡ []
+  no_fates : (n : ℕ) (rs : List B) → by_fates of rs (take n []) ≡ []
   no_fates n [] = refl
   no_fates zero (r ∷ rs) = refl
   no_fates (suc n) (r ∷ rs) = refl
 
   -- of attempts with no more fates than there are of them
-  own_fates : (rs : List ExecutedAttempt) (fates : List Fate)
+  own_fates : (rs : List B) (fates : List Fate)
       → by_fates of rs (take (length rs) fates) ≡ by_fates of rs fates
   own_fates [] fates = refl
   own_fates (r ∷ rs) [] = no_fates (length (r ∷ rs)) (r ∷ rs)
   own_fates (r ∷ rs) (fate ∷ fates) = ap (λ (l : List A). of r fate ++ l) (own_fates rs fates)
 
   -- of the first m attempts, and of n after them
-  front_and_back : (m n : ℕ) (rs : List ExecutedAttempt) (fates : List Fate)
+  front_and_back : (m n : ℕ) (rs : List B) (fates : List Fate)
       → by_fates of (take (m + n) rs) (take (m + n) fates)
       ≡ by_fates of (take m rs) (take m fates) ++ by_fates of (take n (drop m rs)) (take n (drop m fates))
   front_and_back zero n rs fates =
@@ -73,51 +73,51 @@ module _ {A : Type 0} (of : ExecutedAttempt → Fate → List A) where
       ∙ sym (append_assoc (of r fate) (by_fates of (take m rs) (take m fates))
       (by_fates of (take n (drop m rs)) (take n (drop m fates))))
 
-  module _ (h : SectionHistory) where
+  module _ (xs : List B) (fates : List Fate) where
     pub between_joined : (from mid to : ℕ) → from ≤ mid → mid ≤ to
-        → by_fates_between of h from mid ++ by_fates_between of h mid to ≡ by_fates_between of h from to
+        → by_fates_between of xs fates from mid ++ by_fates_between of xs fates mid to ≡ by_fates_between of xs fates from to
     between_joined from mid to low high =
         let m = mid - from in
         let n = to - mid in
         let sum : m + n ≡ to - from = omega arith in
         let at : from + m ≡ mid = omega arith in
-        let rs : drop mid h.attempts ≡ drop m (drop from h.attempts) =
-        sym (drop-drop m from h.attempts ∙ ap (λ (k : ℕ). drop k h.attempts) at) in
-        let fates : drop mid h.fates ≡ drop m (drop from h.fates) =
-        sym (drop-drop m from h.fates ∙ ap (λ (k : ℕ). drop k h.fates) at) in
-        (λ k. by_fates_between of h from mid ++ by_fates of (take n (rs k)) (take n (fates k)))
-        ∙ sym (front_and_back m n (drop from h.attempts) (drop from h.fates))
-        ∙ ap (λ (k : ℕ). by_fates of (take k (drop from h.attempts)) (take k (drop from h.fates))) sum
+        let rs : drop mid xs ≡ drop m (drop from xs) =
+        sym (drop-drop m from xs ∙ ap (λ (k : ℕ). drop k xs) at) in
+        let its : drop mid fates ≡ drop m (drop from fates) =
+        sym (drop-drop m from fates ∙ ap (λ (k : ℕ). drop k fates) at) in
+        (λ k. by_fates_between of xs fates from mid ++ by_fates of (take n (rs k)) (take n (its k)))
+        ∙ sym (front_and_back m n (drop from xs) (drop from fates))
+        ∙ ap (λ (k : ℕ). by_fates of (take k (drop from xs)) (take k (drop from fates))) sum
 
-    pub none_between : (i : ℕ) → by_fates_between of h i i ≡ []
+    pub none_between : (i : ℕ) → by_fates_between of xs fates i i ≡ []
     none_between i =
         let none : i - i ≡ 0 = omega arith in
-        ap (λ (k : ℕ). by_fates of (take k (drop i h.attempts)) (take k (drop i h.fates))) none
+        ap (λ (k : ℕ). by_fates of (take k (drop i xs)) (take k (drop i fates))) none
 
-    pub one_between : (i : ℕ) (r : ExecutedAttempt) (fate : Fate) → slice_get h.attempts i ≡ Some r
-        → slice_get h.fates i ≡ Some fate → of r fate ≡ by_fates_between of h i (i + 1)
+    pub one_between : (i : ℕ) (r : B) (fate : Fate) → slice_get xs i ≡ Some r
+        → slice_get fates i ≡ Some fate → of r fate ≡ by_fates_between of xs fates i (i + 1)
     one_between i r fate at its =
         let one : 1 ≡ i + 1 - i = omega arith in
-        let rs : r ∷ drop (suc i) h.attempts ≡ drop i h.attempts = sym (from_place h.attempts i r at) in
-        let fates : fate ∷ drop (suc i) h.fates ≡ drop i h.fates = sym (from_place h.fates i fate its) in
+        let rs : r ∷ drop (suc i) xs ≡ drop i xs = sym (from_place xs i r at) in
+        let own : fate ∷ drop (suc i) fates ≡ drop i fates = sym (from_place fates i fate its) in
         sym (append-nil (of r fate))
-        ∙ (λ k. by_fates of (take 1 (rs k)) (take 1 (fates k)))
-        ∙ ap (λ (k : ℕ). by_fates of (take k (drop i h.attempts)) (take k (drop i h.fates))) one
+        ∙ (λ k. by_fates of (take 1 (rs k)) (take 1 (own k)))
+        ∙ ap (λ (k : ℕ). by_fates of (take k (drop i xs)) (take k (drop i fates))) one
 
-    pub all_between : by_fates_between of h 0 (length h.attempts) ≡ by_fates of h.attempts h.fates
+    pub all_between : by_fates_between of xs fates 0 (length xs) ≡ by_fates of xs fates
     all_between =
-        let n = length h.attempts in
+        let n = length xs in
         let all : n - 0 ≡ n = omega arith in
-        ap (λ (k : ℕ). by_fates of (take k h.attempts) (take k h.fates)) all
-        ∙ ap (λ (rs : List ExecutedAttempt). by_fates of rs (take n h.fates)) (take_all n h.attempts (omega arith))
-        ∙ own_fates h.attempts h.fates
+        ap (λ (k : ℕ). by_fates of (take k xs) (take k fates)) all
+        ∙ ap (λ (rs : List B). by_fates of rs (take n fates)) (take_all n xs (omega arith))
+        ∙ own_fates xs fates
 
 -- ---- the least offset of what doesn't fit
 
 module _ (t : Trace) (h : SectionHistory) (names : List (List ℕ)) where
   pub none_judged : (i : ℕ) → IsLeastUnfit names (records_between t h i i) None
   none_judged i = subst (λ (xs : List _). IsLeastUnfit names xs None)
-      (sym (none_between (records_if_settled t) h i)) tt
+      (sym (none_between (records_if_settled t) h.attempts h.fates i)) tt
 
   joined : (from mid to : ℕ) (first other : Option ℕ) → from ≤ mid → mid ≤ to
       → IsLeastUnfit names (records_between t h from mid) first
@@ -125,7 +125,7 @@ module _ (t : Trace) (h : SectionHistory) (names : List (List ℕ)) where
       → IsLeastUnfit names (records_between t h from to) (lesser first other)
   joined from mid to first other low high is rest =
       subst (λ (xs : List _). IsLeastUnfit names xs (lesser first other))
-      (between_joined (records_if_settled t) h from mid to low high)
+      (between_joined (records_if_settled t) h.attempts h.fates from mid to low high)
       (least_append names (records_between t h from mid) (records_between t h mid to) first other is rest)
 
   -- one more attempt
@@ -136,7 +136,7 @@ module _ (t : Trace) (h : SectionHistory) (names : List (List ℕ)) where
       let a = item_within h.attempts i there in
       let f = item_within h.fates i fate in
       joined from i (i + 1) least found low (omega arith) is
-      (subst (λ (xs : List _). IsLeastUnfit names xs found) (one_between (records_if_settled t) h i a.0 f.0 a.1 f.1)
+      (subst (λ (xs : List _). IsLeastUnfit names xs found) (one_between (records_if_settled t) h.attempts h.fates i a.0 f.0 a.1 f.1)
       (its a.0 f.0 a.1 f.1))
 
   -- of stretches that follow one another

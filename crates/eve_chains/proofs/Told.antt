@@ -1,11 +1,16 @@
 -- What is noted of the attempts that a history tells is what is noted along the section.
-use Rattle.std.proofs.Common.{◌≡◌, ℕ, suc, ◌-◌, ◌<◌, ◌≤◌, ◌==◌, Bool, true, false, cond, List, [], ◌∷◌, ◌++◌, map}
-use Rattle.std.proofs.Common.{filter, flat_map, slice_get, Some, length, length-append, refl, sym, subst, ap, ◌∙◌, arith, IsTrue}
+use Rattle.std.proofs.Common.{◌≡◌, ℕ, zero, suc, ◌-◌, ◌<◌, ◌≤◌, ◌==◌, Bool, true, false, cond, List, [], ◌∷◌, ◌++◌, map}
+use Rattle.std.proofs.Common.{filter, flat_map, slice_get, get_or, Some, length, length-append, refl, sym, subst, ap, ◌∙◌, arith, IsTrue}
 use Rattle.std.specs.Prelude.{nat_lt}
 use Rattle.std.specs.List.{AllByRecursion, list_all}
 use Rattle.std.proofs.lemmas.Bool.{and_parts, ltb-true, ne_eqb}
+use Rattle.std.proofs.lemmas.List.{length-map}
+use Rattle.std.proofs.lemmas.Option.{same_Some}
+use Rattle.eve_smallbank.specs.Access.{balance_of_row}
+use Rattle.eve_smallbank.specs.declared.versioned.Versioned.{Versioned}
 use Rattle.eve_smallbank.specs.declared.entry.Entry.{Entry}
-use Rattle.eve_grammar.specs.Trace.{Access, Attempt, Step, Attempts, Commits, RollsBack, Trace, head_of}
+use Rattle.eve_grammar.specs.Trace.{Access, Attempt, Step, Attempts, Commits, RollsBack, TakesOver, Trace}
+use Rattle.eve_grammar.specs.Trace.{opening_rows, head_of}
 use Rattle.eve_grammar.specs.Limits.{is_entry, row_count, HasLimits}
 use Rattle.eve_grammar.specs.Spelling.{steps_at}
 use Rattle.eve_grammar.proofs.Lists.{all-append, all-slice_get, filter_dropped}
@@ -14,19 +19,25 @@ use Rattle.eve_history.specs.Fates.{fate_in, fates_from}
 use Rattle.eve_history.specs.Section.{Placed, SectionState, start, path_of}
 use Rattle.eve_history.specs.Section.{committing, next}
 use Rattle.eve_history.specs.SectionHistory.{SectionHistory, executed_attempt, attempts_among, section_history, ordered}
-use Rattle.eve_history.specs.SectionHistory.{is_committed, ExecutedAttempt}
+use Rattle.eve_history.specs.SectionHistory.{is_committed, ExecutedAttempt, taken_from, history}
+use Rattle.eve_chains.specs.Bases.{base_at, AreBasesOf}
+use Rattle.eve_chains.specs.declared.bases.Bases.{Bases}
+use Rattle.eve_chains.specs.Visible.{taken_table}
 use Rattle.eve_chains.specs.Along.{AreWithin}
-use Rattle.eve_chains.specs.Rows.{states_by, Fated, to_come, told_of, settles, Noted, noted_by, noted_in, all_noted, of_row}
-use Rattle.eve_chains.specs.Unfit.{is_settled, by_fates}
-use Rattle.eve_chains.specs.Notes.{noted_along, noted_if_settled, notes_between}
+use Rattle.eve_chains.specs.Rows.{states_by, bases_of}
+use Rattle.eve_chains.specs.Rows.{Fated, to_come, told_of, settles, Noted, noted_by, noted_in, all_noted, of_row}
+use Rattle.eve_chains.specs.Unfit.{is_settled, by_fates, by_fates_between}
+use Rattle.eve_chains.specs.Notes.{with_taken, noted_along, noted_if_settled, notes_between}
 use Rattle.eve_chains.proofs.Stretches.{all_between}
 use Rattle.eve_chains.specs.Walked.{notes_on}
 use Rattle.eve_chains.proofs.AttemptRecords.{IsWithin, within_section}
-use Rattle.eve_chains.proofs.Paths.{taken_more}
+use Rattle.eve_chains.proofs.Linked.{none≢some}
+use Rattle.eve_chains.proofs.Paths.{taken_more, one_more_state}
 
-noted_of_steps : ℕ → List (ℕ × Step) → List Noted
-noted_of_steps count steps =
-    by_fates noted_if_settled (map executed_attempt (attempts_among steps)) (fates_from count steps)
+noted_of_steps : ℕ → ℕ → List (ℕ × Step) → List Noted
+noted_of_steps taken count steps =
+    by_fates noted_if_settled (with_taken (map executed_attempt (attempts_among steps)) (taken_from taken steps))
+    (fates_from count steps)
 
 -- the first attempt's, where it settles
 first_noted : (x : Fated) (xs : List Fated) → all_noted (x ∷ xs) ≡ cond (settles x) (noted_in x) [] ++ all_noted xs
@@ -37,14 +48,13 @@ first_noted x xs = by (settles x)
     by true = refl
     by false = refl
 
--- no step takes a state over yet
-told_along : (s : SectionState) (steps : List (ℕ × Step)) → states_by s.landings ≡ []
-    → noted_of_steps (length s.pending) steps ≡ all_noted (to_come s steps)
+told_along : (s : SectionState) (taken : ℕ) (steps : List (ℕ × Step)) → taken ≡ length (states_by s.landings)
+    → noted_of_steps taken (length s.pending) steps ≡ all_noted (to_come s steps)
 unfolding noted_of_steps
-told_along s [] none = refl
-told_along s ((at, Attempts a) ∷ rest) none =
-    (λ i. cond (settles x) (noted_of (length (sym none i))) [] ++ (ap (λ (n : ℕ). noted_of_steps n rest) one_more
-    ∙ told_along (next s (at, Attempts a)) rest none) i)
+told_along s taken [] as_many = refl
+told_along s taken ((at, Attempts a) ∷ rest) as_many =
+    (λ i. cond (settles x) (noted_of (as_many i)) [] ++ (ap (λ (n : ℕ). noted_of_steps taken n rest) one_more
+    ∙ told_along (next s (at, Attempts a)) taken rest as_many) i)
     ∙ sym (first_noted x (to_come (next s (at, Attempts a)) rest))
   where
     q : Placed
@@ -54,16 +64,17 @@ told_along s ((at, Attempts a) ∷ rest) none =
     x = record { placed = q; taken = length (states_by s.landings); fate = fate_in rest (length s.pending) }
 
     noted_of : ℕ → List Noted
-    noted_of taken = noted_in (record { placed = q; taken = taken; fate = fate_in rest (length s.pending) })
+    noted_of k = noted_in (record { placed = q; taken = k; fate = fate_in rest (length s.pending) })
 
     one_more : suc (length s.pending) ≡ length (s.pending ++ q ∷ [])
     one_more = simp length-append (omega arith)
-told_along s ((at, Commits c) ∷ rest) none = ap (λ (n : ℕ). noted_of_steps n rest) (one_less s.pending)
-    ∙ told_along (next s (at, Commits c)) rest (by s.pending)
+told_along s taken ((at, Commits c) ∷ rest) as_many =
+    ap (λ (n : ℕ). noted_of_steps taken n rest) (one_less s.pending)
+    ∙ told_along (next s (at, Commits c)) taken rest (as_many ∙ by s.pending)
   where
-    by : (ps : List Placed) → states_by (committing s ps).landings ≡ []
-    by [] = none
-    by (p ∷ ps) = taken_more s.landings p ∙ none
+    by : (ps : List Placed) → length (states_by s.landings) ≡ length (states_by (committing s ps).landings)
+    by [] = refl
+    by (p ∷ ps) = ap (λ (xs : List (List Versioned)). length xs) (sym (taken_more s.landings p))
 
     one_less : (ps : List Placed) → length s.pending - 1 ≡ length (committing s s.pending).pending
     one_less ps = by s.pending refl
@@ -71,14 +82,60 @@ told_along s ((at, Commits c) ∷ rest) none = ap (λ (n : ℕ). noted_of_steps 
         by : (qs : List Placed) → s.pending ≡ qs → length qs - 1 ≡ length (committing s qs).pending
         by [] is = ap (λ (rs : List Placed). length rs) (sym is)
         by (p ∷ qs) is = omega arith
-told_along s ((at, RollsBack r) ∷ rest) none = told_along (next s (at, RollsBack r)) rest none
+told_along s taken ((at, RollsBack r) ∷ rest) as_many = told_along (next s (at, RollsBack r)) taken rest as_many
+told_along s taken ((at, TakesOver x) ∷ rest) as_many =
+    told_along (next s (at, TakesOver x)) (suc taken) rest
+    (ap suc as_many ∙ sym (one_more_state s at x))
 
 -- those of a replica's history
 pub noted_told : (t : Trace) (e : ℕ) (h : SectionHistory) → h ≡ section_history t e
-    → by_fates noted_if_settled h.attempts h.fates ≡ all_noted (told_of t e)
+    → by_fates noted_if_settled (with_taken h.attempts h.taken) h.fates ≡ all_noted (told_of t e)
 unfolding section_history noted_of_steps
 noted_told t e h is =
-    ap (λ (k : SectionHistory). by_fates noted_if_settled k.attempts k.fates) is ∙ told_along start (steps_at t e) refl
+    ap (λ (k : SectionHistory). by_fates noted_if_settled (with_taken k.attempts k.taken) k.fates) is
+    ∙ told_along start 0 (steps_at t e) refl
+
+-- ---- how many states were taken over before an attempt
+
+taken_of_each : (taken : ℕ) (steps : List (ℕ × Step)) → length (taken_from taken steps) ≡ length (attempts_among steps)
+taken_of_each taken [] = refl
+taken_of_each taken ((at, Attempts a) ∷ steps) = ap suc (taken_of_each taken steps)
+taken_of_each taken ((at, Commits c) ∷ steps) = taken_of_each taken steps
+taken_of_each taken ((at, RollsBack r) ∷ steps) = taken_of_each taken steps
+taken_of_each taken ((at, TakesOver x) ∷ steps) = taken_of_each (suc taken) steps
+
+pub as_many_taken : (t : Trace) (e : ℕ) (h : SectionHistory) → h ≡ section_history t e
+    → length h.taken ≡ length h.attempts
+unfolding section_history
+as_many_taken t e h is =
+    ap (λ (k : SectionHistory). length k.taken) is ∙ taken_of_each 0 (steps_at t e)
+    ∙ sym (length-map (attempts_among (steps_at t e)) executed_attempt)
+    ∙ ap (λ (k : SectionHistory). length k.attempts) (sym is)
+
+-- the attempt at a place with it
+pub taken_at : (rs : List ExecutedAttempt) (counts : List ℕ) (i : ℕ) (r : ExecutedAttempt) (taken : ℕ)
+    → slice_get rs i ≡ Some r → slice_get counts i ≡ Some taken → slice_get (with_taken rs counts) i ≡ Some (r, taken)
+taken_at [] counts i r taken at its = none≢some r at
+taken_at (q ∷ rs) [] i r taken at its = none≢some taken its
+taken_at (q ∷ rs) (n ∷ counts) zero r taken at its = λ k. Some (same_Some q r at k, same_Some n taken its k)
+taken_at (q ∷ rs) (n ∷ counts) (suc i) r taken at its = taken_at rs counts i r taken at its
+
+as_many_with : (rs : List ExecutedAttempt) (counts : List ℕ) → length counts ≡ length rs
+    → length (with_taken rs counts) ≡ length rs
+as_many_with [] counts many = refl
+as_many_with (r ∷ rs) [] many = absurd (omega (arith, many))
+as_many_with (r ∷ rs) (n ∷ counts) many = ap suc (as_many_with rs counts (omega (arith, many)))
+
+-- ---- what rows have at first, and after each state
+
+pub are_bases : (t : Trace) (e : ℕ) (b : Bases) → b.history.now ≡ section_history t e
+    → b.opening.now ≡ opening_rows t.customers → AreBasesOf t e b
+unfolding section_history history
+are_bases t e b is opening row = λ i k. each k i
+  where
+    each : (k : ℕ) → base_at b row k ≡ bases_of t e row k
+    each zero = λ i. record { version = 0; value = balance_of_row (opening i) row }
+    each (suc k) = λ i. taken_table (get_or (map (λ x. x.1.rows) (is i).transfers) k []) row
 
 -- ---- the rows that there are
 
@@ -110,19 +167,21 @@ below_along rows taken view number commits (x ∷ xs) within =
     all-append (IsRowBelow rows) (noted_by taken view number commits x) (flat_map (noted_by taken view number commits) xs)
     (below_in rows x.0 taken view number commits x.1.entries parts.0) (below_along rows taken view number commits xs parts.1)
 
-below_gathered : (rows : ℕ) (xs : List (ℕ × Attempt)) (fates : List Fate) → AllByRecursion (IsWithin rows) xs
-    → AllByRecursion (IsRowBelow rows) (by_fates noted_if_settled (map executed_attempt xs) fates)
-below_gathered rows [] fates within = tt
-below_gathered rows (x ∷ xs) [] within = tt
-below_gathered rows (x ∷ xs) (fate ∷ fates) within =
-    all-append (IsRowBelow rows) (noted_if_settled (executed_attempt x) fate)
-    (by_fates noted_if_settled (map executed_attempt xs) fates) (by (is_settled fate))
-    (below_gathered rows xs fates within.1)
+below_gathered : (rows : ℕ) (xs : List (ℕ × Attempt)) (counts : List ℕ) (fates : List Fate)
+    → AllByRecursion (IsWithin rows) xs
+    → AllByRecursion (IsRowBelow rows) (by_fates noted_if_settled (with_taken (map executed_attempt xs) counts) fates)
+below_gathered rows [] counts fates within = tt
+below_gathered rows (x ∷ xs) [] fates within = tt
+below_gathered rows (x ∷ xs) (taken ∷ counts) [] within = tt
+below_gathered rows (x ∷ xs) (taken ∷ counts) (fate ∷ fates) within =
+    all-append (IsRowBelow rows) (noted_if_settled (executed_attempt x, taken) fate)
+    (by_fates noted_if_settled (with_taken (map executed_attempt xs) counts) fates) (by (is_settled fate))
+    (below_gathered rows xs counts fates within.1)
   where
-    along : AllByRecursion (IsRowBelow rows) (noted_along (executed_attempt x) fate)
-    along = below_along rows 0 x.1.view x.1.seq (is_committed fate) (ordered x.0 x.1) within.0.within
+    along : AllByRecursion (IsRowBelow rows) (noted_along (executed_attempt x, taken) fate)
+    along = below_along rows taken x.1.view x.1.seq (is_committed fate) (ordered x.0 x.1) within.0.within
 
-    by : (b : Bool) → AllByRecursion (IsRowBelow rows) (cond b (noted_along (executed_attempt x) fate) [])
+    by : (b : Bool) → AllByRecursion (IsRowBelow rows) (cond b (noted_along (executed_attempt x, taken) fate) [])
     by true = along
     by false = tt
 
@@ -140,8 +199,9 @@ pub none_past : (t : Trace) (e row : ℕ) → HasLimits t → row_count (head_of
 unfolding noted_of_steps steps_at
 none_past t e row limits past =
     none_of_row (row_count (head_of t)) row (all_noted (told_of t e)) past
-    (subst (AllByRecursion (IsRowBelow (row_count (head_of t)))) (told_along start (steps_at t e) refl)
-    (below_gathered (row_count (head_of t)) (attempts_among (steps_at t e)) (fates_from 0 (steps_at t e))
+    (subst (AllByRecursion (IsRowBelow (row_count (head_of t)))) (told_along start 0 (steps_at t e) refl)
+    (below_gathered (row_count (head_of t)) (attempts_among (steps_at t e)) (taken_from 0 (steps_at t e))
+    (fates_from 0 (steps_at t e))
     (within_section t e limits)))
 
 -- an attempt that the history tells lies within the limits
@@ -162,4 +222,9 @@ within_told t e h i r limits is at =
 -- what all attempts note is what is noted along the section
 pub all_told : (t : Trace) (h : SectionHistory) → h ≡ section_history t h.replica
     → notes_between h 0 (length h.attempts) ≡ all_noted (told_of t h.replica)
-all_told t h is = all_between noted_if_settled h ∙ noted_told t h.replica h is
+all_told t h is =
+    let xs = with_taken h.attempts h.taken in
+    let many : length h.attempts ≡ length xs =
+    sym (as_many_with h.attempts h.taken (as_many_taken t h.replica h is)) in
+    ap (by_fates_between noted_if_settled xs h.fates 0) many ∙ all_between noted_if_settled xs h.fates
+    ∙ noted_told t h.replica h is

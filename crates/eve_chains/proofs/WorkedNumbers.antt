@@ -1,16 +1,18 @@
 -- A section's numbers, of which two are skipped, one is reached by a state that is taken over, and one by an attempt
 -- behind it: what an entry must see, what a row's walk meets, and the values of each number. Each line computes.
 use Rattle.std.proofs.Common.{◌≡◌, ℕ, zero, suc, ◌+◌, pos, Bool, true, false, List, [], ◌∷◌, map, flat_map, take, replicate}
-use Rattle.std.proofs.Common.{codes, refl}
+use Rattle.std.proofs.Common.{codes, length, refl}
 use Rattle.eve_smallbank.specs.SmallBank.{DepositChecking}
 use Rattle.eve_smallbank.specs.declared.request.Reply.TheVariants.{Done}
 use Rattle.eve_smallbank.specs.declared.entry.Kind.TheVariants.{Write}
 use Rattle.eve_smallbank.specs.declared.entry.Entry.{Entry}
 use Rattle.eve_smallbank.specs.declared.versioned.Versioned.{Versioned}
-use Rattle.eve_grammar.specs.Trace.{Attempt, Trace}
+use Rattle.eve_grammar.specs.Trace.{Attempt, Transfer, Step, Attempts, Commits, TakesOver, Trace}
+use Rattle.eve_history.specs.declared.fate.Fate.TheVariants.{Committed, Discarded}
 use Rattle.eve_history.specs.Section.{Came, Ran, TookOver, Placed, Landing, ByAttempt, ByTransfer, Skipped, came_by}
+use Rattle.eve_history.specs.Section.{start, state_after}
 use Rattle.eve_chains.specs.Visible.{rows_after, visible_to}
-use Rattle.eve_chains.specs.Rows.{Noted, met_by, pair_after}
+use Rattle.eve_chains.specs.Rows.{Noted, to_come, met_by, pair_after}
 use Rattle.eve_chains.specs.Settling.{Settling, change_at, values_in, defined}
 
 -- five batches of a deposit of five cents each
@@ -134,3 +136,31 @@ values_of_the_path = refl
 which_are_defined : map (defined kept) (0 ∷ 1 ∷ 2 ∷ 3 ∷ 4 ∷ 5 ∷ [])
     ≡ true ∷ false ∷ false ∷ true ∷ true ∷ false ∷ []
 which_are_defined = refl
+
+-- ---- step by step
+
+abbrev state_of_three : Transfer
+state_of_three = record { seq = 3; view = 0; rows = rows_of_three }
+
+-- two attempts are open where the state is taken over, and one comes behind it
+abbrev steps_over : List (ℕ × Step)
+steps_over =
+    (10, Attempts (attempt_of_batch 1 (deposit 0 0))) ∷ (20, Attempts (attempt_of_batch 2 (deposit 1 5)))
+    ∷ (60, TakesOver state_of_three) ∷ (80, Attempts fourth)
+    ∷ (90, Commits (record { seq = 4; view = 0; token = replicate 32 4 })) ∷ []
+
+what_becomes_of_each : map (λ y. y.fate) (to_come start steps_over) ≡ Discarded ∷ Discarded ∷ Committed ∷ []
+what_becomes_of_each = refl
+
+states_before_each : map (λ y. y.taken) (to_come start steps_over) ≡ 0 ∷ 0 ∷ 1 ∷ []
+states_before_each = refl
+
+-- nothing before the state is in the path of what comes behind it
+paths_of_each : map (λ y. length y.placed.path) (to_come start steps_over) ≡ 0 ∷ 1 ∷ 1 ∷ []
+paths_of_each = refl
+
+-- the numbers before the state's are skipped
+how_numbers_are_reached : (state_after start steps_over).landings
+    ≡ Skipped ∷ Skipped ∷ ByTransfer 60 state_of_three
+    ∷ ByAttempt (record { offset = 80; attempt = fourth; path = TookOver rows_of_three ∷ [] }) ∷ []
+how_numbers_are_reached = refl

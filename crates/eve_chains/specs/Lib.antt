@@ -1,4 +1,5 @@
 pub mod Rows
+pub mod Bases
 pub mod Notes
 pub mod Looked
 pub mod Changes
@@ -13,3 +14,4 @@ pub mod Along
 pub mod Unfit
 pub mod Stretches
 pub mod Settling
+pub mod Landed

@@ -1,5 +1,5 @@
 -- What the records of attempts note of each row. docs/MODEL.md, "What an entry must see".
-use Rattle.std.specs.Prelude.{ℕ, if◌then◌else◌, List, []}
+use Rattle.std.specs.Prelude.{ℕ, if◌then◌else◌, List, [], ◌∷◌}
 use Rattle.std.specs.List.{flat_map}
 use Rattle.eve_history.specs.declared.fate.Fate.{Fate}
 use Rattle.eve_history.specs.SectionHistory.{ExecutedAttempt, SectionHistory, is_committed}
@@ -7,11 +7,11 @@ use Rattle.eve_chains.specs.Unfit.{is_settled, by_fates_between}
 use Rattle.eve_chains.specs.Rows.{Noted, noted_by}
 use Rattle.eve_chains.specs.declared.note.Note.{Note}
 
--- a note of this row, as the row's walk meets it; no step takes a state over yet, so none came before it
+-- a note of this row, as the row's walk meets it
 abbrev pub noted_at : ℕ → Note → Noted
 noted_at row n = record {
   offset = n.at;
-  taken = 0;
+  taken = n.taken;
   view = n.view;
   number = n.number;
   commits = n.commits;
@@ -20,14 +20,20 @@ noted_at row n = record {
 
 -- ---- of attempts, by what becomes of them
 
+-- attempts, each with how many states were taken over before it
+abbrev pub with_taken : List ExecutedAttempt → List ℕ → List (ExecutedAttempt × ℕ)
+with_taken [] counts = []
+with_taken (r ∷ rs) [] = []
+with_taken (r ∷ rs) (taken ∷ counts) = (r, taken) ∷ with_taken rs counts
+
 -- of records of an attempt with this view, number and fate
-abbrev pub noted_along : ExecutedAttempt → Fate → List Noted
-noted_along r fate = flat_map (noted_by 0 r.attempt.view r.attempt.seq (is_committed fate)) r.ordered
+abbrev pub noted_along : ExecutedAttempt × ℕ → Fate → List Noted
+noted_along x fate = flat_map (noted_by x.1 x.0.attempt.view x.0.attempt.seq (is_committed fate)) x.0.ordered
 
 -- of an attempt that is settled
-abbrev pub noted_if_settled : ExecutedAttempt → Fate → List Noted
-noted_if_settled r fate = if is_settled fate then noted_along r fate else []
+abbrev pub noted_if_settled : ExecutedAttempt × ℕ → Fate → List Noted
+noted_if_settled x fate = if is_settled fate then noted_along x fate else []
 
 -- of the settled ones among attempts from one place up to another
 abbrev pub notes_between : SectionHistory → ℕ → ℕ → List Noted
-notes_between h from to = by_fates_between noted_if_settled h from to
+notes_between h from to = by_fates_between noted_if_settled (with_taken h.attempts h.taken) h.fates from to

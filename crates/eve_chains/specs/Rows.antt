@@ -5,12 +5,12 @@ use Rattle.std.specs.List.{flat_map}
 use Rattle.eve_smallbank.specs.declared.entry.Entry.{Entry}
 use Rattle.eve_smallbank.specs.Chain.{after_own}
 use Rattle.eve_smallbank.specs.declared.versioned.Versioned.{Versioned}
-use Rattle.eve_grammar.specs.Trace.{Access, Step, Attempts, Commits, RollsBack, Trace}
+use Rattle.eve_grammar.specs.Trace.{Access, Step, Attempts, Commits, RollsBack, TakesOver, Trace}
 use Rattle.eve_grammar.specs.Spelling.{steps_at}
 use Rattle.eve_views.specs.Form.{SomePlace}
 use Rattle.eve_views.specs.declared.fault.Fault.{Fault}
 use Rattle.eve_history.specs.declared.fate.Fate.{Fate}
-use Rattle.eve_history.specs.Section.{Placed, Landing, ByAttempt, ByTransfer, Skipped, SectionState, start, path_of, next}
+use Rattle.eve_history.specs.Section.{Placed, Landing, SectionState, start, path_of, next, transfers_by}
 use Rattle.eve_history.specs.Fates.{fate_in}
 use Rattle.eve_history.specs.SectionHistory.{history, ordered, is_committed}
 use Rattle.eve_chains.specs.Visible.{opening_table, taken_table}
@@ -21,10 +21,7 @@ use Rattle.eve_chains.specs.Unfit.{is_settled}
 
 -- where numbers were reached so, in order
 abbrev pub states_by : List Landing → List (List Versioned)
-states_by [] = []
-states_by (ByAttempt p ∷ landings) = states_by landings
-states_by (ByTransfer at x ∷ landings) = x.rows ∷ states_by landings
-states_by (Skipped ∷ landings) = states_by landings
+states_by landings = map (λ x. x.1.rows) (transfers_by landings)
 
 -- what a row of replica e has after this many of them: the opening balance after none, and else what the last of them has
 abbrev pub bases_of : Trace → ℕ → ℕ → ℕ → Versioned
@@ -50,6 +47,7 @@ to_come s ((at, Attempts a) ∷ rest) =
     ∷ to_come (next s (at, Attempts a)) rest
 to_come s ((at, Commits c) ∷ rest) = to_come (next s (at, Commits c)) rest
 to_come s ((at, RollsBack r) ∷ rest) = to_come (next s (at, RollsBack r)) rest
+to_come s ((at, TakesOver x) ∷ rest) = to_come (next s (at, TakesOver x)) rest
 
 -- it is committed or discarded in the end
 abbrev pub settles : Fated → Bool

@@ -39,14 +39,14 @@ abbrev pub records_if_settled : Trace → ExecutedAttempt → Fate → List (ℕ
 records_if_settled t r fate = if is_settled fate then records_along t r else []
 
 -- of attempts with these fates, one after another
-abbrev pub by_fates : {A : Type 0} → (ExecutedAttempt → Fate → List A) → List ExecutedAttempt → List Fate → List A
+abbrev pub by_fates : {A B : Type 0} → (B → Fate → List A) → List B → List Fate → List A
 by_fates of [] fates = []
-by_fates of (r ∷ rs) [] = []
-by_fates of (r ∷ rs) (fate ∷ fates) = of r fate ++ by_fates of rs fates
+by_fates of (x ∷ xs) [] = []
+by_fates of (x ∷ xs) (fate ∷ fates) = of x fate ++ by_fates of xs fates
 
 -- of those from one place up to another
-abbrev pub by_fates_between : {A : Type 0} → (ExecutedAttempt → Fate → List A) → SectionHistory → ℕ → ℕ → List A
-by_fates_between of h from to = by_fates of (slice_range h.attempts from to) (slice_range h.fates from to)
+abbrev pub by_fates_between : {A B : Type 0} → (B → Fate → List A) → List B → List Fate → ℕ → ℕ → List A
+by_fates_between of xs fates from to = by_fates of (slice_range xs from to) (slice_range fates from to)
 
 -- of the settled ones among attempts with these fates
 abbrev pub settled_records : Trace → List ExecutedAttempt → List Fate → List (ℕ × Executed)
@@ -54,7 +54,7 @@ settled_records t rs fates = by_fates (records_if_settled t) rs fates
 
 -- of those from one place up to another
 abbrev pub records_between : Trace → SectionHistory → ℕ → ℕ → List (ℕ × Executed)
-records_between t h from to = by_fates_between (records_if_settled t) h from to
+records_between t h from to = by_fates_between (records_if_settled t) h.attempts h.fates from to
 
 -- ---- the first that doesn't fit
 

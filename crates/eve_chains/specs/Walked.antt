@@ -36,7 +36,7 @@ IsMismatch v e (Some code.Value) = (e.version ≡ v.version) × (e.seen ≢ v.va
 IsMismatch v e (Some _) = ⊥
 
 abbrev pub pair_of : RowWalk → Pair
-pair_of w = record { taken = 0; view = w.view; committed = w.committed; working = w.working }
+pair_of w = record { taken = w.taken; view = w.view; committed = w.committed; working = w.working }
 
 -- the first fault of replica e among these entries of a row, which had this at first and after each state taken over
 abbrev pub IsFirstOnRow : ℕ → (ℕ → Versioned) → List Noted → Option Fault → Type 0

@@ -98,14 +98,14 @@ fn chains(history: &History<'_>, trace: &Trace<'_>, first: Option<Fault>) -> Res
 /// in ranges of rows. Both go in as many threads as there are jobs at most, from 1 on; with one job none is started. What
 /// is found doesn't depend on which ends first. Refused memory decides nothing. The time is linear in the entries; of
 /// several ranges each reads all entries, and passes over those of other rows.
-pub fn check<R: Threads + Sync>(
+pub fn check<'a, R: Threads + Sync>(
     rt: &R,
     alloc: Global,
-    history: &History<'_>,
+    history: &History<'a>,
     trace: &Trace<'_>,
     names: &Names<'_>,
     jobs: u8,
-) -> Result<Settled, CheckFault>
+) -> Result<Settled<'a>, CheckFault>
     requires history { history.now ≡ section_history trace.now history.now.replica }
     requires names { names.now.items ≡ names_of trace.now }
     requires jobs { 1 ≤ jobs }

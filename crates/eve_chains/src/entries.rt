@@ -27,6 +27,7 @@ use std::alloc::AllocError;
 struct Noting {
     /// The number of the first row.
     from: usize,
+    taken: u32,
     view: u32,
     number: u32,
     commits: bool,
@@ -47,10 +48,11 @@ pub(crate) fn note_attempt(
     requires within { (r : ExecutedAttempt) → slice_get history.now.attempts i ≡ Some r
         → AreWithin (row_count (head_of trace.now)) r.ordered }
     ensures as_many { OnOk result (length rows.new.items ≡ length rows.old.items) }
-    ensures gathered { OnOk result ((ns : List Noted) (r : ExecutedAttempt) (fate : FateValue)
-        → slice_get history.now.attempts i ≡ Some r → slice_get history.now.fates i ≡ Some fate
+    ensures gathered { OnOk result ((ns : List Noted) (r : ExecutedAttempt) (taken : ℕ) (fate : FateValue)
+        → slice_get history.now.attempts i ≡ Some r → slice_get history.now.taken i ≡ Some taken
+        → slice_get history.now.fates i ≡ Some fate
         → EachHasGathered trace.now history.now.replica from ns rows.old.items
-        → EachHasGathered trace.now history.now.replica from (ns ++ noted_if_settled r fate) rows.new.items) }
+        → EachHasGathered trace.now history.now.replica from (ns ++ noted_if_settled (r, taken) fate) rows.new.items) }
 {
     let _bytes = trace.bytes();
     let fate = history.fate(i);
@@ -60,6 +62,7 @@ pub(crate) fn note_attempt(
     let attempt = history.attempt(i);
     let noting = Noting {
         from,
+        taken: history.taken_before(i),
         view: attempt.view(),
         number: attempt.seq(),
         commits: is_committed(fate),
@@ -94,7 +97,7 @@ fn note_record(
     ensures gathered { OnOk result ((t : TraceValue) (e : ℕ) (ns : List Noted)
         → EachHasGathered t e noting.from ns rows.old.items
         → EachHasGathered t e noting.from
-        (ns ++ noted_by 0 noting.view noting.number noting.commits (access.now.offset, access_said access.now))
+        (ns ++ noted_by noting.taken noting.view noting.number noting.commits (access.now.offset, access_said access.now))
         rows.new.items) }
 {
     let at = access.offset() as u32;
@@ -117,7 +120,7 @@ fn note_entry(
         → EachHasGathered t e noting.from ns rows.old.items
         → EachHasGathered t e noting.from (ns ++ record {
           offset = at;
-          taken = 0;
+          taken = noting.taken;
           view = noting.view;
           number = noting.number;
           commits = noting.commits;
@@ -132,6 +135,7 @@ fn note_entry(
         seen: entry.seen,
         after: entry.after,
         at,
+        taken: noting.taken,
         view: noting.view,
         number: noting.number,
         commits: noting.commits,

@@ -1,12 +1,12 @@
 //! Laws about the definitions. Each body is empty: the contract is the law.
 
 ghost use Rattle.std.specs.Prelude.{ℕ, ◌≡◌, ◌-◌, ◌∷◌, ◌++◌, suc, List, IsTrue, length, map, Some, AllPairs, ◌≢◌};
-ghost use Rattle.eve_grammar.specs.Trace.{Trace, Attempt};
+ghost use Rattle.eve_grammar.specs.Trace.{Trace, Attempt, Transfer};
 ghost use Rattle.eve_grammar.specs.Limits.{HasLimits};
 ghost use Rattle.eve_views.specs.declared.fault.Fault.{Fault};
 ghost use Rattle.eve_views.specs.Form.{IsFaultIn};
 ghost use Rattle.eve_history.specs.SectionHistory.{IsRightSection, ordered, committed_at, names_of};
-ghost use Rattle.eve_history.specs.SectionHistory.{is_reached};
+ghost use Rattle.eve_history.specs.SectionHistory.{is_reached, landing_at, ByAttemptsTo};
 ghost use Rattle.eve_chains.specs.Visible.{opening_table, executed_by, executed_in, execution, executions, rows_after};
 ghost use Rattle.eve_chains.specs.Visible.{taken_table, before_index, visible_to, entries_before};
 ghost use Rattle.eve_chains.specs.Sound.{SettledAreSound, RecordsFit, OfSettledAccesses, EntriesSee};
@@ -18,10 +18,11 @@ ghost use Rattle.eve_smallbank.specs.Chain.{Table, table_after, visible_at, befo
 ghost use Rattle.eve_smallbank.specs.Conflict.{IsReordering};
 ghost use Rattle.eve_grammar.specs.Certificate.{is_permutation, keeps_groups};
 ghost use Rattle.eve_smallbank.specs.declared.versioned.Versioned.{Versioned};
-ghost use Rattle.eve_history.specs.Section.{Came, Ran, TookOver, Placed, batch_at, request_count};
+ghost use Rattle.eve_history.specs.Section.{Came, Ran, TookOver, Placed, ByTransfer, batch_at, request_count};
 ghost use Rattle.eve_views.specs.declared.fault.Code.TheVariants as code;
 ghost use Rattle.eve_history.specs.Order.{StandsInOrders};
-ghost use Rattle.eve_chains.specs.Committed.{committed_to, values_to, opening_bank, bank_after, Leads, IsSerialBetween};
+ghost use Rattle.eve_chains.specs.Committed.{committed_to, values_to, balances_to, opening_bank, bank_after, Leads};
+ghost use Rattle.eve_chains.specs.Committed.{IsSerialBetween};
 ghost use Rattle.eve_chains.specs.Committed.{committed_request_ids, batch_request_ids};
 ghost use Rattle.eve_chains.specs.Along.{entries_along};
 ghost use Rattle.eve_chains.specs.Settling.{settling, values_in, defined};
@@ -44,7 +45,8 @@ pub fn rows_are_judged_by_themselves()
 {}
 
 /// A replica whose section is right, and whose settled attempts fit and are chained row by row, committed
-/// what SmallBank on one thread gives: batch after batch, and from the opening balances on.
+/// what SmallBank on one thread gives: batch after batch, and from the opening balances on up to where it took a state
+/// over first.
 ///
 /// docs/MODEL.md, "The audit theorem".
 pub fn serial_order_of_a_section()
@@ -52,7 +54,8 @@ pub fn serial_order_of_a_section()
         → (n : ℕ) (p : Placed) → committed_at t e n ≡ Some p
         → IsSerialBetween (bank_after t e (n - 1)) (bank_after t e n) (execution t p.attempt) }
     ensures all { (t : Trace) (e : ℕ) → IsRightSection t e → SettledAreSound t e
-        → (n : ℕ) → Leads (opening_bank t) (executions t (committed_to t e n)) (bank_after t e n) }
+        → (n : ℕ) → ByAttemptsTo t e n
+        → Leads (opening_bank t) (executions t (committed_to t e n)) (bank_after t e n) }
 {}
 
 /// In whatever order the indexes of a committed batch are listed, the requests with these indexes are those that were
@@ -128,6 +131,12 @@ pub fn rows_have_what_the_nearest_writes_left()
 /// before it.
 pub fn settled_values_are_the_banks()
     ensures { (t : Trace) (e n : ℕ) → HasLimits t → IsRightSection t e → values_in (settling t e) n ≡ values_to t e n }
+{}
+
+/// After a number that was reached by a state, the balances are the values of that state.
+pub fn states_are_the_balances()
+    ensures { (t : Trace) (e n at : ℕ) (x : Transfer) → HasLimits t → IsRightSection t e
+        → landing_at t e n ≡ Some (ByTransfer at x) → balances_to t e n ≡ map (λ v. v.value) x.rows }
 {}
 
 /// There are balances after a number exactly where it was reached.

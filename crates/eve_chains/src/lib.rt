@@ -1,6 +1,7 @@
 //! Records and chains judged: what a replica's settled attempts amount to.
 #![tactic(auto)]
 
+mod bases;
 mod changed;
 mod checking;
 mod entries;

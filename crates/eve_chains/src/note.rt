@@ -17,6 +17,8 @@ pub struct Note {
     pub after: Cents,
     /// The offset of the record's frame.
     pub at: u32,
+    /// How many states were taken over before the attempt.
+    pub taken: u32,
     /// The attempt's view.
     pub view: u32,
     /// The number of the attempt's batch.

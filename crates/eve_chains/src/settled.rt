@@ -1,23 +1,28 @@
 //! What a replica committed.
 
-ghost use Rattle.std.specs.Prelude.{◌≡◌, ◌≤◌, ◌-◌, ◌↔◌, Some, All, IsTrue, IfOk, length, map, slice_get};
-ghost use Rattle.std.specs.List.{list_all, flat_map};
+ghost use Rattle.std.specs.Prelude.{◌≡◌, ◌≤◌, ◌-◌, ◌↔◌, ℕ, Some, All, IsTrue, IfOk, IfSome, length, map, slice_get};
+ghost use Rattle.std.specs.Prelude.{option_map};
+ghost use Rattle.std.specs.List.{AllZip, list_all, flat_map};
+ghost use Rattle.eve_accounts.specs.declared.limits.TheConstants.{MOST_NAMED_ROWS};
 ghost use Rattle.eve_smallbank.specs.Access.{balance_of_row};
 ghost use Rattle.eve_grammar.specs.Trace.{opening_rows, head_of};
 ghost use Rattle.eve_grammar.specs.Limits.{row_count};
-ghost use Rattle.eve_history.specs.SectionHistory.{section_history};
-ghost use Rattle.eve_chains.specs.Changes.{change_of, by_number, values_changed};
-ghost use Rattle.eve_chains.specs.Numbered.{HasNumber, IsRowBelow, is_same_where_changed};
-ghost use Rattle.eve_chains.specs.Settling.{Wrote, settling, values_in, defined, AreBankAfter, HaveSameBalances};
+ghost use Rattle.eve_frames.specs.Said.{transfer_said};
+ghost use Rattle.eve_history.specs.SectionHistory.{section_history, IsToldOf};
+ghost use Rattle.eve_chains.specs.Changes.{change_of, from_starts, values_changed};
+ghost use Rattle.eve_chains.specs.Landed.{change_said, IsOfRows, transfer_at, rows_changed_at};
+ghost use Rattle.eve_chains.specs.Numbered.{IsInOrder, IsRowBelow, is_same_where_changed};
+ghost use Rattle.eve_chains.specs.Settling.{settling, values_in, defined, AreBankAfter, HaveSameBalances};
 ghost use Rattle.eve_chains.specs.Walked.{AreWalked};
 
 use crate::changed::Changed;
 use crate::numbered::Numbered;
 use crate::opening::opening_balances;
-use crate::walked::{Walked, walk_section};
-use eve_accounts::Balances;
-use eve_history::History;
+use crate::walked::{Walked, row_at, walk_section};
+use eve_accounts::{Balances, SetRow};
+use eve_frames::TransferView;
 use eve_history::laws::numbers_are_reached;
+use eve_history::{History, Landing};
 use eve_views::Trace;
 use std::alloc::{AllocError, Global};
 use std::marker::Model;
@@ -28,37 +33,55 @@ const ROWS_A_CHANGE: usize = 2;
 
 /// The opening balances, and what each number that a replica reached changed, which give the balances after each.
 ///
-/// docs/MODEL.md, "Bank and replies after a committed batch". It takes eight bytes for each row and for each batch, and
-/// sixteen for each row that a batch changed. It borrows nothing.
+/// docs/MODEL.md, "Bank and replies after a committed batch". It takes eight bytes for each row, sixteen for each number, and
+/// sixteen for each row that a batch changed. A state that was taken over is read where it lies in the trace.
 #[derive(Drop)]
-pub struct Settled {
+pub struct Settled<'a> {
     opening: Balances,
     numbered: Numbered,
+    // how each number was reached, from 1 on
+    landings: Vec<Landing>,
+    // the states that were taken over
+    transfers: Vec<TransferView<'a>>,
 }
 
-impl Model for Settled {
-    ghost use Rattle.std.specs.Prelude.{length, map};
+/// What a number changed.
+#[derive(Clone, Copy)]
+enum Change<'a> {
+    /// The rows that its batch wrote, rising.
+    Wrote(&'a [Changed]),
+    /// All rows: this state was taken over.
+    TookOver(TransferView<'a>),
+    /// No row: the number was skipped.
+    Nothing,
+}
+
+impl<'a> Model for Settled<'a> {
+    ghost use Rattle.std.specs.Prelude.{length};
     ghost use Rattle.eve_chains.specs.Changes.{from_starts};
     ghost use Rattle.eve_chains.specs.Numbered.{IsInOrder};
-    ghost use Rattle.eve_chains.specs.Settling.{Settling, Wrote};
+    ghost use Rattle.eve_chains.specs.Landed.{AreLandings, changes_in};
+    ghost use Rattle.eve_chains.specs.Settling.{Settling};
 
     ghost Value = { Settling };
 
     ghost view = { λ s. record {
       opening = s.opening;
-      numbers = map Wrote (from_starts s.numbered.count s.numbered.starts.items s.numbered.changes.items);
+      numbers = changes_in s.transfers.items s.landings.items
+          (from_starts s.numbered.count s.numbered.starts.items s.numbered.changes.items);
     } };
 
-    ghost invariant = { λ s. IsInOrder (length s.opening) s.numbered };
+    ghost invariant = { λ s. IsInOrder (length s.opening) s.numbered
+        × AreLandings (length s.opening) s.numbered.count s.transfers.items s.landings.items };
 }
 
-impl Settled {
+impl<'a> Settled<'a> {
     /// What a replica committed, of its history in the trace, whatever its entries see.
     pub fn of(
         alloc: Global,
-        history: &History<'_>,
+        history: &History<'a>,
         trace: &Trace<'_>,
-    ) -> Result<Settled, AllocError>
+    ) -> Result<Settled<'a>, AllocError>
         requires history { history.now ≡ section_history trace.now history.now.replica }
         ensures { IfOk result (λ settled. settled ≡ settling trace.now history.now.replica) }
     {
@@ -70,11 +93,11 @@ impl Settled {
     /// The same, of its opening balances and of what the walks of all rows gave.
     pub(crate) fn of_walked(
         alloc: Global,
-        history: &History<'_>,
+        history: &History<'a>,
         trace: &Trace<'_>,
         opening: Balances,
         walked: Vec<Walked>,
-    ) -> Result<Settled, AllocError>
+    ) -> Result<Settled<'a>, AllocError>
         requires history { history.now ≡ section_history trace.now history.now.replica }
         requires opening { opening ≡ opening_rows trace.now.customers }
         requires walked { AreWalked trace.now history.now.replica (row_count (head_of trace.now)) walked.items }
@@ -83,25 +106,16 @@ impl Settled {
         trace.recall_limits();
         history.recall_right();
         numbers_are_reached();
+        let landings = landings_of(alloc, history)?;
+        let transfers = transfers_of(alloc, history)?;
         let changes = join_all(alloc, walked)?;
-        Settled::of_changes(alloc, opening, history.committed(), &changes)
-    }
-
-    /// Of opening balances, and of what each of the given number of batches changed: row after row, and of each row
-    /// batch after batch.
-    fn of_changes(
-        alloc: Global,
-        opening: Balances,
-        count: u32,
-        changes: &[Changed],
-    ) -> Result<Settled, AllocError>
-        requires numbers { All (HasNumber count) changes.now }
-        requires rows { All (IsRowBelow (length opening)) changes.now }
-        ensures { IfOk result (λ settled. settled
-            ≡ record { opening = opening; numbers = map Wrote (by_number count changes.entry.now) }) }
-    {
-        let numbered = Numbered::of(alloc, opening.len(), count, changes)?;
-        Ok(Settled { opening, numbered })
+        let numbered = Numbered::of(alloc, opening.len(), history.committed(), &changes)?;
+        Ok(Settled {
+            opening,
+            numbered,
+            landings,
+            transfers,
+        })
     }
 
     /// The last number that the replica reached; 0 where it reached none.
@@ -111,28 +125,38 @@ impl Settled {
         self.numbered.count
     }
 
-    /// Whether there are balances after number n: 0 has some, and so has each number that the replica reached.
+    /// Whether there are balances after number n: 0 has some, and so has each number that the replica reached and didn't
+    /// skip.
     ///
     /// docs/MODEL.md, "Bank and replies after a committed batch".
     pub fn defined(&self, n: u32) -> bool
         ensures { result ≡ defined self.now n }
     {
-        n <= self.numbered.count
+        if n == 0 {
+            return true;
+        }
+        if self.numbered.count < n {
+            return false;
+        }
+        match self.landings[n as usize - 1] {
+            Landing::Attempt(_) => true,
+            Landing::Transfer(_) => true,
+            Landing::Skipped => false,
+        }
     }
 
-    /// What batch n changed, of the batches from 1 on, the rows rising.
-    fn changes_of(&self, n: u32) -> &[Changed]
+    /// What number n changed, of the numbers from 1 on.
+    fn change_at(&self, n: u32) -> Change<'_>
         requires one { 1 ≤ n }
         requires there { n ≤ length self.now.numbers }
-        ensures says { slice_get self.now.numbers (n - 1) ≡ Some (Wrote (map change_of result.now)) }
-        ensures rows { All (IsRowBelow (length self.now.opening)) result.now }
+        ensures says { slice_get self.now.numbers (n - 1) ≡ Some (change_said result) }
+        ensures rows { IsOfRows (length self.now.opening) result }
     {
-        let numbered = &self.numbered;
-        let from = numbered.starts[n as usize - 1];
-        let to = numbered.starts[n as usize];
-        prove!(from <= to);
-        prove!(to <= numbered.changes.len());
-        &numbered.changes[from..to]
+        match self.landings[n as usize - 1] {
+            Landing::Attempt(_) => Change::Wrote(written(&self.numbered, n)),
+            Landing::Transfer(i) => Change::TookOver(self.transfers[i as usize]),
+            Landing::Skipped => Change::Nothing,
+        }
     }
 
     /// The balances after number n, in cents, which are the bank after it: the work is what the numbers up to n changed.
@@ -152,31 +176,37 @@ impl Settled {
     }
 
     /// Goes from the balances after number n - 1 to those after number n, of the numbers from 1 on, which are the bank
-    /// after it.
+    /// after it. At a number that was skipped it does nothing.
     ///
     /// docs/MODEL.md, "Bank and replies after a committed batch".
-    pub fn advance(&self, n: u32, balances: &mut Balances)
+    pub fn advance<T: SetRow>(&self, n: u32, rows: &mut T)
         requires one { 1 ≤ n }
         requires there { n ≤ length self.now.numbers }
-        requires rows { length balances.old ≡ length self.now.opening }
-        requires before { balance_of_row balances.old ≡ values_in self.now (n - 1) }
-        ensures rows { length balances.new ≡ length balances.old }
-        ensures values { balance_of_row balances.new ≡ values_in self.now n }
-        ensures bank { AreBankAfter self.now n balances.new }
+        requires rows { length (T.rows rows.old) ≡ length self.now.opening }
+        requires before { balance_of_row (T.rows rows.old) ≡ values_in self.now (n - 1) }
+        ensures rows { length (T.rows rows.new) ≡ length (T.rows rows.old) }
+        ensures values { balance_of_row (T.rows rows.new) ≡ values_in self.now n }
+        ensures bank { AreBankAfter self.now n (T.rows rows.new) }
     {
-        set_all(balances, self.changes_of(n));
+        let change = self.change_at(n);
+        match change {
+            Change::Wrote(changes) => set_all(rows, changes),
+            Change::TookOver(state) => take_over(rows, &state),
+            Change::Nothing => {}
+        }
     }
 
     /// Whether the balances after batch n, of the batches from 1 on, are those that another replica has after it.
     /// `before` says that those after the batch before are known to be the same: then only the rows are compared that
-    /// batch n changed in the one or in the other, unless comparing all balances is quicker.
+    /// batch n changed in the one or in the other, unless comparing all balances is quicker. So they are where the one or
+    /// the other took a state over.
     ///
     /// docs/MODEL.md, "Bank and replies after a committed batch".
     pub fn are_same_after(
         &self,
         n: u32,
         balances: &Balances,
-        other: &Settled,
+        other: &Settled<'_>,
         others: &Balances,
         before: bool,
     ) -> bool
@@ -190,21 +220,23 @@ impl Settled {
         requires before { IsTrue before → HaveSameBalances self.now other.now (n - 1) }
         ensures { IsTrue result ↔ (balances.now ≡ others.now) }
     {
-        if before && self.changes_of(n).len() <= balances.len() / ROWS_A_CHANGE {
-            return self.are_same_again(n, balances, other, others);
+        if before {
+            if let Some(same) = self.are_same_again(n, balances, other, others) {
+                return same;
+            }
         }
         are_same(balances, others)
     }
 
     /// The same, where the balances after the batch before are the same: compares only the rows that batch n changed in
-    /// the one or in the other.
+    /// the one or in the other. Nothing, where comparing all balances is quicker or needed.
     fn are_same_again(
         &self,
         n: u32,
         balances: &Balances,
-        other: &Settled,
+        other: &Settled<'_>,
         others: &Balances,
-    ) -> bool
+    ) -> Option<bool>
         requires one { 1 ≤ n }
         requires there { n ≤ length self.now.numbers }
         requires its { n ≤ length other.now.numbers }
@@ -213,11 +245,74 @@ impl Settled {
         requires values { balance_of_row balances.now ≡ values_in self.now n }
         requires its_values { balance_of_row others.now ≡ values_in other.now n }
         requires before { HaveSameBalances self.now other.now (n - 1) }
-        ensures { IsTrue result ↔ (balances.now ≡ others.now) }
+        ensures { IfSome result (λ same. IsTrue same ↔ (balances.now ≡ others.now)) }
     {
-        let own = are_same_where_changed(self.changes_of(n), balances, others);
-        own && are_same_where_changed(other.changes_of(n), balances, others)
+        let own = self.rows_changed(n)?;
+        let its = other.rows_changed(n)?;
+        if balances.len() / ROWS_A_CHANGE < own.len() {
+            return None;
+        }
+        let same = are_same_where_changed(own, balances, others)
+            && are_same_where_changed(its, balances, others);
+        Some(same)
     }
+
+    /// The rows that number n changed, of the numbers from 1 on, where it wasn't all of them.
+    fn rows_changed(&self, n: u32) -> Option<&[Changed]>
+        requires one { 1 ≤ n }
+        requires there { n ≤ length self.now.numbers }
+        ensures says { option_map (λ changes. map change_of changes.now) result ≡ rows_changed_at self.now n }
+        ensures rows { IfSome result (λ changes. All (IsRowBelow (length self.now.opening)) changes.now) }
+    {
+        match self.change_at(n) {
+            Change::Wrote(changes) => Some(changes),
+            Change::TookOver(_) => None,
+            Change::Nothing => Some(&[]),
+        }
+    }
+}
+
+/// How each number was reached, from 1 on.
+fn landings_of(alloc: Global, history: &History<'_>) -> Result<Vec<Landing>, AllocError>
+    ensures { IfOk result (λ landings. AllZip (IsToldOf history.now) landings.items history.now.landings) }
+{
+    let count = history.committed();
+    let mut landings = Vec::with_capacity(alloc, count as usize)?;
+    for before in 0..count {
+        landings.push(history.landing(before + 1))?;
+    }
+    Ok(landings)
+}
+
+/// The states that were taken over.
+fn transfers_of<'a>(
+    alloc: Global,
+    history: &History<'a>,
+) -> Result<Vec<TransferView<'a>>, AllocError>
+    ensures { IfOk result (λ transfers. map transfer_at transfers.items ≡ history.now.transfers) }
+{
+    let count = history.transfers();
+    let mut transfers = Vec::with_capacity(alloc, count)?;
+    for i in 0..count {
+        transfers.push(history.transfer(i))?;
+    }
+    Ok(transfers)
+}
+
+/// What batch n changed, of the batches from 1 on, the rows rising.
+fn written(numbered: &Numbered, n: u32) -> &[Changed]
+    requires one { 1 ≤ n }
+    requires there { n ≤ numbered.now.count }
+    requires order { (rows : ℕ) × IsInOrder rows numbered.now }
+    ensures says { slice_get (from_starts numbered.now.count numbered.now.starts.items numbered.now.changes.items) (n - 1)
+        ≡ Some (map change_of result.now) }
+    ensures rows { (rows : ℕ) → IsInOrder rows numbered.now → All (IsRowBelow rows) result.now }
+{
+    let from = numbered.starts[n as usize - 1];
+    let to = numbered.starts[n as usize];
+    prove!(from <= to);
+    prove!(to <= numbered.changes.len());
+    &numbered.changes[from..to]
 }
 
 /// The changes of all ranges of rows, range after range; those of a lone range as they stand.
@@ -244,14 +339,25 @@ fn join_several(alloc: Global, walked: &[Walked]) -> Result<Vec<Changed>, AllocE
 }
 
 /// Gives each changed row its value.
-fn set_all(balances: &mut Balances, changes: &[Changed])
-    requires rows { All (IsRowBelow (length balances.old)) changes.now }
-    ensures as_many { length balances.new ≡ length balances.old }
-    ensures values { balance_of_row balances.new
-        ≡ values_changed (balance_of_row balances.old) (map change_of changes.now) }
+fn set_all<T: SetRow>(rows: &mut T, changes: &[Changed])
+    requires rows { All (IsRowBelow (length (T.rows rows.old))) changes.now }
+    ensures as_many { length (T.rows rows.new) ≡ length (T.rows rows.old) }
+    ensures values { balance_of_row (T.rows rows.new)
+        ≡ values_changed (balance_of_row (T.rows rows.old)) (map change_of changes.now) }
 {
     for change in changes {
-        balances.set(change.row, change.value);
+        rows.set(change.row, change.value);
+    }
+}
+
+/// Gives each row what it has in a state that was taken over.
+fn take_over<T: SetRow>(rows: &mut T, state: &TransferView<'_>)
+    requires as_many { length (transfer_said state.now).rows ≡ length (T.rows rows.old) }
+    requires few { length (T.rows rows.old) ≤ MOST_NAMED_ROWS }
+    ensures { T.rows rows.new ≡ map (λ v. v.value) (transfer_said state.now).rows }
+{
+    for i in 0..state.len() {
+        rows.set(row_at(i as u32), state.row(i).value);
     }
 }
 

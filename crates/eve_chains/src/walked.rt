@@ -8,12 +8,14 @@ ghost use Rattle.eve_grammar.specs.Limits.{row_count};
 ghost use Rattle.eve_views.specs.First.{first_of};
 ghost use Rattle.eve_views.specs.declared.fault.Fault.{Fault as FaultValue};
 ghost use Rattle.eve_history.specs.SectionHistory.{section_history};
+ghost use Rattle.eve_chains.specs.Bases.{AreBasesOf};
 ghost use Rattle.eve_chains.specs.Notes.{notes_between};
 ghost use Rattle.eve_chains.specs.Rows.{Noted};
 ghost use Rattle.eve_chains.specs.Stretches.{IsWithin};
 ghost use Rattle.eve_chains.specs.Walked.{EachHasGathered, EachHasWalked, IsWalked, AreWalked};
 ghost use Rattle.eve_chains.specs.declared.walked.Walked.{Walked as WalkedValue};
 
+use crate::bases::Bases;
 use crate::changed::Changed;
 use crate::entries::note_attempt;
 use crate::row_walk::RowWalk;
@@ -76,8 +78,10 @@ fn walk_rows(
     from: usize,
     history: &History<'_>,
     trace: &Trace<'_>,
+    opening: &Balances,
 ) -> Result<(), AllocError>
     requires history { history.now ≡ section_history trace.now history.now.replica }
+    requires opening { opening.now ≡ opening_rows trace.now.customers }
     requires rows { from + length rows.old.items ≤ row_count (head_of trace.now) }
     requires begun { EachHasGathered trace.now history.now.replica from [] rows.old.items }
     ensures as_many { OnOk result (length rows.new.items ≡ length rows.old.items) }
@@ -85,37 +89,44 @@ fn walk_rows(
         (notes_between history.now 0 (length history.now.attempts)) rows.new.items) }
 {
     trace.recall_limits();
+    let bases = Bases { opening, history };
     let enough = rows.len().max(LEAST_RECORDS);
     let mut records = 0usize;
     for i in 0..history.attempts() {
         note_attempt(rows, from, history, trace, i)?;
         records = records.saturating_add(history.attempt(i).len());
         if enough <= records {
-            walk_each(rows, from, history.replica())?;
+            walk_each(rows, from, history.replica(), &bases)?;
             records = 0;
         }
     }
-    walk_each(rows, from, history.replica())?;
+    walk_each(rows, from, history.replica(), &bases)?;
     Ok(())
 }
 
 /// Walks each of these rows, from this one on, by itself along its gathered entries.
-fn walk_each(rows: &mut Vec<GatheredRow>, from: usize, replica: u8) -> Result<(), AllocError>
+fn walk_each(
+    rows: &mut Vec<GatheredRow>,
+    from: usize,
+    replica: u8,
+    bases: &Bases<'_, '_>,
+) -> Result<(), AllocError>
     requires { from + length rows.old.items ≤ MOST_NAMED_ROWS }
     ensures as_many { OnOk result (length rows.new.items ≡ length rows.old.items) }
-    ensures gathered { OnOk result ((t : TraceValue) (ns : List Noted)
+    ensures gathered { OnOk result ((t : TraceValue) (ns : List Noted) → AreBasesOf t replica bases.now
         → EachHasGathered t replica from ns rows.old.items → EachHasGathered t replica from ns rows.new.items) }
-    ensures walked { OnOk result ((t : TraceValue) (ns : List Noted)
+    ensures walked { OnOk result ((t : TraceValue) (ns : List Noted) → AreBasesOf t replica bases.now
         → EachHasGathered t replica from ns rows.old.items → EachHasWalked t replica from ns rows.new.items) }
 {
     for place in 0..rows.len() {
-        walk_row(&mut rows[place], replica, row_at((from + place) as u32))?;
+        let row = row_at((from + place) as u32);
+        walk_row(&mut rows[place], replica, bases, row)?;
     }
     Ok(())
 }
 
 /// The row with this number.
-fn row_at(number: u32) -> Row
+pub(crate) fn row_at(number: u32) -> Row
     requires { number < MOST_NAMED_ROWS }
     ensures { result ≡ number }
 {
@@ -177,7 +188,7 @@ fn walk_range(
     ensures { IfOk result (IsWalked trace.now history.now.replica range) }
 {
     let mut rows = begin(alloc, trace, opening, range)?;
-    walk_rows(&mut rows, range.from, history, trace)?;
+    walk_rows(&mut rows, range.from, history, trace, opening)?;
     finish(alloc, history, trace, range, &rows)
 }
 

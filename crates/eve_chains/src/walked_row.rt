@@ -1,12 +1,13 @@
 //! One row walked by itself along what is gathered of it.
 
-ghost use Rattle.std.specs.Prelude.{◌≡◌, ℕ, ◌++◌, ◌∷◌, [], OnOk, List, map};
-ghost use Rattle.eve_smallbank.specs.declared.versioned.Versioned.{Versioned as VersionedValue};
+ghost use Rattle.std.specs.Prelude.{◌≡◌, ◌++◌, ◌∷◌, [], OnOk, List, map};
+ghost use Rattle.eve_chains.specs.Bases.{base_at};
 ghost use Rattle.eve_chains.specs.Rows.{Noted};
 ghost use Rattle.eve_chains.specs.Notes.{noted_at};
 ghost use Rattle.eve_chains.specs.Changes.{changes_along};
 ghost use Rattle.eve_chains.specs.Walked.{HasWalked, HasGathered};
 
+use crate::bases::Bases;
 use crate::changed::{Changed, add_change};
 use crate::note::Note;
 use crate::row_walk::RowWalk;
@@ -33,12 +34,18 @@ pub struct GatheredRow {
 
 /// Goes on along these notes to the end, also where something is wrong: the first fault needn't be the first that the
 /// walk meets.
-fn walk_notes(on: &mut WalkedRow, replica: u8, row: Row, notes: &[Note]) -> Result<(), AllocError>
-    ensures { OnOk result ((bases : ℕ → VersionedValue) (ns : List Noted) → HasWalked replica bases ns on.old
-        → HasWalked replica bases (ns ++ map (noted_at row) notes.now) on.new) }
+fn walk_notes(
+    on: &mut WalkedRow,
+    replica: u8,
+    bases: &Bases<'_, '_>,
+    row: Row,
+    notes: &[Note],
+) -> Result<(), AllocError>
+    ensures { OnOk result ((ns : List Noted) → HasWalked replica (base_at bases.now row) ns on.old
+        → HasWalked replica (base_at bases.now row) (ns ++ map (noted_at row) notes.now) on.new) }
 {
     for note in notes {
-        on.walk = on.walk.meet(replica, note);
+        on.walk = on.walk.meet(replica, bases, row, note);
         note_change(&mut on.changes, row, note)?;
     }
     Ok(())
@@ -62,12 +69,17 @@ fn note_change(changes: &mut Vec<Changed>, row: Row, note: &Note) -> Result<(), 
 }
 
 /// Walks a row along its gathered entries, and empties their list, whose room is used again.
-pub(crate) fn walk_row(on: &mut GatheredRow, replica: u8, row: Row) -> Result<(), AllocError>
-    ensures walked { OnOk result ((bases : ℕ → VersionedValue) (ns : List Noted)
-        → HasGathered replica row bases ns on.old → HasWalked replica bases ns on.new.walked) }
+pub(crate) fn walk_row(
+    on: &mut GatheredRow,
+    replica: u8,
+    bases: &Bases<'_, '_>,
+    row: Row,
+) -> Result<(), AllocError>
+    ensures walked { OnOk result ((ns : List Noted) → HasGathered replica row (base_at bases.now row) ns on.old
+        → HasWalked replica (base_at bases.now row) ns on.new.walked) }
     ensures none { OnOk result (on.new.notes.items ≡ []) }
 {
-    walk_notes(&mut on.walked, replica, row, &on.notes)?;
+    walk_notes(&mut on.walked, replica, bases, row, &on.notes)?;
     on.notes.clear();
     Ok(())
 }

@@ -5,7 +5,10 @@ use Rattle.std.specs.declared.alloc.Global.{Global}
 use Rattle.std.specs.List.{AllByRecursion, take-map}
 use Rattle.std.proofs.lemmas.List.Concat.{flat_map-append}
 use Rattle.std.proofs.lemmas.List.{map-append, length-map, length-append, append-nil}
-use Rattle.eve_grammar.specs.Trace.{Access, Attempt, Rollback, Step, Attempts, Commits, RollsBack}
+use Rattle.std.specs.Prelude.{IsTrue}
+use Rattle.std.proofs.lemmas.Bool.{false≢true}
+use Rattle.eve_grammar.specs.Trace.{Access, Attempt, Rollback, Step, Attempts, Commits, RollsBack, TakesOver}
+use Rattle.eve_grammar.specs.Limits.{is_of_version}
 use Rattle.eve_grammar.specs.Frames.{without_accesses}
 use Rattle.eve_grammar.specs.Spelling.{accesses_at}
 use Rattle.eve_grammar.proofs.Lists.{all-push}
@@ -13,6 +16,7 @@ use Rattle.eve_frames.specs.Said.{attempt_said, rollback_said}
 use Rattle.eve_frames.specs.declared.attempt.AttemptView.{AttemptView}
 use Rattle.eve_frames.specs.declared.commit.CommitView.{CommitView}
 use Rattle.eve_frames.specs.declared.rollback.RollbackView.{RollbackView}
+use Rattle.eve_frames.specs.declared.transfer.TransferView.{TransferView}
 use Rattle.eve_views.specs.StepKinds.{IsStep}
 use Rattle.eve_views.specs.declared.steps.Step.TheVariants as of
 use Rattle.eve_history.specs.Section.{Came, Ran, Placed, ByAttempt, came_by, attempts_by, SectionState, next}
@@ -79,6 +83,7 @@ attempt_comes s c (at, Attempts a) attempt xs path is stands more =
     }
 attempt_comes s c (at, Commits d) attempt xs path is stands more = elim stands [ ]
 attempt_comes s c (at, RollsBack r) attempt xs path is stands more = elim stands [ ]
+attempt_comes s c (at, TakesOver x) attempt xs path is stands more = elim stands [ ]
 
 -- a commit comes, where an attempt is open
 one_committed : (s : SectionState) (c : Course) (p : Placed) (ps : List Placed) → IsCourse s c → s.pending ≡ p ∷ ps
@@ -114,6 +119,7 @@ commit_comes s c (at, Commits d) commit is stands some = by s.pending refl
     by (p ∷ ps) first = one_committed s c p ps is first
 commit_comes s c (at, Attempts a) commit is stands some = elim stands [ ]
 commit_comes s c (at, RollsBack r) commit is stands some = elim stands [ ]
+commit_comes s c (at, TakesOver x) commit is stands some = elim stands [ ]
 
 -- a rollback comes
 pub rollback_comes : (s : SectionState) (c : Course) (step : ℕ × Step) (rollback : RollbackView) (view : ℕ)
@@ -142,3 +148,12 @@ rollback_comes s c (at, RollsBack r) rollback view path is stands view_is kept =
         ∙ take-append-here (map placed_at (attempts_by s.landings)) (map placed_at s.pending)
 rollback_comes s c (at, Attempts a) rollback view path is stands view_is kept = elim stands [ ]
 rollback_comes s c (at, Commits d) rollback view path is stands view_is kept = elim stands [ ]
+rollback_comes s c (at, TakesOver x) rollback view path is stands view_is kept = elim stands [ ]
+
+-- a state is taken over in no trace of version 1
+pub none_taken_over : (step : ℕ × Step) (x : TransferView) → IsStep (of.Transfer x) step
+    → IsTrue (is_of_version 1 step.1) → ⊥
+none_taken_over (at, TakesOver y) x stands own = false≢true own
+none_taken_over (at, Attempts a) x stands own = elim stands [ ]
+none_taken_over (at, Commits d) x stands own = elim stands [ ]
+none_taken_over (at, RollsBack r) x stands own = elim stands [ ]

@@ -3,7 +3,7 @@ use Rattle.std.proofs.Common.{◌≡◌, ℕ, ◌⊎◌, inl, inr, List, [], ◌
 use Rattle.std.specs.Prelude.{IsTrue, IsFalse}
 use Rattle.eve_smallbank.proofs.Members.{In, here, there}
 use Rattle.eve_grammar.specs.Accesses.{is_right_place}
-use Rattle.eve_grammar.specs.Trace.{Access, Attempt, Step, Attempts, Commits, RollsBack, Trace}
+use Rattle.eve_grammar.specs.Trace.{Access, Attempt, Step, Attempts, Commits, RollsBack, TakesOver, Trace}
 use Rattle.eve_grammar.specs.Spelling.{steps_at, accesses_at}
 use Rattle.eve_views.specs.declared.fault.Code.TheVariants as code
 use Rattle.eve_views.specs.Form.{SomePlace}
@@ -12,7 +12,7 @@ use Rattle.eve_history.specs.Section.{is_right_attempt, is_right_certificate, is
 use Rattle.eve_history.specs.Section.{is_right_rollback, are_right, are_right_accesses}
 use Rattle.eve_history.specs.SectionHistory.{history}
 use Rattle.eve_history.specs.Structure.{OfAttempt, OfCommit, OfRollback, accesses_of, StandsInStructure}
-use Rattle.eve_history.proofs.FateLaws.{attempts_by_push}
+use Rattle.eve_history.proofs.FateLaws.{attempts_by_push, attempts_by_taking}
 use Rattle.eve_history.proofs.Places.{weaker_place, place_here, place_later}
 use Rattle.eve_chains.proofs.Distinct.{in_right, in_split}
 use Rattle.eve_chains.specs.Visible.{visible_to}
@@ -31,6 +31,7 @@ attempt_along t e at stands = weaker_place _ _ (steps_at t e) by stands
     by before (o, Attempts a) h = inl (h.1.0, h.1.1)
     by before (o, Commits c) h = elim h.1.1 [ ]
     by before (o, RollsBack r) h = elim h.1.1 [ ]
+    by before (o, TakesOver x) h = elim h.1.1 [ ]
 
 pub commit_along : (t : Trace) (e at : ℕ) → StandsInStructure code.Commit t e at → StandsAlong code.Commit t e at
 commit_along t e at stands = weaker_place _ _ (steps_at t e) by stands
@@ -41,6 +42,7 @@ commit_along t e at stands = weaker_place _ _ (steps_at t e) by stands
     by before (o, Attempts a) h = elim h.1.1 [ ]
     by before (o, Commits c) h = (h.1.0, h.1.1)
     by before (o, RollsBack r) h = elim h.1.1 [ ]
+    by before (o, TakesOver x) h = elim h.1.1 [ ]
 
 pub rollback_along : (t : Trace) (e at : ℕ) → StandsInStructure code.Rollback t e at → StandsAlong code.Rollback t e at
 rollback_along t e at stands = weaker_place _ _ (steps_at t e) by stands
@@ -51,6 +53,7 @@ rollback_along t e at stands = weaker_place _ _ (steps_at t e) by stands
     by before (o, Attempts a) h = elim h.1.1 [ ]
     by before (o, Commits c) h = elim h.1.1 [ ]
     by before (o, RollsBack r) h = (h.1.0, h.1.1)
+    by before (o, TakesOver x) h = elim h.1.1 [ ]
 
 abbrev AtRight : Trace → ℕ → (Attempt → List Access → Access → Type 0) → List (ℕ × Step) → ℕ × Step → Type 0
 AtRight t at P before step = IsTrue (are_right t start before) × OfAttempt step.1 (λ a.
@@ -67,6 +70,7 @@ access_along t e at stands = weaker_place _ _ (steps_at t e) by stands
     by before (o, Attempts a) h = inr (weaker_place _ _ (accesses_at o a) (λ own x w. w.1) h.1.2)
     by before (o, Commits c) h = elim h.1 [ ]
     by before (o, RollsBack r) h = elim h.1 [ ]
+    by before (o, TakesOver x) h = elim h.1 [ ]
 
 pub place_along : (t : Trace) (e at : ℕ) → StandsInStructure code.WorkerOrder t e at
     → StandsAlong code.WorkerOrder t e at
@@ -78,6 +82,7 @@ place_along t e at stands = weaker_place _ _ (steps_at t e) by stands
     by before (o, Attempts a) h = inr (weaker_place _ _ (accesses_at o a) (λ own x w. w.1) h.1.2)
     by before (o, Commits c) h = elim h.1 [ ]
     by before (o, RollsBack r) h = elim h.1 [ ]
+    by before (o, TakesOver x) h = elim h.1 [ ]
 
 -- ---- settled attempts
 
@@ -115,6 +120,12 @@ has_next p s (o, Commits c) has = inl (commits_from p s s.pending (λ q i. inr (
 has_next p s (o, RollsBack r) (inl i) = inl (inl i)
 has_next p s (o, RollsBack r) (inr (inl i)) = elim i [ ]
 has_next p s (o, RollsBack r) (inr (inr i)) = elim (in_split s.discarded s.pending i) [
+  | inl j ↦ inl (inr (inr j))
+  | inr j ↦ inl (inr (inl j))
+]
+has_next p s (o, TakesOver x) (inl i) = inl (inl (subst (In p) (attempts_by_taking s o x) i))
+has_next p s (o, TakesOver x) (inr (inl i)) = elim i [ ]
+has_next p s (o, TakesOver x) (inr (inr i)) = elim (in_split s.discarded s.pending i) [
   | inl j ↦ inl (inr (inr j))
   | inr j ↦ inl (inr (inl j))
 ]

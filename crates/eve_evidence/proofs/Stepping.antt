@@ -1,6 +1,6 @@
 -- From the frames of a step to the step.
 use Rattle.std.proofs.Common.{◌≡◌, ℕ, List, inl, inr, sym, subst, ap, ◌∙◌}
-use Rattle.eve_grammar.specs.Trace.{Access, Attempt, Step, Attempts, Commits, RollsBack, Trace}
+use Rattle.eve_grammar.specs.Trace.{Access, Attempt, Step, Attempts, Commits, RollsBack, TakesOver, Trace}
 use Rattle.eve_grammar.specs.Frames.{without_accesses}
 use Rattle.eve_grammar.specs.Spelling.{accesses_at}
 use Rattle.eve_frames.specs.Said.{attempt_said}
@@ -55,6 +55,7 @@ module _ (c : Code) (t : Trace) (place : ℕ) (course : Course) where
         × TellsAccess c t s attempt.offset a own y x)) here found))
     told_here x told s (at, Commits d) course_is stands = elim stands [ ]
     told_here x told s (at, RollsBack r) course_is stands = elim stands [ ]
+    told_here x told s (at, TakesOver y) course_is stands = elim stands [ ]
 
     none_here : ((s : SectionState) → IsCourse s course → attempt.offset ≡ place
         → ¬ WrongAttempt c t s (attempt_said attempt))
@@ -72,6 +73,7 @@ module _ (c : Code) (t : Trace) (place : ℕ) (course : Course) where
         ]
     none_here own none s (at, Commits d) course_is stands fault = elim stands [ ]
     none_here own none s (at, RollsBack r) course_is stands fault = elim stands [ ]
+    none_here own none s (at, TakesOver x) course_is stands fault = elim stands [ ]
 
     pub told_at_step : (step : met.Step) → step ≡ of.Attempt attempt xs → (x : Evidence) → ToldAlong attempt xs x
         → ToldAtStep step x

@@ -1,7 +1,8 @@
 -- Faults of a replica's section as they stand at its steps, and what shows them. docs/MODEL.md, "Faults".
 use Rattle.std.specs.Prelude.{◌≡◌, ◌≢◌, ℕ, IsFalse, List, ◌⊎◌}
 use Rattle.eve_smallbank.specs.Access.{Fits}
-use Rattle.eve_grammar.specs.Trace.{Access, Attempt, Commit, Rollback, Step, Attempts, Commits, RollsBack, Trace}
+use Rattle.eve_grammar.specs.Trace.{Access, Attempt, Commit, Rollback, Step, Attempts, Commits, RollsBack, TakesOver}
+use Rattle.eve_grammar.specs.Trace.{Trace}
 use Rattle.eve_grammar.specs.Accesses.{is_right_place}
 use Rattle.eve_grammar.specs.Spelling.{accesses_at, steps_at}
 use Rattle.eve_views.specs.declared.fault.Code.{Code}
@@ -48,13 +49,14 @@ abbrev pub WrongRollback : Code → Trace → SectionState → Rollback → Type
 WrongRollback code.Rollback t s r = IsFalse (is_right_rollback t s r)
 WrongRollback _ t s r = ⊥
 
--- a fault of this code stands at this byte, where a step's frames are
+-- A fault of this code stands at this byte, where a step's frames are. None is told where a state is taken over.
 abbrev pub StandsAtStep : Code → Trace → ℕ → SectionState → ℕ × Step → Type 0
 StandsAtStep c t place s (at, Attempts a) =
     ((at ≡ place) × WrongAttempt c t s a)
     ⊎ SomePlace (accesses_at at a) (λ own x. (x.0 ≡ place) × WrongAccess c t s at a own x.1)
 StandsAtStep c t place s (at, Commits d) = (at ≡ place) × WrongCommit c s d
 StandsAtStep c t place s (at, RollsBack r) = (at ≡ place) × WrongRollback c t s r
+StandsAtStep c t place s (at, TakesOver x) = ⊥
 
 -- it stands somewhere along replica e's section
 abbrev pub StandsAlong : Code → Trace → ℕ → ℕ → Type 0
@@ -100,6 +102,7 @@ TellsStep c t place s (at, Attempts a) evidence =
     ⊎ SomePlace (accesses_at at a) (λ own x. (x.0 ≡ place) × TellsAccess c t s at a own x evidence)
 TellsStep c t place s (at, Commits d) evidence = (at ≡ place) × TellsCommit c s d evidence
 TellsStep c t place s (at, RollsBack r) evidence = (at ≡ place) × TellsRollback c t s r evidence
+TellsStep c t place s (at, TakesOver x) evidence = ⊥
 
 -- The evidence shows a fault of this code at this byte, somewhere along replica e's section, by where the section has
 -- come to there.

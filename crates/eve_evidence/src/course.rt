@@ -1,6 +1,7 @@
 //! A replica's section up to one of its steps.
 
-ghost use Rattle.std.specs.Prelude.{◌≡◌, ℕ, OnOk, IfSome, IfNone, slice_get, Some};
+ghost use Rattle.std.specs.Prelude.{◌≡◌, ℕ, IsTrue, OnOk, IfSome, IfNone, slice_get, Some};
+ghost use Rattle.eve_grammar.specs.Limits.{is_of_version};
 ghost use Rattle.eve_grammar.specs.Trace.{Step as StepValue};
 ghost use Rattle.eve_views.specs.StepKinds.{IsStep};
 ghost use Rattle.eve_history.specs.Section.{SectionState, start, next};
@@ -47,10 +48,10 @@ impl<'t, 'a> Course<'t, 'a> {
         }
     }
 
-    /// Goes on over a step.
+    /// Goes on over a step of version 1: no state is taken over.
     pub fn take(&mut self, step: Step<'t, 'a>) -> Result<(), AllocError>
         ensures { OnOk result ((s : SectionState) (step_is : ℕ × StepValue) → IsCourse s self.old
-            → IsStep step.entry step_is → IsCourse (next s step_is) self.new) }
+            → IsStep step.entry step_is → IsTrue (is_of_version 1 step_is.1) → IsCourse (next s step_is) self.new) }
     {
         match step {
             Step::Attempt(attempt, accesses) => {
@@ -67,6 +68,8 @@ impl<'t, 'a> Course<'t, 'a> {
                 self.view = rollback.view();
                 self.rolled_back = true;
             }
+            // None in a trace of version 1.
+            Step::Transfer(_) => {}
         }
         Ok(())
     }

@@ -1,6 +1,7 @@
 //! The evidence of a fault in a replica's section.
 
-ghost use Rattle.std.specs.Prelude.{◌≡◌, ◌<◌, ℕ, IfSome, IfNone, IfOk, List, length, take, slice_get, slice_index_or, Some};
+ghost use Rattle.std.specs.Prelude.{◌≡◌, ◌<◌, ℕ, IfSome, IfNone, IfOk, IsFalse, List, length, take, slice_get};
+ghost use Rattle.std.specs.Prelude.{slice_index_or, Some};
 ghost use Rattle.eve_smallbank.specs.Access.{Fits};
 ghost use Rattle.eve_smallbank.specs.declared.request.Reply.TheVariants.{Done};
 ghost use Rattle.eve_views.specs.declared.fault.Code.TheVariants as code;
@@ -9,7 +10,7 @@ ghost use Rattle.eve_chains.specs.Visible.{executed_by, visible_to};
 ghost use Rattle.eve_chains.specs.Along.{SeesAnother};
 ghost use Rattle.eve_evidence.specs.Told.{placed_in};
 ghost use Rattle.eve_grammar.specs.Trace.{Access as AccessValue, Attempt as AttemptValue, Step as StepValue};
-ghost use Rattle.eve_grammar.specs.Frames.{without_accesses};
+ghost use Rattle.eve_grammar.specs.Frames.{has_transfers, without_accesses};
 ghost use Rattle.eve_grammar.specs.Spelling.{accesses_at};
 ghost use Rattle.eve_frames.specs.Said.{access_said, attempt_said, commit_said, rollback_said};
 ghost use Rattle.eve_views.specs.Form.{SomePlace};
@@ -278,6 +279,7 @@ fn at_step<'a>(
         } else {
             None
         },
+        Step::Transfer(_) => None,
     }
 }
 
@@ -326,7 +328,7 @@ fn at_rollback<'a>(
 /// What shows a fault of a replica's section, by the replica's number from 0: one of this code that stands at this byte.
 ///
 /// docs/MODEL.md, "Faults". One pass over the section's frames, up to the one that is wrong; some fifty bytes for each
-/// attempt on the way.
+/// attempt on the way. The trace is of a version without transfers.
 pub fn section_evidence<'a>(
     alloc: Global,
     trace: &Trace<'a>,
@@ -337,9 +339,11 @@ pub fn section_evidence<'a>(
 ) -> Result<Evidence<'a>, AllocError>
     requires there { e < length trace.now.sections }
     requires names { names.now.items ≡ names_of trace.now }
+    requires version { IsFalse (has_transfers trace.now.head.version) }
     requires stands { StandsAlong code trace.now e place }
     ensures { IfOk result (TellsAlong code trace.now e place) }
 {
+    trace.recall_limits();
     let mut course = Course::start(alloc);
     let mut steps = trace.section(e);
     while let Some(step) = steps.next() {

@@ -2,6 +2,7 @@
 
 ghost use Rattle.std.specs.Prelude.{◌<◌, length};
 
+use crate::transfers::copy_of;
 use eve_accounts::Name;
 use eve_frames::{AccessView, AttemptView, BatchView, CommitView, RollbackView};
 use eve_grammar::Choice;
@@ -127,6 +128,7 @@ fn step_of(alloc: Global, seen: Seen<'_, '_>) -> Result<Step, AllocError> {
         Seen::Attempt(attempt, accesses) => Step::Attempt(attempt_of(alloc, attempt, &accesses)?),
         Seen::Commit(commit) => Step::Commit(commit_of(commit)),
         Seen::Rollback(rollback) => Step::Rollback(rollback_of(alloc, rollback)?),
+        Seen::Transfer(transfer) => Step::Transfer(copy_of(alloc, &transfer)?),
     })
 }
 

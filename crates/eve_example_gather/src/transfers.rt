@@ -22,7 +22,7 @@ fn view_of(rows: u32, bytes: &[u8]) -> Option<TransferView<'_>> {
 }
 
 /// What the frame says, read in one pass.
-fn copy_of(alloc: Global, view: &TransferView<'_>) -> Result<TransferData, AllocError> {
+pub(crate) fn copy_of(alloc: Global, view: &TransferView<'_>) -> Result<TransferData, AllocError> {
     let mut rows = Vec::with_capacity(alloc, view.len())?;
     for versioned in view.rows() {
         rows.push(versioned)?;

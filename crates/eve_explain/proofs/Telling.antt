@@ -49,6 +49,7 @@ module _ (t : Trace) (laws : Laws t) (e at : ℕ) where
   structure_along code.WorkerOrder told stands = laws.place e at stands
   structure_along code.Commit told stands = laws.commit e at stands
   structure_along code.Rollback told stands = laws.rollback e at stands
+  structure_along code.Transfer told stands = absurd (false≢true told)
   structure_along c told stands = absurd stands
 
   records_along : (c : Code) → StandsInRecords c t e at → StandsAlong c t e at
@@ -71,10 +72,12 @@ module _ (t : Trace) (laws : Laws t) (e at : ℕ) where
   no_majorities : (c : Code) → is_told_along c ≡ true → StandsInMajorities c t e at → ⊥
   no_majorities code.NoMajority told stands = false≢true told
   no_majorities code.RollbackNoMajority told stands = false≢true told
+  no_majorities code.TransferNoMajority told stands = false≢true told
   no_majorities c told stands = absurd stands
 
   no_agreement : (c : Code) → is_told_along c ≡ true → StandsInAgreement c t e at → ⊥
   no_agreement code.Outcome told stands = false≢true told
+  no_agreement code.TransferBalances told stands = false≢true told
   no_agreement c told stands = absurd stands
 
 no_orders : (t : Trace) (at : ℕ) (c : Code) → is_told_along c ≡ true → StandsInOrders c t at → ⊥
@@ -165,9 +168,10 @@ module _ (t : Trace) (f : Fault) (is : f.code ≡ code.TwoVotes) where
 pub votes_told : (t : Trace) (f : Fault) (first : ℕ) → f.code ≡ code.TwoVotes → IsVotedAgain t f.offset first
     → IsEvidence t f (TwoVotes first)
 votes_told t f first is told = record {
-  along = λ along. absurd (false≢true (ap is_told_along (sym is) ∙ along));
+  along = λ along _. absurd (false≢true (ap is_told_along (sym is) ∙ along));
   votes = λ _. told;
   untold = λ _ other. absurd (other is);
+  with_transfers = λ _ other. absurd (other is);
 }
 
 -- ---- customers

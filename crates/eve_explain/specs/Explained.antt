@@ -1,6 +1,7 @@
 -- A verdict, and what shows it. docs/MODEL.md, "Evidence".
 use Rattle.std.specs.Prelude.{◌≡◌, ◌≢◌, ℕ, Bool, true, false, IsTrue, IsFalse, List, Some, ⊤}
 use Rattle.eve_grammar.specs.Trace.{Trace}
+use Rattle.eve_grammar.specs.Frames.{has_transfers}
 use Rattle.eve_grammar.specs.Following.{Spells}
 use Rattle.eve_views.specs.declared.fault.Code.{Code}
 use Rattle.eve_views.specs.declared.fault.Code.TheVariants as code
@@ -36,12 +37,14 @@ abbrev pub TellsVotes : Trace → ℕ → Evidence → Type 0
 TellsVotes t at (TwoVotes first) = IsVotedAgain t at first
 TellsVotes t at _ = ⊥
 
--- The evidence of a fault in a trace: along the section that the fault names, if it is of such a code; of votes; else
--- none is told.
+-- The evidence of a fault in a trace: along the section that the fault names, if it is of such a code and the trace of
+-- a version without transfers, in which no replica takes over a state; of votes; else none is told.
 pub record IsEvidence (t : Trace) (f : Fault) (evidence : Evidence) : Type 0 where
-  pub along : IsTrue (is_told_along f.code) → (e : ℕ) → f.replica ≡ Some e → TellsAlong f.code t e f.offset evidence
+  pub along : IsTrue (is_told_along f.code) → IsFalse (has_transfers t.head.version) → (e : ℕ) → f.replica ≡ Some e
+      → TellsAlong f.code t e f.offset evidence
   pub votes : f.code ≡ code.TwoVotes → TellsVotes t f.offset evidence
   pub untold : IsFalse (is_told_along f.code) → f.code ≢ code.TwoVotes → evidence ≡ Untold
+  pub with_transfers : IsTrue (has_transfers t.head.version) → f.code ≢ code.TwoVotes → evidence ≡ Untold
 
 -- a no has the evidence of its fault
 abbrev pub HasEvidence : List ℕ → Explained → Type 0

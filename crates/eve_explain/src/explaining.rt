@@ -13,7 +13,7 @@ ghost use Rattle.eve_history.specs.SectionHistory.{names_of};
 ghost use Rattle.eve_explain.specs.Explained.{verdict_in, IsEvidence, HasEvidence};
 
 use crate::explained::Explained;
-use crate::phase::is_told_along;
+use crate::phase::{is_told_along, may_take_over};
 use crate::votes::voted_again;
 use eve_accounts::Names;
 use eve_audit::{AuditFault, Verdict, audit};
@@ -67,6 +67,9 @@ fn evidence_along<'a>(
     if !is_told_along(fault.code) {
         return Ok(Evidence::Untold);
     }
+    if may_take_over(trace) {
+        return Ok(Evidence::Untold);
+    }
     let names = match names_in_order(alloc, trace, random) {
         Ok(names) => names,
         Err(AllocError) => return Err(AuditFault::Memory),
@@ -118,7 +121,8 @@ fn evidence_of<'a>(
 /// the fault names, what was due there, and what says so.
 ///
 /// docs/MODEL.md, "Verdict" and "Evidence". The trace is audited first. Only where the verdict is no it is read again,
-/// and once more gone through up to the fault. A code that isn't told yet has `Untold` for its evidence.
+/// and once more gone through up to the fault. A code that isn't told yet has `Untold` for its evidence. So has each
+/// fault of a section in a trace of version 2, in which a replica may take over a state.
 pub fn explain<'a, R: Threads + Wait + Sync, G: Gate>(
     rt: &R,
     alloc: Global,

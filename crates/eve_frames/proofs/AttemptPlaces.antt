@@ -27,6 +27,7 @@ use Rattle.eve_frames.proofs.SentPlaces.{Takes-reply}
 -- with n requests
 pub record AttemptAt (bytes : List ℕ) (n : ℕ) (a : Attempt) : Type 0 where
   pub long : length bytes ≡ 48 + 11 * n
+  pub some : 1 ≤ n
   pub few : n ≤ 256
   pub seq : a.seq ≡ big_number 4 (drop 5 bytes)
   pub view : a.view ≡ big_number 4 (drop 9 bytes)
@@ -94,6 +95,7 @@ attempt_at bytes a e =
       n,
       record {
         long = size;
+        some = leb-true 1 n (and_parts (leb 1 n) (leb n 256) between.1).0;
         few = leb-true n 256 (and_parts (leb 1 n) (leb n 256) between.1).1;
         seq = ap (λ (x : Attempt). x.seq) m.2 ∙ seq.1;
         view = ap (λ (x : Attempt). x.view) m.2 ∙ view.1;
@@ -162,6 +164,13 @@ attempt_count bytes there = (attempt_placed bytes there).count ∙ number_from 2
 pub attempt_even : (bytes : List ℕ) → IsTrue (has_attempt_body bytes) → length (attempt_in bytes).replies
     ≡ requests_of bytes
 attempt_even bytes there = (attempt_placed bytes there).replies.count
+
+-- one at least
+pub attempt_some : (bytes : List ℕ) → IsTrue (has_attempt_body bytes) → 1 ≤ length (attempt_in bytes).replies
+attempt_some bytes there =
+    let some = (attempt_placed bytes there).some in
+    let even = attempt_even bytes there in
+    omega arith
 
 pub attempt_token : (bytes : List ℕ) → IsTrue (has_attempt_body bytes) → (attempt_in bytes).token
     ≡ take 32 (drop (16 + 11 * requests_of bytes) bytes)

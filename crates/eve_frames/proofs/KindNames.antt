@@ -17,6 +17,7 @@ none_named byte none =
       other of.Access,
       other of.Commit,
       other of.Rollback,
+      other of.Transfer,
       other of.Verifier,
       other of.Vote,
       other of.Sent,

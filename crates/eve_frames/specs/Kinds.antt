@@ -2,7 +2,8 @@
 use Rattle.std.specs.Prelude.{ℕ, ◌==◌, if◌then◌else◌, List, codes}
 use Rattle.eve_grammar.specs.declared.frame_kind.TheConstants.{CUSTOMER_FRAME, BATCH_FRAME, REPLICA_FRAME}
 use Rattle.eve_grammar.specs.declared.frame_kind.TheConstants.{ATTEMPT_FRAME, ACCESS_FRAME, COMMIT_FRAME}
-use Rattle.eve_grammar.specs.declared.frame_kind.TheConstants.{ROLLBACK_FRAME, VERIFIER_FRAME, VOTE_FRAME, SENT_FRAME}
+use Rattle.eve_grammar.specs.declared.frame_kind.TheConstants.{ROLLBACK_FRAME, TRANSFER_FRAME, VERIFIER_FRAME, VOTE_FRAME}
+use Rattle.eve_grammar.specs.declared.frame_kind.TheConstants.{SENT_FRAME}
 
 -- the name of the kind that a frame begins with: End also of a byte that no kind has, with which no frame of a trace
 -- begins
@@ -15,6 +16,7 @@ kind_name kind =
     else if kind == ACCESS_FRAME then codes "Access"
     else if kind == COMMIT_FRAME then codes "Commit"
     else if kind == ROLLBACK_FRAME then codes "Rollback"
+    else if kind == TRANSFER_FRAME then codes "Transfer"
     else if kind == VERIFIER_FRAME then codes "Verifier"
     else if kind == VOTE_FRAME then codes "Vote"
     else if kind == SENT_FRAME then codes "Sent"

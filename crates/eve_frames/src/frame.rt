@@ -64,6 +64,7 @@ fn name_of(kind: FrameKind) -> &'static str
         FrameKind::Access => "Access",
         FrameKind::Commit => "Commit",
         FrameKind::Rollback => "Rollback",
+        FrameKind::Transfer => "Transfer",
         FrameKind::Verifier => "Verifier",
         FrameKind::Vote => "Vote",
         FrameKind::Sent => "Sent",

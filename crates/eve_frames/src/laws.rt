@@ -7,11 +7,11 @@ ghost use Rattle.std.specs.Prelude.{◌≡◌, ◌≤◌, ◌<◌, ◌^◌, ℕ,
 ghost use Rattle.eve_grammar.specs.Trace.{Customer, Batch, Attempt, Access, Commit, Rollback, Transfer};
 ghost use Rattle.eve_grammar.specs.Trace.{Vote, Sent};
 ghost use Rattle.eve_grammar.specs.Frames.{OfCustomer, OfBatch, OfAttempt, OfAccess, OfCommit, OfRollback, OfVote};
-ghost use Rattle.eve_grammar.specs.Frames.{OfSent, without_accesses};
+ghost use Rattle.eve_grammar.specs.Frames.{OfTransfer, OfSent, without_accesses};
 ghost use Rattle.eve_grammar.specs.Limits.{is_number, is_customer, is_batch, is_attempt, is_access, is_commit};
 ghost use Rattle.eve_grammar.specs.Limits.{is_rollback, is_transfer, is_vote, is_sent};
 ghost use Rattle.eve_grammar.specs.Reading.{transfer_of};
-ghost use Rattle.eve_grammar.specs.Spelling.{frame_text, transfer_frame};
+ghost use Rattle.eve_grammar.specs.Spelling.{frame_text};
 ghost use Rattle.eve_grammar.specs.Places.{IsBytes};
 ghost use Rattle.eve_grammar.specs.declared.limits.TheConstants.{MOST_ROWS, MOST_REPLICAS, MOST_BATCHES};
 ghost use Rattle.eve_frames.specs.Views.{has_customer_body, has_batch_body};
@@ -38,7 +38,7 @@ pub fn steps_are_read_again()
     ensures rollbacks { (rows : ℕ) (r : Rollback) → IsTrue (is_rollback rows r) → rows ≤ MOST_ROWS
         → Says has_rollback_body rollback_in (frame_text (OfRollback r)) r }
     ensures transfers { (rows : ℕ) (x : Transfer) → IsTrue (is_transfer rows x)
-        → Says has_transfer_body transfer_in (transfer_frame x) x }
+        → Says has_transfer_body transfer_in (frame_text (OfTransfer x)) x }
 {}
 
 /// The frames of votes and of replies sent say them.

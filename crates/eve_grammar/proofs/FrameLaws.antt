@@ -9,19 +9,19 @@ use Rattle.std.proofs.lemmas.Option.{same_Some}
 use Rattle.byteorder.specs.Endian.{big_bytes}
 use Rattle.eve_grammar.specs.Trace.{Trace, head_of}
 use Rattle.eve_grammar.specs.Frames.{Frame, OfCustomer, OfBatch, OfReplica, OfAttempt, OfAccess, OfCommit, OfRollback}
-use Rattle.eve_grammar.specs.Frames.{OfVerifier, OfVote, OfSent, End, kind_of, is_allowed}
+use Rattle.eve_grammar.specs.Frames.{OfTransfer, OfVerifier, OfVote, OfSent, End, kind_of, is_allowed}
 use Rattle.eve_grammar.specs.Limits.{is_number, is_batch, is_head, row_count, is_body, FitsAt, HasLimits}
 use Rattle.eve_grammar.specs.Spelling.{body_text, head_text}
 use Rattle.eve_grammar.specs.Reading.{number_at, both, made, only, behind, customer_of, batch_of, number_of, attempt_of}
-use Rattle.eve_grammar.specs.Reading.{access_of, commit_of, rollback_of, vote_of, sent_of, body_of, head_from}
-use Rattle.eve_grammar.specs.Reading.{header_of}
+use Rattle.eve_grammar.specs.Reading.{access_of, commit_of, rollback_of, transfer_of, vote_of, sent_of, body_of}
+use Rattle.eve_grammar.specs.Reading.{head_from, header_of}
 use Rattle.eve_grammar.proofs.Codec.{IsBytes, bind_some, guard_some, Codec, Codec-as, Codec-made, Codec-both}
 use Rattle.eve_grammar.proofs.Codec.{Codec-only, whole_takes, whole_again}
 use Rattle.eve_grammar.proofs.FieldCodecs.{Codec-number1, Codec-number2, Codec-number3, Codec-number4, Codec-behind}
 use Rattle.eve_grammar.proofs.PartCodecs.{chosen}
 use Rattle.eve_grammar.proofs.HeadLimits.{head_has_limits, few_customers}
 use Rattle.eve_grammar.proofs.BodyCodecs.{Exact, Exact-customer, Exact-batch, Exact-number, Exact-attempt, Exact-access}
-use Rattle.eve_grammar.proofs.BodyCodecs.{Exact-commit, Exact-rollback, Exact-vote, Exact-sent}
+use Rattle.eve_grammar.proofs.BodyCodecs.{Exact-commit, Exact-rollback, Exact-transfer, Exact-vote, Exact-sent}
 use Rattle.eve_grammar.specs.declared.head.Head.{Head}
 use Rattle.eve_grammar.specs.declared.place.Place.{Place}
 
@@ -176,42 +176,50 @@ body_of-takes h p kind body f right fits e =
                       at_kind h p body kind 20 f c.0
                       (subst (BodyOf h p 20 body) (same_Some (OfRollback a.0) f a.2)
                       (record { kind_is = refl; text = t.0; fits = t.1 }))
-                  | inr c ↦ elim (chosen (eqb kind 32) _ _ (Some f) c.1) [
+                  | inr c ↦ elim (chosen (eqb kind 21) _ _ (Some f) c.1) [
                     | inl c ↦
-                        let a = bind_some (number_of body) (λ n. cond (eqb n p.verifiers) (Some (OfVerifier n)) None) f
-                        c.1 in
-                        let g = guard_some (eqb a.0 p.verifiers) _ f a.2 in
-                        let t = Exact-number.takes body a.0 fits a.1 in
-                        at_kind h p body kind 32 f c.0
-                        (subst (BodyOf h p 32 body) (same_Some (OfVerifier a.0) f g.1)
-                        (record { kind_is = refl; text = t.0; fits = g.0 }))
-                    | inr c ↦ elim (chosen (eqb kind 33) _ _ (Some f) c.1) [
+                        let a = bind_some (transfer_of (row_count h) body) (λ x. Some (OfTransfer x)) f c.1 in
+                        let t = (Exact-transfer (row_count h)).takes body a.0 fits a.1 in
+                        at_kind h p body kind 21 f c.0
+                        (subst (BodyOf h p 21 body) (same_Some (OfTransfer a.0) f a.2)
+                        (record { kind_is = refl; text = t.0; fits = t.1 }))
+                    | inr c ↦ elim (chosen (eqb kind 32) _ _ (Some f) c.1) [
                       | inl c ↦
-                          let a = bind_some (vote_of h.batches body) (λ v. Some (OfVote v)) f c.1 in
-                          let s = (head_has_limits h right).few_batches in
-                          let t = (Exact-vote h.batches (omega arith)).takes body a.0 fits a.1 in
-                          at_kind h p body kind 33 f c.0
-                          (subst (BodyOf h p 33 body) (same_Some (OfVote a.0) f a.2)
-                          (record { kind_is = refl; text = t.0; fits = t.1 }))
-                      | inr c ↦ elim (chosen (eqb kind 48) _ _ (Some f) c.1) [
+                          let a = bind_some (number_of body) (λ n. cond (eqb n p.verifiers) (Some (OfVerifier n)) None)
+                          f c.1 in
+                          let g = guard_some (eqb a.0 p.verifiers) _ f a.2 in
+                          let t = Exact-number.takes body a.0 fits a.1 in
+                          at_kind h p body kind 32 f c.0
+                          (subst (BodyOf h p 32 body) (same_Some (OfVerifier a.0) f g.1)
+                          (record { kind_is = refl; text = t.0; fits = g.0 }))
+                      | inr c ↦ elim (chosen (eqb kind 33) _ _ (Some f) c.1) [
                         | inl c ↦
-                            let a = bind_some (sent_of h.replicas h.batches body) (λ s. Some (OfSent s)) f c.1 in
-                            let s = head_has_limits h right in
-                            let t = (Exact-sent h.replicas h.batches (let x = s.few_replicas in omega arith)
-                            (let x = s.few_batches in omega arith)).takes body a.0 fits a.1 in
-                            at_kind h p body kind 48 f c.0
-                            (subst (BodyOf h p 48 body) (same_Some (OfSent a.0) f a.2)
+                            let a = bind_some (vote_of h.batches body) (λ v. Some (OfVote v)) f c.1 in
+                            let s = (head_has_limits h right).few_batches in
+                            let t = (Exact-vote h.batches (omega arith)).takes body a.0 fits a.1 in
+                            at_kind h p body kind 33 f c.0
+                            (subst (BodyOf h p 33 body) (same_Some (OfVote a.0) f a.2)
                             (record { kind_is = refl; text = t.0; fits = t.1 }))
-                        | inr c ↦
-                            let g = guard_some (eqb kind 127) _ f c.1 in
-                            let n = guard_some (eqb (length body) 0) _ f g.1 in
-                            at_kind h p body kind 127 f g.0
-                            (subst (BodyOf h p 127 body) (same_Some End f n.1)
-                            (record {
-                              kind_is = refl;
-                              text = nil_from_length body (eqb-true _ _ n.0);
-                              fits = refl;
-                            }))
+                        | inr c ↦ elim (chosen (eqb kind 48) _ _ (Some f) c.1) [
+                          | inl c ↦
+                              let a = bind_some (sent_of h.replicas h.batches body) (λ s. Some (OfSent s)) f c.1 in
+                              let s = head_has_limits h right in
+                              let t = (Exact-sent h.replicas h.batches (let x = s.few_replicas in omega arith)
+                              (let x = s.few_batches in omega arith)).takes body a.0 fits a.1 in
+                              at_kind h p body kind 48 f c.0
+                              (subst (BodyOf h p 48 body) (same_Some (OfSent a.0) f a.2)
+                              (record { kind_is = refl; text = t.0; fits = t.1 }))
+                          | inr c ↦
+                              let g = guard_some (eqb kind 127) _ f c.1 in
+                              let n = guard_some (eqb (length body) 0) _ f g.1 in
+                              at_kind h p body kind 127 f g.0
+                              (subst (BodyOf h p 127 body) (same_Some End f n.1)
+                              (record {
+                                kind_is = refl;
+                                text = nil_from_length body (eqb-true _ _ n.0);
+                                fits = refl;
+                              }))
+                        ]
                       ]
                     ]
                   ]
@@ -319,6 +327,7 @@ body_of-again h p (OfAccess x) right fits = let few = few_rows h right in
 body_of-again h p (OfCommit c) right fits = rw (Exact-commit.again c fits.body) refl
 body_of-again h p (OfRollback r) right fits = rw ((Exact-rollback (row_count h) (few_rows h right)).again r fits.body)
     refl
+body_of-again h p (OfTransfer x) right fits = rw ((Exact-transfer (row_count h)).again x fits.body) refl
 body_of-again h p (OfVerifier number) right fits =
     let test : eqb number p.verifiers ≡ true = fits.body in
     let few = (head_has_limits h right).few_verifiers in

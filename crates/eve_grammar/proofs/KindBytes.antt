@@ -27,7 +27,8 @@ both_off false false = refl
 none_in_sections : (h : Head) (p : Place) (byte : ℕ) → BeginsNone byte → is_allowed_in_sections h p byte ≡ false
 none_in_sections h p byte none =
     let other = other_byte byte none in
-    rw (other of.Replica, other of.Attempt, other of.Commit, other of.Rollback, other of.Verifier) (sections_none _)
+    rw (other of.Replica, other of.Attempt, other of.Commit, other of.Rollback, other of.Transfer, other of.Verifier)
+    (sections_none _)
 
 none_behind : (h : Head) (p : Place) (byte : ℕ) → BeginsNone byte → is_allowed_behind_sections h p byte ≡ false
 none_behind h p byte none =

@@ -1,17 +1,17 @@
 -- What the frames from a place up to the end make up, frame by frame: how much there is of it, what
--- belongs to no frame among them, and the limits.
+-- belongs to no frame among them, the limits, and steps that the version has.
 use Rattle.std.proofs.Common.{◌≡◌, ℕ, zero, suc, ◌+◌, ◌-◌, ◌<◌, ◌≤◌, true, ◌&&◌, List, [], length, refl, arith, eq-eqb}
 use Rattle.std.specs.Prelude.{IsTrue, ◌==◌}
 use Rattle.std.specs.List.{list_all}
 use Rattle.std.proofs.lemmas.Bool.{both_ways, and_parts, and_from}
-use Rattle.eve_grammar.specs.Trace.{Access, Attempt, Step, Attempts, Commits, RollsBack}
+use Rattle.eve_grammar.specs.Trace.{Access, Attempt, Step, Attempts, Commits, RollsBack, TakesOver}
 use Rattle.eve_grammar.specs.Frames.{Frame, OfCustomer, OfBatch, OfReplica, OfAttempt, OfAccess, OfCommit, OfRollback}
-use Rattle.eve_grammar.specs.Frames.{OfVerifier, OfVote, OfSent, End, kind_of, next_place, is_allowed}
+use Rattle.eve_grammar.specs.Frames.{OfTransfer, OfVerifier, OfVote, OfSent, End, kind_of, next_place, is_allowed}
 use Rattle.eve_grammar.specs.Limits.{is_customer, is_batch, is_access, is_attempt, is_step, is_vote, is_sent, row_count}
-use Rattle.eve_grammar.specs.Limits.{is_body}
+use Rattle.eve_grammar.specs.Limits.{is_of_version, is_body}
 use Rattle.eve_grammar.specs.Gathering.{Gathered, gather}
 use Rattle.eve_grammar.proofs.Standing.{InSection, of_customer, of_batch, of_replica, of_attempt, of_access, of_commit}
-use Rattle.eve_grammar.proofs.Standing.{of_rollback, of_verifier, of_vote}
+use Rattle.eve_grammar.proofs.Standing.{of_rollback, of_transfer, of_verifier, of_vote}
 use Rattle.eve_grammar.specs.declared.head.Head.{Head}
 use Rattle.eve_grammar.specs.declared.place.Place.{Place}
 
@@ -73,6 +73,8 @@ owned_more (OfCommit c) h p g t o = let s = step_owned h p (gather (OfCommit c) 
     (s.0, s.1, o.2, o.3)
 owned_more (OfRollback r) h p g t o = let s = step_owned h p (gather (OfRollback r) g).steps (of_rollback h p t) in
     (s.0, s.1, o.2, o.3)
+owned_more (OfTransfer x) h p g t o = let s = step_owned h p (gather (OfTransfer x) g).steps (of_transfer h p t).0 in
+    (s.0, s.1, o.2, o.3)
 owned_more (OfVerifier number) h p g t o = let none = o.1 (omega arith) in (λ e. none, λ e. none, λ e. refl, λ e. refl)
 owned_more (OfVote v) h p g t o = let here = of_vote h p t in
     (o.0, o.1, λ e. absurd (omega arith), λ e. absurd (both_ways p.sending here.1 e))
@@ -125,9 +127,27 @@ within_more (OfCommit c) h p g b n w =
     (w.0, w.1, w.2, and_from (is_step (row_count h) (Commits c)) _ b w.3, w.4, w.5, w.6, w.7)
 within_more (OfRollback r) h p g b n w =
     (w.0, w.1, w.2, and_from (is_step (row_count h) (RollsBack r)) _ b w.3, w.4, w.5, w.6, w.7)
+within_more (OfTransfer x) h p g b n w =
+    (w.0, w.1, w.2, and_from (is_step (row_count h) (TakesOver x)) _ b w.3, w.4, w.5, w.6, w.7)
 within_more (OfVerifier number) h p g b n w =
     (w.0, w.1, w.2, w.3, w.4, refl, and_from (list_all (is_vote h.batches) g.votes) _ w.5 w.6, w.7)
 within_more (OfVote v) h p g b n w = (w.0, w.1, w.2, w.3, w.4, and_from (is_vote h.batches v) _ b w.5, w.6, w.7)
 within_more (OfSent s) h p g b n w =
     (w.0, w.1, w.2, w.3, w.4, w.5, w.6, and_from (is_sent h.replicas h.batches s) _ b w.7)
 within_more End h p g b n w = w
+
+-- ---- steps that the version has
+
+-- the steps that belong to no replica among the frames, and those of each section
+abbrev pub AreOfVersion : Head → Gathered → Type 0
+AreOfVersion h g =
+    IsTrue (list_all (is_of_version h.version) g.steps)
+    × IsTrue (list_all (list_all (is_of_version h.version)) g.sections)
+
+pub of_version_more : (f : Frame) (h : Head) (p : Place) (g : Gathered) → IsTrue (is_allowed h p (kind_of f))
+    → AreOfVersion h g → AreOfVersion h (gather f g)
+of_version_more (OfReplica number) h p g t v =
+    (refl, and_from (list_all (is_of_version h.version) g.steps) _ v.0 v.1)
+of_version_more (OfTransfer x) h p g t v =
+    (and_from (is_of_version h.version (TakesOver x)) _ (of_transfer h p t).1 v.0, v.1)
+of_version_more _ h p g t v = v

@@ -12,7 +12,7 @@ use Rattle.eve_grammar.specs.Gathering.{Gathered, gather, gathered, trace_of}
 use Rattle.eve_grammar.proofs.Standing.{of_end, not_ended}
 use Rattle.eve_grammar.proofs.Runs.{some_verifier}
 use Rattle.eve_grammar.proofs.RestParts.{IsCounted, counted_more, HasAllReplicas, all_replicas_more, IsOwned}
-use Rattle.eve_grammar.proofs.RestParts.{owned_more, IsWithin, within_more}
+use Rattle.eve_grammar.proofs.RestParts.{owned_more, IsWithin, within_more, AreOfVersion, of_version_more}
 use Rattle.eve_grammar.proofs.RestFrames.{frames_from, frames_more}
 use Rattle.eve_grammar.specs.declared.head.Head.{Head}
 use Rattle.eve_grammar.specs.declared.place.Place.{Place}
@@ -24,6 +24,7 @@ record IsRest (h : Head) (p : Place) (fs : List Frame) (g : Gathered) : Type 0 w
   frames : frames_from p g ≡ fs
   counted : IsCounted h p g
   within : IsWithin h g
+  kinds : AreOfVersion h g
   owned : IsOwned p g
 
 rest_more : (f : Frame) (h : Head) (p : Place) (fs : List Frame) (g : Gathered) → 0 < h.verifiers
@@ -34,6 +35,7 @@ rest_more f h p fs g some on all fits r = record {
   frames = frames_more f h p g fs some fits.allowed fits.body on all r.counted r.owned r.frames;
   counted = counted_more f h p g some fits.allowed r.counted;
   within = within_more f h p g fits.body r.counted r.within;
+  kinds = of_version_more f h p g fits.allowed r.kinds;
   owned = owned_more f h p g fits.allowed r.owned;
 }
 
@@ -47,6 +49,7 @@ rest_end h p [] all t follow =
       frames = refl;
       counted = (omega arith, omega arith, omega arith, omega arith, omega arith);
       within = (refl, refl, refl, refl, refl, refl, refl, refl);
+      kinds = (refl, refl);
       owned = (λ e. refl, λ e. refl, λ e. refl, λ e. refl);
     }
 rest_end h p (f ∷ fs) all t follow =
@@ -107,7 +110,8 @@ pub limits_of-trace_of : (h : Head) (fs : List Frame) → IsTrue (is_head h) →
 unfolding trace_of
 limits_of-trace_of h fs head run =
     let g = gathered fs in
-    let w = (rest_of_run h fs head run).within in
+    let rest = rest_of_run h fs head run in
+    let w = rest.within in
     let same = sym (head_of-trace_of h fs head run) in
     record {
       counts = same;
@@ -115,6 +119,7 @@ limits_of-trace_of h fs head run =
       customers = w.0;
       batches = w.1;
       sections = subst (λ (k : Head). IsTrue (list_all (list_all (is_step (row_count k))) g.sections)) same w.4;
+      kinds = rest.kinds.1;
       votes = subst (λ (k : Head). IsTrue (list_all (list_all (is_vote k.batches)) g.verifiers)) same w.6;
       sent = subst (λ (k : Head). IsTrue (list_all (is_sent k.replicas k.batches) g.sent)) same w.7;
     }

@@ -5,14 +5,14 @@ use Rattle.std.proofs.Common.{eqb-true, ne_eqb, length-append}
 use Rattle.std.specs.Prelude.{IsTrue, nat_lt, ◌==◌}
 use Rattle.std.specs.List.{flat_map, enumerate_from, list_all}
 use Rattle.std.proofs.lemmas.Bool.{and_parts, and_from, or_left, or_right}
-use Rattle.eve_grammar.specs.Trace.{Customer, Batch, Access, Attempt, Step, Attempts, Commits, RollsBack, Vote, Sent}
-use Rattle.eve_grammar.specs.Trace.{Trace, head_of}
+use Rattle.eve_grammar.specs.Trace.{Customer, Batch, Access, Attempt, Step, Attempts, Commits, RollsBack, TakesOver}
+use Rattle.eve_grammar.specs.Trace.{Vote, Sent, Trace, head_of}
 use Rattle.eve_grammar.specs.Frames.{Frame, OfCustomer, OfBatch, OfAccess, OfVote, OfSent, End, step_frames}
 use Rattle.eve_grammar.specs.Frames.{section_frames, verifier_frames, frames_of, kind_of, start_place}
-use Rattle.eve_grammar.specs.Frames.{next_place}
+use Rattle.eve_grammar.specs.Frames.{next_place, has_transfers}
 use Rattle.eve_grammar.specs.Frames.{is_allowed_in_sections, is_allowed_behind_sections, is_allowed}
 use Rattle.eve_grammar.specs.Spelling.{frame_text, frames_text, length_of}
-use Rattle.eve_grammar.specs.Limits.{is_head, is_customer, is_batch, is_access, is_attempt, is_step}
+use Rattle.eve_grammar.specs.Limits.{is_head, is_customer, is_batch, is_access, is_attempt, is_step, is_of_version}
 use Rattle.eve_grammar.specs.Limits.{is_vote, is_sent, row_count, HasLimits, is_body}
 use Rattle.eve_grammar.specs.Following.{Follow, after, AreAllFrames}
 use Rattle.eve_grammar.specs.declared.head.Head.{Head}
@@ -131,10 +131,11 @@ run_accesses (x ∷ xs) r h rest limits run =
           (run_accesses xs r h rest l.1 run),
     )
 
-allowed_step : (h : Head) (r kind : ℕ) → 0 < r → IsTrue ((kind == 17) || ((kind == 19) || (kind == 20)))
+allowed_step : (h : Head) (r kind : ℕ) → 0 < r
+    → IsTrue ((kind == 17) || ((kind == 19) || ((kind == 20) || ((kind == 21) && has_transfers h.version))))
     → IsTrue (is_allowed_in_sections h (in_section h r 0) kind)
 allowed_step h r kind some e =
-    let steps = (kind == 17) || ((kind == 19) || (kind == 20)) in
+    let steps = (kind == 17) || ((kind == 19) || ((kind == 20) || ((kind == 21) && has_transfers h.version))) in
     or_right ((kind == 16) && nat_lt r h.replicas) _
     (or_left (nat_lt 0 r && steps) ((kind == 32) && (r == h.replicas))
     (and_from (nat_lt 0 r) steps (lt-ltb 0 r some) e))
@@ -155,39 +156,47 @@ run_attempt a r h rest some limits run =
     )
 
 run_step : (s : Step) (r : ℕ) (h : Head) (rest : List Frame) → 0 < r → IsTrue (is_step (row_count h) s)
-    → Runs h (in_section h r 0) rest → Runs h (in_section h r 0) (step_frames s ++ rest)
+    → IsTrue (is_of_version h.version s) → Runs h (in_section h r 0) rest
+    → Runs h (in_section h r 0) (step_frames s ++ rest)
 unfolding Runs
-run_step (Attempts a) r h rest some limits run = run_attempt a r h rest some limits run
-run_step (Commits c) r h rest some limits run = (allowed_in_section h r 19 (allowed_step h r 19 some refl), limits, run)
-run_step (RollsBack b) r h rest some limits run =
+run_step (Attempts a) r h rest some limits kind run = run_attempt a r h rest some limits run
+run_step (Commits c) r h rest some limits kind run =
+    (allowed_in_section h r 19 (allowed_step h r 19 some refl), limits, run)
+run_step (RollsBack b) r h rest some limits kind run =
     (allowed_in_section h r 20 (allowed_step h r 20 some refl), limits, run)
+run_step (TakesOver x) r h rest some limits kind run =
+    (allowed_in_section h r 21 (allowed_step h r 21 some kind), limits, run)
 
 run_steps : (ss : List Step) (r : ℕ) (h : Head) (rest : List Frame) → 0 < r
-    → IsTrue (list_all (is_step (row_count h)) ss) → Runs h (in_section h r 0) rest
-    → Runs h (in_section h r 0) (flat_map step_frames ss ++ rest)
-run_steps [] r h rest some limits run = run
-run_steps (s ∷ ss) r h rest some limits run =
+    → IsTrue (list_all (is_step (row_count h)) ss) → IsTrue (list_all (is_of_version h.version) ss)
+    → Runs h (in_section h r 0) rest → Runs h (in_section h r 0) (flat_map step_frames ss ++ rest)
+run_steps [] r h rest some limits kinds run = run
+run_steps (s ∷ ss) r h rest some limits kinds run =
     let l = and_parts (is_step (row_count h) s) (list_all (is_step (row_count h)) ss) limits in
+    let k = and_parts (is_of_version h.version s) (list_all (is_of_version h.version) ss) kinds in
     let later = flat_map step_frames ss in
     subst (Runs h (in_section h r 0)) (sym (append_assoc (step_frames s) later rest))
-    (run_step s r h (later ++ rest) some l.0 (run_steps ss r h rest some l.1 run))
+    (run_step s r h (later ++ rest) some l.0 k.0 (run_steps ss r h rest some l.1 k.1 run))
 
 allowed_replica : (h : Head) (r : ℕ) → r < h.replicas → IsTrue (is_allowed_in_sections h (in_section h r 0) 16)
 allowed_replica h r more = rw (lt-ltb r h.replicas more) refl
 
 run_sections : (sections : List (List Step)) (r : ℕ) (h : Head) (rest : List Frame) → r + length sections ≡ h.replicas
     → IsTrue (list_all (list_all (is_step (row_count h))) sections)
+    → IsTrue (list_all (list_all (is_of_version h.version)) sections)
     → Runs h (in_section h h.replicas 0) rest
     → Runs h (in_section h r 0) (flat_map section_frames (enumerate_from r sections) ++ rest)
 unfolding Runs
-run_sections [] r h rest e limits run = let done : h.replicas ≡ r = omega arith in
+run_sections [] r h rest e limits kinds run = let done : h.replicas ≡ r = omega arith in
     subst (λ (r : ℕ). Runs h (in_section h r 0) rest) done run
-run_sections (ss ∷ sections) r h rest e limits run =
+run_sections (ss ∷ sections) r h rest e limits kinds run =
     let l = and_parts (list_all (is_step (row_count h)) ss) (list_all (list_all (is_step (row_count h))) sections)
     limits in
+    let k = and_parts (list_all (is_of_version h.version) ss) (list_all (list_all (is_of_version h.version)) sections)
+    kinds in
     let later = flat_map section_frames (enumerate_from (r + 1) sections) in
-    let steps = run_steps ss (r + 1) h (later ++ rest) (omega arith) l.0
-    (run_sections sections (r + 1) h rest (omega arith) l.1 run) in
+    let steps = run_steps ss (r + 1) h (later ++ rest) (omega arith) l.0 k.0
+    (run_sections sections (r + 1) h rest (omega arith) l.1 k.1 run) in
     subst (Runs h (in_section h r 0)) (sym (append_assoc (section_frames (r, ss)) later rest))
     (allowed_in_section h r 16 (allowed_replica h r (omega arith)), eq-eqb r r refl, steps)
 
@@ -261,7 +270,7 @@ frames_run t limits =
     let h = head_of t in
     let sent = run_sent t.sent false h (some_verifier h limits.head) limits.sent in
     let verifiers = run_verifiers t.verifiers 0 h _ (omega arith) limits.votes sent in
-    let sections = run_sections t.sections 0 h _ (omega arith) limits.sections verifiers in
+    let sections = run_sections t.sections 0 h _ (omega arith) limits.sections limits.kinds verifiers in
     let batches = run_batches t.batches 0 h _ (omega arith) limits.batches sections in
     run_customers t.customers 0 h _ (omega arith) limits.customers batches
 

@@ -3,7 +3,7 @@ use Rattle.std.proofs.Common.{◌≡◌, ℕ, ◌<◌, ◌≤◌, Bool, true, fa
 use Rattle.std.proofs.Common.{ltb-true, ltb-false, eqb-true}
 use Rattle.std.specs.Prelude.{IsTrue, nat_lt, ◌==◌}
 use Rattle.std.proofs.lemmas.Bool.{both_ways, and_parts, and_right, eqb-false, not-true}
-use Rattle.eve_grammar.specs.Frames.{is_allowed_in_sections, is_allowed_behind_sections, is_allowed}
+use Rattle.eve_grammar.specs.Frames.{has_transfers, is_allowed_in_sections, is_allowed_behind_sections, is_allowed}
 use Rattle.eve_grammar.proofs.KindBytes.{sections_none}
 use Rattle.eve_grammar.specs.declared.head.Head.{Head}
 use Rattle.eve_grammar.specs.declared.place.Place.{Place}
@@ -123,24 +123,29 @@ pub record InSection (h : Head) (p : Place) : Type 0 where
   pub section : 0 < p.replicas
   pub votes : p.verifiers ≡ 0
 
-in_section : (h : Head) (p : Place)
+-- where it stands in a section, the version has the kind
+in_section : (h : Head) (p : Place) (known : Bool)
     → IsSettled h p × IsTrue
-    (if p.verifiers == 0 then ((nat_lt 0 p.replicas && true) || false) else
+    (if p.verifiers == 0 then ((nat_lt 0 p.replicas && known) || false) else
     ((not p.sending && false) || ((p.verifiers == h.verifiers) && false)))
-    → InSection h p
-in_section h p s =
+    → InSection h p × IsTrue known
+in_section h p known s =
     let here = if_first (p.verifiers == 0) _ _ (votes_none p.sending (p.verifiers == h.verifiers)) s.1 in
-    let some = and_parts (nat_lt 0 p.replicas) true (or_first (nat_lt 0 p.replicas && true) false refl here.1) in
-    record { settled = s.0; section = ltb-true 0 p.replicas some.0; votes = eqb-true p.verifiers 0 here.0 }
+    let some = and_parts (nat_lt 0 p.replicas) known (or_first (nat_lt 0 p.replicas && known) false refl here.1) in
+    (record { settled = s.0; section = ltb-true 0 p.replicas some.0; votes = eqb-true p.verifiers 0 here.0 }, some.1)
 
 pub of_attempt : (h : Head) (p : Place) → IsTrue (is_allowed h p 17) → InSection h p
-of_attempt h p t = in_section h p (settled h p 17 refl refl refl t)
+of_attempt h p t = (in_section h p true (settled h p 17 refl refl refl t)).0
 
 pub of_commit : (h : Head) (p : Place) → IsTrue (is_allowed h p 19) → InSection h p
-of_commit h p t = in_section h p (settled h p 19 refl refl refl t)
+of_commit h p t = (in_section h p true (settled h p 19 refl refl refl t)).0
 
 pub of_rollback : (h : Head) (p : Place) → IsTrue (is_allowed h p 20) → InSection h p
-of_rollback h p t = in_section h p (settled h p 20 refl refl refl t)
+of_rollback h p t = (in_section h p true (settled h p 20 refl refl refl t)).0
+
+-- a Transfer's, in a version that has them alone
+pub of_transfer : (h : Head) (p : Place) → IsTrue (is_allowed h p 21) → InSection h p × IsTrue (has_transfers h.version)
+of_transfer h p t = in_section h p (has_transfers h.version) (settled h p 21 refl refl refl t)
 
 -- ---- verifiers: the first after the last replica, the others after votes
 

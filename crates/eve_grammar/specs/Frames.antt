@@ -3,12 +3,12 @@ use Rattle.std.specs.Prelude.{ℕ, ◌+◌, ◌-◌, nat_lt, ◌==◌, Bool, tru
 use Rattle.std.specs.Prelude.{◌∷◌, ◌++◌, map, length}
 use Rattle.std.specs.List.{flat_map, enumerate_from}
 use Rattle.eve_grammar.specs.Trace.{Customer, Batch, Access, Attempt, Commit, Rollback, Step, Attempts, Commits}
-use Rattle.eve_grammar.specs.Trace.{RollsBack, Vote, Sent, Trace}
+use Rattle.eve_grammar.specs.Trace.{RollsBack, Transfer, TakesOver, Vote, Sent, Trace}
 use Rattle.eve_grammar.specs.declared.head.Head.{Head}
 use Rattle.eve_grammar.specs.declared.frame_kind.TheConstants.{CUSTOMER_FRAME, BATCH_FRAME, REPLICA_FRAME}
 use Rattle.eve_grammar.specs.declared.frame_kind.TheConstants.{ATTEMPT_FRAME, ACCESS_FRAME, COMMIT_FRAME}
-use Rattle.eve_grammar.specs.declared.frame_kind.TheConstants.{ROLLBACK_FRAME, VERIFIER_FRAME, VOTE_FRAME, SENT_FRAME}
-use Rattle.eve_grammar.specs.declared.frame_kind.TheConstants.{END_FRAME}
+use Rattle.eve_grammar.specs.declared.frame_kind.TheConstants.{ROLLBACK_FRAME, TRANSFER_FRAME, VERIFIER_FRAME, VOTE_FRAME}
+use Rattle.eve_grammar.specs.declared.frame_kind.TheConstants.{SENT_FRAME, END_FRAME}
 use Rattle.eve_grammar.specs.declared.place.Place.{Place}
 
 -- A frame with what it says. Batches, replicas and verifiers say their own number; an attempt's frame
@@ -21,6 +21,7 @@ pub data Frame : Type 0 where
   OfAccess : Access → Frame
   OfCommit : Commit → Frame
   OfRollback : Rollback → Frame
+  OfTransfer : Transfer → Frame
   OfVerifier : (number : ℕ) → Frame
   OfVote : Vote → Frame
   OfSent : Sent → Frame
@@ -39,6 +40,7 @@ abbrev pub step_frames : Step → List Frame
 step_frames (Attempts a) = attempt_frames a
 step_frames (Commits c) = OfCommit c ∷ []
 step_frames (RollsBack r) = OfRollback r ∷ []
+step_frames (TakesOver x) = OfTransfer x ∷ []
 
 -- a replica's frame and those of its steps
 abbrev pub section_frames : ℕ × List Step → List Frame
@@ -77,6 +79,7 @@ kind_of (OfAttempt a) = ATTEMPT_FRAME
 kind_of (OfAccess x) = ACCESS_FRAME
 kind_of (OfCommit c) = COMMIT_FRAME
 kind_of (OfRollback r) = ROLLBACK_FRAME
+kind_of (OfTransfer x) = TRANSFER_FRAME
 kind_of (OfVerifier n) = VERIFIER_FRAME
 kind_of (OfVote v) = VOTE_FRAME
 kind_of (OfSent s) = SENT_FRAME
@@ -87,7 +90,7 @@ abbrev pub start_place : Place
 start_place =
     record { customers = 0; batches = 0; replicas = 0; accesses = 0; verifiers = 0; sending = false; ended = false }
 
--- after a frame; commits, rollbacks and votes count nothing
+-- after a frame; commits, rollbacks, transfers and votes count nothing
 abbrev pub next_place : Place → Frame → Place
 next_place p (OfCustomer c) = record p { customers = p.customers + 1 }
 next_place p (OfBatch n b) = record p { batches = p.batches + 1 }
@@ -99,11 +102,16 @@ next_place p (OfSent s) = record p { sending = true }
 next_place p End = record p { ended = true }
 next_place p _ = p
 
+-- traces of this version may have transfers
+abbrev pub has_transfers : ℕ → Bool
+has_transfers version = version == 2
+
 -- in the sections: the next replica, a step of this one, or after the last replica the first verifier
 abbrev pub is_allowed_in_sections : Head → Place → ℕ → Bool
 is_allowed_in_sections h p kind =
     ((kind == REPLICA_FRAME) && nat_lt p.replicas h.replicas)
-    || ((nat_lt 0 p.replicas && ((kind == ATTEMPT_FRAME) || ((kind == COMMIT_FRAME) || (kind == ROLLBACK_FRAME))))
+    || ((nat_lt 0 p.replicas && ((kind == ATTEMPT_FRAME) || ((kind == COMMIT_FRAME)
+    || ((kind == ROLLBACK_FRAME) || ((kind == TRANSFER_FRAME) && has_transfers h.version)))))
     || ((kind == VERIFIER_FRAME) && (p.replicas == h.replicas)))
 
 -- after them: the next verifier, a vote of this one, or after the last verifier a reply sent or the end

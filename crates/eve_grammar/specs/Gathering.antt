@@ -1,8 +1,9 @@
 -- The trace that frames make up. docs/MODEL.md, "Trace".
 use Rattle.std.specs.Prelude.{◌≡◌, List, [], ◌∷◌}
-use Rattle.eve_grammar.specs.Trace.{Customer, Batch, Access, Step, Attempts, Commits, RollsBack, Vote, Sent, Trace}
+use Rattle.eve_grammar.specs.Trace.{Customer, Batch, Access, Step, Attempts, Commits, RollsBack, TakesOver, Vote}
+use Rattle.eve_grammar.specs.Trace.{Sent, Trace}
 use Rattle.eve_grammar.specs.Frames.{Frame, OfCustomer, OfBatch, OfReplica, OfAttempt, OfAccess, OfCommit, OfRollback}
-use Rattle.eve_grammar.specs.Frames.{OfVerifier, OfVote, OfSent, End, frames_of}
+use Rattle.eve_grammar.specs.Frames.{OfTransfer, OfVerifier, OfVote, OfSent, End, frames_of}
 use Rattle.eve_grammar.specs.declared.head.Head.{Head}
 
 -- What frames say: whole parts of a trace, and what belongs to a frame that stands before them,
@@ -39,6 +40,7 @@ gather (OfAttempt a) g = record g { steps = Attempts (record a { accesses = g.ac
 gather (OfAccess x) g = record g { accesses = x ∷ g.accesses }
 gather (OfCommit c) g = record g { steps = Commits c ∷ g.steps }
 gather (OfRollback r) g = record g { steps = RollsBack r ∷ g.steps }
+gather (OfTransfer x) g = record g { steps = TakesOver x ∷ g.steps }
 gather (OfVerifier number) g = record g { verifiers = g.votes ∷ g.verifiers; votes = [] }
 gather (OfVote v) g = record g { votes = v ∷ g.votes }
 gather (OfSent s) g = record g { sent = s ∷ g.sent }

@@ -2,8 +2,8 @@
 use Rattle.std.specs.Prelude.{◌≢◌, ℕ}
 use Rattle.eve_grammar.specs.declared.frame_kind.FrameKind.{FrameKind}
 use Rattle.eve_grammar.specs.declared.frame_kind.TheConstants.{CUSTOMER_FRAME, BATCH_FRAME, REPLICA_FRAME, ATTEMPT_FRAME}
-use Rattle.eve_grammar.specs.declared.frame_kind.TheConstants.{ACCESS_FRAME, COMMIT_FRAME, ROLLBACK_FRAME, VERIFIER_FRAME}
-use Rattle.eve_grammar.specs.declared.frame_kind.TheConstants.{VOTE_FRAME, SENT_FRAME, END_FRAME}
+use Rattle.eve_grammar.specs.declared.frame_kind.TheConstants.{ACCESS_FRAME, COMMIT_FRAME, ROLLBACK_FRAME, TRANSFER_FRAME}
+use Rattle.eve_grammar.specs.declared.frame_kind.TheConstants.{VERIFIER_FRAME, VOTE_FRAME, SENT_FRAME, END_FRAME}
 use Rattle.eve_grammar.specs.declared.frame_kind.FrameKind.TheVariants as of
 
 -- the first byte of a frame of the kind
@@ -15,6 +15,7 @@ kind_byte of.Attempt = ATTEMPT_FRAME
 kind_byte of.Access = ACCESS_FRAME
 kind_byte of.Commit = COMMIT_FRAME
 kind_byte of.Rollback = ROLLBACK_FRAME
+kind_byte of.Transfer = TRANSFER_FRAME
 kind_byte of.Verifier = VERIFIER_FRAME
 kind_byte of.Vote = VOTE_FRAME
 kind_byte of.Sent = SENT_FRAME

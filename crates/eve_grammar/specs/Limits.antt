@@ -17,10 +17,10 @@ use Rattle.eve_grammar.specs.declared.limits.TheConstants.{MOST_REPLICAS, MOST_V
 use Rattle.eve_grammar.specs.declared.limits.TheConstants.{MOST_CUSTOMERS, MOST_BATCHES, MOST_REQUESTS, MOST_ENTRIES}
 use Rattle.eve_grammar.specs.declared.limits.TheConstants.{MOST_VERSIONS, MOST_CUSTOMERS_OF_VERSION_1, NEWEST_VERSION}
 use Rattle.eve_grammar.specs.Trace.{Customer, Asked, Batch, Access, Attempt, Commit, Rollback, Step, Attempts}
-use Rattle.eve_grammar.specs.Trace.{Commits, RollsBack, Transfer, Choice, ForRollback, ForCommit, Vote, Sent, Trace}
-use Rattle.eve_grammar.specs.Trace.{head_of}
+use Rattle.eve_grammar.specs.Trace.{Commits, RollsBack, Transfer, TakesOver, Choice, ForRollback, ForCommit, Vote}
+use Rattle.eve_grammar.specs.Trace.{Sent, Trace, head_of}
 use Rattle.eve_grammar.specs.Frames.{Frame, OfCustomer, OfBatch, OfReplica, OfAttempt, OfAccess, OfCommit, OfRollback}
-use Rattle.eve_grammar.specs.Frames.{OfVerifier, OfVote, OfSent, End, kind_of, is_allowed}
+use Rattle.eve_grammar.specs.Frames.{OfTransfer, OfVerifier, OfVote, OfSent, End, kind_of, has_transfers, is_allowed}
 use Rattle.eve_grammar.specs.Spelling.{body_text}
 use Rattle.eve_grammar.specs.declared.head.Head.{Head}
 use Rattle.eve_grammar.specs.declared.restore.Restore.{Restore}
@@ -135,6 +135,14 @@ abbrev pub is_step : ℕ → Step → Bool
 is_step rows (Attempts a) = is_whole_attempt rows a
 is_step rows (Commits c) = is_commit c
 is_step rows (RollsBack r) = is_rollback rows r
+is_step rows (TakesOver x) = is_transfer rows x
+
+-- a transfer stands only in a version that has them
+abbrev pub is_of_version : ℕ → Step → Bool
+is_of_version version (Attempts a) = true
+is_of_version version (Commits c) = true
+is_of_version version (RollsBack r) = true
+is_of_version version (TakesOver x) = has_transfers version
 
 -- a token where there is one
 abbrev pub is_choice : Choice → Bool
@@ -196,6 +204,7 @@ pub record HasLimits (t : Trace) : Type 0 where
   pub customers : IsTrue (list_all is_customer t.customers)
   pub batches : IsTrue (list_all is_batch t.batches)
   pub sections : IsTrue (list_all (list_all (is_step (row_count (head_of t)))) t.sections)
+  pub kinds : IsTrue (list_all (list_all (is_of_version t.head.version)) t.sections)
   pub votes : IsTrue (list_all (list_all (is_vote (length t.batches))) t.verifiers)
   pub sent : IsTrue (list_all (is_sent (length t.sections) (length t.batches)) t.sent)
 
@@ -210,6 +219,7 @@ is_body h p (OfAttempt a) = is_attempt a && (length a.accesses == 0)
 is_body h p (OfAccess x) = is_access (2 * h.customers) x
 is_body h p (OfCommit c) = is_commit c
 is_body h p (OfRollback r) = is_rollback (2 * h.customers) r
+is_body h p (OfTransfer x) = is_transfer (2 * h.customers) x
 is_body h p (OfVerifier number) = number == p.verifiers
 is_body h p (OfVote v) = is_vote h.batches v
 is_body h p (OfSent s) = is_sent h.replicas h.batches s

@@ -18,12 +18,12 @@ use Rattle.eve_smallbank.specs.declared.versioned.Versioned.{Versioned}
 use Rattle.eve_grammar.specs.Trace.{Customer, Asked, Batch, Access, Attempt, Commit, Rollback, Transfer, Choice}
 use Rattle.eve_grammar.specs.Trace.{ForRollback, ForCommit, Vote, Sent}
 use Rattle.eve_grammar.specs.Frames.{Frame, OfCustomer, OfBatch, OfReplica, OfAttempt, OfAccess, OfCommit, OfRollback}
-use Rattle.eve_grammar.specs.Frames.{OfVerifier, OfVote, OfSent, End}
+use Rattle.eve_grammar.specs.Frames.{OfTransfer, OfVerifier, OfVote, OfSent, End}
 use Rattle.eve_grammar.specs.declared.limits.TheConstants.{MOST_REQUESTS, MOST_ENTRIES}
 use Rattle.eve_grammar.specs.declared.frame_kind.TheConstants.{CUSTOMER_FRAME, BATCH_FRAME, REPLICA_FRAME}
 use Rattle.eve_grammar.specs.declared.frame_kind.TheConstants.{ATTEMPT_FRAME, ACCESS_FRAME, COMMIT_FRAME}
-use Rattle.eve_grammar.specs.declared.frame_kind.TheConstants.{ROLLBACK_FRAME, VERIFIER_FRAME, VOTE_FRAME, SENT_FRAME}
-use Rattle.eve_grammar.specs.declared.frame_kind.TheConstants.{END_FRAME}
+use Rattle.eve_grammar.specs.declared.frame_kind.TheConstants.{ROLLBACK_FRAME, TRANSFER_FRAME, VERIFIER_FRAME, VOTE_FRAME}
+use Rattle.eve_grammar.specs.declared.frame_kind.TheConstants.{SENT_FRAME, END_FRAME}
 use Rattle.eve_grammar.specs.Limits.{is_between, is_entry, is_restore, is_rising, is_versioned, are_no_debts, is_head, row_count}
 use Rattle.eve_grammar.specs.declared.head.Head.{Head}
 use Rattle.eve_grammar.specs.declared.restore.Restore.{Restore}
@@ -348,6 +348,7 @@ body_of h p kind body =
     else if kind == ACCESS_FRAME then (access_of (row_count h) body >>= λ x. Some (OfAccess x))
     else if kind == COMMIT_FRAME then (commit_of body >>= λ c. Some (OfCommit c))
     else if kind == ROLLBACK_FRAME then (rollback_of (row_count h) body >>= λ r. Some (OfRollback r))
+    else if kind == TRANSFER_FRAME then (transfer_of (row_count h) body >>= λ x. Some (OfTransfer x))
     else if kind == VERIFIER_FRAME then (number_of body >>= λ n. if n == p.verifiers then Some (OfVerifier n) else None)
     else if kind == VOTE_FRAME then (vote_of h.batches body >>= λ v. Some (OfVote v))
     else if kind == SENT_FRAME then (sent_of h.replicas h.batches body >>= λ s. Some (OfSent s))

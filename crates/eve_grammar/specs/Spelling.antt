@@ -12,9 +12,8 @@ use Rattle.eve_smallbank.specs.Access.{is_write}
 use Rattle.eve_grammar.specs.Trace.{Customer, Asked, Batch, Access, Attempt, Transfer, Step, Choice, ForRollback}
 use Rattle.eve_grammar.specs.Trace.{ForCommit, Vote, Sent, Trace}
 use Rattle.eve_grammar.specs.Frames.{Frame, OfCustomer, OfBatch, OfReplica, OfAttempt, OfAccess, OfCommit, OfRollback}
-use Rattle.eve_grammar.specs.Frames.{OfVerifier, OfVote, OfSent, End, kind_of, step_frames, section_frames}
+use Rattle.eve_grammar.specs.Frames.{OfTransfer, OfVerifier, OfVote, OfSent, End, kind_of, step_frames, section_frames}
 use Rattle.eve_grammar.specs.Frames.{verifier_frames, batches_of, sections_of, verifiers_of, frames_of}
-use Rattle.eve_grammar.specs.declared.frame_kind.TheConstants.{TRANSFER_FRAME}
 use Rattle.eve_grammar.specs.declared.head.Head.{Head}
 use Rattle.eve_grammar.specs.declared.restore.Restore.{Restore}
 use Rattle.eve_grammar.specs.declared.head.TheConstants.{HEADER_LEN}
@@ -58,6 +57,10 @@ choice_text (ForCommit token) = 1 ∷ token
 
 -- ---- frames
 
+-- the body of a Transfer frame: a number, a view, what each row has
+abbrev pub transfer_text : Transfer → List ℕ
+transfer_text x = big_bytes 4 x.seq ++ (big_bytes 4 x.view ++ flat_map versioned_text x.rows)
+
 -- what stands after the kind and the length
 abbrev pub body_text : Frame → List ℕ
 body_text (OfCustomer c) = name_text c.name ++ (money_text c.saving ++ money_text c.checking)
@@ -75,6 +78,7 @@ body_text (OfAccess x) =
 body_text (OfCommit c) = big_bytes 4 c.seq ++ (big_bytes 4 c.view ++ c.token)
 body_text (OfRollback r) =
     big_bytes 4 r.to ++ (big_bytes 4 r.view ++ (big_bytes 4 (length r.restores) ++ flat_map restore_text r.restores))
+body_text (OfTransfer x) = transfer_text x
 body_text (OfVerifier number) = big_bytes 1 number
 body_text (OfVote v) = big_bytes 4 v.seq ++ (big_bytes 4 v.view ++ choice_text v.choice)
 body_text (OfSent s) =
@@ -85,14 +89,6 @@ body_text End = []
 -- a kind, the body's length, the body
 abbrev pub frame_text : Frame → List ℕ
 frame_text f = kind_of f ∷ (big_bytes 4 (length (body_text f)) ++ body_text f)
-
--- the body of a Transfer frame: a number, a view, what each row has
-abbrev pub transfer_text : Transfer → List ℕ
-transfer_text x = big_bytes 4 x.seq ++ (big_bytes 4 x.view ++ flat_map versioned_text x.rows)
-
--- the frame
-abbrev pub transfer_frame : Transfer → List ℕ
-transfer_frame x = TRANSFER_FRAME ∷ (big_bytes 4 (length (transfer_text x)) ++ transfer_text x)
 
 -- one after the other
 abbrev pub frames_text : List Frame → List ℕ

@@ -85,6 +85,7 @@ pub data Step : Type 0 where
   Attempts : Attempt → Step
   Commits : Commit → Step
   RollsBack : Rollback → Step
+  TakesOver : Transfer → Step
 
 -- what a vote is for
 pub data Choice : Type 0 where

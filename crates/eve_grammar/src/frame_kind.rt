@@ -60,6 +60,8 @@ pub enum FrameKind {
     Commit = COMMIT_FRAME as isize,
     /// The open attempts are discarded.
     Rollback = ROLLBACK_FRAME as isize,
+    /// A state that the replica took over.
+    Transfer = TRANSFER_FRAME as isize,
     /// The first of a verifier's part.
     Verifier = VERIFIER_FRAME as isize,
     /// A verifier's vote.
@@ -88,6 +90,7 @@ impl FrameKind {
             ACCESS_FRAME => Some(FrameKind::Access),
             COMMIT_FRAME => Some(FrameKind::Commit),
             ROLLBACK_FRAME => Some(FrameKind::Rollback),
+            TRANSFER_FRAME => Some(FrameKind::Transfer),
             VERIFIER_FRAME => Some(FrameKind::Verifier),
             VOTE_FRAME => Some(FrameKind::Vote),
             SENT_FRAME => Some(FrameKind::Sent),

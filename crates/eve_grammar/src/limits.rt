@@ -6,7 +6,7 @@ ghost use Rattle.std.specs.Prelude.{◌≡◌};
 ghost use Rattle.eve_grammar.specs.Limits.{most_customers};
 
 /// The newest version of the format that headers may have. The first is 1.
-pub const NEWEST_VERSION: u16 = 1;
+pub const NEWEST_VERSION: u16 = 2;
 
 /// Replicas of a trace.
 pub const MOST_REPLICAS: u8 = 8;

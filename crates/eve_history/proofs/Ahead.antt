@@ -6,7 +6,7 @@ use Rattle.std.specs.List.{AllByRecursion, flat_map}
 use Rattle.std.proofs.lemmas.Bool.{and_from, eq-eqb}
 use Rattle.std.proofs.lemmas.List.{length-append, length-map, drop_at, take_at}
 use Rattle.std.proofs.lemmas.List.Concat.{flat_map-append}
-use Rattle.eve_grammar.specs.Trace.{Access, Attempt, Step, Attempts, Commits, RollsBack, Trace}
+use Rattle.eve_grammar.specs.Trace.{Access, Attempt, Step, Attempts, Commits, RollsBack, TakesOver, Trace}
 use Rattle.eve_grammar.specs.Frames.{without_accesses}
 use Rattle.eve_grammar.specs.Spelling.{accesses_at, spelling, steps_at}
 use Rattle.eve_grammar.specs.Following.{Spells}
@@ -20,7 +20,7 @@ use Rattle.eve_history.specs.Section.{start, state_after, is_due, is_right_attem
 use Rattle.eve_history.specs.Section.{are_right_accesses, request_count}
 use Rattle.eve_history.specs.SectionHistory.{access_with, ordered, executed_attempt, attempts_among}
 use Rattle.eve_history.specs.FirstWrong.{wrong_step}
-use Rattle.eve_history.specs.Standing.{IsAttemptAt, IsAccessAt, IsRollbackAt}
+use Rattle.eve_history.specs.Standing.{IsAttemptAt, IsAccessAt, IsRollbackAt, IsTransferAt}
 use Rattle.eve_history.specs.Coming.{KeptSection, kept_section, kept_at_first, kept_executed_attempt, seen, HasCome}
 use Rattle.eve_history.specs.Coming.{AreNotesOf}
 use Rattle.eve_history.specs.SideBySide.{IsRightAlone, AreOrdered, IsKeptAhead}
@@ -36,9 +36,9 @@ tell x = ordered x.0 x.1
 
 pub ahead_start : (t : Trace) (e : ℕ) (n : Notes) (bytes records : List ℕ) → Spells bytes t → n.bytes.now ≡ bytes
     → AreOrdered t (attempts_among (steps_at t e)) records → n.records.items ≡ records → n.attempts.items ≡ []
-    → n.rollbacks.items ≡ [] → kept_section n ≡ kept_at_first (map (seen bytes) records)
+    → n.rollbacks.items ≡ [] → n.transfers.items ≡ [] → kept_section n ≡ kept_at_first (map (seen bytes) records)
     → IsKeptAhead t e (steps_at t e) 0 n
-ahead_start t e n bytes records spelled same ordered all none nothing_back is = record {
+ahead_start t e n bytes records spelled same ordered all none nothing_back nothing_over is = record {
   come = subst (HasCome t e (steps_at t e)) (sym is)
       (come_start_with t e (map (seen bytes) records) (limits_of_spelled bytes t spelled));
   notes = record {
@@ -49,6 +49,7 @@ ahead_start t e n bytes records spelled same ordered all none nothing_back is = 
           (sym (same ∙ spelled.spelled))
           (subst (AllByRecursion (IsAccessAt (spelling t))) (sym all) ordered.framed);
       rollbacks = subst (AllByRecursion (IsRollbackAt n.bytes.now)) (sym nothing_back) tt;
+      transfers = subst (AllByRecursion (IsTransferAt n.bytes.now)) (sym nothing_over) tt;
     };
   };
   all = subst (AreOrdered t (attempts_among (steps_at t e))) (sym all) ordered;
@@ -58,7 +59,7 @@ ahead_start t e n bytes records spelled same ordered all none nothing_back is = 
       omega arith);
 }
 
--- ---- a commit or a rollback
+-- ---- a step that is no attempt
 
 -- it was taken
 pub ahead_other : (t : Trace) (e : ℕ) (next : ℕ × Step) (rest : List (ℕ × Step)) (from : ℕ) (n after : Notes)
@@ -90,6 +91,7 @@ next_attempt t e (at, Attempts b) rest from n a xs is ahead =
     (b, subst (λ (o : ℕ). IsKeptAhead t e ((o, Attempts b) ∷ rest) from n) (sym is.0) ahead, is.1)
 next_attempt t e (at, Commits c) rest from n a xs is ahead = absurd is
 next_attempt t e (at, RollsBack r) rest from n a xs is ahead = absurd is
+next_attempt t e (at, TakesOver x) rest from n a xs is ahead = absurd is
 
 module _ (t : Trace) (e at : ℕ) (b : Attempt) (rest : List (ℕ × Step)) (from : ℕ) (n : Notes)
     (ahead : IsKeptAhead t e ((at, Attempts b) ∷ rest) from n) where
@@ -146,7 +148,7 @@ module _ (t : Trace) (e at : ℕ) (b : Attempt) (rest : List (ℕ × Step)) (fro
   pub next_fits : from + length b.certificate ≤ length n.records.items
   next_fits = let c = next_place in let d = own_length in omega arith
 
-  its_own : kept_executed_attempt kept.records (attempt_at at b from) ≡ executed_attempt (at, b)
+  its_own : kept_executed_attempt kept.records (attempt_at at b (length kept.transfers) from) ≡ executed_attempt (at, b)
   its_own =
       let cut : drop from kept.records ≡ ordered at b ++ flat_map tell behind =
       ap (drop from) records_are
@@ -166,8 +168,8 @@ module _ (t : Trace) (e at : ℕ) (b : Attempt) (rest : List (ℕ × Step)) (fro
       record {
         come = subst (HasCome t e rest) is
             (come_attempt_at t e at b rest kept ahead.come (next_right due) from kept.records refl its_own
-            (still_within (length kept.records) (length kept.records) kept.attempts (attempt_at at b from)
-            (omega arith) ahead.come.is_kept.within (omega arith)));
+            (still_within (length kept.records) (length kept.records) kept.attempts
+            (attempt_at at b (length kept.transfers) from) (omega arith) ahead.come.is_kept.within (omega arith)));
         notes = notes;
         all = subst (AreOrdered t (attempts_among (steps_at t e))) (sym same) ahead.all;
         place =

@@ -1,20 +1,19 @@
--- Public: other crates cite these lemmas. Sections in which each number was reached by an attempt, as in all where no
--- step takes a state over.
+-- Sections in which each number was reached by an attempt, as in all of a trace whose version has no transfers.
 use Rattle.std.proofs.Common.{◌≡◌, ℕ, zero, suc, ◌<◌, List, [], ◌∷◌, ◌++◌, map, length, slice_get, Option, Some, refl}
-use Rattle.std.proofs.Common.{ap, arith}
-use Rattle.std.specs.Prelude.{⊤}
-use Rattle.std.specs.List.{AllByRecursion, flat_map}
+use Rattle.std.proofs.Common.{true, false, sym, ◌∙◌, ap, arith}
+use Rattle.std.specs.Prelude.{IsFalse}
+use Rattle.std.specs.List.{AllByRecursion, flat_map, list_all}
+use Rattle.std.proofs.lemmas.Bool.{and_parts, false≢true}
 use Rattle.std.proofs.lemmas.Option.{same_Some}
-use Rattle.eve_grammar.specs.Trace.{Step, Attempts, Commits, RollsBack, Trace}
+use Rattle.eve_grammar.specs.Trace.{Step, Attempts, Commits, RollsBack, TakesOver, Trace}
+use Rattle.eve_grammar.specs.Frames.{has_transfers}
+use Rattle.eve_grammar.specs.Limits.{is_of_version, HasLimits}
+use Rattle.eve_grammar.proofs.Lists.{all-slice_get}
 use Rattle.eve_grammar.specs.Spelling.{steps_at}
 use Rattle.eve_history.specs.Section.{Came, Ran, Placed, Landing, ByAttempt, ByTransfer, Skipped, came_by, attempts_by}
-use Rattle.eve_history.specs.Section.{SectionState, start, committing, next, state_after}
-use Rattle.eve_history.specs.SectionHistory.{history}
-
-abbrev pub IsByAttempt : Landing → Type 0
-IsByAttempt (ByAttempt p) = ⊤
-IsByAttempt (ByTransfer at x) = ⊥
-IsByAttempt Skipped = ⊥
+use Rattle.eve_history.specs.Section.{IsByAttempt, SectionState, start, committing, next, state_after}
+use Rattle.eve_history.specs.SectionHistory.{history, ByAttemptsTo}
+use Rattle.eve_history.proofs.Coming.{steps_all}
 
 one_more_attempt : (ls : List Landing) (p : Placed) → AllByRecursion IsByAttempt ls
     → AllByRecursion IsByAttempt (ls ++ ByAttempt p ∷ [])
@@ -26,20 +25,36 @@ attempts_commit : (s : SectionState) (pending : List Placed) → AllByRecursion 
 attempts_commit s [] by = by
 attempts_commit s (p ∷ ps) by = one_more_attempt s.landings p by
 
-attempts_next : (s : SectionState) (step : ℕ × Step) → AllByRecursion IsByAttempt s.landings
+-- in a version without transfers
+attempts_next : (version : ℕ) (s : SectionState) (step : ℕ × Step) → has_transfers version ≡ false
+    → is_of_version version step.1 ≡ true → AllByRecursion IsByAttempt s.landings
     → AllByRecursion IsByAttempt (next s step).landings
-attempts_next s (at, Attempts a) by = by
-attempts_next s (at, Commits c) by = attempts_commit s s.pending by
-attempts_next s (at, RollsBack r) by = by
+attempts_next version s (at, Attempts a) none kind by = by
+attempts_next version s (at, Commits c) none kind by = attempts_commit s s.pending by
+attempts_next version s (at, RollsBack r) none kind by = by
+attempts_next version s (at, TakesOver x) none kind by = absurd (false≢true (sym none ∙ kind))
 
-attempts_after : (s : SectionState) (steps : List (ℕ × Step)) → AllByRecursion IsByAttempt s.landings
+attempts_after : (version : ℕ) (s : SectionState) (steps : List (ℕ × Step)) → has_transfers version ≡ false
+    → list_all (λ x. is_of_version version x.1) steps ≡ true → AllByRecursion IsByAttempt s.landings
     → AllByRecursion IsByAttempt (state_after s steps).landings
-attempts_after s [] by = by
-attempts_after s (step ∷ steps) by = attempts_after (next s step) steps (attempts_next s step by)
+attempts_after version s [] none kinds by = by
+attempts_after version s (step ∷ steps) none kinds by =
+    let parts = and_parts (is_of_version version step.1) (list_all (λ x. is_of_version version x.1) steps) kinds in
+    attempts_after version (next s step) steps none parts.1 (attempts_next version s step none parts.0 by)
 
-pub all_by_attempts : (t : Trace) (e : ℕ) → AllByRecursion IsByAttempt (history t e).landings
+pub all_by_attempts : (t : Trace) (e : ℕ) → HasLimits t → IsFalse (has_transfers t.head.version)
+    → AllByRecursion IsByAttempt (history t e).landings
 unfolding history
-all_by_attempts t e = attempts_after start (steps_at t e) tt
+all_by_attempts t e limits none = attempts_after t.head.version start (steps_at t e) none
+    (steps_all (is_of_version t.head.version) t e limits.kinds) tt
+
+-- so it is up to every number
+pub by_attempts_to : (t : Trace) (e n : ℕ) → HasLimits t → IsFalse (has_transfers t.head.version) → ByAttemptsTo t e n
+by_attempts_to t e n limits none = each
+  where
+    each : ByAttemptsTo t e n
+    each zero l few e = absurd (cc)
+    each (suc m) l few got = all-slice_get IsByAttempt (history t e).landings m l (all_by_attempts t e limits none) got
 
 pub attempt_at : (ls : List Landing) (n : ℕ) → AllByRecursion IsByAttempt ls → n < length ls
     → (p : Placed) × (slice_get ls n ≡ Some (ByAttempt p))

@@ -2,14 +2,14 @@
 use Rattle.eve_views.specs.Form.{IsLeast, IsFaultIn}
 use Rattle.std.proofs.Common.{◌≡◌, ℕ, zero, suc, ◌+◌, ◌-◌, ◌<◌, ◌≤◌, ◌==◌, Bool, true, false, List, [], ◌∷◌, ◌++◌, map}
 use Rattle.std.proofs.Common.{length, take, drop, replicate, Option, Some, None, IsTrue, refl, sym, ap, subst, ◌∙◌}
-use Rattle.std.proofs.Common.{append_assoc, arith}
+use Rattle.std.proofs.Common.{append_assoc, add-one, nat_lt, nat_le, ◌&&◌, arith}
 use Rattle.std.specs.Prelude.{slice_index_or}
 use Rattle.std.specs.List.{AllByRecursion, list_all}
-use Rattle.std.proofs.lemmas.Bool.{and_parts, and_from, eqb-true, false≢true}
+use Rattle.std.proofs.lemmas.Bool.{and_parts, and_from, eqb-true, ltb-true, false≢true}
 use Rattle.std.proofs.lemmas.List.{append-nil, map-append, length-map, length-append, length-drop, length-replicate}
 use Rattle.std.proofs.lemmas.List.{drop_all, drop-append-le, drop-drop, drop_at, take-append-le, take_all}
-use Rattle.eve_grammar.specs.Trace.{Access, Attempt, Commit, Rollback, Step, Attempts, Commits, RollsBack, Trace}
-use Rattle.eve_grammar.specs.Trace.{head_of}
+use Rattle.eve_grammar.specs.Trace.{Access, Attempt, Commit, Rollback, Transfer, Step, Attempts, Commits, RollsBack}
+use Rattle.eve_grammar.specs.Trace.{TakesOver, Trace, head_of}
 use Rattle.eve_grammar.specs.Frames.{without_accesses}
 use Rattle.eve_grammar.specs.Spelling.{located, step_text, steps_of, steps_at, accesses_at}
 use Rattle.eve_grammar.specs.Limits.{is_step, row_count, HasLimits}
@@ -20,17 +20,19 @@ use Rattle.eve_history.specs.declared.landing.Landing as told
 use Rattle.eve_history.specs.declared.landing.Landing.TheVariants as landing
 use Rattle.eve_history.specs.declared.wrong.Wrong.{Wrong}
 use Rattle.eve_history.specs.Section.{Placed, Landing, ByAttempt, ByTransfer, Skipped, SectionState, start, next}
-use Rattle.eve_history.specs.Section.{committing, state_after, path_of, commits_first, is_right_commit, are_right}
+use Rattle.eve_history.specs.Section.{committing, taking_over, state_after, path_of, commits_first, is_right_commit}
+use Rattle.eve_history.specs.Section.{transfers_by, are_right}
 use Rattle.eve_history.specs.Fates.{fate_in, fates_from}
 use Rattle.eve_history.specs.SectionHistory.{ExecutedAttempt, executed_attempt, placed_at, ordered, attempts_among}
 use Rattle.eve_history.specs.SectionHistory.{rollbacks_among, access_with, section_history, Landed, LandedBy}
-use Rattle.eve_history.specs.SectionHistory.{LandedFrom, NotLanded, landed_from}
+use Rattle.eve_history.specs.SectionHistory.{LandedFrom, NotLanded, landed_from, taken_from}
 use Rattle.eve_history.specs.FirstWrong.{wrong_step, first_wrong, first_wrong_of, fault_of}
 use Rattle.eve_history.specs.Coming.{KeptAttempt, KeptSection, open_count, kept_executed_attempt, executed_attempts}
 use Rattle.eve_history.specs.Coming.{kept_at_first, executed_attempt_at, section_history_of, StandsAt}
 use Rattle.eve_history.specs.Coming.{landed_in, IsLandingAmong, AreSettled, open_fates, HasCome}
 use Rattle.eve_history.proofs.StructureLaws.{state_after-append, are_right-push, right_step, steps_on, found_is_least}
 use Rattle.eve_history.proofs.StructureLaws.{none_stands}
+use Rattle.eve_history.proofs.Transfers.{over, transfers_commit, transfers_taking}
 use Rattle.eve_history.specs.Structure.{StandsInStructure}
 
 -- ---- before the first step
@@ -50,11 +52,15 @@ all_in_section p (s ∷ sections) zero all = (and_parts (list_all p s) (list_all
 all_in_section p (s ∷ sections) (suc e) all =
     all_in_section p sections e (and_parts (list_all p s) (list_all (list_all p) sections) all).1
 
+-- what holds of all steps of all sections
+pub steps_all : (p : Step → Bool) (t : Trace) (e : ℕ) → list_all (list_all p) t.sections ≡ true
+    → list_all (λ x. p x.1) (steps_at t e) ≡ true
+unfolding steps_at
+steps_all p t e all = all_located p step_text _ (steps_of t e) (all_in_section p t.sections e all)
+
 pub steps_fit : (t : Trace) (e : ℕ) → HasLimits t → list_all (λ x. is_step (row_count (head_of t)) x.1) (steps_at t e)
     ≡ true
-unfolding steps_at
-steps_fit t e limits = all_located (is_step (row_count (head_of t))) step_text _ (steps_of t e)
-    (all_in_section (is_step (row_count (head_of t))) t.sections e limits.sections)
+steps_fit t e limits = steps_all (is_step (row_count (head_of t))) t e limits.sections
 
 pub come_start_with : (t : Trace) (e : ℕ) (records : List (ℕ × Access)) → HasLimits t
     → HasCome t e (steps_at t e) (kept_at_first records)
@@ -67,7 +73,9 @@ come_start_with t e records limits = record {
   settled = record { pending = refl; landed = refl };
   is_kept = record { within = tt; fewer = omega arith; count = refl; there = tt };
   fates = refl;
+  taken = refl;
   rollbacks = refl;
+  transfers = refl;
   fit = steps_fit t e limits;
 }
 
@@ -83,6 +91,7 @@ attempts_among-append ((at, Attempts a) ∷ xs) ys = ap (λ (zs : List (ℕ × A
     (attempts_among-append xs ys)
 attempts_among-append ((at, Commits c) ∷ xs) ys = attempts_among-append xs ys
 attempts_among-append ((at, RollsBack r) ∷ xs) ys = attempts_among-append xs ys
+attempts_among-append ((at, TakesOver x) ∷ xs) ys = attempts_among-append xs ys
 
 rollbacks_among-push : (xs : List (ℕ × Step)) (x : ℕ × Step) → rollbacks_among (xs ++ x ∷ [])
     ≡ rollbacks_among xs ++ rollbacks_among (x ∷ [])
@@ -91,6 +100,7 @@ rollbacks_among-push ((at, Attempts a) ∷ xs) x = rollbacks_among-push xs x
 rollbacks_among-push ((at, Commits c) ∷ xs) x = rollbacks_among-push xs x
 rollbacks_among-push ((at, RollsBack r) ∷ xs) x = ap (λ (ys : List (ℕ × Rollback)). (at, r) ∷ ys)
     (rollbacks_among-push xs x)
+rollbacks_among-push ((at, TakesOver y) ∷ xs) x = rollbacks_among-push xs x
 
 -- a step at which something is wrong
 pub come_wrong : (t : Trace) (e : ℕ) (step : ℕ × Step) (rest : List (ℕ × Step)) (k : KeptSection) (w : Wrong)
@@ -124,6 +134,12 @@ module _ (t : Trace) (e : ℕ) (step : ℕ × Step) (rest : List (ℕ × Step)) 
   stands_next k' stands = subst (λ (s : SectionState). StandsAt s k')
       (sym (state_after-append start come.front (step ∷ []))) stands
 
+  transfers_next : (xs : List (ℕ × Transfer)) → xs
+      ≡ transfers_by (next (state_after start come.front) step).landings
+      → xs ≡ transfers_by (state_after start (come.front ++ step ∷ [])).landings
+  transfers_next xs is = is ∙ ap (λ (s : SectionState). transfers_by s.landings)
+      (sym (state_after-append start come.front (step ∷ [])))
+
   rest_fits : IsTrue (list_all (λ x. is_step (row_count (head_of t)) x.1) rest)
   rest_fits = (and_parts (is_step (row_count (head_of t)) step.1) _ come.fit).1
 
@@ -152,6 +168,11 @@ pub open_rollback : (at : ℕ) (r : Rollback) (rest : List (ℕ × Step)) (b n :
 open_rollback at r rest b zero = refl
 open_rollback at r rest b (suc n) = ap (λ (fs : List Fate). Discarded ∷ fs) (open_rollback at r rest (suc b) n)
 
+pub open_transfer : (at : ℕ) (x : Transfer) (rest : List (ℕ × Step)) (b n : ℕ)
+    → open_fates ((at, TakesOver x) ∷ rest) b n ≡ replicate n Discarded
+open_transfer at x rest b zero = refl
+open_transfer at x rest b (suc n) = ap (λ (fs : List Fate). Discarded ∷ fs) (open_transfer at x rest (suc b) n)
+
 pub open_end : (b n : ℕ) → open_fates [] b n ≡ replicate n Open
 open_end b zero = refl
 open_end b (suc n) = ap (λ (fs : List Fate). Open ∷ fs) (open_end (suc b) n)
@@ -167,32 +188,48 @@ executed_attempt_among [] more place lt = absurd (omega arith)
 executed_attempt_among (r ∷ rs) more zero lt = refl
 executed_attempt_among (r ∷ rs) more (suc place) lt = executed_attempt_among rs more place (omega arith)
 
-landing_among : (rs more : List ExecutedAttempt) (l : told.Landing) → IsLandingAmong (length rs) l
+landing_among : (rs more : List ExecutedAttempt) (m : ℕ) (l : told.Landing) → IsLandingAmong (length rs) m l
     → landed_in (rs ++ more) l ≡ landed_in rs l
-landing_among rs more (landing.Attempt place) lt = ap LandedBy (executed_attempt_among rs more place lt)
-landing_among rs more (landing.Transfer i) there = refl
-landing_among rs more landing.Skipped there = refl
+landing_among rs more m (landing.Attempt place) lt = ap LandedBy (executed_attempt_among rs more place lt)
+landing_among rs more m (landing.Transfer i) there = refl
+landing_among rs more m landing.Skipped there = refl
 
-landings_among : (rs more : List ExecutedAttempt) (ls : List told.Landing)
-    → AllByRecursion (IsLandingAmong (length rs)) ls → map (landed_in (rs ++ more)) ls ≡ map (landed_in rs) ls
-landings_among rs more [] there = refl
-landings_among rs more (l ∷ ls) there =
-    λ i. landing_among rs more l there.0 i ∷ landings_among rs more ls there.1 i
+landings_among : (rs more : List ExecutedAttempt) (m : ℕ) (ls : List told.Landing)
+    → AllByRecursion (IsLandingAmong (length rs) m) ls → map (landed_in (rs ++ more)) ls ≡ map (landed_in rs) ls
+landings_among rs more m [] there = refl
+landings_among rs more m (l ∷ ls) there =
+    λ i. landing_among rs more m l there.0 i ∷ landings_among rs more m ls there.1 i
 
-still_among : (n m : ℕ) (l : told.Landing) → n ≤ m → IsLandingAmong n l → IsLandingAmong m l
-still_among n m (landing.Attempt place) le lt = let first : place < n = lt in omega arith
-still_among n m (landing.Transfer i) le there = tt
-still_among n m landing.Skipped le there = tt
+-- of the first n attempts and m states
+still_among : (n m i j : ℕ) (l : told.Landing) → n ≤ i → m ≤ j → IsLandingAmong n m l → IsLandingAmong i j l
+still_among n m i j (landing.Attempt place) few le lt = let first : place < n = lt in omega arith
+still_among n m i j (landing.Transfer place) few le lt = let first : place < m = lt in omega arith
+still_among n m i j landing.Skipped few le there = tt
 
-still_there : (n m : ℕ) (ls : List told.Landing) → n ≤ m → AllByRecursion (IsLandingAmong n) ls
-    → AllByRecursion (IsLandingAmong m) ls
-still_there n m [] le there = tt
-still_there n m (l ∷ ls) le there = (still_among n m l le there.0, still_there n m ls le there.1)
+still_there : (n m i j : ℕ) (ls : List told.Landing) → n ≤ i → m ≤ j → AllByRecursion (IsLandingAmong n m) ls
+    → AllByRecursion (IsLandingAmong i j) ls
+still_there n m i j [] few le there = tt
+still_there n m i j (l ∷ ls) few le there =
+    (still_among n m i j l few le there.0, still_there n m i j ls few le there.1)
 
-one_more_there : (n place : ℕ) (ls : List told.Landing) → place < n → AllByRecursion (IsLandingAmong n) ls
-    → AllByRecursion (IsLandingAmong n) (ls ++ landing.Attempt place ∷ [])
-one_more_there n place [] lt there = (lt, tt)
-one_more_there n place (l ∷ ls) lt there = (there.0, one_more_there n place ls lt there.1)
+one_more_there : (n m place : ℕ) (ls : List told.Landing) → place < n → AllByRecursion (IsLandingAmong n m) ls
+    → AllByRecursion (IsLandingAmong n m) (ls ++ landing.Attempt place ∷ [])
+one_more_there n m place [] lt there = (lt, tt)
+one_more_there n m place (l ∷ ls) lt there = (there.0, one_more_there n m place ls lt there.1)
+
+-- numbers are skipped, and then the state at this place is taken over
+abbrev pub over_at : ℕ → ℕ → List told.Landing
+over_at skipped i = replicate skipped landing.Skipped ++ landing.Transfer i ∷ []
+
+over_there : (n m skipped i : ℕ) (ls : List told.Landing) → i < m → AllByRecursion (IsLandingAmong n m) ls
+    → AllByRecursion (IsLandingAmong n m) (ls ++ over_at skipped i)
+over_there n m zero i [] lt there = (lt, tt)
+over_there n m (suc skipped) i [] lt there = (tt, over_there n m skipped i [] lt tt)
+over_there n m skipped i (l ∷ ls) lt there = (there.0, over_there n m skipped i ls lt there.1)
+
+over_count : (skipped i : ℕ) → length (over_at skipped i) ≡ skipped + 1
+over_count skipped i = length-append (replicate skipped landing.Skipped) (landing.Transfer i ∷ [])
+    ∙ ap (λ (n : ℕ). n + 1) (length-replicate skipped landing.Skipped)
 
 landed_push : (taken : ℕ) (ls : List Landing) (p : Placed) → landed_from taken (ls ++ ByAttempt p ∷ [])
     ≡ landed_from taken ls ++ LandedBy (placed_executed_attempt p) ∷ []
@@ -202,6 +239,20 @@ landed_push taken (ByAttempt q ∷ ls) p = ap (λ (xs : List Landed). LandedBy (
 landed_push taken (ByTransfer at x ∷ ls) p = ap (λ (xs : List Landed). LandedFrom taken ∷ xs)
     (landed_push (suc taken) ls p)
 landed_push taken (Skipped ∷ ls) p = ap (λ (xs : List Landed). NotLanded ∷ xs) (landed_push taken ls p)
+
+-- what a state leaves is told as it is kept, where its place is how many states were taken over before it
+landed_over : (rs : List ExecutedAttempt) (taken i skipped at : ℕ) (x : Transfer) (ls : List Landing)
+    → i ≡ taken + length (transfers_by ls)
+    → landed_from taken ls ++ map (landed_in rs) (over_at skipped i) ≡ landed_from taken (ls ++ over skipped at x)
+landed_over rs taken i zero at x [] is = (let same : i ≡ taken = omega arith in ap (λ (n : ℕ). LandedFrom n ∷ []) same)
+landed_over rs taken i (suc skipped) at x [] is = ap (λ (xs : List Landed). NotLanded ∷ xs)
+    (landed_over rs taken i skipped at x [] is)
+landed_over rs taken i skipped at x (ByAttempt q ∷ ls) is = ap
+    (λ (xs : List Landed). LandedBy (placed_executed_attempt q) ∷ xs) (landed_over rs taken i skipped at x ls is)
+landed_over rs taken i skipped at x (ByTransfer o y ∷ ls) is = ap (λ (xs : List Landed). LandedFrom taken ∷ xs)
+    (landed_over rs (suc taken) i skipped at x ls (omega (arith, is)))
+landed_over rs taken i skipped at x (Skipped ∷ ls) is = ap (λ (xs : List Landed). NotLanded ∷ xs)
+    (landed_over rs taken i skipped at x ls is)
 
 -- what stands first after so many
 first_behind : (rs : List ExecutedAttempt) (n : ℕ) (r : ExecutedAttempt) (rest : List ExecutedAttempt)
@@ -218,17 +269,17 @@ first_behind (x ∷ rs) zero r rest e = same x rs r rest e
     same x xs y ys e = cc
 first_behind (x ∷ rs) (suc n) r rest e = first_behind rs n r rest e
 
-settled_attempt : (s : SectionState) (at : ℕ) (a : Attempt) (rs after : List ExecutedAttempt) (n : ℕ)
+settled_attempt : (s : SectionState) (at : ℕ) (a : Attempt) (rs after : List ExecutedAttempt) (n m : ℕ)
     (ls : List told.Landing) → after ≡ rs ++ executed_attempt (at, a) ∷ [] → n ≤ length rs
-    → AllByRecursion (IsLandingAmong (length rs)) ls → AreSettled s rs n ls
+    → AllByRecursion (IsLandingAmong (length rs) m) ls → AreSettled s rs n ls
     → AreSettled (next s (at, Attempts a)) after n ls
-settled_attempt s at a rs after n ls is few there settled =
+settled_attempt s at a rs after n m ls is few there settled =
     subst (λ (xs : List ExecutedAttempt). AreSettled (next s (at, Attempts a)) xs n ls) (sym is) (record {
       pending = map-append placed_executed_attempt s.pending
           (record { offset = at; attempt = a; path = path_of s } ∷ [])
           ∙ ap (λ (xs : List ExecutedAttempt). xs ++ executed_attempt (at, a) ∷ []) settled.pending
           ∙ sym (drop-append-le n rs (executed_attempt (at, a) ∷ []) few);
-      landed = landings_among rs (executed_attempt (at, a) ∷ []) ls there ∙ settled.landed;
+      landed = landings_among rs (executed_attempt (at, a) ∷ []) m ls there ∙ settled.landed;
     })
 
 settled_commit : (s : SectionState) (pending : List Placed) (c : Commit) (rs : List ExecutedAttempt) (n m : ℕ)
@@ -253,7 +304,22 @@ settled_rollback : (s : SectionState) (at : ℕ) (r : Rollback) (rs : List Execu
 settled_rollback s at r rs n m ls all settled =
     record { pending = sym (drop_all m rs all); landed = settled.landed }
 
+settled_transfer : (s : SectionState) (at : ℕ) (x : Transfer) (rs : List ExecutedAttempt) (n m i skipped : ℕ)
+    (ls : List told.Landing) → length rs ≤ m → i ≡ length (transfers_by s.landings) → skipped ≡ x.seq - (s.last + 1)
+    → AreSettled s rs n ls → AreSettled (taking_over s at x) rs m (ls ++ over_at skipped i)
+settled_transfer s at x rs n m i skipped ls all place count settled = record {
+  pending = sym (drop_all m rs all);
+  landed = map-append (landed_in rs) ls (over_at skipped i)
+      ∙ ap (λ (xs : List Landed). xs ++ map (landed_in rs) (over_at skipped i)) settled.landed
+      ∙ landed_over rs 0 i skipped at x s.landings (omega (arith, place))
+      ∙ ap (λ (n : ℕ). landed_from 0 (s.landings ++ over n at x)) count;
+}
+
 -- ---- an attempt
+
+-- how many states were taken over before it
+abbrev taken_before : KeptAttempt → ℕ
+taken_before a = a.taken
 
 same_executed_attempt : (records more : List (ℕ × Access)) (xs : List KeptAttempt)
     → AllByRecursion (λ a. a.from + length a.attempt.certificate ≤ length records) xs
@@ -285,7 +351,7 @@ still_within n m (x ∷ xs) a le within last = let first : x.from + length x.att
 abbrev pub with_attempt_at : KeptSection → ℕ → Attempt → ℕ → List (ℕ × Access) → KeptSection
 with_attempt_at k at said from records = record k {
   rolled_back = false;
-  attempts = k.attempts ++ record { offset = at; attempt = said; from = from } ∷ [];
+  attempts = k.attempts ++ record { offset = at; attempt = said; taken = length k.transfers; from = from } ∷ [];
   records = records;
 }
 
@@ -293,22 +359,23 @@ with_attempt_at k at said from records = record k {
 abbrev pub with_attempt : KeptSection → ℕ → Attempt → List (ℕ × Access) → KeptSection
 with_attempt k at said records = with_attempt_at k at said (length k.records) (k.records ++ records)
 
-abbrev pub attempt_at : ℕ → Attempt → ℕ → KeptAttempt
-attempt_at at b from = record { offset = at; attempt = without_accesses b; from = from }
+-- where this many states were taken over before it
+abbrev pub attempt_at : ℕ → Attempt → ℕ → ℕ → KeptAttempt
+attempt_at at b taken from = record { offset = at; attempt = without_accesses b; taken = taken; from = from }
 
 module _ (t : Trace) (e at : ℕ) (b : Attempt) (rest : List (ℕ × Step)) (k : KeptSection)
     (come : HasCome t e ((at, Attempts b) ∷ rest) k)
     (right : wrong_step t (state_after start come.front) (at, Attempts b) ≡ None)
     (from : ℕ) (records : List (ℕ × Access))
     (earlier : map (kept_executed_attempt records) k.attempts ≡ executed_attempts k)
-    (own : kept_executed_attempt records (attempt_at at b from) ≡ executed_attempt (at, b))
+    (own : kept_executed_attempt records (attempt_at at b (length k.transfers) from) ≡ executed_attempt (at, b))
     (within : AllByRecursion (λ a. a.from + length a.attempt.certificate ≤ length records)
-    (k.attempts ++ attempt_at at b from ∷ [])) where
+    (k.attempts ++ attempt_at at b (length k.transfers) from ∷ [])) where
   abbrev state : SectionState
   state = state_after start come.front
 
   abbrev added : KeptAttempt
-  added = attempt_at at b from
+  added = attempt_at at b (length k.transfers) from
 
   abbrev after : KeptSection
   after = with_attempt_at k at (without_accesses b) from records
@@ -374,19 +441,26 @@ module _ (t : Trace) (e at : ℕ) (b : Attempt) (rest : List (ℕ × Step)) (k :
         attempts = attempts_more;
         settled = settled_next t e (at, Attempts b) rest k come right _ _ _
             (settled_attempt state at b (executed_attempts k) (executed_attempts after)
-            (length k.fates) k.landings one_executed_attempt_more (omega arith)
-            (still_there (length k.attempts) (length (executed_attempts k)) k.landings (omega arith) come.is_kept.there)
+            (length k.fates) (length k.transfers) k.landings one_executed_attempt_more (omega arith)
+            (still_there (length k.attempts) (length k.transfers) (length (executed_attempts k)) (length k.transfers)
+            k.landings (omega arith) (omega arith) come.is_kept.there)
             come.settled);
         is_kept = record {
           within = within;
           fewer = attempt_stands.fewer;
           count = come.is_kept.count;
-          there = still_there (length k.attempts) (length (k.attempts ++ added ∷ [])) k.landings
-              (omega arith) come.is_kept.there;
+          there = still_there (length k.attempts) (length k.transfers) (length (k.attempts ++ added ∷ []))
+              (length k.transfers) k.landings (omega arith) (omega arith) come.is_kept.there;
         };
         fates = attempt_fates;
+        taken = come.taken
+            ∙ sym (append_assoc (map taken_before k.attempts) (length k.transfers ∷ [])
+            (taken_from (length k.transfers) rest))
+            ∙ ap (λ (ns : List ℕ). ns ++ taken_from (length k.transfers) rest)
+            (sym (map-append taken_before k.attempts (added ∷ [])));
         rollbacks = come.rollbacks
             ∙ sym (rollbacks_among-push come.front (at, Attempts b) ∙ append-nil (rollbacks_among come.front));
+        transfers = transfers_next t e (at, Attempts b) rest k come right k.transfers come.transfers;
         fit = rest_fits t e (at, Attempts b) rest k come right;
       }
 
@@ -394,8 +468,8 @@ module _ (t : Trace) (e at : ℕ) (b : Attempt) (rest : List (ℕ × Step)) (k :
 module _ (t : Trace) (e at : ℕ) (b : Attempt) (rest : List (ℕ × Step)) (k : KeptSection)
     (come : HasCome t e ((at, Attempts b) ∷ rest) k)
     (right : wrong_step t (state_after start come.front) (at, Attempts b) ≡ None) where
-  its_records : kept_executed_attempt (k.records ++ ordered at b) (attempt_at at b (length k.records))
-      ≡ executed_attempt (at, b)
+  its_records : kept_executed_attempt (k.records ++ ordered at b)
+      (attempt_at at b (length k.transfers) (length k.records)) ≡ executed_attempt (at, b)
   its_records =
       let many : length (ordered at b) ≤ length b.certificate =
       omega (arith, length-map b.certificate (access_with (accesses_at at b))) in
@@ -414,7 +488,7 @@ module _ (t : Trace) (e at : ℕ) (b : Attempt) (rest : List (ℕ × Step)) (k :
       come_attempt_at t e at b rest k come right (length k.records) (k.records ++ ordered at b)
       (same_executed_attempt k.records (ordered at b) k.attempts come.is_kept.within) its_records
       (still_within (length k.records) (length (k.records ++ ordered at b)) k.attempts
-      (attempt_at at b (length k.records)) (omega arith) come.is_kept.within (omega arith))
+      (attempt_at at b (length k.transfers) (length k.records)) (omega arith) come.is_kept.within (omega arith))
 
 -- ---- a commit
 
@@ -501,11 +575,16 @@ module _ (t : Trace) (e at : ℕ) (c : Commit) (rest : List (ℕ × Step)) (k : 
       fewer = commit_parts.0.fewer;
       count = length-append k.landings (landing.Attempt (length k.fates) ∷ [])
           ∙ ap (λ (n : ℕ). n + 1) (come.is_kept.count ∙ come.stands.last) ∙ sym commit_seq;
-      there = one_more_there (length k.attempts) (length k.fates) k.landings commit_parts.1 come.is_kept.there;
+      there = one_more_there (length k.attempts) (length k.transfers) (length k.fates) k.landings commit_parts.1
+          come.is_kept.there;
     };
     fates = commit_fates;
+    taken = come.taken;
     rollbacks = come.rollbacks
         ∙ sym (rollbacks_among-push come.front (at, Commits c) ∙ append-nil (rollbacks_among come.front));
+    transfers = transfers_next t e (at, Commits c) rest k come right k.transfers
+        (come.transfers ∙ sym (transfers_commit (state_after start come.front)
+        (state_after start come.front).pending));
     fit = rest_fits t e (at, Commits c) rest k come right;
   }
 
@@ -573,10 +652,111 @@ module _ (t : Trace) (e at : ℕ) (r : Rollback) (rest : List (ℕ × Step)) (k 
       there = come.is_kept.there;
     };
     fates = rollback_fates;
+    taken = come.taken;
     rollbacks = ap (λ (rs : List (ℕ × Rollback)). rs ++ (at, r) ∷ []) come.rollbacks
         ∙ sym (rollbacks_among-push come.front (at, RollsBack r));
+    transfers = transfers_next t e (at, RollsBack r) rest k come right k.transfers come.transfers;
     fit = rest_fits t e (at, RollsBack r) rest k come right;
   }
+
+-- ---- a state is taken over
+
+abbrev pub with_transfer : KeptSection → ℕ → Transfer → KeptSection
+with_transfer k at x = record k {
+  view = x.view;
+  last = x.seq;
+  rolled_back = false;
+  fates = k.fates ++ replicate (open_count k) Discarded;
+  landings = k.landings ++ over_at (x.seq - (k.last + 1)) (length k.transfers);
+  transfers = k.transfers ++ (at, x) ∷ [];
+}
+
+module _ (t : Trace) (e at : ℕ) (x : Transfer) (rest : List (ℕ × Step)) (k : KeptSection)
+    (come : HasCome t e ((at, TakesOver x) ∷ rest) k)
+    (right : wrong_step t (state_after start come.front) (at, TakesOver x) ≡ None) where
+  abbrev here : SectionState
+  here = state_after start come.front
+
+  pub later_number : k.last < x.seq
+  later_number =
+      let one = and_parts (nat_lt here.last x.seq) (nat_le x.seq (length t.batches) && nat_le here.view x.view)
+      (right_step t here (at, TakesOver x) right) in
+      omega (arith, ltb-true here.last x.seq one.0, come.stands.last)
+
+  all_discarded : length (k.fates ++ replicate (open_count k) Discarded) ≡ length k.attempts
+  all_discarded =
+      let fewer : length k.fates ≤ length k.attempts = come.is_kept.fewer in
+      omega (
+        arith,
+        length-append k.fates (replicate (open_count k) Discarded),
+        length-replicate (open_count k) Discarded,
+      )
+
+  transfer_stands : StandsAt (next here (at, TakesOver x)) (with_transfer k at x)
+  transfer_stands = record {
+    view = refl;
+    last = refl;
+    rolled_back = refl;
+    pending = sym (drop_all (length (k.fates ++ replicate (open_count k) Discarded))
+        (map (λ (a : KeptAttempt). a.attempt) k.attempts)
+        (omega (arith, all_discarded, length-map k.attempts (λ (a : KeptAttempt). a.attempt))));
+    fewer = omega (arith, all_discarded);
+  }
+
+  transfer_fates : fates_from 0 (steps_at t e)
+      ≡ (k.fates ++ replicate (open_count k) Discarded) ++
+      (open_fates rest 0 (open_count (with_transfer k at x)) ++ fates_from (open_count (with_transfer k at x)) rest)
+  transfer_fates =
+      let none : 0 ≡ open_count (with_transfer k at x) = omega (arith, all_discarded) in
+      come.fates
+      ∙ ap (λ (fs : List Fate). k.fates ++ (fs ++ fates_from 0 rest)) (open_transfer at x rest 0 (open_count k))
+      ∙ sym (append_assoc k.fates (replicate (open_count k) Discarded) (fates_from 0 rest))
+      ∙ ap (λ (m : ℕ). (k.fates ++ replicate (open_count k) Discarded) ++ (open_fates rest 0 m ++ fates_from m rest))
+      none
+
+  pub come_transfer : HasCome t e rest (with_transfer k at x)
+  come_transfer =
+      let skipped = x.seq - (k.last + 1) in
+      let one_more_state : length (k.transfers ++ (at, x) ∷ []) ≡ suc (length k.transfers) =
+      length-append k.transfers ((at, x) ∷ []) ∙ add-one (length k.transfers) in
+      record {
+        front = come.front ++ (at, TakesOver x) ∷ [];
+        split = one_more t e (at, TakesOver x) rest k come right;
+        right = still_right t e (at, TakesOver x) rest k come right;
+        stands = stands_next t e (at, TakesOver x) rest k come right _ transfer_stands;
+        attempts = come.attempts
+            ∙ ap (map executed_attempt) (sym (attempts_among-append come.front ((at, TakesOver x) ∷ [])
+            ∙ append-nil (attempts_among come.front)));
+        settled = settled_next t e (at, TakesOver x) rest k come right _ _ _
+            (settled_transfer here at x (executed_attempts k) (length k.fates)
+            (length (k.fates ++ replicate (open_count k) Discarded)) (length k.transfers) skipped k.landings
+            (omega (arith, all_discarded, length-map k.attempts (kept_executed_attempt k.records)))
+            (ap length come.transfers) (ap (λ (n : ℕ). x.seq - (n + 1)) come.stands.last) come.settled);
+        is_kept = record {
+          within = come.is_kept.within;
+          fewer = transfer_stands.fewer;
+          count = omega (
+            arith,
+            length-append k.landings (over_at skipped (length k.transfers)),
+            over_count skipped (length k.transfers),
+            come.is_kept.count,
+            later_number,
+          );
+          there = over_there (length k.attempts) (length (k.transfers ++ (at, x) ∷ [])) skipped (length k.transfers)
+              k.landings (omega (arith, one_more_state))
+              (still_there (length k.attempts) (length k.transfers) (length k.attempts)
+              (length (k.transfers ++ (at, x) ∷ [])) k.landings (omega arith) (omega (arith, one_more_state))
+              come.is_kept.there);
+        };
+        fates = transfer_fates;
+        taken = come.taken
+            ∙ ap (λ (n : ℕ). map taken_before k.attempts ++ taken_from n rest) (sym one_more_state);
+        rollbacks = come.rollbacks
+            ∙ sym (rollbacks_among-push come.front (at, TakesOver x) ∙ append-nil (rollbacks_among come.front));
+        transfers = transfers_next t e (at, TakesOver x) rest k come right (k.transfers ++ (at, x) ∷ [])
+            (ap (λ (xs : List (ℕ × Transfer)). xs ++ (at, x) ∷ []) come.transfers ∙ sym (transfers_taking here at x));
+        fit = rest_fits t e (at, TakesOver x) rest k come right;
+      }
 
 -- ---- after the last step
 
@@ -608,7 +788,10 @@ module _ (t : Trace) (e : ℕ) (k : KeptSection) (come : HasCome t e [] k) where
         attempts = (come.attempts ∙ ap (λ (xs : List (ℕ × Step)). map executed_attempt (attempts_among xs))
             (sym all_came)) i;
         fates = fates i;
+        taken = (sym (append-nil (map taken_before k.attempts)) ∙ sym come.taken) i;
         landings = (come.settled.landed
             ∙ ap (λ (xs : List (ℕ × Step)). landed_from 0 (state_after start xs).landings) (sym all_came)) i;
         rollbacks = (come.rollbacks ∙ ap rollbacks_among (sym all_came)) i;
+        transfers = (come.transfers
+            ∙ ap (λ (xs : List (ℕ × Step)). transfers_by (state_after start xs).landings) (sym all_came)) i;
       }

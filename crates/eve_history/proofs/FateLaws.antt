@@ -1,18 +1,19 @@
 -- Public: other crates cite these lemmas. The attempts that a section has committed or discarded in the end are those
 -- with that fate.
-use Rattle.std.proofs.Common.{◌≡◌, ℕ, suc, ◌+◌, ◌-◌, Bool, true, false, cond, List, [], ◌∷◌, ◌++◌, map, length}
+use Rattle.std.proofs.Common.{◌≡◌, ℕ, zero, suc, ◌+◌, ◌-◌, Bool, true, false, cond, List, [], ◌∷◌, ◌++◌, map, length}
 use Rattle.std.proofs.Common.{replicate, refl, sym, ap, ◌∙◌, append_assoc, add-one, arith}
 use Rattle.std.proofs.lemmas.List.{append-nil, map-append, length-append}
-use Rattle.eve_grammar.specs.Trace.{Attempt, Commit, Step, Attempts, Commits, RollsBack, Trace}
+use Rattle.eve_grammar.specs.Trace.{Attempt, Commit, Transfer, Step, Attempts, Commits, RollsBack, TakesOver, Trace}
 use Rattle.eve_grammar.specs.Spelling.{steps_at}
 use Rattle.eve_history.specs.declared.fate.Fate.{Fate}
 use Rattle.eve_history.specs.declared.fate.Fate.TheVariants.{Committed, Discarded, Open}
 use Rattle.eve_history.specs.Section.{Placed, Landing, ByAttempt, ByTransfer, Skipped, attempts_by, SectionState}
-use Rattle.eve_history.specs.Section.{start, next, committing, path_of, state_after}
+use Rattle.eve_history.specs.Section.{start, next, committing, taking_over, path_of, state_after}
 use Rattle.eve_history.specs.Fates.{fate_in, fates_from}
 use Rattle.eve_history.specs.SectionHistory.{attempts_among, history, placed_at, picked, is_committed, is_discarded}
 use Rattle.eve_history.specs.Coming.{open_fates}
-use Rattle.eve_history.proofs.Coming.{open_attempt, open_push, open_commit, open_rollback, open_end}
+use Rattle.eve_history.proofs.Coming.{open_attempt, open_push, open_commit, open_rollback, open_transfer, open_end}
+use Rattle.eve_history.proofs.Transfers.{over}
 
 -- those that are open, and then those of the steps, with what becomes of each
 abbrev picked_from : (Fate → Bool) → List Placed → List (ℕ × Step) → List (ℕ × Attempt)
@@ -80,6 +81,19 @@ attempts_by_push (ByAttempt q ∷ ls) p = ap (λ (ps : List Placed). q ∷ ps) (
 attempts_by_push (ByTransfer at x ∷ ls) p = attempts_by_push ls p
 attempts_by_push (Skipped ∷ ls) p = attempts_by_push ls p
 
+attempts_by_over : (skipped at : ℕ) (x : Transfer) (ls : List Landing) → attempts_by (ls ++ over skipped at x)
+    ≡ attempts_by ls
+attempts_by_over zero at x [] = refl
+attempts_by_over (suc skipped) at x [] = attempts_by_over skipped at x []
+attempts_by_over skipped at x (ByAttempt p ∷ ls) =
+    ap (λ (ps : List Placed). p ∷ ps) (attempts_by_over skipped at x ls)
+attempts_by_over skipped at x (ByTransfer o y ∷ ls) = attempts_by_over skipped at x ls
+attempts_by_over skipped at x (Skipped ∷ ls) = attempts_by_over skipped at x ls
+
+pub attempts_by_taking : (s : SectionState) (at : ℕ) (x : Transfer) → attempts_by (taking_over s at x).landings
+    ≡ attempts_by s.landings
+attempts_by_taking s at x = attempts_by_over (x.seq - (s.last + 1)) at x s.landings
+
 committed_after : (s : SectionState) (steps : List (ℕ × Step))
     → map placed_at (attempts_by (state_after s steps).landings)
     ≡ map placed_at (attempts_by s.landings) ++ picked_from is_committed s.pending steps
@@ -110,6 +124,13 @@ committed_after s ((at, RollsBack r) ∷ rest) =
     (sym (ap (λ (fs : List Fate). picked is_committed (map placed_at s.pending ++ attempts_among rest)
     (fs ++ fates_from 0 rest)) (open_rollback at r rest 0 (length s.pending))
     ∙ picked-same is_committed Discarded s.pending (attempts_among rest) (fates_from 0 rest) refl))
+committed_after s ((at, TakesOver x) ∷ rest) =
+    committed_after (next s (at, TakesOver x)) rest
+    ∙ ap (λ (ps : List Placed). map placed_at ps ++ picked_from is_committed [] rest) (attempts_by_taking s at x)
+    ∙ ap (λ (xs : List (ℕ × Attempt)). map placed_at (attempts_by s.landings) ++ xs)
+    (sym (ap (λ (fs : List Fate). picked is_committed (map placed_at s.pending ++ attempts_among rest)
+    (fs ++ fates_from 0 rest)) (open_transfer at x rest 0 (length s.pending))
+    ∙ picked-same is_committed Discarded s.pending (attempts_among rest) (fates_from 0 rest) refl))
 
 discarded_after : (s : SectionState) (steps : List (ℕ × Step)) → map placed_at (state_after s steps).discarded
     ≡ map placed_at s.discarded ++ picked_from is_discarded s.pending steps
@@ -137,6 +158,16 @@ discarded_after s ((at, RollsBack r) ∷ rest) =
     ∙ ap (λ (xs : List (ℕ × Attempt)). map placed_at s.discarded ++ xs)
     (sym (ap (λ (fs : List Fate). picked is_discarded (map placed_at s.pending ++ attempts_among rest)
     (fs ++ fates_from 0 rest)) (open_rollback at r rest 0 (length s.pending))
+    ∙ picked-all is_discarded Discarded s.pending (attempts_among rest) (fates_from 0 rest) refl))
+discarded_after s ((at, TakesOver x) ∷ rest) =
+    discarded_after (next s (at, TakesOver x)) rest
+    ∙ ap (λ (xs : List (ℕ × Attempt)). xs ++ picked is_discarded (attempts_among rest) (fates_from 0 rest))
+    (map-append placed_at s.discarded s.pending)
+    ∙ append_assoc (map placed_at s.discarded) (map placed_at s.pending)
+    (picked is_discarded (attempts_among rest) (fates_from 0 rest))
+    ∙ ap (λ (xs : List (ℕ × Attempt)). map placed_at s.discarded ++ xs)
+    (sym (ap (λ (fs : List Fate). picked is_discarded (map placed_at s.pending ++ attempts_among rest)
+    (fs ++ fates_from 0 rest)) (open_transfer at x rest 0 (length s.pending))
     ∙ picked-all is_discarded Discarded s.pending (attempts_among rest) (fates_from 0 rest) refl))
 
 pub committed_are_picked : (t : Trace) (e : ℕ) → map placed_at (attempts_by (history t e).landings)

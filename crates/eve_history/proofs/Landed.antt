@@ -15,7 +15,8 @@ use Rattle.eve_history.proofs.Finding.{get_mapped}
 
 -- ---- what is kept
 
-kept_is_told : (e : ℕ) (k : KeptSection) (l : told.Landing) → IsLandingAmong (length k.attempts) l
+kept_is_told : (e : ℕ) (k : KeptSection) (l : told.Landing)
+    → IsLandingAmong (length k.attempts) (length k.transfers) l
     → IsToldOf (section_history_of e k) l (landed_in (executed_attempts k) l)
 kept_is_told e k (landing.Attempt place) lt =
     let there : place < length k.attempts = lt in (
@@ -24,7 +25,7 @@ kept_is_told e k (landing.Attempt place) lt =
       slice_get-get_or (executed_attempts k) place no_executed_attempt
           (omega (arith, length-map k.attempts (kept_executed_attempt k.records))),
     )
-kept_is_told e k (landing.Transfer i) there = refl
+kept_is_told e k (landing.Transfer i) there = (refl, there)
 kept_is_told e k landing.Skipped there = refl
 
 pub landing_told : (e n : ℕ) (k : KeptSection) (h : SectionHistory) (l : told.Landing) → IsKept k
@@ -36,7 +37,8 @@ landing_told e n k h l kept is at =
     (get_mapped (landed_in rs) k.landings (n - 1) l at)) in
     subst (λ (v : SectionHistory). IsToldOf v l (landed_at v n)) is
     (subst (IsToldOf (section_history_of e k) l) own
-    (kept_is_told e k l (all-slice_get (IsLandingAmong (length k.attempts)) k.landings (n - 1) l kept.there at)))
+    (kept_is_told e k l (all-slice_get (IsLandingAmong (length k.attempts) (length k.transfers)) k.landings (n - 1) l
+    kept.there at)))
 
 pub landings_told : (e : ℕ) (k : KeptSection) (h : SectionHistory) → section_history_of e k ≡ h → length h.landings
     ≡ length k.landings
@@ -51,7 +53,7 @@ told_by_attempt h i landed is = ap is_by_attempt is.1
 
 pub told_by_transfer : (h : SectionHistory) (i : ℕ) (landed : Landed) → IsToldOf h (landing.Transfer i) landed
     → is_by_attempt landed ≡ false
-told_by_transfer h i landed is = ap is_by_attempt is
+told_by_transfer h i landed is = ap is_by_attempt is.0
 
 pub told_skipped : (h : SectionHistory) (landed : Landed) → IsToldOf h landing.Skipped landed → is_by_attempt landed
     ≡ false

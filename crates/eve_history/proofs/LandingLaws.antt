@@ -1,20 +1,21 @@
 -- Public: other crates cite these lemmas. Numbers, and how they are reached.
 use Rattle.std.proofs.Common.{◌≡◌, ℕ, zero, suc, ◌+◌, ◌-◌, ◌≤◌, ◌==◌, Bool, true, false, ◌&&◌, List, []}
 use Rattle.std.proofs.Common.{◌∷◌, ◌++◌, length, slice_get, Option, Some, None, refl, sym, subst, ap, ◌∙◌, arith}
-use Rattle.std.proofs.Common.{add-one}
+use Rattle.std.proofs.Common.{add-one, replicate, nat_lt, nat_le, ◌<◌}
 use Rattle.std.specs.Prelude.{⊤}
-use Rattle.std.proofs.lemmas.Bool.{and_parts, and_from, eqb-true, false≢true}
-use Rattle.std.proofs.lemmas.List.{length-append}
-use Rattle.std.proofs.lemmas.Option.{same_Some, get_or_from_slice_get}
-use Rattle.eve_grammar.specs.Trace.{Attempt, Step, Attempts, Commits, RollsBack, Trace}
+use Rattle.std.proofs.lemmas.Bool.{and_parts, and_from, eqb-true, ltb-true, false≢true}
+use Rattle.std.proofs.lemmas.List.{length-append, length-replicate}
+use Rattle.std.proofs.lemmas.Option.{same_Some}
+use Rattle.eve_grammar.specs.Trace.{Attempt, Transfer, Step, Attempts, Commits, RollsBack, TakesOver, Trace}
 use Rattle.eve_grammar.specs.Spelling.{steps_at}
 use Rattle.eve_history.specs.Section.{Placed, Landing, ByAttempt, ByTransfer, Skipped, SectionState, start, path_of}
-use Rattle.eve_history.specs.Section.{committing, next, state_after, is_due, is_right_attempt, is_right_certificate}
-use Rattle.eve_history.specs.Section.{are_right_accesses, is_right, are_right}
+use Rattle.eve_history.specs.Section.{transfers_by, committing, taking_over, next, state_after, is_due}
+use Rattle.eve_history.specs.Section.{is_right_attempt, is_right_certificate, are_right_accesses, is_right, are_right}
 use Rattle.eve_history.specs.SectionHistory.{ExecutedAttempt, executed_attempt, placed_at, Landed, LandedBy}
-use Rattle.eve_history.specs.SectionHistory.{NotLanded, landed_from, is_by_attempt, landed_at, section_history, history}
+use Rattle.eve_history.specs.SectionHistory.{LandedFrom, NotLanded, landed_from, section_history, history, landing_at}
 use Rattle.eve_history.specs.SectionHistory.{IsRightSection, attempt_by, committed_at, is_landing, is_reached}
-use Rattle.eve_history.proofs.AttemptsAlone.{all_by_attempts, attempt_at}
+use Rattle.eve_history.proofs.Transfers.{over, transfers_of_steps, transfers_told, transfer_step, step_transfer}
+use Rattle.eve_history.proofs.Transfers.{transfer_landing}
 
 -- ---- numbers
 
@@ -32,7 +33,7 @@ numbered_more n (p ∷ ps) q numbered last = (numbered.0, numbered_more (suc n) 
 abbrev AreOfTheirNumbers : ℕ → List Landing → Type 0
 AreOfTheirNumbers n [] = ⊤
 AreOfTheirNumbers n (ByAttempt p ∷ ls) = (p.attempt.seq ≡ suc n) × AreOfTheirNumbers (suc n) ls
-AreOfTheirNumbers n (ByTransfer at x ∷ ls) = AreOfTheirNumbers (suc n) ls
+AreOfTheirNumbers n (ByTransfer at x ∷ ls) = (x.seq ≡ suc n) × AreOfTheirNumbers (suc n) ls
 AreOfTheirNumbers n (Skipped ∷ ls) = AreOfTheirNumbers (suc n) ls
 
 one_more_number : (n : ℕ) (ls : List Landing) (q : Placed) → AreOfTheirNumbers n ls
@@ -40,8 +41,20 @@ one_more_number : (n : ℕ) (ls : List Landing) (q : Placed) → AreOfTheirNumbe
 one_more_number n [] q numbered last = (omega arith, tt)
 one_more_number n (ByAttempt p ∷ ls) q numbered last =
     (numbered.0, one_more_number (suc n) ls q numbered.1 (omega arith))
-one_more_number n (ByTransfer at x ∷ ls) q numbered last = one_more_number (suc n) ls q numbered (omega arith)
+one_more_number n (ByTransfer at x ∷ ls) q numbered last =
+    (numbered.0, one_more_number (suc n) ls q numbered.1 (omega arith))
 one_more_number n (Skipped ∷ ls) q numbered last = one_more_number (suc n) ls q numbered (omega arith)
+
+state_numbered : (n skipped at : ℕ) (x : Transfer) (ls : List Landing) → AreOfTheirNumbers n ls
+    → x.seq ≡ suc (n + length ls + skipped) → AreOfTheirNumbers n (ls ++ over skipped at x)
+state_numbered n zero at x [] numbered last = (omega arith, tt)
+state_numbered n (suc skipped) at x [] numbered last = state_numbered (suc n) skipped at x [] tt (omega arith)
+state_numbered n skipped at x (ByAttempt p ∷ ls) numbered last =
+    (numbered.0, state_numbered (suc n) skipped at x ls numbered.1 (omega arith))
+state_numbered n skipped at x (ByTransfer o y ∷ ls) numbered last =
+    (numbered.0, state_numbered (suc n) skipped at x ls numbered.1 (omega arith))
+state_numbered n skipped at x (Skipped ∷ ls) numbered last =
+    state_numbered (suc n) skipped at x ls numbered (omega arith)
 
 same_attempt : (p q : Placed) → ◌≡◌ {A = Option Landing} (Some (ByAttempt p)) (Some (ByAttempt q)) → p ≡ q
 same_attempt p q e = cc
@@ -54,8 +67,33 @@ number_at k (ByAttempt q ∷ ls) zero p numbered e = let first : q.attempt.seq �
 number_at k (ByTransfer at x ∷ ls) zero p numbered e = absurd (cc)
 number_at k (Skipped ∷ ls) zero p numbered e = absurd (cc)
 number_at k (ByAttempt q ∷ ls) (suc n) p numbered e = let rest = number_at (suc k) ls n p numbered.1 e in omega arith
-number_at k (ByTransfer at x ∷ ls) (suc n) p numbered e = let rest = number_at (suc k) ls n p numbered e in omega arith
+number_at k (ByTransfer at x ∷ ls) (suc n) p numbered e =
+    let rest = number_at (suc k) ls n p numbered.1 e in omega arith
 number_at k (Skipped ∷ ls) (suc n) p numbered e = let rest = number_at (suc k) ls n p numbered e in omega arith
+
+same_state : (o at : ℕ) (y x : Transfer) → ◌≡◌ {A = Option Landing} (Some (ByTransfer o y)) (Some (ByTransfer at x))
+    → ◌≡◌ {A = ℕ × Transfer} (o, y) (at, x)
+same_state o at y x e = by (same_Some (ByTransfer o y) (ByTransfer at x) e)
+  where
+    by : ByTransfer o y ≡ ByTransfer at x → ◌≡◌ {A = ℕ × Transfer} (o, y) (at, x)
+    by e =
+        let first : o ≡ at = cc in
+        let second : y ≡ x = cc in
+        λ i. (first i, second i)
+
+state_number_at : (k : ℕ) (ls : List Landing) (n at : ℕ) (x : Transfer) → AreOfTheirNumbers k ls
+    → slice_get ls n ≡ Some (ByTransfer at x) → x.seq ≡ suc (k + n)
+state_number_at k [] n at x numbered e = absurd (cc)
+state_number_at k (ByTransfer o y ∷ ls) zero at x numbered e = let first : y.seq ≡ suc k = numbered.0 in let same =
+    ap (λ (z : ℕ × Transfer). z.1.seq) (same_state o at y x e) in omega arith
+state_number_at k (ByAttempt q ∷ ls) zero at x numbered e = absurd (cc)
+state_number_at k (Skipped ∷ ls) zero at x numbered e = absurd (cc)
+state_number_at k (ByAttempt q ∷ ls) (suc n) at x numbered e =
+    let rest = state_number_at (suc k) ls n at x numbered.1 e in omega arith
+state_number_at k (ByTransfer o y ∷ ls) (suc n) at x numbered e =
+    let rest = state_number_at (suc k) ls n at x numbered.1 e in omega arith
+state_number_at k (Skipped ∷ ls) (suc n) at x numbered e =
+    let rest = state_number_at (suc k) ls n at x numbered e in omega arith
 
 -- ---- what is reached
 
@@ -75,6 +113,19 @@ one_more_reached before (ByAttempt q ∷ ls) p reached =
     and_from before (reaches true (ls ++ ByAttempt p ∷ [])) parts.0 (one_more_reached true ls p parts.1)
 one_more_reached before (ByTransfer at x ∷ ls) p reached = one_more_reached true ls p reached
 one_more_reached before (Skipped ∷ ls) p reached = one_more_reached false ls p reached
+
+state_reached : (before : Bool) (skipped at : ℕ) (x : Transfer) (ls : List Landing) → reaches before ls ≡ true
+    → reaches before (ls ++ over skipped at x) ≡ true
+state_reached before skipped at x [] reached = own before skipped
+  where
+    own : (before : Bool) (skipped : ℕ) → reaches before (over skipped at x) ≡ true
+    own before zero = refl
+    own before (suc skipped) = own false skipped
+state_reached before skipped at x (ByAttempt q ∷ ls) reached =
+    let parts = and_parts before (reaches true ls) reached in
+    and_from before (reaches true (ls ++ over skipped at x)) parts.0 (state_reached true skipped at x ls parts.1)
+state_reached before skipped at x (ByTransfer o y ∷ ls) reached = state_reached true skipped at x ls reached
+state_reached before skipped at x (Skipped ∷ ls) reached = state_reached false skipped at x ls reached
 
 no_attempt_next : (ls : List Landing) (p : Placed) → reaches false ls ≡ true → slice_get ls 0 ≡ Some (ByAttempt p) → ⊥
 no_attempt_next [] p reached e = cc
@@ -115,6 +166,21 @@ counted_commit s (p ∷ ps) is counted =
       reached = one_more_reached true s.landings p counted.reached;
     }
 
+counted_transfer : (t : Trace) (s : SectionState) (at : ℕ) (x : Transfer) → s.last < x.seq → IsCounted s
+    → IsCounted (taking_over s at x)
+counted_transfer t s at x later counted =
+    let skipped = x.seq - (s.last + 1) in
+    let last = counted.last in
+    let long : length (over skipped at x) ≡ skipped + 1 =
+    length-append (replicate skipped Skipped) (ByTransfer at x ∷ [])
+    ∙ ap (λ (n : ℕ). n + 1) (length-replicate skipped Skipped) in
+    record {
+      numbered = state_numbered 0 skipped at x s.landings counted.numbered (omega (arith, last, later));
+      open_ones = tt;
+      last = omega (arith, last, later, long, length-append s.landings (over skipped at x));
+      reached = state_reached true skipped at x s.landings counted.reached;
+    }
+
 due_number : (t : Trace) (s : SectionState) (a : Attempt) → is_right t s (Attempts a) ≡ true
     → a.seq ≡ suc (s.last + length s.pending)
 due_number t s a right =
@@ -137,6 +203,9 @@ counted_next t s (at, Attempts a) right counted = record {
 counted_next t s (at, Commits c) right counted = counted_commit s s.pending refl counted
 counted_next t s (at, RollsBack r) right counted =
     record { numbered = counted.numbered; open_ones = tt; last = counted.last; reached = counted.reached }
+counted_next t s (at, TakesOver x) right counted =
+    let one = and_parts (nat_lt s.last x.seq) (nat_le x.seq (length t.batches) && nat_le s.view x.view) right in
+    counted_transfer t s at x (ltb-true s.last x.seq one.0) counted
 
 counted_after : (t : Trace) (s : SectionState) (steps : List (ℕ × Step)) → are_right t s steps ≡ true → IsCounted s
     → IsCounted (state_after s steps)
@@ -203,6 +272,85 @@ landed_is taken (ByAttempt q ∷ ls) (suc n) r e = landed_is taken ls n r e
 landed_is taken (ByTransfer at x ∷ ls) (suc n) r e = landed_is (suc taken) ls n r e
 landed_is taken (Skipped ∷ ls) (suc n) r e = landed_is taken ls n r e
 
+-- ---- what is told of states
+
+state_told : (taken : ℕ) (ls : List Landing) (n at : ℕ) (x : Transfer) → slice_get ls n ≡ Some (ByTransfer at x)
+    → (i : ℕ) × (slice_get (landed_from taken ls) n ≡ Some (LandedFrom (taken + i)))
+    × (slice_get (transfers_by ls) i ≡ Some (at, x))
+state_told taken [] n at x e = absurd (cc)
+state_told taken (ByTransfer o y ∷ ls) zero at x e =
+    let none : taken ≡ taken + 0 = omega arith in
+    (0, ap (λ (k : ℕ). Some (LandedFrom k)) none, ap Some (same_state o at y x e))
+state_told taken (ByAttempt q ∷ ls) zero at x e = absurd (cc)
+state_told taken (Skipped ∷ ls) zero at x e = absurd (cc)
+state_told taken (ByAttempt q ∷ ls) (suc n) at x e = state_told taken ls n at x e
+state_told taken (ByTransfer o y ∷ ls) (suc n) at x e =
+    let found = state_told (suc taken) ls n at x e in
+    let one : suc taken + found.0 ≡ taken + suc found.0 = omega arith in
+    (suc found.0, found.1 ∙ ap (λ (k : ℕ). Some (LandedFrom k)) one, found.2)
+state_told taken (Skipped ∷ ls) (suc n) at x e = state_told taken ls n at x e
+
+same_place : (i j : ℕ) → ◌≡◌ {A = Option Landed} (Some (LandedFrom i)) (Some (LandedFrom j)) → i ≡ j
+same_place i j e = cc
+
+-- by a state at place j, where so many were taken over before
+record IsState (taken : ℕ) (ls : List Landing) (n j : ℕ) : Type 0 where
+  place : ℕ
+  at : ℕ
+  state : Transfer
+  there : j ≡ taken + place
+  lands : slice_get ls n ≡ Some (ByTransfer at state)
+  is : slice_get (transfers_by ls) place ≡ Some (at, state)
+
+told_state : (taken : ℕ) (ls : List Landing) (n j : ℕ) → slice_get (landed_from taken ls) n ≡ Some (LandedFrom j)
+    → IsState taken ls n j
+told_state taken [] n j e = absurd (cc)
+told_state taken (ByTransfer o y ∷ ls) zero j e =
+    let same = same_place taken j e in
+    record { place = 0; at = o; state = y; there = omega (arith, same); lands = refl; is = refl }
+told_state taken (ByAttempt q ∷ ls) zero j e = absurd (cc)
+told_state taken (Skipped ∷ ls) zero j e = absurd (cc)
+told_state taken (ByAttempt q ∷ ls) (suc n) j e =
+    let found = told_state taken ls n j e in
+    record {
+      place = found.place;
+      at = found.at;
+      state = found.state;
+      there = found.there;
+      lands = found.lands;
+      is = found.is;
+    }
+told_state taken (ByTransfer o y ∷ ls) (suc n) j e =
+    let found = told_state (suc taken) ls n j e in
+    record {
+      place = suc found.place;
+      at = found.at;
+      state = found.state;
+      there = omega (arith, found.there);
+      lands = found.lands;
+      is = found.is;
+    }
+told_state taken (Skipped ∷ ls) (suc n) j e =
+    let found = told_state taken ls n j e in
+    record {
+      place = found.place;
+      at = found.at;
+      state = found.state;
+      there = found.there;
+      lands = found.lands;
+      is = found.is;
+    }
+
+told_skip : (taken : ℕ) (ls : List Landing) (n : ℕ) → slice_get (landed_from taken ls) n ≡ Some NotLanded
+    → slice_get ls n ≡ Some Skipped
+told_skip taken [] n e = absurd (cc)
+told_skip taken (Skipped ∷ ls) zero e = refl
+told_skip taken (ByAttempt q ∷ ls) zero e = absurd (cc)
+told_skip taken (ByTransfer o y ∷ ls) zero e = absurd (cc)
+told_skip taken (ByAttempt q ∷ ls) (suc n) e = told_skip taken ls n e
+told_skip taken (ByTransfer o y ∷ ls) (suc n) e = told_skip (suc taken) ls n e
+told_skip taken (Skipped ∷ ls) (suc n) e = told_skip taken ls n e
+
 -- ---- by number
 
 by_attempt : (o : Option Landing) (p : Placed) → attempt_by o ≡ Some p → o ≡ Some (ByAttempt p)
@@ -262,18 +410,74 @@ landings_many : (t : Trace) (e : ℕ) → IsRightSection t e → length (history
 landings_many t e right = sym (ap length (landings_are t e) ∙ landed_length 0 (history t e).landings)
     ∙ landings_counted t e right
 
-pub reached_by_attempts : (t : Trace) (e n : ℕ) → IsRightSection t e → 1 ≤ n → n ≤ (section_history t e).committed
-    → (p : Placed) × (committed_at t e n ≡ Some p)
-reached_by_attempts t e zero right one many = absurd (omega (arith, one))
-reached_by_attempts t e (suc n) right one many =
-    let all = landings_many t e right in
-    let found = attempt_at (history t e).landings n (all_by_attempts t e) (omega (arith, all, many)) in
-    (found.0, ap attempt_by found.1)
+slot : {A : Type 0} (xs : List A) (n : ℕ) → n < length xs → (x : A) × (slice_get xs n ≡ Some x)
+slot [] n lt = absurd (omega (arith, lt))
+slot (x ∷ xs) zero lt = (x, refl)
+slot (x ∷ xs) (suc n) lt = slot xs n (omega (arith, lt))
 
-pub told_by_attempts : (t : Trace) (e n : ℕ) → IsRightSection t e → 1 ≤ n → n ≤ (section_history t e).committed
-    → is_by_attempt (landed_at (section_history t e) n) ≡ true
-told_by_attempts t e n right one many =
-    let found = reached_by_attempts t e n right one many in
-    let r = executed_attempt (placed_at found.0) in
-    ap is_by_attempt (get_or_from_slice_get (section_history t e).landings (n - 1) (LandedBy r) NotLanded
-    (committed_told t e n found.0 found.1))
+-- each number up to the last has its landing
+pub landing_there : (t : Trace) (e n : ℕ) → IsRightSection t e → 1 ≤ n → n ≤ (section_history t e).committed
+    → (l : Landing) × (landing_at t e n ≡ Some l)
+landing_there t e zero right one many = absurd (omega (arith, one))
+landing_there t e (suc n) right one many =
+    let all = landings_many t e right in
+    slot (history t e).landings n (omega (arith, all, many))
+
+-- ---- states that were taken over, by number
+
+places_told : (t : Trace) (e i at : ℕ) (x : Transfer) → slice_get (transfers_by (history t e).landings) i
+    ≡ Some (at, x) → slice_get (section_history t e).transfers i ≡ Some (at, x)
+places_told t e i at x got = ap (λ (xs : List (ℕ × Transfer)). slice_get xs i) (transfers_told t e) ∙ got
+
+pub transfer_told : (t : Trace) (e n at : ℕ) (x : Transfer) → landing_at t e n ≡ Some (ByTransfer at x)
+    → (i : ℕ) × (slice_get (section_history t e).landings (n - 1) ≡ Some (LandedFrom i))
+    × (slice_get (section_history t e).transfers i ≡ Some (at, x))
+transfer_told t e zero at x is = absurd (cc)
+transfer_told t e (suc n) at x is =
+    let found = state_told 0 (history t e).landings n at x is in
+    let same : 0 + found.0 ≡ found.0 = omega arith in (
+      found.0,
+      told_after t e n ∙ found.1 ∙ ap (λ (k : ℕ). Some (LandedFrom k)) same,
+      places_told t e found.0 at x found.2,
+    )
+
+pub told_transfer : (t : Trace) (e n i : ℕ) → 1 ≤ n
+    → slice_get (section_history t e).landings (n - 1) ≡ Some (LandedFrom i) → (at : ℕ) × (x : Transfer)
+    × (landing_at t e n ≡ Some (ByTransfer at x)) × (slice_get (section_history t e).transfers i ≡ Some (at, x))
+told_transfer t e zero i one got = absurd (omega (arith, one))
+told_transfer t e (suc n) i one got =
+    let found = told_state 0 (history t e).landings n i (sym (told_after t e n) ∙ got) in
+    let same : i ≡ found.place = omega (arith, found.there) in (
+      found.at,
+      found.state,
+      found.lands,
+      ap (λ (k : ℕ). slice_get (section_history t e).transfers k) same
+          ∙ places_told t e found.place found.at found.state found.is,
+    )
+
+pub told_skipped : (t : Trace) (e n : ℕ) → 1 ≤ n
+    → slice_get (section_history t e).landings (n - 1) ≡ Some NotLanded → landing_at t e n ≡ Some Skipped
+told_skipped t e zero one got = absurd (omega (arith, one))
+told_skipped t e (suc n) one got = told_skip 0 (history t e).landings n (sym (told_after t e n) ∙ got)
+
+pub transfer_numbered : (t : Trace) (e n at : ℕ) (x : Transfer) → IsRightSection t e
+    → landing_at t e n ≡ Some (ByTransfer at x) → (x.seq ≡ n)
+    × ((k : ℕ) × (slice_get (steps_at t e) k ≡ Some (at, TakesOver x)))
+transfer_numbered t e zero at x right is = absurd (cc)
+transfer_numbered t e (suc n) at x right is =
+    let number = state_number_at 0 (history t e).landings n at x (counted_history t e right).numbered is in
+    let found = state_told 0 (history t e).landings n at x is in (
+      omega (arith, number),
+      transfer_step (steps_at t e) found.0 (at, x)
+          (ap (λ (xs : List (ℕ × Transfer)). slice_get xs found.0) (sym (transfers_of_steps t e)) ∙ found.2),
+    )
+
+pub transfer_lands : (t : Trace) (e k at : ℕ) (x : Transfer) → IsRightSection t e
+    → slice_get (steps_at t e) k ≡ Some (at, TakesOver x) → landing_at t e x.seq ≡ Some (ByTransfer at x)
+transfer_lands t e k at x right got =
+    let own = step_transfer (steps_at t e) k at x got in
+    let found = transfer_landing (history t e).landings own.0 at x
+    (ap (λ (xs : List (ℕ × Transfer)). slice_get xs own.0) (transfers_of_steps t e) ∙ own.1) in
+    let number = state_number_at 0 (history t e).landings found.0 at x (counted_history t e right).numbered found.1 in
+    let same : x.seq ≡ suc found.0 = omega (arith, number) in
+    ap (landing_at t e) same ∙ found.1

@@ -7,12 +7,13 @@ use Rattle.std.proofs.lemmas.Bool.{cases_lt}
 use Rattle.std.proofs.lemmas.List.{append-nil, drop_at, get_or_past}
 use Rattle.std.proofs.lemmas.Option.{same_Some}
 use Rattle.std.proofs.lemmas.List.Folds.{flat_map-map}
-use Rattle.eve_grammar.specs.Trace.{Access, Attempt, Rollback, Step, Attempts, Commits, RollsBack, Vote, Trace}
-use Rattle.eve_grammar.specs.Frames.{Frame, OfAttempt, OfAccess, OfRollback, OfVerifier, OfVote, without_accesses}
-use Rattle.eve_grammar.specs.Frames.{frames_of}
+use Rattle.eve_grammar.specs.Trace.{Access, Attempt, Rollback, Transfer, Step, Attempts, Commits, RollsBack, TakesOver}
+use Rattle.eve_grammar.specs.Trace.{Vote, Trace}
+use Rattle.eve_grammar.specs.Frames.{Frame, OfAttempt, OfAccess, OfRollback, OfTransfer, OfVerifier, OfVote}
+use Rattle.eve_grammar.specs.Frames.{without_accesses, frames_of}
 use Rattle.eve_grammar.specs.Spelling.{frame_text, frames_text, head_text, length_of, spelling, located, step_text}
 use Rattle.eve_grammar.specs.Spelling.{frames_at, steps_at, accesses_at, verifier_start, votes_of, votes_at}
-use Rattle.eve_frames.specs.Views.{attempt_in, access_in, rollback_in}
+use Rattle.eve_frames.specs.Views.{attempt_in, access_in, rollback_in, transfer_in}
 use Rattle.eve_views.specs.Fronts.{before_verifier}
 use Rattle.eve_views.specs.Lent.{HasBytesAt}
 use Rattle.eve_grammar.proofs.HeaderParts.{length-head_text}
@@ -24,6 +25,7 @@ use Rattle.eve_history.specs.SectionHistory.{ExecutedAttempt, SectionHistory, ex
 use Rattle.eve_history.specs.SectionHistory.{attempts_among, rollbacks_among, access_with, ordered}
 use Rattle.eve_history.proofs.Standing.{StandsIn, stands_inside, located_stands, part_stands}
 use Rattle.eve_history.proofs.Standing.{step_stands, first_stands, access_stands}
+use Rattle.eve_history.proofs.Transfers.{transfer_step, transfers_of_steps, transfers_told}
 
 bytes_at : (t : Trace) (at : ℕ) (text : List ℕ) → StandsIn (spelling t) at text → HasBytesAt t at text
 bytes_at t at text stands =
@@ -103,7 +105,7 @@ votes_stand t v k w got = elim (cases_lt v (length t.verifiers)) [
     none : ◌≡◌ {A = Option (ℕ × Vote)} None (Some w) → ⊥
     none e = cc
 
--- ---- attempts and rollbacks, as they are told
+-- ---- attempts, rollbacks and states taken over, as they are told
 
 -- the step stands among these
 abbrev IsAmong : List (ℕ × Step) → ℕ × Step → Type 0
@@ -123,6 +125,8 @@ attempt_among ((at, Commits c) ∷ steps) i x e = later (at, Commits c) steps (x
     (attempt_among steps i x e)
 attempt_among ((at, RollsBack r) ∷ steps) i x e = later (at, RollsBack r) steps (x.0, Attempts x.1)
     (attempt_among steps i x e)
+attempt_among ((at, TakesOver y) ∷ steps) i x e = later (at, TakesOver y) steps (x.0, Attempts x.1)
+    (attempt_among steps i x e)
 
 rollback_among : (steps : List (ℕ × Step)) (i : ℕ) (x : ℕ × Rollback) → slice_get (rollbacks_among steps) i ≡ Some x
     → IsAmong steps (x.0, RollsBack x.1)
@@ -134,6 +138,8 @@ rollback_among ((at, RollsBack r) ∷ steps) (suc i) x e = later (at, RollsBack 
 rollback_among ((at, Commits c) ∷ steps) i x e = later (at, Commits c) steps (x.0, RollsBack x.1)
     (rollback_among steps i x e)
 rollback_among ((at, Attempts a) ∷ steps) i x e = later (at, Attempts a) steps (x.0, RollsBack x.1)
+    (rollback_among steps i x e)
+rollback_among ((at, TakesOver y) ∷ steps) i x e = later (at, TakesOver y) steps (x.0, RollsBack x.1)
     (rollback_among steps i x e)
 
 told_attempt : (t : Trace) (e i : ℕ) (r : ExecutedAttempt) → slice_get (section_history t e).attempts i ≡ Some r
@@ -155,6 +161,14 @@ told_rollback t e i r got =
     bytes_at t r.0 (frame_text (OfRollback r.1))
     (first_stands (OfRollback r.1) [] (step_stands t e s.0 (r.0, RollsBack r.1) s.1 s.2))
 
+told_transfer : (t : Trace) (e i : ℕ) (x : ℕ × Transfer) → slice_get (section_history t e).transfers i ≡ Some x
+    → HasBytesAt t x.0 (frame_text (OfTransfer x.1))
+told_transfer t e i x got =
+    let s = transfer_step (steps_at t e) i x
+    (ap (λ (xs : List (ℕ × Transfer)). slice_get xs i) (sym (transfers_told t e ∙ transfers_of_steps t e)) ∙ got) in
+    bytes_at t x.0 (frame_text (OfTransfer x.1))
+    (first_stands (OfTransfer x.1) [] (stands t e s.0 (x.0, TakesOver x.1) s.1))
+
 -- a view that lends the attempt's text, where the attempt is one of the trace's
 pub lent_attempt : (t : Trace) (e i offset : ℕ) (h : SectionHistory) (r : ExecutedAttempt) (bytes : List ℕ)
     → h ≡ section_history t e
@@ -175,6 +189,15 @@ pub lent_rollback : (t : Trace) (e i offset : ℕ) (h : SectionHistory) (bytes :
 lent_rollback t e i offset h bytes is got text =
     let told = told_rollback t e i (offset, rollback_in bytes)
     (ap (λ (v : SectionHistory). slice_get v.rollbacks i) (sym is)
+    ∙ got) in
+    record { behind = told.behind; is = told.is ∙ ap (λ (b : List ℕ). b ++ told.behind) (sym text) }
+
+pub lent_transfer : (t : Trace) (e i offset : ℕ) (h : SectionHistory) (bytes : List ℕ) → h ≡ section_history t e
+    → slice_get h.transfers i ≡ Some (offset, transfer_in bytes) → bytes ≡ frame_text (OfTransfer (transfer_in bytes))
+    → HasBytesAt t offset bytes
+lent_transfer t e i offset h bytes is got text =
+    let told = told_transfer t e i (offset, transfer_in bytes)
+    (ap (λ (v : SectionHistory). slice_get v.transfers i) (sym is)
     ∙ got) in
     record { behind = told.behind; is = told.is ∙ ap (λ (b : List ℕ). b ++ told.behind) (sym text) }
 

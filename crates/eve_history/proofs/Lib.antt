@@ -4,11 +4,12 @@ pub mod Marking
 pub mod Finding
 pub mod Coming
 pub mod LandingLaws
-pub mod AttemptsAlone
+mod AttemptsAlone
 pub mod Landed
 mod WorkedStates
 pub mod Records
 pub mod Taking
+pub mod Transfers
 pub mod FateLaws
 pub mod Positions
 pub mod StructureLaws

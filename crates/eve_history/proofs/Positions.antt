@@ -7,7 +7,7 @@ use Rattle.std.proofs.lemmas.Bool.{cases_lt}
 use Rattle.std.proofs.lemmas.List.{length-append, get_or_past}
 use Rattle.std.proofs.lemmas.List.Concat.{flat_map-append}
 use Rattle.std.proofs.lemmas.List.Folds.{flat_map-map}
-use Rattle.eve_grammar.specs.Trace.{Batch, Access, Attempt, Step, Attempts, Commits, RollsBack, Trace}
+use Rattle.eve_grammar.specs.Trace.{Batch, Access, Attempt, Step, Attempts, Commits, RollsBack, TakesOver, Trace}
 use Rattle.eve_grammar.specs.Frames.{Frame, OfCustomer, OfBatch, OfReplica, OfAttempt as AttemptFrame, OfAccess}
 use Rattle.eve_grammar.specs.Frames.{batches_of, sections_of, verifiers_of, section_frames}
 use Rattle.eve_grammar.specs.Frames.{verifier_frames, OfSent, End, frames_of}
@@ -20,10 +20,10 @@ use Rattle.eve_views.specs.declared.fault.Fault.{Fault}
 use Rattle.eve_grammar.specs.Accesses.{is_right_place}
 use Rattle.eve_history.specs.Section.{SectionState, start, state_after, is_right_attempt, is_right_certificate}
 use Rattle.eve_history.specs.Section.{is_right_access, is_right_commit, is_right_rollback, are_right_accesses}
-use Rattle.eve_history.specs.Section.{are_right}
+use Rattle.eve_history.specs.Section.{is_right_transfer, are_right}
 use Rattle.eve_views.specs.Form.{SomePlace, IsFaultOutside, IsFaultIn}
 use Rattle.eve_views.proofs.Locating.{section_is}
-use Rattle.eve_history.specs.Structure.{accesses_of, OfAttempt, OfCommit, OfRollback, AtStep, AtAccess}
+use Rattle.eve_history.specs.Structure.{accesses_of, OfAttempt, OfCommit, OfRollback, OfTransfer, AtStep, AtAccess}
 use Rattle.eve_history.specs.Structure.{StandsInStructure}
 use Rattle.eve_history.specs.Order.{IsAskedAgain, StandsInOrders}
 use Rattle.eve_history.proofs.Places.{located_within, weaker_place}
@@ -219,6 +219,7 @@ module _ (t : Trace) (e : ℕ) where
           (accesses_at place.item.0 a) (λ b x k. k.1) h.2))
       by (Commits c) is h = absurd h
       by (RollsBack r) is h = absurd h
+      by (TakesOver x) is h = absurd h
 
 pub structure_fault_within : (t : Trace) (e : ℕ) (f : Fault) → IsFaultIn StandsInStructure t e f
     → f.offset ≤ length_of t
@@ -235,4 +236,6 @@ structure_fault_within t e f is = by f.code is.stands
         stands
     by code.Rollback stands =
         at_step_within t e f.offset (λ s step. OfRollback step (λ r. IsFalse (is_right_rollback t s r))) stands
+    by code.Transfer stands =
+        at_step_within t e f.offset (λ s step. OfTransfer step (λ x. IsFalse (is_right_transfer t s x))) stands
     by c stands = absurd stands

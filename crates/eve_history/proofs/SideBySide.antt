@@ -12,7 +12,7 @@ use Rattle.std.proofs.lemmas.List.{take-append-drop, take_min, drop_min, take-ma
 use Rattle.std.proofs.Math.Seq.{take-add}
 use Rattle.std.proofs.lemmas.List.Concat.{flat_map-append}
 use Rattle.std.proofs.lemmas.List.Folds.{list_all-append}
-use Rattle.eve_grammar.specs.Trace.{Access, Attempt, Step, Attempts, Commits, RollsBack, Trace, head_of}
+use Rattle.eve_grammar.specs.Trace.{Access, Attempt, Step, Attempts, Commits, RollsBack, TakesOver, Trace, head_of}
 use Rattle.eve_grammar.specs.Frames.{without_accesses}
 use Rattle.eve_grammar.specs.Spelling.{accesses_at, spelling, steps_at}
 use Rattle.eve_grammar.specs.Limits.{is_step, row_count}
@@ -196,18 +196,26 @@ abbrev pub attempts_in : met.Step → ℕ
 attempts_in (of.Attempt a xs) = 1
 attempts_in (of.Commit c) = 0
 attempts_in (of.Rollback r) = 0
+attempts_in (of.Transfer x) = 0
 
 pub attempts_next : (s : met.Step) (next : ℕ × Step) → IsStep s next → length (attempts_among (next ∷ []))
     ≡ attempts_in s
 attempts_next (of.Attempt a xs) (at, Attempts b) is = refl
 attempts_next (of.Commit c) (at, Commits d) is = refl
 attempts_next (of.Rollback r) (at, RollsBack q) is = refl
+attempts_next (of.Transfer x) (at, TakesOver y) is = refl
 attempts_next (of.Attempt a xs) (at, Commits d) is = absurd is
 attempts_next (of.Attempt a xs) (at, RollsBack q) is = absurd is
+attempts_next (of.Attempt a xs) (at, TakesOver y) is = absurd is
 attempts_next (of.Commit c) (at, Attempts b) is = absurd is
 attempts_next (of.Commit c) (at, RollsBack q) is = absurd is
+attempts_next (of.Commit c) (at, TakesOver y) is = absurd is
 attempts_next (of.Rollback r) (at, Attempts b) is = absurd is
 attempts_next (of.Rollback r) (at, Commits d) is = absurd is
+attempts_next (of.Rollback r) (at, TakesOver y) is = absurd is
+attempts_next (of.Transfer x) (at, Attempts b) is = absurd is
+attempts_next (of.Transfer x) (at, Commits d) is = absurd is
+attempts_next (of.Transfer x) (at, RollsBack q) is = absurd is
 
 -- a step that is no attempt
 pub meeting_other : (t : Trace) (e : ℕ) (next : ℕ × Step) (rest : List (ℕ × Step)) (ms ns : List MetAttempt)
@@ -268,3 +276,4 @@ meeting_more t e (at, Attempts b) rest ms ns a xs more is come =
     meeting_kept t e at b rest ms (record { attempt = a; accesses = xs }) is.0 is.1 is.2 come ns more
 meeting_more t e (at, Commits c) rest ms ns a xs more is come = absurd is
 meeting_more t e (at, RollsBack r) rest ms ns a xs more is come = absurd is
+meeting_more t e (at, TakesOver x) rest ms ns a xs more is come = absurd is

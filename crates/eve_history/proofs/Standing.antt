@@ -8,9 +8,9 @@ use Rattle.std.proofs.lemmas.List.{append-nil, length-append, take_at, drop_at, 
 use Rattle.std.proofs.lemmas.List.Concat.{flat_map-append}
 use Rattle.std.proofs.lemmas.List.Folds.{flat_map-map}
 use Rattle.byteorder.specs.Endian.{big_bytes, big_number}
-use Rattle.eve_grammar.specs.Trace.{Access, Attempt, Commit, Rollback, Step, Attempts, Commits, RollsBack, Trace}
-use Rattle.eve_grammar.specs.Trace.{head_of}
-use Rattle.eve_grammar.specs.Frames.{Frame, OfReplica, OfAttempt, OfAccess, OfCommit, OfRollback, kind_of}
+use Rattle.eve_grammar.specs.Trace.{Access, Attempt, Rollback, Transfer, Step, Attempts, Commits, RollsBack}
+use Rattle.eve_grammar.specs.Trace.{TakesOver, Trace, head_of}
+use Rattle.eve_grammar.specs.Frames.{Frame, OfReplica, OfAttempt, OfAccess, OfCommit, OfRollback, OfTransfer, kind_of}
 use Rattle.eve_grammar.specs.Frames.{step_frames, frames_of, without_accesses}
 use Rattle.eve_grammar.specs.Spelling.{body_text, frame_text, frames_text, head_text, length_of, spelling, located}
 use Rattle.eve_grammar.specs.Spelling.{step_text, section_start, steps_of, steps_at, accesses_at}
@@ -25,12 +25,14 @@ use Rattle.eve_views.proofs.Locating.{located_get, section_begins, frames_text-f
 use Rattle.eve_grammar.proofs.HeadLimits.{few_customers}
 use Rattle.eve_grammar.specs.declared.limits.TheConstants.{MOST_ROWS}
 use Rattle.eve_frames.specs.Views.{has_attempt_body, attempt_in, has_access_body, access_in}
-use Rattle.eve_frames.specs.Views.{has_rollback_body, rollback_in}
-use Rattle.eve_frames.proofs.Rereading.{attempt_again, access_again, rollback_again}
-use Rattle.eve_history.specs.Standing.{frame_in, IsFramed, IsAttemptAt, IsAccessAt, IsRollbackAt}
+use Rattle.eve_frames.specs.Views.{has_rollback_body, rollback_in, has_transfer_body, transfer_in}
+use Rattle.eve_frames.proofs.Rereading.{attempt_again, access_again, rollback_again, transfer_again}
+use Rattle.eve_history.specs.Standing.{frame_in, IsFramed, IsAttemptAt, IsAccessAt, IsRollbackAt, IsTransferAt}
 use Rattle.eve_history.specs.SectionHistory.{access_with, attempts_among, executed_attempt}
 use Rattle.eve_history.specs.Structure.{accesses_of}
 use Rattle.eve_history.specs.Coming.{KeptSection, kept_executed_attempt, HasCome, ComesNext, seen}
+use Rattle.eve_history.specs.Section.{start}
+use Rattle.eve_history.proofs.Transfers.{transfers_few, transfers_after}
 use Rattle.eve_grammar.proofs.Grouping.{all_at}
 use Rattle.eve_grammar.proofs.Lists.{same_first, same_others, no_item}
 use Rattle.eve_grammar.specs.Following.{Spells}
@@ -278,12 +280,31 @@ rollback_there bytes t e rest k at r spelled come =
       },
     )
 
+-- and a state by that of its own
+pub transfer_there : (bytes : List ℕ) (t : Trace) (e : ℕ) (rest : List (ℕ × Step)) (k : KeptSection) (at : ℕ)
+    (x : Transfer)
+    → Spells bytes t → HasCome t e ((at, TakesOver x) ∷ rest) k
+    → (transfer_in (frame_in bytes at) ≡ x) × IsTransferAt bytes at
+transfer_there bytes t e rest k at x spelled come =
+    let fits = (and_parts (is_step (row_count (head_of t)) (TakesOver x)) _ come.fit).0 in
+    let stands = first_stands (OfTransfer x) [] (next_stands bytes t e rest k at (TakesOver x) spelled come) in
+    let framed = framed_there t (OfTransfer x) spelled (omega arith) stands in
+    let says = transfer_again (row_count (head_of t)) x fits in (
+      ap transfer_in framed.0 ∙ says.1,
+      record {
+        framed = framed.1;
+        transfer = subst (λ (c : List ℕ). IsTrue (has_transfer_body c)) (sym framed.0) says.0;
+        text = framed.0 ∙ ap (λ (y : Transfer). frame_text (OfTransfer y)) (sym (ap transfer_in framed.0 ∙ says.1));
+      },
+    )
+
 -- ---- how many steps came
 
 step_long : (step : Step) → 1 ≤ length (step_text step)
 step_long (Attempts a) = omega arith
 step_long (Commits c) = omega arith
 step_long (RollsBack r) = omega arith
+step_long (TakesOver x) = omega arith
 
 -- before one of them stand no more than there are bytes before it
 located_late : {A : Type 0} (text : A → List ℕ) (at : ℕ) (xs : List A) (before : List (ℕ × A)) (item : ℕ × A)
@@ -314,19 +335,47 @@ attempts_few [] = omega arith
 attempts_few ((at, Attempts a) ∷ steps) = let few = attempts_few steps in omega (arith, few)
 attempts_few ((at, Commits c) ∷ steps) = let few = attempts_few steps in omega (arith, few)
 attempts_few ((at, RollsBack r) ∷ steps) = let few = attempts_few steps in omega (arith, few)
+attempts_few ((at, TakesOver x) ∷ steps) = let few = attempts_few steps in omega (arith, few)
 
--- where a commit comes next, there are fewer attempts before it than 32 bits can count
+step_small : (bytes : List ℕ) (t : Trace) (at : ℕ) (step : Step) → Spells bytes t → StandsIn bytes at (step_text step)
+    → at < 2 ^ 32
+step_small bytes t at (Attempts b) spelled stands =
+    (framed_there t (OfAttempt b) spelled (omega arith)
+    (first_stands (OfAttempt b) (map OfAccess b.accesses) stands)).1.small
+step_small bytes t at (Commits c) spelled stands =
+    (framed_there t (OfCommit c) spelled (omega arith) (first_stands (OfCommit c) [] stands)).1.small
+step_small bytes t at (RollsBack r) spelled stands =
+    (framed_there t (OfRollback r) spelled (omega arith) (first_stands (OfRollback r) [] stands)).1.small
+step_small bytes t at (TakesOver x) spelled stands =
+    (framed_there t (OfTransfer x) spelled (omega arith) (first_stands (OfTransfer x) [] stands)).1.small
+
+-- where a step comes next, there are fewer before it than 32 bits can count
+steps_small : (bytes : List ℕ) (t : Trace) (e : ℕ) (rest : List (ℕ × Step)) (k : KeptSection) (at : ℕ) (step : Step)
+    → Spells bytes t → (come : HasCome t e ((at, step) ∷ rest) k) → length come.front < 2 ^ 32
+steps_small bytes t e rest k at step spelled come =
+    let small = step_small bytes t at step spelled (next_stands bytes t e rest k at step spelled come) in
+    let late = steps_late t e come.front (at, step) rest come.split in
+    omega (arith, small, late)
+
+-- and so fewer attempts
 pub attempts_small : (bytes : List ℕ) (t : Trace) (e : ℕ) (rest : List (ℕ × Step)) (k : KeptSection) (at : ℕ)
-    (c : Commit) → Spells bytes t → HasCome t e ((at, Commits c) ∷ rest) k → length k.attempts < 2 ^ 32
-attempts_small bytes t e rest k at c spelled come =
-    let stands = first_stands (OfCommit c) [] (next_stands bytes t e rest k at (Commits c) spelled come) in
-    let small = (framed_there t (OfCommit c) spelled (omega arith) stands).1.small in
-    let late = steps_late t e come.front (at, Commits c) rest come.split in
+    (step : Step) → Spells bytes t → HasCome t e ((at, step) ∷ rest) k → length k.attempts < 2 ^ 32
+attempts_small bytes t e rest k at step spelled come =
+    let small = steps_small bytes t e rest k at step spelled come in
     let few = attempts_few come.front in
     let many : length k.attempts ≡ length (attempts_among come.front) =
     sym (length-map k.attempts (kept_executed_attempt k.records)) ∙ ap length come.attempts
     ∙ length-map (attempts_among come.front) executed_attempt in
-    omega (arith, small, late, few)
+    omega (arith, small, few)
+
+-- and states
+pub transfers_small : (bytes : List ℕ) (t : Trace) (e : ℕ) (rest : List (ℕ × Step)) (k : KeptSection) (at : ℕ)
+    (step : Step) → Spells bytes t → HasCome t e ((at, step) ∷ rest) k → length k.transfers < 2 ^ 32
+transfers_small bytes t e rest k at step spelled come =
+    let small = steps_small bytes t e rest k at step spelled come in
+    let few = transfers_few come.front in
+    let many = ap length (come.transfers ∙ transfers_after start come.front) in
+    omega (arith, small, few, many)
 
 -- ---- the access records of an attempt that comes next
 

@@ -5,7 +5,7 @@ use Rattle.std.proofs.Common.{Some, None, refl, sym, ap, subst, ◌∙◌, appen
 use Rattle.std.specs.Prelude.{IsFalse}
 use Rattle.std.proofs.lemmas.Bool.{cases_Bool, and_parts, and_from}
 use Rattle.std.proofs.lemmas.List.{append-nil}
-use Rattle.eve_grammar.specs.Trace.{Access, Attempt, Step, Attempts, Commits, RollsBack, Trace}
+use Rattle.eve_grammar.specs.Trace.{Access, Attempt, Step, Attempts, Commits, RollsBack, TakesOver, Trace}
 use Rattle.eve_grammar.specs.Frames.{OfAttempt as OfAttemptFrame, OfAccess}
 use Rattle.eve_grammar.specs.Spelling.{frame_text, located, steps_at, accesses_at}
 use Rattle.eve_views.specs.declared.fault.Code.{Code}
@@ -15,13 +15,13 @@ use Rattle.eve_views.specs.Code.{code_number}
 use Rattle.eve_grammar.specs.Accesses.{is_right_place}
 use Rattle.eve_history.specs.Section.{SectionState, start, next, state_after, is_right_attempt, is_right_certificate}
 use Rattle.eve_history.specs.Section.{is_right_access, is_right_commit, is_right_rollback, are_right_accesses, is_right}
-use Rattle.eve_history.specs.Section.{request_count, worker_count, are_right}
+use Rattle.eve_history.specs.Section.{request_count, worker_count, is_right_transfer, are_right}
 use Rattle.eve_views.specs.Form.{SomePlace, IsLeast, IsFaultIn}
-use Rattle.eve_history.specs.Structure.{OfAttempt, OfCommit, OfRollback, accesses_of, StandsInStructure}
+use Rattle.eve_history.specs.Structure.{OfAttempt, OfCommit, OfRollback, OfTransfer, accesses_of, StandsInStructure}
 use Rattle.eve_history.specs.declared.wrong.Wrong.{Wrong}
 use Rattle.eve_history.specs.FirstWrong.{found_or, first_wrong_of, wrong_access, wrong_records, wrong_attempt}
-use Rattle.eve_history.specs.FirstWrong.{wrong_commit}
-use Rattle.eve_history.specs.FirstWrong.{wrong_rollback, wrong_step, first_wrong, fault_of}
+use Rattle.eve_history.specs.FirstWrong.{wrong_commit, wrong_rollback, wrong_transfer, wrong_step, first_wrong}
+use Rattle.eve_history.specs.FirstWrong.{fault_of}
 
 pub no_wrong : {A : Type 0} (w : Wrong) → ◌≡◌ {A = Option Wrong} None (Some w) → A
 no_wrong w e = absurd (cc)
@@ -134,6 +134,8 @@ right_step t s (at, Commits c) e = none_or (is_right_commit s c) code.Commit
     (found_or-none at (wrong_commit s c) None e).0
 right_step t s (at, RollsBack r) e = none_or (is_right_rollback t s r) code.Rollback
     (found_or-none at (wrong_rollback t s r) None e).0
+right_step t s (at, TakesOver x) e = none_or (is_right_transfer t s x) code.Transfer
+    (found_or-none at (wrong_transfer t s x) None e).0
 
 pub nothing_wrong : (t : Trace) (s : SectionState) (step : ℕ × Step) → is_right t s step.1 ≡ true → wrong_step t s step
     ≡ None
@@ -147,6 +149,7 @@ nothing_wrong t s (at, Attempts a) right =
     rw (one.0, two.0) none
 nothing_wrong t s (at, Commits c) right = rw right refl
 nothing_wrong t s (at, RollsBack r) right = rw right refl
+nothing_wrong t s (at, TakesOver x) right = rw right refl
 
 -- steps that are right, and then the rest
 pub steps_on : (t : Trace) (s : SectionState) (xs ys : List (ℕ × Step)) → are_right t s xs ≡ true
@@ -218,6 +221,7 @@ found_attempt : (t : Trace) (at : ℕ)
 found_attempt t at offset s (Attempts a) h = found_here code.Attempt (rw h.1 refl) h.0
 found_attempt t at offset s (Commits c) h = absurd h.1
 found_attempt t at offset s (RollsBack r) h = absurd h.1
+found_attempt t at offset s (TakesOver x) h = absurd h.1
 
 found_certificate : (t : Trace) (at : ℕ)
     → FoundAt t (λ offset s step. (offset ≡ at) × OfAttempt step (λ a. IsFalse (is_right_certificate t a)))
@@ -234,12 +238,14 @@ found_certificate t at offset s (Attempts a) h =
     ]
 found_certificate t at offset s (Commits c) h = absurd h.1
 found_certificate t at offset s (RollsBack r) h = absurd h.1
+found_certificate t at offset s (TakesOver x) h = absurd h.1
 
 found_commit : (t : Trace) (at : ℕ)
     → FoundAt t (λ offset s step. (offset ≡ at) × OfCommit step (λ c. IsFalse (is_right_commit s c))) code.Commit at
 found_commit t at offset s (Commits c) h = found_here code.Commit (rw h.1 refl) h.0
 found_commit t at offset s (Attempts a) h = absurd h.1
 found_commit t at offset s (RollsBack r) h = absurd h.1
+found_commit t at offset s (TakesOver x) h = absurd h.1
 
 found_rollback : (t : Trace) (at : ℕ)
     → FoundAt t (λ offset s step. (offset ≡ at) × OfRollback step (λ r. IsFalse (is_right_rollback t s r)))
@@ -247,6 +253,15 @@ found_rollback : (t : Trace) (at : ℕ)
 found_rollback t at offset s (RollsBack r) h = found_here code.Rollback (rw h.1 refl) h.0
 found_rollback t at offset s (Attempts a) h = absurd h.1
 found_rollback t at offset s (Commits c) h = absurd h.1
+found_rollback t at offset s (TakesOver x) h = absurd h.1
+
+found_transfer : (t : Trace) (at : ℕ)
+    → FoundAt t (λ offset s step. (offset ≡ at) × OfTransfer step (λ x. IsFalse (is_right_transfer t s x)))
+    code.Transfer at
+found_transfer t at offset s (TakesOver x) h = found_here code.Transfer (rw h.1 refl) h.0
+found_transfer t at offset s (Attempts a) h = absurd h.1
+found_transfer t at offset s (Commits c) h = absurd h.1
+found_transfer t at offset s (RollsBack r) h = absurd h.1
 
 -- the records of an attempt that is right but for them
 abbrev pub InAttempt : Trace → SectionState → ℕ → Attempt → (List (ℕ × Access) → ℕ × Access → Type 0) → Type 0
@@ -300,6 +315,7 @@ found_at_access t e c at P here place = found_at_step t e c at _ by place
     by offset s (Attempts a) h = found_in_attempt t s offset at a c (λ from before x. P from a before x) (here a) h
     by offset s (Commits c) h = absurd h
     by offset s (RollsBack r) h = absurd h
+    by offset s (TakesOver x) h = absurd h
 
 found_of_fault : (t : Trace) (e : ℕ) (c : Code) (at : ℕ) → StandsInStructure c t e at
     → IsFound (first_wrong t start (steps_at t e)) c at
@@ -309,6 +325,7 @@ found_of_fault t e code.Access at h = found_at_access t e code.Access at _ (foun
 found_of_fault t e code.WorkerOrder at h = found_at_access t e code.WorkerOrder at _ (found_place t at) h
 found_of_fault t e code.Commit at h = found_at_step t e code.Commit at _ (found_commit t at) h
 found_of_fault t e code.Rollback at h = found_at_step t e code.Rollback at _ (found_rollback t at) h
+found_of_fault t e code.Transfer at h = found_at_step t e code.Transfer at _ (found_transfer t at) h
 found_of_fault t e c at h = absurd h
 
 -- ---- what is found is a fault
@@ -375,6 +392,16 @@ stands_at_step t e front (at, RollsBack r) back w is rights h =
         subst (λ (v : Wrong). StandsInStructure v.code t e v.offset)
         (same_wrong (record { offset = at; code = code.Rollback }) w g)
         (record { before = front; item = (at, RollsBack r); rest = back; is = is; holds = (rights, (refl, p)) })
+stands_at_step t e front (at, TakesOver x) back w is rights h =
+    by (is_right_transfer t (state_after start front) x) refl h
+  where
+    by : (b : Bool) → is_right_transfer t (state_after start front) x ≡ b
+        → found_or at (cond b None (Some code.Transfer)) None ≡ Some w → StandsInStructure w.code t e w.offset
+    by true p g = no_wrong w g
+    by false p g =
+        subst (λ (v : Wrong). StandsInStructure v.code t e v.offset)
+        (same_wrong (record { offset = at; code = code.Transfer }) w g)
+        (record { before = front; item = (at, TakesOver x); rest = back; is = is; holds = (rights, (refl, p)) })
 stands_at_step t e front (at, Attempts a) back w is rights h =
     by (is_right_attempt t (state_after start front) a) (is_right_certificate t a) refl refl h
   where

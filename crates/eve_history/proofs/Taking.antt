@@ -1,11 +1,11 @@
 -- What the handlers of steps need of what has come.
-use Rattle.std.proofs.Common.{◌≡◌, ℕ, ◌+◌, ◌-◌, ◌<◌, ◌≤◌, ◌==◌, true, false, List, ◌∷◌, ◌++◌, map, length, take}
-use Rattle.std.proofs.Common.{replicate, Some, None, IsTrue, refl, sym, ap, subst, ◌∙◌, arith}
+use Rattle.std.proofs.Common.{◌≡◌, ℕ, ◌+◌, ◌-◌, ◌<◌, ◌≤◌, ◌==◌, true, false, List, [], ◌∷◌, ◌++◌, map, length, take}
+use Rattle.std.proofs.Common.{replicate, Some, None, IsTrue, refl, sym, ap, subst, ◌∙◌, append_assoc, arith}
 use Rattle.std.specs.List.{AllByRecursion, list_any}
 use Rattle.std.proofs.lemmas.Bool.{and_parts}
 use Rattle.std.proofs.lemmas.List.{take_all}
-use Rattle.eve_grammar.specs.Trace.{Access, Attempt, Commit, Rollback, Step, Attempts, Commits, RollsBack, Trace}
-use Rattle.eve_grammar.specs.Trace.{head_of}
+use Rattle.eve_grammar.specs.Trace.{Access, Attempt, Commit, Rollback, Transfer, Step, Attempts, Commits, RollsBack}
+use Rattle.eve_grammar.specs.Trace.{TakesOver, Trace, head_of}
 use Rattle.eve_grammar.specs.Frames.{OfAttempt, OfAccess}
 use Rattle.eve_grammar.specs.Spelling.{frame_text, accesses_at}
 use Rattle.eve_grammar.specs.Limits.{is_step, row_count}
@@ -13,7 +13,8 @@ use Rattle.eve_frames.specs.Views.{attempt_in}
 use Rattle.eve_frames.specs.declared.attempt.AttemptView.{AttemptView}
 use Rattle.eve_frames.specs.declared.commit.CommitView.{CommitView}
 use Rattle.eve_frames.specs.declared.rollback.RollbackView.{RollbackView}
-use Rattle.eve_frames.specs.Views.{commit_in, rollback_in}
+use Rattle.eve_frames.specs.declared.transfer.TransferView.{TransferView}
+use Rattle.eve_frames.specs.Views.{commit_in, rollback_in, transfer_in}
 use Rattle.eve_views.specs.StepKinds.{IsStep}
 use Rattle.eve_views.specs.declared.steps.Step.TheVariants as of
 use Rattle.eve_views.specs.declared.fault.Code.TheVariants as code
@@ -23,12 +24,16 @@ use Rattle.eve_views.specs.declared.fault.CheckFault.TheVariants.{Found, Memory}
 use Rattle.eve_views.specs.Form.{IfFound}
 use Rattle.eve_history.specs.declared.fate.Fate.{Fate}
 use Rattle.eve_history.specs.declared.fate.Fate.TheVariants.{Discarded}
+use Rattle.eve_history.specs.declared.landing.Landing as told
+use Rattle.eve_history.specs.declared.landing.Landing.TheVariants as landing
 use Rattle.eve_history.specs.Section.{SectionState, start, state_after, is_right_commit, is_right_rollback}
+use Rattle.eve_history.specs.Section.{is_right_transfer}
 use Rattle.eve_history.specs.SectionHistory.{ordered, access_with}
 use Rattle.eve_history.specs.Structure.{accesses_of}
 use Rattle.eve_history.specs.FirstWrong.{wrong_step}
 use Rattle.eve_history.specs.Coming.{KeptSection, HasCome, ComesNext}
 use Rattle.eve_history.proofs.StructureLaws.{accesses_of-at}
+use Rattle.eve_history.proofs.Coming.{over_at}
 use Rattle.eve_views.proofs.Locating.{length-located}
 use Rattle.eve_history.proofs.Records.{all_there, attempt_fits}
 
@@ -36,7 +41,7 @@ pub weaker_found : (x : CheckFault) (P Q : Fault → Type 0) → ((f : Fault) �
 weaker_found Memory P Q weaker h = tt
 weaker_found (Found f) P Q weaker h = weaker f h
 
--- ---- commits and rollbacks
+-- ---- commits, rollbacks and states taken over
 
 pub commit_wrong : (t : Trace) (s : SectionState) (at : ℕ) (c : Commit) → is_right_commit s c ≡ false
     → wrong_step t s (at, Commits c) ≡ Some (record { code = code.Commit; offset = at })
@@ -54,6 +59,14 @@ pub rollback_right : (t : Trace) (s : SectionState) (at : ℕ) (r : Rollback) �
     → wrong_step t s (at, RollsBack r) ≡ None
 rollback_right t s at r right = rw right refl
 
+pub transfer_wrong : (t : Trace) (s : SectionState) (at : ℕ) (x : Transfer) → is_right_transfer t s x ≡ false
+    → wrong_step t s (at, TakesOver x) ≡ Some (record { code = code.Transfer; offset = at })
+transfer_wrong t s at x wrong = rw wrong refl
+
+pub transfer_right : (t : Trace) (s : SectionState) (at : ℕ) (x : Transfer) → is_right_transfer t s x ≡ true
+    → wrong_step t s (at, TakesOver x) ≡ None
+transfer_right t s at x right = rw right refl
+
 -- all open attempts are discarded
 pub discarded_all : (fates after : List Fate) (n v a : ℕ) → after ≡ take n fates ++ replicate (n - v) Discarded → n ≡ a
     → v ≡ length fates → length fates ≤ a → fates ++ replicate (a - length fates) Discarded ≡ after
@@ -62,6 +75,20 @@ discarded_all fates after n v a is count old few =
     let more : a - length fates ≡ n - v = omega arith in
     ap (λ (m : ℕ). fates ++ replicate m Discarded) more ∙ ap (λ (fs : List Fate). fs ++ replicate (n - v) Discarded)
     (sym all) ∙ sym is
+
+-- numbers are skipped, and then a state is taken over
+pub landings_over : (ls skips after : List told.Landing) (n v last seq place i : ℕ)
+    → skips ≡ take n ls ++ replicate (n - v) landing.Skipped → after ≡ skips ++ landing.Transfer place ∷ []
+    → n ≡ seq - 1 → v ≡ length ls → length ls ≡ last → last < seq → place ≡ i
+    → ls ++ over_at (seq - (last + 1)) i ≡ after
+landings_over ls skips after n v last seq place i is more count old all later same =
+    let whole : take n ls ≡ ls = take_all n ls (omega arith) in
+    let skipped : seq - (last + 1) ≡ n - v = omega arith in
+    (λ j. ls ++ over_at (skipped j) (sym same j))
+    ∙ sym (append_assoc ls (replicate (n - v) landing.Skipped) (landing.Transfer place ∷ []))
+    ∙ ap (λ (xs : List told.Landing). (xs ++ replicate (n - v) landing.Skipped) ++ landing.Transfer place ∷ [])
+    (sym whole)
+    ∙ ap (λ (xs : List told.Landing). xs ++ landing.Transfer place ∷ []) (sym is) ∙ sym more
 
 -- ---- attempts
 
@@ -109,18 +136,28 @@ comes_next t e rest (at, Attempts b) k a xs is come = (
 )
 comes_next t e rest (at, Commits c) k a xs is come = absurd is
 comes_next t e rest (at, RollsBack r) k a xs is come = absurd is
+comes_next t e rest (at, TakesOver x) k a xs is come = absurd is
 
 pub commit_next : (next : ℕ × Step) (c : CommitView) → IsStep (of.Commit c) next
     → next ≡ (c.offset, Commits (commit_in c.bytes.now))
 commit_next (at, Commits d) c is = λ i. (sym is.0 i, Commits (sym is.1 i))
 commit_next (at, Attempts b) c is = absurd is
 commit_next (at, RollsBack r) c is = absurd is
+commit_next (at, TakesOver x) c is = absurd is
 
 pub rollback_next : (next : ℕ × Step) (r : RollbackView) → IsStep (of.Rollback r) next
     → next ≡ (r.offset, RollsBack (rollback_in r.bytes.now))
 rollback_next (at, RollsBack q) r is = λ i. (sym is.0 i, RollsBack (sym is.1 i))
 rollback_next (at, Attempts b) r is = absurd is
 rollback_next (at, Commits c) r is = absurd is
+rollback_next (at, TakesOver x) r is = absurd is
+
+pub transfer_next : (next : ℕ × Step) (x : TransferView) → IsStep (of.Transfer x) next
+    → next ≡ (x.offset, TakesOver (transfer_in x.bytes.now))
+transfer_next (at, TakesOver y) x is = λ i. (sym is.0 i, TakesOver (sym is.1 i))
+transfer_next (at, Attempts b) x is = absurd is
+transfer_next (at, Commits c) x is = absurd is
+transfer_next (at, RollsBack r) x is = absurd is
 
 pub come_as : (t : Trace) (e : ℕ) (rest : List (ℕ × Step)) (k : KeptSection) (next step : ℕ × Step) → next ≡ step
     → HasCome t e (next ∷ rest) k → HasCome t e (step ∷ rest) k

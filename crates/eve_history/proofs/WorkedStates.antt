@@ -1,16 +1,16 @@
 -- A section step by step: two attempts open, a state that is taken over, an attempt and its commit behind it, and a
 -- rollback behind that. Each line computes.
-use Rattle.std.proofs.Common.{◌≡◌, ℕ, pos, true, false, List, [], ◌∷◌, map, replicate, slice_get, codes, refl}
+use Rattle.std.proofs.Common.{◌≡◌, ℕ, pos, true, false, List, [], ◌∷◌, ◌++◌, map, replicate, slice_get, codes, refl}
 use Rattle.eve_smallbank.specs.SmallBank.{DepositChecking}
 use Rattle.eve_smallbank.specs.declared.request.Reply.TheVariants.{Done}
 use Rattle.eve_smallbank.specs.declared.versioned.Versioned.{Versioned}
-use Rattle.eve_grammar.specs.Trace.{Attempt, Commit, Step, Attempts, Commits}
-use Rattle.eve_grammar.specs.Trace.{RollsBack, Trace}
+use Rattle.eve_grammar.specs.Trace.{Attempt, Commit, Transfer, Step, Attempts, Commits}
+use Rattle.eve_grammar.specs.Trace.{RollsBack, TakesOver, Trace}
 use Rattle.eve_history.specs.declared.fate.Fate.TheVariants.{Committed, Discarded, Open}
 use Rattle.eve_history.specs.Section.{Ran, TookOver, Placed, ByAttempt, ByTransfer, Skipped, SectionState, start}
-use Rattle.eve_history.specs.Section.{path_of, state_after, taking_over, settled, are_right}
+use Rattle.eve_history.specs.Section.{path_of, state_after, settled, are_right}
 use Rattle.eve_history.specs.Fates.{fates_from}
-use Rattle.eve_history.specs.SectionHistory.{landed_from, is_by_attempt, is_landing}
+use Rattle.eve_history.specs.SectionHistory.{landed_from, is_by_attempt, is_landing, taken_from}
 
 -- five batches of a deposit each, and a window of two
 five_batches : Trace
@@ -70,16 +70,31 @@ both_are_on_the_path = refl
 
 -- ---- the state of batch 3 is taken over
 
+abbrev state_of_three : Transfer
+state_of_three = record { seq = 3; view = 0; rows = rows_of_three }
+
+the_state : List (ℕ × Step)
+the_state = (60, TakesOver state_of_three) ∷ []
+
+it_may_be_taken_over : are_right five_batches opened the_state ≡ true
+unfolding five_batches opened two_attempts the_state
+it_may_be_taken_over = refl
+
 behind_the_state : SectionState
-behind_the_state = taking_over opened 60 (record { seq = 3; view = 0; rows = rows_of_three })
+behind_the_state = state_after opened the_state
+
+-- and not once more: its number is the last then
+it_was_taken_over : are_right five_batches behind_the_state the_state ≡ false
+unfolding five_batches behind_the_state opened two_attempts the_state
+it_was_taken_over = refl
 
 -- it alone is on the path, and the open attempts are discarded
 the_state_is_the_path : path_of behind_the_state ≡ TookOver rows_of_three ∷ []
-unfolding behind_the_state opened two_attempts
+unfolding behind_the_state opened two_attempts the_state
 the_state_is_the_path = refl
 
 both_are_discarded : map (λ p. p.offset) behind_the_state.discarded ≡ 40 ∷ 50 ∷ []
-unfolding behind_the_state opened two_attempts
+unfolding behind_the_state opened two_attempts the_state
 both_are_discarded = refl
 
 -- ---- batch 4 is attempted and committed, and then a rollback comes
@@ -91,7 +106,7 @@ ended : SectionState
 ended = state_after behind_the_state steps_behind
 
 these_are_right : are_right five_batches behind_the_state steps_behind ≡ true
-unfolding five_batches attempt_of_batch commit_of_batch steps_behind behind_the_state opened two_attempts
+unfolding five_batches attempt_of_batch commit_of_batch steps_behind behind_the_state opened two_attempts the_state
 these_are_right = refl
 
 -- the attempt's path begins with the state
@@ -99,21 +114,21 @@ fourth : Placed
 fourth = record { offset = 70; attempt = attempt_of_batch 4; path = TookOver rows_of_three ∷ [] }
 
 the_numbers : ended.landings
-    ≡ Skipped ∷ Skipped ∷ ByTransfer 60 (record { seq = 3; view = 0; rows = rows_of_three }) ∷ ByAttempt fourth ∷ []
-unfolding ended steps_behind behind_the_state opened two_attempts fourth
+    ≡ Skipped ∷ Skipped ∷ ByTransfer 60 state_of_three ∷ ByAttempt fourth ∷ []
+unfolding ended steps_behind behind_the_state opened two_attempts fourth the_state
 the_numbers = refl
 
 reached : map (λ n. is_landing (slice_get ended.landings n)) (0 ∷ 1 ∷ 2 ∷ 3 ∷ 4 ∷ [])
     ≡ false ∷ false ∷ true ∷ true ∷ false ∷ []
-unfolding ended steps_behind behind_the_state opened two_attempts
+unfolding ended steps_behind behind_the_state opened two_attempts the_state
 reached = refl
 
 by_attempts : map is_by_attempt (landed_from 0 ended.landings) ≡ false ∷ false ∷ false ∷ true ∷ []
-unfolding ended steps_behind behind_the_state opened two_attempts
+unfolding ended steps_behind behind_the_state opened two_attempts the_state
 by_attempts = refl
 
 they_are_settled : map (λ p. p.offset) (settled ended) ≡ 70 ∷ 40 ∷ 50 ∷ []
-unfolding ended steps_behind behind_the_state opened two_attempts
+unfolding ended steps_behind behind_the_state opened two_attempts the_state
 they_are_settled = refl
 
 -- a rollback leaves what was reached and the path, and begins the next view
@@ -121,18 +136,18 @@ last_step : List (ℕ × Step)
 last_step = (90, RollsBack (record { to = 4; view = 1; restores = [] })) ∷ []
 
 it_is_right : are_right five_batches ended last_step ≡ true
-unfolding five_batches ended steps_behind behind_the_state opened two_attempts last_step
+unfolding five_batches ended steps_behind behind_the_state opened two_attempts last_step the_state
 it_is_right = refl
 
 rolled_back : SectionState
 rolled_back = state_after ended last_step
 
 nothing_is_lost : path_of rolled_back ≡ TookOver rows_of_three ∷ Ran (attempt_of_batch 4) ∷ []
-unfolding rolled_back last_step ended steps_behind behind_the_state opened two_attempts
+unfolding rolled_back last_step ended steps_behind behind_the_state opened two_attempts the_state
 nothing_is_lost = refl
 
 where_it_stands : (rolled_back.last ≡ 4) × (rolled_back.view ≡ 1)
-unfolding rolled_back last_step ended steps_behind behind_the_state opened two_attempts
+unfolding rolled_back last_step ended steps_behind behind_the_state opened two_attempts the_state
 where_it_stands = (refl, refl)
 
 -- ---- fates
@@ -143,3 +158,16 @@ fates : fates_from 0 (
     (70, RollsBack (record { to = 1; view = 1; restores = [] })) ∷ (80, Attempts (attempt_of_batch 2)) ∷ []
     ) ≡ Committed ∷ Discarded ∷ Open ∷ []
 fates = refl
+
+-- and a state that is taken over discards those that are open
+all_steps : List (ℕ × Step)
+all_steps = two_attempts ++ (the_state ++ steps_behind)
+
+fates_with_a_state : fates_from 0 all_steps ≡ Discarded ∷ Discarded ∷ Committed ∷ []
+unfolding all_steps two_attempts the_state steps_behind
+fates_with_a_state = refl
+
+-- one state was taken over before the last attempt
+taken_before_each : taken_from 0 all_steps ≡ 0 ∷ 0 ∷ 1 ∷ []
+unfolding all_steps two_attempts the_state steps_behind
+taken_before_each = refl

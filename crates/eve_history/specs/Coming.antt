@@ -2,35 +2,36 @@
 use Rattle.std.specs.Prelude.{◌≡◌, ℕ, zero, suc, ◌+◌, ◌-◌, ◌<◌, ◌≤◌, Bool, true, IsTrue, List, [], ◌∷◌, ◌++◌, map}
 use Rattle.std.specs.Prelude.{length, take, drop, replicate, slice_index_or, false, ⊤}
 use Rattle.std.specs.List.{AllByRecursion, list_all}
-use Rattle.eve_grammar.specs.Trace.{Access, Attempt, Rollback, Step, Attempts, Trace, head_of}
+use Rattle.eve_grammar.specs.Trace.{Access, Attempt, Rollback, Transfer, Step, Attempts, Trace, head_of}
 use Rattle.eve_grammar.specs.Frames.{without_accesses}
 use Rattle.eve_grammar.specs.Spelling.{steps_at, accesses_at}
 use Rattle.eve_grammar.specs.Limits.{is_step, row_count}
 use Rattle.eve_grammar.specs.Following.{Spells}
-use Rattle.eve_frames.specs.Views.{attempt_in, access_in, rollback_in}
+use Rattle.eve_frames.specs.Views.{attempt_in, access_in, rollback_in, transfer_in}
 use Rattle.eve_history.specs.declared.fate.Fate.{Fate}
 use Rattle.eve_history.specs.declared.fate.Fate.TheVariants.{Open}
 use Rattle.eve_history.specs.declared.landing.Landing as told
 use Rattle.eve_history.specs.declared.landing.Landing.TheVariants as landing
 use Rattle.eve_history.specs.declared.structure.Attempted.{Attempted}
 use Rattle.eve_history.specs.declared.structure.Notes.{Notes}
-use Rattle.eve_history.specs.Standing.{frame_in, IsAttemptAt, IsAccessAt, IsRollbackAt}
-use Rattle.eve_history.specs.Section.{SectionState, start, state_after, are_right}
+use Rattle.eve_history.specs.Standing.{frame_in, IsAttemptAt, IsAccessAt, IsRollbackAt, IsTransferAt}
+use Rattle.eve_history.specs.Section.{SectionState, start, state_after, are_right, transfers_by}
 use Rattle.eve_history.specs.Fates.{fate_in, fates_from}
 use Rattle.eve_history.specs.SectionHistory.{ExecutedAttempt, executed_attempt, placed_at, attempts_among}
-use Rattle.eve_history.specs.SectionHistory.{rollbacks_among, Landed, LandedBy, LandedFrom, NotLanded, landed_from}
-use Rattle.eve_history.specs.SectionHistory.{SectionHistory}
+use Rattle.eve_history.specs.SectionHistory.{rollbacks_among, taken_from, Landed, LandedBy, LandedFrom, NotLanded}
+use Rattle.eve_history.specs.SectionHistory.{landed_from, SectionHistory}
 
 -- ---- what is kept
 
--- an attempt, and where its access records begin among those of the section
+-- an attempt, how many states were taken over before it, and where its access records begin among those of the section
 pub record KeptAttempt : Type 0 where
   pub offset : ℕ
   pub attempt : Attempt
+  pub taken : ℕ
   pub from : ℕ
 
 -- Attempts stand in the order of their frames. The first of them are settled, and have a fate. Numbers were reached by
--- attempts at these places.
+-- attempts and by states at these places.
 pub record KeptSection : Type 0 where
   pub view : ℕ
   pub last : ℕ
@@ -40,10 +41,12 @@ pub record KeptSection : Type 0 where
   pub landings : List told.Landing
   pub records : List (ℕ × Access)
   pub rollbacks : List (ℕ × Rollback)
+  pub transfers : List (ℕ × Transfer)
 
 -- the attempt whose frame begins at this byte
 abbrev pub kept_attempt : List ℕ → Attempted → KeptAttempt
-kept_attempt bytes a = record { offset = a.at; attempt = attempt_in (frame_in bytes a.at); from = a.from }
+kept_attempt bytes a =
+    record { offset = a.at; attempt = attempt_in (frame_in bytes a.at); taken = a.taken; from = a.from }
 
 -- the access record whose frame begins at this byte
 abbrev pub seen : List ℕ → ℕ → ℕ × Access
@@ -52,6 +55,10 @@ seen bytes at = (at, access_in (frame_in bytes at))
 -- the rollback whose frame begins at this byte
 abbrev pub rolled : List ℕ → ℕ → ℕ × Rollback
 rolled bytes at = (at, rollback_in (frame_in bytes at))
+
+-- the transfer whose frame begins at this byte
+abbrev pub took_over : List ℕ → ℕ → ℕ × Transfer
+took_over bytes at = (at, transfer_in (frame_in bytes at))
 
 abbrev pub kept_section : Notes → KeptSection
 kept_section n = record {
@@ -63,6 +70,7 @@ kept_section n = record {
   landings = n.landings.items;
   records = map (seen n.bytes.now) n.records.items;
   rollbacks = map (rolled n.bytes.now) n.rollbacks.items;
+  transfers = map (took_over n.bytes.now) n.transfers.items;
 }
 
 -- before the first step, where these access records are kept ahead
@@ -76,6 +84,7 @@ kept_at_first records = record {
   landings = [];
   records = records;
   rollbacks = [];
+  transfers = [];
 }
 
 -- how many attempts are open
@@ -112,11 +121,11 @@ landed_in rs (landing.Attempt place) = LandedBy (executed_attempt_at rs place)
 landed_in rs (landing.Transfer i) = LandedFrom i
 landed_in rs landing.Skipped = NotLanded
 
--- where a number was reached by an attempt, it is one of the first so many
-abbrev pub IsLandingAmong : ℕ → told.Landing → Type 0
-IsLandingAmong n (landing.Attempt place) = place < n
-IsLandingAmong n (landing.Transfer i) = ⊤
-IsLandingAmong n landing.Skipped = ⊤
+-- the attempt or the state by which a number was reached is one of so many
+abbrev pub IsLandingAmong : ℕ → ℕ → told.Landing → Type 0
+IsLandingAmong attempts transfers (landing.Attempt place) = place < attempts
+IsLandingAmong attempts transfers (landing.Transfer i) = i < transfers
+IsLandingAmong attempts transfers landing.Skipped = ⊤
 
 abbrev pub section_history_of : ℕ → KeptSection → SectionHistory
 section_history_of e k = record {
@@ -125,17 +134,19 @@ section_history_of e k = record {
   committed = k.last;
   attempts = executed_attempts k;
   fates = k.fates ++ replicate (open_count k) Open;
+  taken = map (λ a. a.taken) k.attempts;
   landings = map (landed_in (executed_attempts k)) k.landings;
   rollbacks = k.rollbacks;
+  transfers = k.transfers;
 }
 
 -- The records of each attempt are there, and no more fates than attempts. It is known of each number up to the last how
--- it was reached, and the attempts that reached one are there.
+-- it was reached, and the attempts and states that reached one are there.
 pub record IsKept (k : KeptSection) : Type 0 where
   pub within : AllByRecursion (λ a. a.from + length a.attempt.certificate ≤ length k.records) k.attempts
   pub fewer : length k.fates ≤ length k.attempts
   pub count : length k.landings ≡ k.last
-  pub there : AllByRecursion (IsLandingAmong (length k.attempts)) k.landings
+  pub there : AllByRecursion (IsLandingAmong (length k.attempts) (length k.transfers)) k.landings
 
 -- ---- while steps come
 
@@ -170,7 +181,10 @@ pub record HasCome (t : Trace) (e : ℕ) (rest : List (ℕ × Step)) (k : KeptSe
   pub is_kept : IsKept k
   pub fates : fates_from 0 (steps_at t e)
       ≡ k.fates ++ (open_fates rest 0 (open_count k) ++ fates_from (open_count k) rest)
+  pub taken : taken_from 0 (steps_at t e)
+      ≡ map (λ a. a.taken) k.attempts ++ taken_from (length k.transfers) rest
   pub rollbacks : k.rollbacks ≡ rollbacks_among front
+  pub transfers : k.transfers ≡ transfers_by (state_after start front).landings
   pub fit : IsTrue (list_all (λ x. is_step (row_count (head_of t)) x.1) rest)
 
 -- an attempt comes next, and this is what its frames say
@@ -186,6 +200,7 @@ pub record AreFramed (n : Notes) : Type 0 where
   pub attempts : AllByRecursion (λ a. IsAttemptAt n.bytes.now a.at) n.attempts.items
   pub records : AllByRecursion (IsAccessAt n.bytes.now) n.records.items
   pub rollbacks : AllByRecursion (IsRollbackAt n.bytes.now) n.rollbacks.items
+  pub transfers : AllByRecursion (IsTransferAt n.bytes.now) n.transfers.items
 
 -- the bytes are the trace, and the frames that are kept stand in them
 pub record AreNotesOf (t : Trace) (n : Notes) : Type 0 where

@@ -1,7 +1,8 @@
 -- The first wrong frame of a section, found step by step. A device: what a fault of structure is, and where it
 -- stands, is said without it.
 use Rattle.std.specs.Prelude.{ℕ, if◌then◌else◌, List, [], ◌∷◌, ◌++◌, Option, Some, None}
-use Rattle.eve_grammar.specs.Trace.{Access, Attempt, Commit, Rollback, Step, Attempts, Commits, RollsBack, Trace}
+use Rattle.eve_grammar.specs.Trace.{Access, Attempt, Commit, Rollback, Transfer, Step, Attempts, Commits, RollsBack}
+use Rattle.eve_grammar.specs.Trace.{TakesOver, Trace}
 use Rattle.eve_grammar.specs.Spelling.{accesses_at}
 use Rattle.eve_views.specs.declared.fault.Code.{Code}
 use Rattle.eve_views.specs.declared.fault.Code.TheVariants as code
@@ -9,7 +10,7 @@ use Rattle.eve_views.specs.declared.fault.Fault.{Fault}
 use Rattle.eve_history.specs.declared.wrong.Wrong.{Wrong}
 use Rattle.eve_grammar.specs.Accesses.{is_new_access, is_right_place}
 use Rattle.eve_history.specs.Section.{SectionState, next, request_count, worker_count, is_right_attempt}
-use Rattle.eve_history.specs.Section.{is_right_certificate, is_right_commit, is_right_rollback}
+use Rattle.eve_history.specs.Section.{is_right_certificate, is_right_commit, is_right_rollback, is_right_transfer}
 
 -- what is wrong at this offset, or else later
 abbrev pub found_or : ℕ → Option Code → Option Wrong → Option Wrong
@@ -46,10 +47,14 @@ wrong_commit s c = if is_right_commit s c then None else Some code.Commit
 abbrev pub wrong_rollback : Trace → SectionState → Rollback → Option Code
 wrong_rollback t s r = if is_right_rollback t s r then None else Some code.Rollback
 
+abbrev pub wrong_transfer : Trace → SectionState → Transfer → Option Code
+wrong_transfer t s x = if is_right_transfer t s x then None else Some code.Transfer
+
 abbrev pub wrong_step : Trace → SectionState → ℕ × Step → Option Wrong
 wrong_step t s (at, Attempts a) = found_or at (wrong_attempt t s a) (wrong_records t a [] (accesses_at at a))
 wrong_step t s (at, Commits c) = found_or at (wrong_commit s c) None
 wrong_step t s (at, RollsBack r) = found_or at (wrong_rollback t s r) None
+wrong_step t s (at, TakesOver x) = found_or at (wrong_transfer t s x) None
 
 -- in these steps, after others that are right
 abbrev pub first_wrong : Trace → SectionState → List (ℕ × Step) → Option Wrong

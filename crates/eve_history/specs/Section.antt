@@ -1,13 +1,13 @@
 -- A replica's section, step by step: where it has come to, and which step is right there.
 -- docs/MODEL.md, "Section state, fate".
 use Rattle.std.specs.Prelude.{ℕ, ◌+◌, ◌-◌, nat_lt, nat_le, ◌==◌, Bool, true, false, ◌&&◌, if◌then◌else◌, List, [], ◌∷◌}
-use Rattle.std.specs.Prelude.{◌++◌, map, length, replicate, slice_index_or, fold, not}
+use Rattle.std.specs.Prelude.{◌++◌, map, length, replicate, slice_index_or, fold, not, ⊤}
 use Rattle.std.specs.Bool.{beq}
 use Rattle.std.specs.Cmp.Lexicographic.{pointwise}
 use Rattle.std.specs.List.{list_any, flat_map}
 use Rattle.eve_smallbank.specs.declared.versioned.Versioned.{Versioned}
 use Rattle.eve_grammar.specs.Trace.{Batch, Access, Attempt, Commit, Rollback, Transfer}
-use Rattle.eve_grammar.specs.Trace.{Step, Attempts, Commits, RollsBack, Trace}
+use Rattle.eve_grammar.specs.Trace.{Step, Attempts, Commits, RollsBack, TakesOver, Trace}
 use Rattle.eve_grammar.specs.Certificate.{is_certificate}
 use Rattle.eve_grammar.specs.Accesses.{is_right_place}
 
@@ -43,6 +43,12 @@ start = record { view = 0; last = 0; landings = []; pending = []; discarded = []
 
 -- ---- what landings tell
 
+-- the number was reached by an attempt
+abbrev pub IsByAttempt : Landing → Type 0
+IsByAttempt (ByAttempt p) = ⊤
+IsByAttempt (ByTransfer at x) = ⊥
+IsByAttempt Skipped = ⊥
+
 -- what happened to the rows where a number was reached so
 abbrev pub came_by : Landing → List Came
 came_by (ByAttempt p) = Ran p.attempt ∷ []
@@ -55,6 +61,13 @@ attempts_by [] = []
 attempts_by (ByAttempt p ∷ landings) = p ∷ attempts_by landings
 attempts_by (ByTransfer at x ∷ landings) = attempts_by landings
 attempts_by (Skipped ∷ landings) = attempts_by landings
+
+-- the states that were taken over, with the offsets of their frames, in order
+abbrev pub transfers_by : List Landing → List (ℕ × Transfer)
+transfers_by [] = []
+transfers_by (ByAttempt p ∷ landings) = transfers_by landings
+transfers_by (ByTransfer at x ∷ landings) = (at, x) ∷ transfers_by landings
+transfers_by (Skipped ∷ landings) = transfers_by landings
 
 -- ---- the next state
 
@@ -86,6 +99,7 @@ next s (at, Attempts a) =
 next s (at, Commits c) = committing s s.pending
 next s (at, RollsBack r) =
     record s { view = r.view; pending = []; discarded = s.discarded ++ s.pending; rolled_back = true }
+next s (at, TakesOver x) = taking_over s at x
 
 abbrev pub state_after : SectionState → List (ℕ × Step) → SectionState
 state_after s steps = fold next s steps
@@ -144,6 +158,10 @@ is_right_commit s c = (c.seq == s.last + 1) && commits_first s.pending c
 abbrev pub is_right_rollback : Trace → SectionState → Rollback → Bool
 is_right_rollback t s r = (r.to == s.last) && (nat_lt s.last (length t.batches) && (r.view == s.view + 1))
 
+-- the state is of a later number, which is one of a batch, and its view is no lower
+abbrev pub is_right_transfer : Trace → SectionState → Transfer → Bool
+is_right_transfer t s x = nat_lt s.last x.seq && (nat_le x.seq (length t.batches) && nat_le s.view x.view)
+
 -- each access is right after those before it
 abbrev pub are_right_accesses : Trace → Attempt → List Access → List Access → Bool
 are_right_accesses t a before [] = true
@@ -156,6 +174,7 @@ is_right t s (Attempts a) =
     is_right_attempt t s a && (is_right_certificate t a && are_right_accesses t a [] a.accesses)
 is_right t s (Commits c) = is_right_commit s c
 is_right t s (RollsBack r) = is_right_rollback t s r
+is_right t s (TakesOver x) = is_right_transfer t s x
 
 -- each step is right after those before it
 abbrev pub are_right : Trace → SectionState → List (ℕ × Step) → Bool

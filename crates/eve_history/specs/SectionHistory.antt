@@ -1,9 +1,9 @@
 -- What a replica's section tells: its attempts, what became of each, and in which order each ran.
 -- docs/MODEL.md, "Section state, fate" and "Certificate order, keeps the groups".
-use Rattle.std.specs.Prelude.{◌≡◌, ℕ, zero, suc, ◌-◌, ◌==◌, IsTrue, if◌then◌else◌, List, [], ◌∷◌, map, Option, None}
-use Rattle.std.specs.Prelude.{Some, slice_get, slice_index_or, Bool, true, false}
-use Rattle.eve_grammar.specs.Trace.{Asked, Access, Attempt, Rollback, Step, Attempts, Commits, RollsBack, Trace}
-use Rattle.eve_grammar.specs.Trace.{no_request}
+use Rattle.std.specs.Prelude.{◌≡◌, ℕ, zero, suc, ◌-◌, ◌<◌, ◌≤◌, ◌==◌, IsTrue, if◌then◌else◌, List, [], ◌∷◌, map}
+use Rattle.std.specs.Prelude.{Option, None, Some, length, slice_get, slice_index_or, Bool, true, false}
+use Rattle.eve_grammar.specs.Trace.{Asked, Access, Attempt, Rollback, Transfer, Step, Attempts, Commits, RollsBack}
+use Rattle.eve_grammar.specs.Trace.{TakesOver, Trace, no_request}
 use Rattle.eve_grammar.specs.Frames.{without_accesses, sections_of}
 use Rattle.eve_grammar.specs.Spelling.{accesses_at, steps_at}
 use Rattle.eve_history.specs.declared.fate.Fate.{Fate}
@@ -11,7 +11,7 @@ use Rattle.eve_history.specs.declared.fate.Fate.TheVariants.{Committed, Discarde
 use Rattle.eve_history.specs.declared.landing.Landing as told
 use Rattle.eve_history.specs.declared.landing.Landing.TheVariants as landing
 use Rattle.eve_history.specs.Section.{Placed, Landing, ByAttempt, ByTransfer, Skipped, SectionState, start}
-use Rattle.eve_history.specs.Section.{state_after, batch_at, are_right}
+use Rattle.eve_history.specs.Section.{state_after, batch_at, are_right, transfers_by, IsByAttempt}
 use Rattle.eve_history.specs.Fates.{fates_from}
 
 -- the attempts among the steps, with the offsets of their frames
@@ -20,6 +20,15 @@ attempts_among [] = []
 attempts_among ((at, Attempts a) ∷ steps) = (at, a) ∷ attempts_among steps
 attempts_among ((at, Commits c) ∷ steps) = attempts_among steps
 attempts_among ((at, RollsBack r) ∷ steps) = attempts_among steps
+attempts_among ((at, TakesOver x) ∷ steps) = attempts_among steps
+
+-- for each of them, how many states were taken over before it, where this many were before the first step
+abbrev pub taken_from : ℕ → List (ℕ × Step) → List ℕ
+taken_from taken [] = []
+taken_from taken ((at, Attempts a) ∷ steps) = taken ∷ taken_from taken steps
+taken_from taken ((at, Commits c) ∷ steps) = taken_from taken steps
+taken_from taken ((at, RollsBack r) ∷ steps) = taken_from taken steps
+taken_from taken ((at, TakesOver x) ∷ steps) = taken_from (suc taken) steps
 
 -- the rollbacks among the steps
 abbrev pub rollbacks_among : List (ℕ × Step) → List (ℕ × Rollback)
@@ -27,6 +36,7 @@ rollbacks_among [] = []
 rollbacks_among ((at, Attempts a) ∷ steps) = rollbacks_among steps
 rollbacks_among ((at, Commits c) ∷ steps) = rollbacks_among steps
 rollbacks_among ((at, RollsBack r) ∷ steps) = (at, r) ∷ rollbacks_among steps
+rollbacks_among ((at, TakesOver x) ∷ steps) = rollbacks_among steps
 
 abbrev pub no_access : ℕ × Access
 no_access = (0, record { worker = 0; place = 0; index = 0; entries = [] })
@@ -72,16 +82,18 @@ is_by_attempt (LandedFrom i) = false
 is_by_attempt NotLanded = false
 
 -- Whose section it is, and whether each of its steps is right; the last number reached; its attempts in the order of
--- their frames, and what became of each; how each number from 1 on was reached; its rollbacks with the offsets of
--- their frames.
+-- their frames, what became of each, and how many states were taken over before it; how each number from 1 on was
+-- reached; its rollbacks, and the states that were taken over, with the offsets of their frames.
 pub record SectionHistory : Type 0 where
   pub replica : ℕ
   pub right : Bool
   pub committed : ℕ
   pub attempts : List ExecutedAttempt
   pub fates : List Fate
+  pub taken : List ℕ
   pub landings : List Landed
   pub rollbacks : List (ℕ × Rollback)
+  pub transfers : List (ℕ × Transfer)
 
 -- how the section reached number n, of the numbers from 1 on
 abbrev pub landed_at : SectionHistory → ℕ → Landed
@@ -91,7 +103,7 @@ landed_at h n = slice_index_or h.landings (n - 1) NotLanded
 abbrev pub IsToldOf : SectionHistory → told.Landing → Landed → Type 0
 IsToldOf h (landing.Attempt i) landed =
     (r : ExecutedAttempt) × (landed ≡ LandedBy r) × (slice_get h.attempts i ≡ Some r)
-IsToldOf h (landing.Transfer i) landed = landed ≡ LandedFrom i
+IsToldOf h (landing.Transfer i) landed = (landed ≡ LandedFrom i) × (i < length h.transfers)
 IsToldOf h landing.Skipped landed = landed ≡ NotLanded
 
 abbrev pub section_history_by : Trace → ℕ → List (ℕ × Step) → SectionHistory
@@ -101,8 +113,10 @@ section_history_by t e steps = record {
   committed = (state_after start steps).last;
   attempts = map executed_attempt (attempts_among steps);
   fates = fates_from 0 steps;
+  taken = taken_from 0 steps;
   landings = landed_from 0 (state_after start steps).landings;
   rollbacks = rollbacks_among steps;
+  transfers = transfers_by (state_after start steps).landings;
 }
 
 -- what replica e's section tells
@@ -152,6 +166,10 @@ is_landing None = false
 abbrev pub is_reached : Trace → ℕ → ℕ → Bool
 is_reached t e zero = true
 is_reached t e (suc n) = is_landing (landing_at t e (suc n))
+
+-- of the numbers up to n replica e skipped none, and reached none by a state that it took over
+abbrev pub ByAttemptsTo : Trace → ℕ → ℕ → Type 0
+ByAttemptsTo t e n = (m : ℕ) (l : Landing) → m ≤ n → landing_at t e m ≡ Some l → IsByAttempt l
 
 -- the request with this index of the attempt's batch
 abbrev pub asked_in : Trace → Attempt → ℕ → Asked

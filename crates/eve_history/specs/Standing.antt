@@ -1,10 +1,10 @@
 -- Frames by the bytes at which they begin. docs/TRACE.md, "Order of frames".
 use Rattle.std.specs.Prelude.{◌≡◌, ℕ, ◌+◌, ◌^◌, ◌<◌, ◌≤◌, IsTrue, List, length, take, drop}
 use Rattle.byteorder.specs.Endian.{big_number}
-use Rattle.eve_grammar.specs.Frames.{OfAttempt, OfAccess, OfRollback}
+use Rattle.eve_grammar.specs.Frames.{OfAttempt, OfAccess, OfRollback, OfTransfer}
 use Rattle.eve_grammar.specs.Spelling.{frame_text}
-use Rattle.eve_frames.specs.Views.{has_attempt_body, has_access_body, has_rollback_body, attempt_in, access_in}
-use Rattle.eve_frames.specs.Views.{rollback_in}
+use Rattle.eve_frames.specs.Views.{has_attempt_body, has_access_body, has_rollback_body, has_transfer_body}
+use Rattle.eve_frames.specs.Views.{attempt_in, access_in, rollback_in, transfer_in}
 
 -- how long the frame is that begins at this byte
 abbrev pub frame_length : List ℕ → ℕ → ℕ
@@ -37,3 +37,9 @@ pub record IsRollbackAt (bytes : List ℕ) (at : ℕ) : Type 0 where
   pub framed : IsFramed bytes at
   pub rollback : IsTrue (has_rollback_body (frame_in bytes at))
   pub text : frame_in bytes at ≡ frame_text (OfRollback (rollback_in (frame_in bytes at)))
+
+-- and it is a Transfer frame, whole and no more
+pub record IsTransferAt (bytes : List ℕ) (at : ℕ) : Type 0 where
+  pub framed : IsFramed bytes at
+  pub transfer : IsTrue (has_transfer_body (frame_in bytes at))
+  pub text : frame_in bytes at ≡ frame_text (OfTransfer (transfer_in (frame_in bytes at)))

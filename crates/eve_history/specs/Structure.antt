@@ -1,14 +1,15 @@
 -- The faults of structure, and where they stand. docs/MODEL.md, "Faults".
 use Rattle.std.specs.Prelude.{◌≡◌, ℕ, IsTrue, IsFalse, List, [], map}
-use Rattle.eve_grammar.specs.Trace.{Access, Attempt, Commit, Rollback, Step, Attempts, Commits, RollsBack, Trace}
+use Rattle.eve_grammar.specs.Trace.{Access, Attempt, Commit, Rollback, Transfer, Step, Attempts, Commits, RollsBack}
+use Rattle.eve_grammar.specs.Trace.{TakesOver, Trace}
 use Rattle.eve_grammar.specs.Spelling.{steps_at, accesses_at}
 use Rattle.eve_grammar.specs.Accesses.{is_right_place}
 use Rattle.eve_views.specs.declared.fault.Code.{Code}
 use Rattle.eve_views.specs.declared.fault.Code.TheVariants as code
 use Rattle.eve_views.specs.Form.{SomePlace}
 use Rattle.eve_history.specs.Section.{SectionState, start, state_after, is_right_attempt, is_right_certificate}
-use Rattle.eve_history.specs.Section.{is_right_access, is_right_commit, is_right_rollback, are_right_accesses}
-use Rattle.eve_history.specs.Section.{are_right}
+use Rattle.eve_history.specs.Section.{is_right_access, is_right_commit, is_right_rollback, is_right_transfer}
+use Rattle.eve_history.specs.Section.{are_right_accesses, are_right}
 
 abbrev pub OfAttempt : Step → (Attempt → Type 0) → Type 0
 OfAttempt (Attempts a) P = P a
@@ -21,6 +22,10 @@ OfCommit _ P = ⊥
 abbrev pub OfRollback : Step → (Rollback → Type 0) → Type 0
 OfRollback (RollsBack r) P = P r
 OfRollback _ P = ⊥
+
+abbrev pub OfTransfer : Step → (Transfer → Type 0) → Type 0
+OfTransfer (TakesOver x) P = P x
+OfTransfer _ P = ⊥
 
 -- of a step of replica e at this offset, before which all steps are right: where the section has come to, and the step
 abbrev pub AtStep : Trace → ℕ → ℕ → (SectionState → Step → Type 0) → Type 0
@@ -49,4 +54,6 @@ StandsInStructure code.WorkerOrder t e at = AtAccess t e at (λ a before x. IsFa
 StandsInStructure code.Commit t e at = AtStep t e at (λ s step. OfCommit step (λ c. IsFalse (is_right_commit s c)))
 StandsInStructure code.Rollback t e at =
     AtStep t e at (λ s step. OfRollback step (λ r. IsFalse (is_right_rollback t s r)))
+StandsInStructure code.Transfer t e at =
+    AtStep t e at (λ s step. OfTransfer step (λ x. IsFalse (is_right_transfer t s x)))
 StandsInStructure _ t e at = ⊥

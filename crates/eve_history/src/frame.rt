@@ -1,10 +1,10 @@
 //! Frames by the bytes at which they begin.
 
 ghost use Rattle.std.specs.Prelude.{◌≡◌};
-ghost use Rattle.eve_history.specs.Standing.{IsFramed, IsAttemptAt, IsAccessAt, IsRollbackAt, frame_in};
+ghost use Rattle.eve_history.specs.Standing.{IsFramed, IsAttemptAt, IsAccessAt, IsRollbackAt, IsTransferAt, frame_in};
 
 use byteorder::{BigEndian, ByteOrder};
-use eve_frames::{AccessView, AttemptView, RollbackView};
+use eve_frames::{AccessView, AttemptView, RollbackView, TransferView};
 
 /// The frame that begins at this byte: its kind, the length of its body, and the body.
 fn frame_at(bytes: &[u8], at: u32) -> &[u8]
@@ -41,4 +41,13 @@ pub fn rollback_at(bytes: &[u8], at: u32) -> RollbackView<'_>
     ensures bytes { result.bytes.now ≡ frame_in bytes.now at }
 {
     RollbackView::new(at as u64, frame_at(bytes, at))
+}
+
+/// The state taken over whose frame begins at this byte.
+pub fn transfer_at(bytes: &[u8], at: u32) -> TransferView<'_>
+    requires { IsTransferAt bytes.now at }
+    ensures offset { result.offset ≡ at }
+    ensures bytes { result.bytes.now ≡ frame_in bytes.now at }
+{
+    TransferView::new(at as u64, frame_at(bytes, at))
 }

@@ -2,9 +2,9 @@
 
 ghost use Rattle.std.specs.Prelude.{◌≡◌, ◌≤◌, ◌<◌, ◌-◌, ℕ, Some, IfOk, IfErr, IsTrue, length, slice_get, IfSome};
 ghost use Rattle.eve_grammar.specs.Trace.{Trace as TraceValue};
-ghost use Rattle.eve_grammar.specs.Frames.{OfAttempt, OfAccess, OfRollback};
+ghost use Rattle.eve_grammar.specs.Frames.{OfAttempt, OfAccess, OfRollback, OfTransfer};
 ghost use Rattle.eve_grammar.specs.Spelling.{frame_text, steps_at};
-ghost use Rattle.eve_frames.specs.Said.{access_said, attempt_said, rollback_said};
+ghost use Rattle.eve_frames.specs.Said.{access_said, attempt_said, rollback_said, transfer_said};
 ghost use Rattle.eve_views.specs.Form.{IfFound, IsLeast, HasNone, IsFaultIn};
 ghost use Rattle.eve_views.specs.Lent.{HasBytesAt};
 ghost use Rattle.eve_history.specs.SectionHistory.{ExecutedAttempt, section_history, section_histories, IsRightSection};
@@ -14,18 +14,18 @@ ghost use Rattle.eve_history.specs.SideBySide.{AreOrdered};
 ghost use Rattle.eve_history.specs.Structure.{StandsInStructure};
 
 use crate::fate::Fate;
-use crate::frame::{access_at, attempt_at, rollback_at};
+use crate::frame::{access_at, attempt_at, rollback_at, transfer_at};
 use crate::landing::Landing;
 use crate::side_by_side::order_all;
 use crate::structure::{Notes, take, take_ahead};
-use eve_frames::{AccessView, AttemptView, RollbackView};
+use eve_frames::{AccessView, AttemptView, RollbackView, TransferView};
 use eve_views::{CheckFault, Trace};
 use std::alloc::{AllocError, Global};
 use std::marker::Model;
 use std::thread::Threads;
 
-/// What a replica did, as its section tells it: its attempts, what became of each and in which order each ran, and its
-/// rollbacks. Attempts and rollbacks are numbered from 0, in the order of their frames.
+/// What a replica did, as its section tells it: its attempts, what became of each and in which order each ran, its
+/// rollbacks, and the states that it took over. Each of the three is numbered from 0, in the order of the frames.
 ///
 /// docs/MODEL.md, "Section state, fate".
 #[derive(Drop)]
@@ -252,6 +252,14 @@ impl<'a> History<'a> {
         }
     }
 
+    /// How many states the replica took over before an attempt.
+    pub fn taken_before(&self, i: usize) -> u32
+        requires { i < length self.now.attempts }
+        ensures { slice_get self.now.taken i ≡ Some result }
+    {
+        self.notes().attempts[i].taken
+    }
+
     /// The access record that an attempt's certificate lists at a place, from 0.
     pub fn ordered(&self, i: usize, place: usize) -> AccessView<'a>
         requires attempt { i < length self.now.attempts }
@@ -286,5 +294,24 @@ impl<'a> History<'a> {
     {
         let notes = self.notes();
         rollback_at(notes.bytes, notes.rollbacks[i])
+    }
+
+    /// How many states the replica took over.
+    pub fn transfers(&self) -> usize
+        ensures { result ≡ length self.now.transfers }
+    {
+        self.notes().transfers.len()
+    }
+
+    /// A state that the replica took over.
+    pub fn transfer(&self, i: usize) -> TransferView<'a>
+        requires { i < length self.now.transfers }
+        ensures says { slice_get self.now.transfers i ≡ Some (result.offset, transfer_said result) }
+        ensures text { result.bytes.now ≡ frame_text (OfTransfer (transfer_said result)) }
+        ensures stands { (t : TraceValue) (e : ℕ) → self.now ≡ section_history t e
+            → HasBytesAt t result.offset result.bytes.now }
+    {
+        let notes = self.notes();
+        transfer_at(notes.bytes, notes.transfers[i])
     }
 }

@@ -1,19 +1,20 @@
 //! Laws about the definitions. Each body is empty: the contract is the law.
 
-ghost use Rattle.std.specs.Prelude.{◌≡◌, ◌≤◌, ◌+◌, ◌-◌, ◌∷◌, ◌++◌, ℕ, suc, List, Some, IsTrue, map, length};
+ghost use Rattle.std.specs.Prelude.{◌≡◌, ◌≤◌, ◌+◌, ◌-◌, ◌∷◌, ◌++◌, ℕ, suc, List, Some, IsTrue, IsFalse, map, length};
 ghost use Rattle.std.specs.Prelude.{slice_get};
-ghost use Rattle.eve_grammar.specs.Trace.{Step, Access, Attempt, Attempts, Vote, Trace};
-ghost use Rattle.eve_grammar.specs.Frames.{Frame, OfAccess, OfVote};
+ghost use Rattle.eve_grammar.specs.Trace.{Step, Access, Attempt, Transfer, Attempts, TakesOver, Vote, Trace};
+ghost use Rattle.eve_grammar.specs.Frames.{Frame, OfAccess, OfVote, has_transfers};
+ghost use Rattle.eve_grammar.specs.Limits.{HasLimits};
 ghost use Rattle.eve_history.specs.SectionHistory.{executed_attempt, section_history, IsRightSection, history};
 ghost use Rattle.eve_history.specs.SectionHistory.{placed_at, picked, is_committed, is_discarded, attempts_among};
-ghost use Rattle.eve_history.specs.SectionHistory.{ExecutedAttempt, LandedBy, is_by_attempt, landed_at, committed_at};
-ghost use Rattle.eve_history.specs.SectionHistory.{is_reached};
+ghost use Rattle.eve_history.specs.SectionHistory.{ExecutedAttempt, LandedBy, committed_at};
+ghost use Rattle.eve_history.specs.SectionHistory.{is_reached, landing_at, ByAttemptsTo, LandedFrom, NotLanded};
 ghost use Rattle.eve_grammar.specs.Spelling.{length_of, frame_text, step_text, frames_at, steps_at, accesses_at};
 ghost use Rattle.eve_grammar.specs.Spelling.{votes_at};
 ghost use Rattle.eve_views.specs.Lent.{HasBytesAt};
 ghost use Rattle.eve_views.specs.declared.fault.Fault.{Fault};
 ghost use Rattle.eve_views.specs.Form.{IsFaultOutside, IsFaultIn};
-ghost use Rattle.eve_history.specs.Section.{Placed, start, state_after, attempts_by};
+ghost use Rattle.eve_history.specs.Section.{Placed, Landing, ByTransfer, Skipped, start, state_after, attempts_by};
 ghost use Rattle.eve_history.specs.Fates.{fates_from};
 ghost use Rattle.eve_history.specs.Order.{StandsInOrders};
 ghost use Rattle.eve_history.specs.Structure.{StandsInStructure};
@@ -30,8 +31,9 @@ pub fn fates_are_as_the_section_ends()
 /// Of each number up to the last, from 1 on, a right section tells how it was reached. It tells an attempt exactly
 /// where it was reached by that attempt, which is of that batch; then the number before it is reached, and 0 always is.
 /// An attempt's number is one more than those that are reached or skipped, and those of the open attempts, before it.
+/// So it is with the states that were taken over.
 ///
-/// No step takes a state over yet: so each number is reached by an attempt (`by_attempts`, `are_by_attempt`).
+/// In a trace of a version without transfers each number is reached by an attempt (`by_attempts`).
 pub fn numbers_are_reached()
     ensures count { (t : Trace) (e : ℕ) → IsRightSection t e → length (section_history t e).landings
         ≡ (section_history t e).committed }
@@ -47,10 +49,24 @@ pub fn numbers_are_reached()
         → a.seq ≡ suc (length (state_after start front).landings + length (state_after start front).pending) }
     ensures before { (t : Trace) (e n : ℕ) (p : Placed) → IsRightSection t e → committed_at t e (suc n) ≡ Some p
         → IsTrue (is_reached t e n) }
-    ensures by_attempts { (t : Trace) (e n : ℕ) → IsRightSection t e → 1 ≤ n → n ≤ (section_history t e).committed
-        → (p : Placed) × (committed_at t e n ≡ Some p) }
-    ensures are_by_attempt { (t : Trace) (e n : ℕ) → IsRightSection t e → 1 ≤ n
-        → n ≤ (section_history t e).committed → IsTrue (is_by_attempt (landed_at (section_history t e) n)) }
+    ensures told_transfer { (t : Trace) (e n at : ℕ) (x : Transfer) → landing_at t e n ≡ Some (ByTransfer at x)
+        → (i : ℕ) × (slice_get (section_history t e).landings (n - 1) ≡ Some (LandedFrom i))
+        × (slice_get (section_history t e).transfers i ≡ Some (at, x)) }
+    ensures tells_transfer { (t : Trace) (e n i : ℕ) → 1 ≤ n
+        → slice_get (section_history t e).landings (n - 1) ≡ Some (LandedFrom i)
+        → (at : ℕ) × (x : Transfer) × (landing_at t e n ≡ Some (ByTransfer at x))
+        × (slice_get (section_history t e).transfers i ≡ Some (at, x)) }
+    ensures tells_skipped { (t : Trace) (e n : ℕ) → 1 ≤ n
+        → slice_get (section_history t e).landings (n - 1) ≡ Some NotLanded → landing_at t e n ≡ Some Skipped }
+    ensures transfers { (t : Trace) (e n at : ℕ) (x : Transfer) → IsRightSection t e
+        → landing_at t e n ≡ Some (ByTransfer at x) → (x.seq ≡ n) × ((k : ℕ)
+        × (slice_get (steps_at t e) k ≡ Some (at, TakesOver x))) }
+    ensures lands { (t : Trace) (e k at : ℕ) (x : Transfer) → IsRightSection t e
+        → slice_get (steps_at t e) k ≡ Some (at, TakesOver x) → landing_at t e x.seq ≡ Some (ByTransfer at x) }
+    ensures there { (t : Trace) (e n : ℕ) → IsRightSection t e → 1 ≤ n → n ≤ (section_history t e).committed
+        → (l : Landing) × (landing_at t e n ≡ Some l) }
+    ensures by_attempts { (t : Trace) (e n : ℕ) → HasLimits t → IsFalse (has_transfers t.head.version)
+        → ByAttemptsTo t e n }
 {}
 
 /// Faults of orders and of structure stand within the trace.

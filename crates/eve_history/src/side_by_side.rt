@@ -47,6 +47,7 @@ fn meet<'t, 'a>(mets: &mut Vec<MetAttempt<'t, 'a>>, step: Step<'t, 'a>) -> Resul
         }
         Step::Commit(_) => Ok(()),
         Step::Rollback(_) => Ok(()),
+        Step::Transfer(_) => Ok(()),
     }
 }
 

@@ -5,15 +5,15 @@ ghost use Rattle.std.specs.Prelude.{◌==◌, ◌&&◌, ◌+◌, false, map, len
 ghost use Rattle.std.specs.List.{AllByRecursion};
 ghost use Rattle.std.specs.Cmp.Lexicographic.{pointwise};
 ghost use Rattle.eve_grammar.specs.Trace.{Trace as TraceValue, Attempt, Step as StepValue, Attempts, Commits};
-ghost use Rattle.eve_grammar.specs.Trace.{RollsBack, head_of};
+ghost use Rattle.eve_grammar.specs.Trace.{RollsBack, TakesOver, head_of};
 ghost use Rattle.eve_grammar.specs.Frames.{without_accesses};
 ghost use Rattle.eve_grammar.specs.Spelling.{accesses_at};
-ghost use Rattle.eve_frames.specs.Said.{attempt_said, commit_said, rollback_said};
+ghost use Rattle.eve_frames.specs.Said.{attempt_said, commit_said, rollback_said, transfer_said};
 ghost use Rattle.eve_views.specs.Form.{IfFound, IsLeast, IsFaultIn};
 ghost use Rattle.eve_views.specs.declared.fault.CheckFault.TheVariants.{Found};
 ghost use Rattle.eve_views.specs.StepKinds.{IsStep};
 ghost use Rattle.eve_history.specs.Section.{SectionState, is_due, is_right_commit, is_right_rollback};
-ghost use Rattle.eve_history.specs.Section.{worker_count};
+ghost use Rattle.eve_history.specs.Section.{worker_count, is_right_transfer};
 ghost use Rattle.eve_history.specs.FirstWrong.{wrong_attempt, wrong_step, fault_of};
 ghost use Rattle.eve_history.specs.Marking.{AreMarked};
 ghost use Rattle.eve_history.specs.Coming.{kept_section, StandsAt, HasCome, ComesNext, AreFramed, AreNotesOf};
@@ -27,16 +27,19 @@ use crate::fate::Fate;
 use crate::frame::attempt_at;
 use crate::landing::Landing;
 use crate::wrong::Wrong;
-use eve_frames::{AttemptView, CommitView, RollbackView};
+use eve_frames::{AttemptView, CommitView, RollbackView, TransferView};
 use eve_grammar::{Head, MOST_REQUESTS, MOST_WORKERS};
 use eve_views::{Accesses, CheckFault, Code, Fault, Step, Trace};
 use std::alloc::{AllocError, Global};
 
-/// An attempt, and where its access records begin among those of the section.
+/// An attempt, how many states were taken over before it, and where its access records begin among those of the
+/// section.
 #[derive(Clone, Copy)]
 pub struct Attempted {
     /// The byte at which its frame begins.
     pub at: u32,
+    /// How many states were taken over before it.
+    pub taken: u32,
     /// The place of the record that stands first in its certificate's order.
     pub from: usize,
 }
@@ -62,6 +65,8 @@ pub struct Notes<'a> {
     pub records: Vec<u32>,
     /// The rollbacks, in the order of their frames.
     pub rollbacks: Vec<u32>,
+    /// The states that were taken over, in the order of their frames.
+    pub transfers: Vec<u32>,
 }
 
 /// The fault in this replica's section.
@@ -119,6 +124,7 @@ impl<'a> Notes<'a> {
         ensures attempts { result.attempts.items ≡ [] }
         ensures records { result.records.items ≡ [] }
         ensures rollbacks { result.rollbacks.items ≡ [] }
+        ensures transfers { result.transfers.items ≡ [] }
         ensures kept { kept_section result ≡ kept_at_first [] }
     {
         Notes::with_records(alloc, bytes, Vec::new(alloc))
@@ -130,6 +136,7 @@ impl<'a> Notes<'a> {
         ensures attempts { result.attempts.items ≡ [] }
         ensures records { result.records.items ≡ records.items }
         ensures rollbacks { result.rollbacks.items ≡ [] }
+        ensures transfers { result.transfers.items ≡ [] }
         ensures kept { kept_section result ≡ kept_at_first (map (seen bytes.now) records.items) }
     {
         Notes {
@@ -142,6 +149,7 @@ impl<'a> Notes<'a> {
             landings: Vec::new(alloc),
             records,
             rollbacks: Vec::new(alloc),
+            transfers: Vec::new(alloc),
         }
     }
 
@@ -212,6 +220,14 @@ impl<'a> Notes<'a> {
             && rollback.view() as u64 == self.view as u64 + 1
     }
 
+    /// Whether the state is of a later number, which is one of a batch, and its view is no lower.
+    fn takes_over(&self, head: &Head, transfer: &TransferView<'_>) -> bool
+        ensures { (t : TraceValue) (s : SectionState) → StandsAt s (kept_section self.now) → head.now ≡ head_of t
+            → result ≡ is_right_transfer t s (transfer_said transfer.now) }
+    {
+        self.last < transfer.seq() && transfer.seq() <= head.batches && self.view <= transfer.view()
+    }
+
     /// What is wrong with the next attempt; where nothing is, its access records are marked.
     fn judge(
         &self,
@@ -273,9 +289,11 @@ impl<'a> Notes<'a> {
             return Err(fault_in(e, wrong));
         }
         let from = self.records.len();
+        let taken = self.transfers.len() as u32;
         keep_records(&mut self.records, order, &marks)?;
         self.attempts.push(Attempted {
             at: attempt.offset() as u32,
+            taken,
             from,
         })?;
         self.rolled_back = false;
@@ -301,8 +319,10 @@ impl<'a> Notes<'a> {
             return Ok(None);
         }
         let next = from + attempt.len();
+        let taken = self.transfers.len() as u32;
         self.attempts.push(Attempted {
             at: attempt.offset() as u32,
+            taken,
             from,
         })?;
         self.rolled_back = false;
@@ -380,6 +400,53 @@ impl<'a> Notes<'a> {
         self.rolled_back = true;
         Ok(())
     }
+
+    /// Takes the next state over, which discards all open attempts and skips the numbers before its own, or says that
+    /// it is wrong.
+    pub fn take_transfer(
+        &mut self,
+        trace: &Trace<'_>,
+        e: u8,
+        transfer: &TransferView<'_>,
+    ) -> Result<(), CheckFault>
+        requires noted { AreNotesOf trace.now self.old }
+        requires comes { (rest : List (ℕ × StepValue))
+            × HasCome trace.now e ((transfer.now.offset, TakesOver (transfer_said transfer.now)) ∷ rest)
+            (kept_section self.old) }
+        ensures taken { OnOk result
+            ((rest : List (ℕ × StepValue))
+            → HasCome trace.now e ((transfer.now.offset, TakesOver (transfer_said transfer.now)) ∷ rest)
+            (kept_section self.old)
+            → HasCome trace.now e rest (kept_section self.new)) }
+        ensures noted { OnOk result (AreNotesOf trace.now self.new) }
+        ensures records { OnOk result (self.new.records.items ≡ self.old.records.items) }
+        ensures wrong { IfErr result
+            (λ x. IfFound x (λ f. (rest : List (ℕ × StepValue))
+            → HasCome trace.now e ((transfer.now.offset, TakesOver (transfer_said transfer.now)) ∷ rest)
+            (kept_section self.old)
+            → IsLeast (IsFaultIn StandsInStructure trace.now e) f)) }
+    {
+        if !self.takes_over(&trace.head(), transfer) {
+            return Err(fault_in(
+                e,
+                Wrong {
+                    code: Code::Transfer,
+                    offset: transfer.offset(),
+                },
+            ));
+        }
+        let place = self.transfers.len() as u32;
+        self.transfers.push(transfer.offset() as u32)?;
+        let all = self.attempts.len();
+        self.fates.resize(all, Fate::Discarded)?;
+        let seq = transfer.seq();
+        self.landings.resize(seq as usize - 1, Landing::Skipped)?;
+        self.landings.push(Landing::Transfer(place))?;
+        self.last = seq;
+        self.view = transfer.view();
+        self.rolled_back = false;
+        Ok(())
+    }
 }
 
 /// Takes the next step of a replica's section, or says what is wrong with it.
@@ -405,6 +472,7 @@ pub fn take<'a>(
         Step::Attempt(attempt, accesses) => notes.take_attempt(trace, e, &attempt, &accesses),
         Step::Commit(commit) => notes.take_commit(e, &commit),
         Step::Rollback(rollback) => notes.take_rollback(trace, e, &rollback),
+        Step::Transfer(transfer) => notes.take_transfer(trace, e, &transfer),
     }
 }
 
@@ -442,6 +510,10 @@ pub fn take_ahead<'a>(
         }
         Step::Rollback(rollback) => {
             let right = is_taken(notes.take_rollback(trace, e, &rollback))?;
+            Ok(if right { Some(from) } else { None })
+        }
+        Step::Transfer(transfer) => {
+            let right = is_taken(notes.take_transfer(trace, e, &transfer))?;
             Ok(if right { Some(from) } else { None })
         }
     }

@@ -15,9 +15,10 @@ kind_name-short kind =
     (either_short (kind == 18) _ _ (lit≤ tt)
     (either_short (kind == 19) _ _ (lit≤ tt)
     (either_short (kind == 20) _ _ (lit≤ tt)
+    (either_short (kind == 21) _ _ (lit≤ tt)
     (either_short (kind == 32) _ _ (lit≤ tt)
     (either_short (kind == 33) _ _ (lit≤ tt)
-    (either_short (kind == 48) _ _ (lit≤ tt) (lit≤ tt))))))))))
+    (either_short (kind == 48) _ _ (lit≤ tt) (lit≤ tt)))))))))))
 
 pub named_short : (name : List ℕ) (kind : ℕ) → name ≡ kind_name kind → length name ≤ 8
 named_short name kind is = subst (λ (n : List ℕ). length n ≤ 8) (sym is) (kind_name-short kind)

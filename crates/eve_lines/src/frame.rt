@@ -10,8 +10,10 @@ use crate::batch::BatchWords;
 use crate::line::{LINE_ROOM, LONGEST_PART, Line, put, put_number};
 use crate::rollback::RollbackWords;
 use crate::short::{put_commit, put_customer, put_sent, put_vote};
+use crate::transfer::{TransferWords, is_state_body};
 use eve_frames::{
-    AccessView, AttemptView, BatchView, CommitView, CustomerView, RollbackView, SentView, VoteView,
+    AccessView, AttemptView, BatchView, CommitView, CustomerView, RollbackView, SentView,
+    TransferView, VoteView,
 };
 use eve_grammar::{
     FRAME_HEAD_LEN, FrameKind, MOST_BATCHES, MOST_REPLICAS, MOST_ROWS, batch_number,
@@ -38,6 +40,7 @@ enum Words<'a> {
     Access(AccessView<'a>),
     Commit(CommitView<'a>),
     Rollback(RollbackWords<'a>),
+    Transfer(TransferWords<'a>),
     Vote(VoteView<'a>),
     Sent(SentView<'a>),
 }
@@ -56,6 +59,9 @@ fn words_of_lists(kind: FrameKind, frame: &[u8]) -> Words<'_>
         }
         FrameKind::Rollback if is_rollback_body(MOST_ROWS, body) => {
             Words::Rollback(RollbackWords::new(RollbackView::new(0, frame)))
+        }
+        FrameKind::Transfer if is_state_body(body) => {
+            Words::Transfer(TransferWords::new(TransferView::new(0, frame)))
         }
         _ => Words::None,
     }
@@ -110,7 +116,8 @@ impl<'a> FrameWords<'a> {
         requires { array_vec_len line.old + LONGEST_PART ≤ LINE_ROOM }
     {
         match &self.words {
-            Words::None | Words::Batch(_) | Words::Attempt(_) | Words::Rollback(_) => {}
+            Words::None | Words::Batch(_) | Words::Attempt(_) => {}
+            Words::Rollback(_) | Words::Transfer(_) => {}
             Words::Customer(number, customer) => put_customer(line, *number, customer),
             Words::Replica(replica) => {
                 put(line, " replica ");
@@ -135,6 +142,7 @@ impl<'a> FrameWords<'a> {
             Words::Batch(words) => words.fill(line),
             Words::Attempt(words) => words.fill(line),
             Words::Rollback(words) => words.fill(line),
+            Words::Transfer(words) => words.fill(line),
             _ => {
                 self.put_short(line);
                 false

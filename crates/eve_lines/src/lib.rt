@@ -14,6 +14,7 @@ mod request;
 mod rollback;
 mod short;
 mod token;
+mod transfer;
 
 pub use entry::{kind_word, put_entry};
 pub use frame::FrameWords;

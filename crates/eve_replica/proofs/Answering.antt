@@ -6,7 +6,8 @@ use Rattle.std.proofs.lemmas.Bool.{cases_lt}
 use Rattle.std.proofs.lemmas.List.{drop_all, drop_more, get_or-map, append-nil}
 use Rattle.std.proofs.lemmas.Option.{slice_get_cases, slice_get_within, get_or_from_slice_get}
 use Rattle.eve_smallbank.specs.declared.request.Reply.{Reply}
-use Rattle.eve_grammar.specs.Trace.{Asked, Batch, Attempt, Attempts, Commit, Commits, Rollback, RollsBack, Step, Sent}
+use Rattle.eve_grammar.specs.Trace.{Asked, Batch, Attempt, Attempts, Commit, Commits, Rollback, RollsBack, Step, Sent, TakesOver}
+use Rattle.eve_grammar.specs.Trace.{Transfer}
 use Rattle.eve_write.specs.declared.step.Step as code
 use Rattle.eve_write.specs.Data.{section, step}
 use Rattle.eve_replica.specs.declared.server.Server.{Server}
@@ -134,6 +135,16 @@ pub rollback_sent : (batches : List Batch) (e : ℕ) (opened : List Attempt) (r 
 rollback_sent batches e opened r steps i before all there is was =
     let next : drop i steps ≡ RollsBack r ∷ drop (i + 1) steps =
     drop_more steps i (RollsBack r) there ∙ ap (λ (x : Step). x ∷ drop (i + 1) steps) is in
+    ap (λ (xs : List Step). before ++ sent_along batches e opened xs) (sym next) ∙ was
+
+-- nor after a state that was taken over
+pub transfer_sent : (batches : List Batch) (e : ℕ) (opened : List Attempt) (x : Transfer) (steps : List Step) (i : ℕ)
+    (before all : List Sent) → i < length steps → get_or steps i (TakesOver x) ≡ TakesOver x
+    → before ++ sent_along batches e opened (drop i steps) ≡ all
+    → before ++ sent_along batches e [] (drop (i + 1) steps) ≡ all
+transfer_sent batches e opened x steps i before all there is was =
+    let next : drop i steps ≡ TakesOver x ∷ drop (i + 1) steps =
+    drop_more steps i (TakesOver x) there ∙ ap (λ (y : Step). y ∷ drop (i + 1) steps) is in
     ap (λ (xs : List Step). before ++ sent_along batches e opened xs) (sym next) ∙ was
 
 -- the section has ended

@@ -5,7 +5,7 @@ use Rattle.std.proofs.Common.{eq-eqb, arith}
 use Rattle.std.proofs.lemmas.Bool.{ne_eqb}
 use Rattle.std.proofs.lemmas.List.{append-nil, map-append, drop-map}
 use Rattle.std.proofs.lemmas.Option.{slice_get-map}
-use Rattle.eve_grammar.specs.Trace.{Attempt, Step, Rollback, Attempts, Commits, RollsBack}
+use Rattle.eve_grammar.specs.Trace.{Attempt, Step, Rollback, Attempts, Commits, RollsBack, TakesOver}
 use Rattle.eve_attempts.specs.Ledgers.{Ledger, Opened}
 use Rattle.eve_replica.specs.Deciding.{token_given_up, open_after}
 use Rattle.eve_replica.specs.Sections.{RunPlan, GoesThrough}
@@ -24,6 +24,7 @@ none_more view opened (Commits c ∷ steps) x none = none_more view (drop 1 open
 none_more view opened (RollsBack r ∷ steps) x none =
     ap (λ (rest : Option (List ℕ)). if r.view == view then slice_get opened 0 else rest)
     (none_more view [] steps x none)
+none_more view opened (TakesOver y ∷ steps) x none = none_more view [] steps x none
 
 -- such as a rollback to another view
 pub other_view : (view : ℕ) (r : Rollback) → r.view ≢ view → GivesNone view (RollsBack r)
@@ -48,6 +49,7 @@ view_rises p (Commits x ∷ steps) a b goes =
 view_rises p (RollsBack x ∷ steps) a b goes =
     let here = ap (λ (s : Ledger). s.view) goes.1.1.changed in
     let rest = view_rises p steps goes.0 b goes.2 in omega arith
+view_rises p (TakesOver x ∷ steps) a b goes = absurd goes.1
 
 -- For a view to which a section doesn't come, what its next steps give up is of what it leaves open.
 pub given_up_along : (p : RunPlan) (view : ℕ) (steps rest : List Step) (a b : Ledger) → GoesThrough p steps a b
@@ -77,6 +79,7 @@ given_up_along p view (RollsBack x ∷ steps) rest a b goes none =
     (ne_eqb x.view view (λ same. let past = none (omega arith) in omega arith))
     ∙ ap (λ (ts : List (List ℕ)). token_given_up view ts (steps ++ rest)) (sym (ap tokens_of made.changed))
     ∙ given_up_along p view steps rest goes.0 b goes.2 (λ up. none (omega arith))
+given_up_along p view (TakesOver x ∷ steps) rest a b goes none = absurd goes.1
 
 -- For such a view nothing was given up,
 pub none_given_up : (p : RunPlan) (view : ℕ) (steps : List Step) (b : Ledger) → p.first.opened ≡ []
@@ -128,6 +131,7 @@ open_along p (Commits x ∷ steps) opened a b goes marked =
     ∙ sym (ap (λ (s : Ledger). map open_marked s.opened) goes.1.changed))
 open_along p (RollsBack x ∷ steps) opened a b goes marked =
     open_along p steps [] goes.0 b goes.2 (sym (ap (λ (s : Ledger). map open_marked s.opened) goes.1.1.changed))
+open_along p (TakesOver x ∷ steps) opened a b goes marked = absurd goes.1
 
 -- the first of them
 pub first_open : (attempts : List Attempt) (own : Opened) (others : List Opened)

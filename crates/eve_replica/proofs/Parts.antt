@@ -6,8 +6,8 @@ use Rattle.std.proofs.lemmas.List.{length-map}
 use Rattle.std.proofs.lemmas.List.Elements.{All-head, All-tail}
 use Rattle.std.specs.List.{list_all}
 use Rattle.std.specs.declared.alloc.Global.{Global}
-use Rattle.eve_grammar.specs.Trace.{Step, Vote, head_of}
-use Rattle.eve_grammar.specs.Limits.{is_head, is_customer, is_batch, is_step, is_vote, is_sent}
+use Rattle.eve_grammar.specs.Trace.{Step, Attempts, Commits, RollsBack, TakesOver, Vote, head_of}
+use Rattle.eve_grammar.specs.Limits.{is_head, is_customer, is_batch, is_step, is_of_version, is_vote, is_sent}
 use Rattle.eve_grammar.specs.declared.head.Head.{Head}
 use Rattle.eve_write.specs.declared.vote.VoteData.{VoteData}
 use Rattle.eve_write.specs.declared.parts.Parts.{Parts}
@@ -16,7 +16,8 @@ use Rattle.eve_write.specs.Writable.{fits_vote, HasSpelling}
 use Rattle.eve_workload.specs.declared.mixer.MixedBatch.{MixedBatch}
 use Rattle.eve_replica.specs.declared.server.Server.{Server}
 use Rattle.eve_replica.specs.declared.standing.Standing.{Standing}
-use Rattle.eve_replica.specs.Sections.{RunPlan}
+use Rattle.eve_attempts.specs.Ledgers.{Ledger}
+use Rattle.eve_replica.specs.Sections.{RunPlan, GoesThrough}
 use Rattle.eve_replica.specs.Serving.{IsRightMixed, Serves, AreVotesOn, AreReplies}
 
 pub sections_fit : (p : RunPlan) (at : Standing) (votes : List Vote) (servers : List Server)
@@ -28,6 +29,25 @@ sections_fit p at votes (s ∷ servers) serve =
     let P : ℕ → Type 0 = λ n. list_all (is_step n) (section s.steps) ≡ true in
     and_from (list_all (is_step (2 * length p.names)) (section s.steps)) _ (subst P first.rows first.steps)
     (sections_fit p at votes servers (All-tail (Serves p at votes) s servers serve))
+
+-- no state is taken over, so each step is one of any version
+kinds_through : (version : ℕ) (p : RunPlan) (steps : List Step) (a b : Ledger) → GoesThrough p steps a b
+    → list_all (is_of_version version) steps ≡ true
+kinds_through version p [] a b goes = refl
+kinds_through version p (Attempts x ∷ steps) a b goes = kinds_through version p steps goes.0 b goes.2
+kinds_through version p (Commits x ∷ steps) a b goes = kinds_through version p steps goes.0 b goes.2
+kinds_through version p (RollsBack x ∷ steps) a b goes = kinds_through version p steps goes.0 b goes.2
+kinds_through version p (TakesOver x ∷ steps) a b goes = absurd goes.1
+
+pub kinds_fit : (version : ℕ) (p : RunPlan) (at : Standing) (votes : List Vote) (servers : List Server)
+    → All (Serves p at votes) servers
+    → list_all (list_all (is_of_version version)) (map (λ s. section s.steps) servers) ≡ true
+kinds_fit version p at votes [] serve = refl
+kinds_fit version p at votes (s ∷ servers) serve =
+    and_from (list_all (is_of_version version) (section s.steps)) _
+    (kinds_through version p (section s.steps) p.first s.replica.ledger
+    (All-head (Serves p at votes) s servers serve).through)
+    (kinds_fit version p at votes servers (All-tail (Serves p at votes) s servers serve))
 
 -- each verifier has these votes
 abbrev Copies : List VoteData → Vec VoteData Global → Type 0
@@ -102,6 +122,8 @@ spelled p h plan mixed at led servers given head right named customers batches m
         batches = subst (λ bs. IsTrue (list_all is_batch bs)) (sym batches) (batches_fit plan.names mixed mix);
         sections = subst (Fit (2 * (head_of (trace p)).customers)) (sym sections)
             (subst (λ n. Fit n (map (λ s. section s.steps) servers)) rows (sections_fit plan at led servers serve));
+        kinds = subst (λ (ss : List (List Step)). IsTrue (list_all (list_all (is_of_version p.version)) ss)) (sym sections)
+            (kinds_fit p.version plan at led servers serve);
         votes = subst (λ n. IsTrue (list_all (list_all (is_vote n)) (trace p).verifiers)) (sym many)
             (votes_fit (length mixed) given p.verifiers.items votes each);
         sent = subst (λ n. IsTrue (list_all (is_sent n (length (trace p).batches)) (trace p).sent)) (sym replicas)

@@ -3,7 +3,7 @@ use Rattle.std.proofs.Common.{◌≡◌, ◌+◌, List, [], ◌∷◌, ◌++◌,
 use Rattle.std.proofs.Common.{add-zero, arith}
 use Rattle.std.proofs.lemmas.List.{append-nil}
 use Rattle.std.proofs.lemmas.Grind.{flat_map-append}
-use Rattle.eve_grammar.specs.Trace.{Step, Attempts, Commits, RollsBack, Vote}
+use Rattle.eve_grammar.specs.Trace.{Step, Attempts, Commits, RollsBack, TakesOver, Vote}
 use Rattle.eve_attempts.specs.Ledgers.{Ledger}
 use Rattle.eve_replica.specs.Sections.{RunPlan, MakesOf, GoesThrough, votes_on, votes_along, commits_in}
 
@@ -31,3 +31,4 @@ commits_through p (Commits x ∷ steps) a b goes =
     omega arith
 commits_through p (RollsBack x ∷ steps) a b goes =
     commits_through p steps goes.0 b goes.2 ∙ ap (λ (s : Ledger). s.committed + commits_in steps) goes.1.1.changed
+commits_through p (TakesOver x ∷ steps) a b goes = absurd goes.1

@@ -3,7 +3,7 @@ use Rattle.std.specs.Prelude.{◌≡◌, ◌≢◌, ℕ, ◌+◌, ◌*◌, ◌�
 use Rattle.std.specs.Prelude.{length, drop, slice_get, Option, Some, None}
 use Rattle.std.specs.Str.{bytes_eq}
 use Rattle.std.specs.List.{count_by}
-use Rattle.eve_grammar.specs.Trace.{Attempt, Step, Attempts, Commits, RollsBack, Vote, ForCommit}
+use Rattle.eve_grammar.specs.Trace.{Attempt, Step, Attempts, Commits, RollsBack, TakesOver, Vote, ForCommit}
 use Rattle.eve_replica.specs.Sections.{commits_in}
 
 -- ---- why a run rolls back
@@ -21,6 +21,7 @@ token_given_up view opened (Attempts a ∷ steps) = token_given_up view (opened 
 token_given_up view opened (Commits c ∷ steps) = token_given_up view (drop 1 opened) steps
 token_given_up view opened (RollsBack r ∷ steps) =
     if r.view == view then slice_get opened 0 else token_given_up view [] steps
+token_given_up view opened (TakesOver x ∷ steps) = token_given_up view [] steps
 
 -- the number of replicas that give up this token by their rollback to this view
 abbrev pub count_given_up : ℕ → List ℕ → List (List Step) → ℕ
@@ -39,6 +40,7 @@ open_after opened [] = opened
 open_after opened (Attempts a ∷ steps) = open_after (opened ++ a ∷ []) steps
 open_after opened (Commits c ∷ steps) = open_after (drop 1 opened) steps
 open_after opened (RollsBack r ∷ steps) = open_after [] steps
+open_after opened (TakesOver x ∷ steps) = open_after [] steps
 
 -- A replica stopped after these steps: the next of the votes is for the commit of its first open attempt's batch, in
 -- that attempt's view, with another token.

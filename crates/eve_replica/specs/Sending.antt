@@ -1,7 +1,7 @@
 -- The replies that replicas send. docs/MODEL.md, "A run".
 use Rattle.std.specs.Prelude.{ℕ, zero, suc, ◌+◌, List, [], ◌∷◌, ◌++◌, slice_get, Option, Some, None}
 use Rattle.eve_smallbank.specs.declared.request.Reply.{Reply}
-use Rattle.eve_grammar.specs.Trace.{Asked, Batch, Attempt, Step, Attempts, Commits, RollsBack, Sent}
+use Rattle.eve_grammar.specs.Trace.{Asked, Batch, Attempt, Step, Attempts, Commits, RollsBack, TakesOver, Sent}
 
 -- what replica e sends for these requests of the batch with this number: a reply for each
 abbrev pub answered : ℕ → ℕ → List Asked → List Reply → List Sent
@@ -33,6 +33,7 @@ sent_along batches e opened (Attempts a ∷ steps) = sent_along batches e (opene
 sent_along batches e [] (Commits c ∷ steps) = sent_along batches e [] steps
 sent_along batches e (a ∷ opened) (Commits c ∷ steps) = answers_of batches e a ++ sent_along batches e opened steps
 sent_along batches e opened (RollsBack r ∷ steps) = sent_along batches e [] steps
+sent_along batches e opened (TakesOver x ∷ steps) = sent_along batches e [] steps
 
 -- what all replicas from e on send, one after another
 abbrev pub sent_from_on : List Batch → ℕ → List (List Step) → List Sent

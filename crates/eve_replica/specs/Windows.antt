@@ -1,6 +1,6 @@
 -- How a section goes window by window. docs/MODEL.md, "A run".
 use Rattle.std.specs.Prelude.{◌≡◌, ℕ, ◌+◌, ◌-◌, ◌<◌, ◌==◌, min, if◌then◌else◌, List, [], ◌∷◌}
-use Rattle.eve_grammar.specs.Trace.{Step, Attempts, Commits, RollsBack}
+use Rattle.eve_grammar.specs.Trace.{Step, Attempts, Commits, RollsBack, TakesOver}
 
 -- How far a section is in a window: the numbers of batches that aren't committed, of attempts of the window that are
 -- still due, and of open attempts.
@@ -18,7 +18,7 @@ window_with window left opened =
 
 -- From this state on the steps go window by window: all attempts of a window are made, and then they are committed one
 -- after another, or what is left of them is rolled back together; the next window begins where none is open any more.
--- The steps end where no attempt is due: after the last attempt of a window, or later.
+-- The steps end where no attempt is due: after the last attempt of a window, or later. No state is taken over.
 abbrev pub GoByWindows : (window : ℕ) → WindowState → List Step → Type 0
 GoByWindows window at [] = at.due ≡ 0
 GoByWindows window at (Attempts a ∷ steps) =
@@ -26,3 +26,4 @@ GoByWindows window at (Attempts a ∷ steps) =
 GoByWindows window at (Commits c ∷ steps) =
     (at.due ≡ 0) × GoByWindows window (window_with window (at.left - 1) (at.opened - 1)) steps
 GoByWindows window at (RollsBack r ∷ steps) = (at.due ≡ 0) × GoByWindows window (window_with window at.left 0) steps
+GoByWindows window at (TakesOver x ∷ steps) = ⊥

@@ -62,6 +62,7 @@ fn send_section(
                 }
             }
             Step::Rollback(_) => opened.clear(),
+            Step::Transfer(_) => opened.clear(),
         }
     }
     Ok(())

@@ -12,8 +12,9 @@ use Rattle.eve_agree.specs.Tables.{entries_of}
 use Rattle.eve_attempts.specs.Ledgers.{Opened, Ledger, opening, ledger_rows, table_now, rows_committed}
 use Rattle.eve_replica.specs.Sections.{RunPlan}
 
--- the plan of the run that the trace is of
+-- the plan of the run that the trace is of, which is of version 1
 pub record IsPlanOf (p : RunPlan) (t : Trace) : Type 0 where
+  pub version : t.head.version ≡ 1
   pub names : p.names ≡ names_of t
   pub batches : p.batches ≡ t.batches
   pub first : p.first ≡ opening 1 (opening_rows t.customers) t.head.workers t.head.window

@@ -21,12 +21,13 @@ use Rattle.eve_grammar.specs.Reading.{Reader, many_at, balance_at, reply_at}
 use Rattle.eve_grammar.proofs.Codec.{Codec, Codec-many, are_many, are_many_of, some_is}
 use Rattle.eve_grammar.proofs.FieldCodecs.{Codec-balance}
 use Rattle.eve_grammar.proofs.PartCodecs.{Codec-reply, reply_length}
-use Rattle.eve_token.specs.Token.{flat_token}
+use Rattle.eve_token.specs.Token.{flat_token, token_of}
 use Rattle.eve_history.specs.Section.{Placed}
 use Rattle.eve_history.specs.SectionHistory.{committed_at}
 use Rattle.eve_chains.specs.Committed.{balances_to}
 use Rattle.eve_agree.specs.DueTokens.{due_token}
 use Rattle.eve_agree.specs.Agreement.{HaveSameOutcome}
+use Rattle.eve_agree.proofs.TokensInOrder.{first_version}
 use Rattle.eve_run_laws.specs.Collision.{message, outcome_message, Collides}
 
 -- ---- what is spelled is read in one way
@@ -131,13 +132,16 @@ hashed n bs rs = refl
 -- ---- two replicas
 
 -- what a committed attempt's token is the hash of
-token_hashed : (t : Trace) (e n : ℕ) (p : Placed) → p.attempt.seq ≡ n → p.attempt.token ≡ due_token t e p
-    → p.attempt.token ≡ sha256 (outcome_message t e n p)
-token_hashed t e n p number due =
-    due ∙ ap (λ (m : ℕ). flat_token m (balances_to t e m) p.attempt.replies) number
+token_hashed : (t : Trace) (e n : ℕ) (p : Placed) → t.head.version ≡ 1 → p.attempt.seq ≡ n
+    → p.attempt.token ≡ due_token t e p → p.attempt.token ≡ sha256 (outcome_message t e n p)
+token_hashed t e n p version number due =
+    due ∙ ap (λ (v : ℕ). token_of v p.attempt.seq (balances_to t e p.attempt.seq) p.attempt.replies) version
+    ∙ first_version p.attempt.seq (balances_to t e p.attempt.seq) p.attempt.replies
+    ∙ ap (λ (m : ℕ). flat_token m (balances_to t e m) p.attempt.replies) number
     ∙ hashed n (balances_to t e n) p.attempt.replies
 
-pub collides : (t : Trace) (e f n : ℕ) (q r : Placed) → committed_at t e n ≡ Some q → committed_at t f n ≡ Some r
+pub collides : (t : Trace) (e f n : ℕ) (q r : Placed) → t.head.version ≡ 1 → committed_at t e n ≡ Some q
+    → committed_at t f n ≡ Some r
     → IsTrue (list_all is_balance (balances_to t e n)) → IsTrue (list_all is_balance (balances_to t f n))
     → length (balances_to t e n) ≡ length (balances_to t f n)
     → IsTrue (list_all is_reply q.attempt.replies) → IsTrue (list_all is_reply r.attempt.replies)
@@ -145,7 +149,8 @@ pub collides : (t : Trace) (e f n : ℕ) (q r : Placed) → committed_at t e n �
     → q.attempt.token ≡ due_token t e q → r.attempt.token ≡ due_token t f r
     → q.attempt.token ≡ r.attempt.token
     → ¬ HaveSameOutcome t e f n → Collides t
-collides t e f n q r here there money money_too long replies replies_too number number_too due due_too same apart =
+collides t e f n q r version here there money money_too long replies replies_too number number_too due due_too same
+    apart =
     record {
       batch = n;
       replica = e;
@@ -165,5 +170,6 @@ collides t e f n q r here there money money_too long replies replies_too number 
             replies = ap (option_map (λ (p : Placed). p.attempt.replies)) here ∙ ap Some parts.1
                 ∙ sym (ap (option_map (λ (p : Placed). p.attempt.replies)) there);
           });
-      same_hash = sym (token_hashed t e n q number due) ∙ same ∙ token_hashed t f n r number_too due_too;
+      same_hash = sym (token_hashed t e n q version number due) ∙ same
+          ∙ token_hashed t f n r version number_too due_too;
     }

@@ -4,7 +4,7 @@ use Rattle.std.proofs.Common.{sym, subst, ap, ◌∙◌, arith}
 use Rattle.std.specs.List.{AllByRecursion, flat_map}
 use Rattle.eve_smallbank.specs.Access.{balance_of_row}
 use Rattle.eve_smallbank.specs.Chain.{Table, values_of}
-use Rattle.eve_grammar.specs.Trace.{Step, Attempts, Commits, RollsBack, Trace}
+use Rattle.eve_grammar.specs.Trace.{Step, Attempts, Commits, RollsBack, TakesOver, Trace}
 use Rattle.eve_grammar.proofs.Lists.{all-append, take_one_more}
 use Rattle.eve_token.specs.Token.{flat_token, token_of}
 use Rattle.eve_attempts.specs.Ledgers.{Ledger, ledger_rows, table_now}
@@ -14,7 +14,7 @@ use Rattle.eve_history.specs.Section.{committing, next}
 use Rattle.eve_history.specs.SectionHistory.{history, committed_at, IsRightSection}
 use Rattle.eve_history.proofs.FateLaws.{attempts_by_push}
 use Rattle.eve_chains.specs.Visible.{rows_after}
-use Rattle.eve_chains.specs.Committed.{path_to, first_rows}
+use Rattle.eve_chains.specs.Committed.{path_to, first_rows, balances_to}
 use Rattle.eve_chains.proofs.Linked.{landing_by, linked_number, committed_number, none≢some}
 use Rattle.eve_agree.specs.DueTokens.{TokensAreDue}
 use Rattle.eve_agree.proofs.ByNumber.{all_each}
@@ -77,6 +77,7 @@ module _ (p : RunPlan) (t : Trace) where
       }
   due_next s old new at (Commits c) before after makes due = due_committing t s s.pending due.pending due
   due_next s old new at (RollsBack r) before after makes due = record { committed = due.committed; pending = tt }
+  due_next s old new at (TakesOver x) before after makes due = absurd makes
 
 pub due_first : (t : Trace) → AreDueSoFar t start
 due_first t = record { committed = tt; pending = tt }
@@ -94,9 +95,12 @@ path_to_its_own t e n p right at =
     ∙ ap (flat_map came_by) (sym (take_one_more ls n (ByAttempt p) (landing_by (slice_get ls n) p at)))
     ∙ ap (path_to t e) next
 
-pub tokens_due : (t : Trace) (e : ℕ) → IsRightSection t e → AreDueSoFar t (history t e) → TokensAreDue t e
-tokens_due t e right due zero p at = none≢some p at
-tokens_due t e right due (suc n) p at =
+pub tokens_due : (t : Trace) (e : ℕ) → t.head.version ≡ 1 → IsRightSection t e → AreDueSoFar t (history t e)
+    → TokensAreDue t e
+tokens_due t e version right due zero p at = none≢some p at
+tokens_due t e version right due (suc n) p at =
     (all_each t e (IsDueAlong t) due.committed (suc n) p at).token
     ∙ ap (λ (path : List Came). flat_token p.attempt.seq (balances_along t path) p.attempt.replies)
     (path_to_its_own t e n p right at)
+    ∙ sym (first_version p.attempt.seq (balances_to t e p.attempt.seq) p.attempt.replies)
+    ∙ ap (λ (v : ℕ). token_of v p.attempt.seq (balances_to t e p.attempt.seq) p.attempt.replies) (sym version)

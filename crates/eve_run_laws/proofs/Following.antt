@@ -15,8 +15,8 @@ use Rattle.std.proofs.lemmas.Option.{slice_get_within}
 use Rattle.eve_smallbank.specs.Access.{Executed}
 use Rattle.eve_smallbank.specs.Chain.{Table, table_after, table_after_all}
 use Rattle.eve_smallbank.proofs.Chains.{table_after-append}
-use Rattle.eve_grammar.specs.Trace.{Access, Attempt, Batch, Commit, Rollback, Step, Attempts, Commits, RollsBack, Trace}
-use Rattle.eve_grammar.specs.Trace.{opening_rows}
+use Rattle.eve_grammar.specs.Trace.{Access, Attempt, Batch, Commit, Rollback, Step, Attempts, Commits, RollsBack}
+use Rattle.eve_grammar.specs.Trace.{TakesOver, Trace, opening_rows}
 use Rattle.eve_grammar.specs.Accesses.{is_new_access, is_right_place}
 use Rattle.eve_grammar.specs.Certificate.{is_certificate}
 use Rattle.eve_grammar.specs.Frames.{OfReplica}
@@ -301,12 +301,14 @@ module _ (p : RunPlan) (t : Trace) (plan : IsPlanOf p t) where
   step_right s old new (Attempts a) alike made = right_attempt t s old alike p plan new a made
   step_right s old new (Commits c) alike made = right_commit t s old alike new c made
   step_right s old new (RollsBack r) alike made = right_rollback t s old alike new r made.0 made.1
+  step_right s old new (TakesOver x) alike made = absurd made
 
   pub step_alike : (s : SectionState) (old new : Ledger) (at : ℕ) (x : Step) → AreAlike t s old → MakesOf p x old new
       → AreAlike t (next s (at, x)) new
   step_alike s old new at (Attempts a) alike made = alike_attempted t s old alike p plan new a made at
   step_alike s old new at (Commits c) alike made = alike_committed t s old alike new c s.pending refl made
   step_alike s old new at (RollsBack r) alike made = alike_rolled_back t s old alike new at r made.1
+  step_alike s old new at (TakesOver x) alike made = absurd made
 
   -- what each step keeps holds after all of them
   pub along : (Q : SectionState → Type 0)

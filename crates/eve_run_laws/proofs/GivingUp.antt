@@ -1,16 +1,16 @@
 -- A section that goes back twice to one number gives up, the second time, a batch that it attempted in serial mode.
-use Rattle.std.proofs.Common.{◌≡◌, ℕ, ℤ, ◌+◌, ◌<◌, ◌≤◌, Bool, true, List, [], ◌∷◌, ◌++◌, map}
+use Rattle.std.proofs.Common.{◌≡◌, ℕ, ℤ, ◌+◌, ◌-◌, ◌<◌, ◌≤◌, Bool, true, List, [], ◌∷◌, ◌++◌, map}
 use Rattle.std.proofs.Common.{All, take, drop, length, slice_get, Some, refl, sym, subst, ap, ◌∙◌, append_assoc}
 use Rattle.std.proofs.Common.{arith, length-append, append-nil}
-use Rattle.std.specs.Prelude.{IsTrue, if◌then◌else◌}
+use Rattle.std.specs.Prelude.{IsTrue, if◌then◌else◌, replicate}
 use Rattle.std.specs.List.{flat_map}
 use Rattle.std.proofs.lemmas.Bool.{eq-eqb, ne_eqb}
 use Rattle.std.proofs.lemmas.List.{take_at}
-use Rattle.eve_grammar.specs.Trace.{Rollback, Step, Attempts, Commits, RollsBack, Trace}
+use Rattle.eve_grammar.specs.Trace.{Rollback, Step, Attempts, Commits, RollsBack, TakesOver, Trace}
 use Rattle.eve_grammar.specs.Spelling.{steps_of, steps_at}
 use Rattle.eve_grammar.proofs.Lists.{same_first, same_others, no_item}
-use Rattle.eve_history.specs.Section.{Ran, Placed, Landing, ByAttempt, came_by, SectionState, start, path_of}
-use Rattle.eve_history.specs.Section.{committing, next, state_after}
+use Rattle.eve_history.specs.Section.{Ran, Placed, Landing, ByAttempt, ByTransfer, Skipped, came_by, SectionState}
+use Rattle.eve_history.specs.Section.{start, path_of, committing, next, state_after}
 use Rattle.eve_history.specs.SectionHistory.{history, is_reached}
 use Rattle.eve_chains.specs.Committed.{balances_to}
 use Rattle.eve_agree.proofs.ByNumber.{reached_up}
@@ -21,6 +21,7 @@ use Rattle.eve_replica.specs.Run.{IsSectionOf}
 use Rattle.eve_run_laws.specs.RolledBack.{rolled_back_to}
 use Rattle.eve_run_laws.proofs.Alike.{IsPlanOf, AreAlike}
 use Rattle.eve_run_laws.proofs.Following.{alike_first, step_alike, goes, plain_steps}
+use Rattle.eve_run_laws.proofs.OnlyAttempts.{by_attempts}
 use Rattle.eve_run_laws.proofs.Due.{balances_along, balances_now}
 use Rattle.eve_run_laws.proofs.GoingBack.{DontFall, dont_fall}
 use Rattle.eve_run_laws.proofs.SerialTokens.{serial_token, token_serial}
@@ -46,6 +47,7 @@ module _ (p : RunPlan) (number : ℕ) (rest : List ℕ) where
   first_stays view token others (RollsBack r ∷ steps) old last way at here back =
       ap (λ (b : Bool). if b then Some token else token_given_up view [] steps)
       (eq-eqb r.view view (way.1.1.view ∙ sym at))
+  first_stays view token others (TakesOver x ∷ steps) old last way at here back = absurd way.1
 
   -- after a rollback the batch that is due next, which is attempted in serial mode
   serial_given_up : (view : ℕ) (steps : List Step) (old last : Ledger) → GoesThrough p steps old last
@@ -66,6 +68,7 @@ module _ (p : RunPlan) (number : ℕ) (rest : List ℕ) where
   serial_given_up view (RollsBack r ∷ steps) old last way at here back serial none version =
       let many : length old.opened ≡ 0 = ap length none in
       absurd (omega (arith, many, way.1.0))
+  serial_given_up view (TakesOver x ∷ steps) old last way at here back serial none version = absurd way.1
 
 -- ---- what is committed stays
 
@@ -97,6 +100,10 @@ committed_stays ((at, Commits c) ∷ steps) s =
     (committed_stays steps (next s (at, Commits c)))
 committed_stays ((at, RollsBack r) ∷ steps) s =
     let rest = committed_stays steps (next s (at, RollsBack r)) in record { more = rest.more; is = rest.is }
+committed_stays ((at, TakesOver x) ∷ steps) s =
+    let rest = committed_stays steps (next s (at, TakesOver x)) in
+    let taken : List Landing = replicate (x.seq - (s.last + 1)) Skipped ++ ByTransfer at x ∷ [] in
+    record { more = taken ++ rest.more; is = rest.is ∙ append_assoc s.landings taken rest.more }
 
 -- ---- along a section
 
@@ -161,6 +168,7 @@ module _ (p : RunPlan) (t : Trace) (plan : IsPlanOf p t) (number : ℕ) (rest : 
       (step_alike p t plan s old way.0 o (Commits c) alike way.1) (counted_committing s s.pending counted)
       (omega (arith, at, same)) back in
       record { token = later.token; reached = later.reached }
+  gives_up_along view opened before ((o, TakesOver x) ∷ steps) s old last way alike counted at back = absurd way.1
   gives_up_along view opened [] ((o, RollsBack r) ∷ steps) s old last way alike counted at back =
       let made = way.1.1 in
       let up = ap (λ (l : Ledger). l.view) made.changed in
@@ -202,4 +210,4 @@ module _ (p : RunPlan) (t : Trace) (plan : IsPlanOf p t) (number : ℕ) (rest : 
     gives_up_serial = ap (token_given_up (length before + 2) []) (sym (plain_steps t e)) ∙ given_up.token
 
     pub has_reached : IsTrue (is_reached t e number)
-    has_reached = reached_up t e number given_up.reached
+    has_reached = reached_up t e number (by_attempts p t plan sections e number) given_up.reached

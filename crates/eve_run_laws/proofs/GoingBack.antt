@@ -6,7 +6,8 @@ use Rattle.std.proofs.lemmas.Bool.{cases_lt}
 use Rattle.std.proofs.lemmas.List.{get_or_append_left}
 use Rattle.std.proofs.lemmas.List.Elements.{All-nil, All-cons, All-weaker}
 use Rattle.std.proofs.lemmas.List.Kept.{AllPairs-cons}
-use Rattle.eve_grammar.specs.Trace.{Step, Attempts, Commits, RollsBack, Choice, ForRollback, ForCommit, Vote}
+use Rattle.eve_grammar.specs.Trace.{Step, Attempts, Commits, RollsBack, TakesOver, Choice, ForRollback, ForCommit}
+use Rattle.eve_grammar.specs.Trace.{Vote}
 use Rattle.eve_attempts.specs.Ledgers.{Ledger}
 use Rattle.eve_replica.specs.Sections.{RunPlan, GoesThrough, votes_along}
 use Rattle.eve_run_laws.specs.RolledBack.{rolled_back_to}
@@ -90,6 +91,7 @@ dont_fall p (RollsBack r ∷ steps) old last goes =
       omega (arith, made.to),
       subst (λ (n : ℕ). DontFall n (rolled_back_to steps)) number (dont_fall p steps goes.0 last goes.2),
     )
+dont_fall p (TakesOver x ∷ steps) old last goes = absurd goes.1
 
 -- ---- what votes tell of them
 
@@ -111,3 +113,4 @@ voted_along (Commits c ∷ steps) later = voted_along steps later
 voted_along (RollsBack r ∷ steps) later =
     let same : r.to + 1 - 1 ≡ r.to = omega arith in
     λ i. same i ∷ voted_along steps later i
+voted_along (TakesOver x ∷ steps) later = voted_along steps later

@@ -1,6 +1,7 @@
 pub mod Alike
 pub mod Executing
 pub mod Following
+pub mod OnlyAttempts
 pub mod Sounding
 pub mod Restored
 pub mod Due

@@ -1,6 +1,7 @@
 -- The balances and the replies of a replica lie within the range of money.
 use Rattle.std.proofs.Common.{◌≡◌, ℕ, ℤ, pos, zero, suc, ◌*◌, ◌==◌, nat_le, nat_lt, Bool, true, false, cond, ◌&&◌}
 use Rattle.std.proofs.Common.{List, [], ◌∷◌, take, fold, length, slice_get, Some, refl, subst, ◌∙◌, IsTrue}
+use Rattle.std.proofs.Common.{arith}
 use Rattle.std.specs.Prelude.{slice_index_or}
 use Rattle.std.specs.Int.RustNames.{int_le}
 use Rattle.std.specs.List.{AllByRecursion, list_all, flat_map}
@@ -18,10 +19,11 @@ use Rattle.eve_grammar.specs.Spelling.{steps_at}
 use Rattle.eve_grammar.specs.declared.limits.TheConstants.{MOST_REQUESTS, MOST_VERSIONS}
 use Rattle.eve_grammar.specs.Limits.{is_between, is_number, is_token, is_reply, is_customer, is_entry}
 use Rattle.eve_grammar.specs.Limits.{is_access, is_attempt, is_whole_attempt, row_count, HasLimits}
-use Rattle.eve_history.specs.Section.{Placed, Landing, ByAttempt, ByTransfer, Skipped, came_by, attempts_by}
+use Rattle.eve_history.specs.Section.{Placed, Landing, ByAttempt, ByTransfer, Skipped, IsByAttempt, came_by}
+use Rattle.eve_history.specs.Section.{attempts_by}
 use Rattle.eve_history.specs.Fates.{fates_from}
 use Rattle.eve_history.specs.SectionHistory.{attempts_among, history, committed_at, is_committed, placed_at}
-use Rattle.eve_history.proofs.AttemptsAlone.{IsByAttempt, all_by_attempts}
+use Rattle.eve_history.specs.SectionHistory.{ByAttemptsTo}
 use Rattle.eve_history.proofs.FateLaws.{committed_are_picked}
 use Rattle.eve_chains.specs.Visible.{opening_table, entries_with, executed_in, execution, with_came}
 use Rattle.eve_chains.specs.Committed.{first_rows, values_to, balances_to}
@@ -141,22 +143,26 @@ execution_within rows t a (index ∷ order) h = (
   execution_within rows t a order h,
 )
 
--- no number is reached by a state that is taken over
-values_along : (rows : ℕ) (t : Trace) (ls : List Landing) (n : ℕ) → AllByRecursion IsByAttempt ls
+-- no number is reached by a state that is taken over, and none is skipped
+values_along : (rows : ℕ) (t : Trace) (ls : List Landing) (n : ℕ)
+    → ((k : ℕ) (l : Landing) → slice_get ls k ≡ Some l → IsByAttempt l)
     → ((q : Placed) → In q (attempts_by ls) → IsTrue (is_whole_attempt rows q.attempt))
     → (table : Table) → AreBalances table → AreBalances (fold (with_came t) table (flat_map came_by (take n ls)))
 values_along rows t ls zero by whole table all = all
 values_along rows t [] (suc n) by whole table all = all
 values_along rows t (ByAttempt p ∷ ls) (suc n) by whole table all =
-    values_along rows t ls n by.1 (λ q i. whole q (there i)) (table_after_all table (execution t p.attempt))
+    values_along rows t ls n (λ k. by (suc k)) (λ q i. whole q (there i))
+    (table_after_all table (execution t p.attempt))
     (balances_after_all rows table (execution t p.attempt) all
     (execution_within rows t p.attempt p.attempt.certificate (whole p here)))
-values_along rows t (ByTransfer at x ∷ ls) (suc n) by whole table all = absurd by.0
-values_along rows t (Skipped ∷ ls) (suc n) by whole table all = absurd by.0
+values_along rows t (ByTransfer at x ∷ ls) (suc n) by whole table all = absurd (by 0 (ByTransfer at x) refl)
+values_along rows t (Skipped ∷ ls) (suc n) by whole table all = absurd (by 0 Skipped refl)
 
-values_within : (t : Trace) (e n : ℕ) → HasLimits t → (row : ℕ) → IsTrue (is_balance (values_to t e n row))
-values_within t e n limits = values_along (row_count (head_of t)) t (history t e).landings n (all_by_attempts t e)
-    (committed_whole t e limits) (opening_table t) (opening_balances t limits)
+values_within : (t : Trace) (e n : ℕ) → HasLimits t → ((m : ℕ) → ByAttemptsTo t e m) → (row : ℕ)
+    → IsTrue (is_balance (values_to t e n row))
+values_within t e n limits by = values_along (row_count (head_of t)) t (history t e).landings n
+    (λ k l at. by (suc k) (suc k) l (omega arith) at) (committed_whole t e limits) (opening_table t)
+    (opening_balances t limits)
 
 first_within : (values : ℕ → ℤ) → ((row : ℕ) → IsTrue (is_balance (values row))) → (n : ℕ)
     → IsTrue (list_all is_balance (first_rows n values))
@@ -166,8 +172,10 @@ first_within values all (suc n) =
     ∙ and_from (list_all is_balance (first_rows n values)) (is_balance (values n) && true) (first_within values all n)
     (and_from (is_balance (values n)) true (all n) refl)
 
-pub balances_within : (t : Trace) (e n : ℕ) → HasLimits t → IsTrue (list_all is_balance (balances_to t e n))
-balances_within t e n limits = first_within (values_to t e n) (values_within t e n limits) (2 * length t.customers)
+pub balances_within : (t : Trace) (e n : ℕ) → HasLimits t → ((m : ℕ) → ByAttemptsTo t e m)
+    → IsTrue (list_all is_balance (balances_to t e n))
+balances_within t e n limits by =
+    first_within (values_to t e n) (values_within t e n limits by) (2 * length t.customers)
 
 pub balances_count : (t : Trace) (e n : ℕ) → length (balances_to t e n) ≡ 2 * length t.customers
 balances_count t e n = rows_length (2 * length t.customers) (values_to t e n)

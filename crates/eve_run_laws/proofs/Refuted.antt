@@ -6,7 +6,7 @@ use Rattle.std.specs.List.{AllByRecursion, list_any}
 use Rattle.std.proofs.lemmas.Bool.{and_from, false≢true}
 use Rattle.std.proofs.lemmas.List.{map-append}
 use Rattle.std.proofs.lemmas.List.Elements.{filter-append}
-use Rattle.eve_grammar.specs.Trace.{Step, Attempts, Commits, RollsBack, Vote, Trace}
+use Rattle.eve_grammar.specs.Trace.{Step, Attempts, Commits, RollsBack, TakesOver, Vote, Trace}
 use Rattle.eve_grammar.specs.Frames.{OfVerifier, OfVote}
 use Rattle.eve_grammar.specs.Spelling.{frame_text, located, steps_at, verifier_start, votes_of, votes_at}
 use Rattle.eve_views.specs.declared.fault.Code.{Code}
@@ -18,11 +18,11 @@ use Rattle.eve_votes.specs.Faults.{StandsInVotes, AreVotesSound, IsFurther}
 use Rattle.eve_votes.proofs.Places.{located_values}
 use Rattle.eve_history.specs.Section.{start}
 use Rattle.eve_history.specs.SectionHistory.{IsRightSection}
-use Rattle.eve_history.specs.Structure.{OfCommit, OfRollback, StandsInStructure}
+use Rattle.eve_history.specs.Structure.{OfCommit, OfRollback, OfTransfer, StandsInStructure}
 use Rattle.eve_history.specs.FirstWrong.{first_wrong}
 use Rattle.eve_history.proofs.Places.{no_place, place_cases}
 use Rattle.eve_history.proofs.StructureLaws.{steps_on, none_stands}
-use Rattle.eve_agree.specs.Majority.{IsBacked, AllAreBacked, StandsInMajorities}
+use Rattle.eve_agree.specs.Majority.{SomeDecided, IsBacked, AllAreBacked, StandsInMajorities}
 
 -- ---- structure
 
@@ -102,12 +102,20 @@ module _ (t : Trace) where
   commit_backed (Attempts a) backed wrong = wrong
   commit_backed (Commits c) backed wrong = wrong backed
   commit_backed (RollsBack r) backed wrong = wrong
+  commit_backed (TakesOver x) backed wrong = wrong
 
   rollback_backed : (step : Step) → IsBacked t step
       → OfRollback step (λ r. ¬ IsRolledBack t (r.to + 1) (r.view - 1)) → ⊥
   rollback_backed (Attempts a) backed wrong = wrong
   rollback_backed (Commits c) backed wrong = wrong
   rollback_backed (RollsBack r) backed wrong = wrong backed
+  rollback_backed (TakesOver x) backed wrong = wrong
+
+  state_backed : (step : Step) → IsBacked t step → OfTransfer step (λ x. ¬ SomeDecided t x.seq x.view) → ⊥
+  state_backed (Attempts a) backed wrong = wrong
+  state_backed (Commits c) backed wrong = wrong
+  state_backed (RollsBack r) backed wrong = wrong
+  state_backed (TakesOver x) backed wrong = wrong backed
 
   pub no_majority_fault : AllAreBacked t → (f : Fault) → ¬ IsFaultSomewhere StandsInMajorities t f
   no_majority_fault backed f fault = by f.code fault.1.stands
@@ -121,6 +129,10 @@ module _ (t : Trace) where
           (λ _ step. (step.0 ≡ f.offset) × OfRollback step.1 (λ r. ¬ IsRolledBack t (r.to + 1) (r.view - 1)))
           (steps_at t fault.0) (backed fault.0)
           (λ b step is wrong. rollback_backed step.1 is wrong.1) stands
+      by code.TransferNoMajority stands = none_fails (λ step. IsBacked t step.1)
+          (λ _ step. (step.0 ≡ f.offset) × OfTransfer step.1 (λ x. ¬ SomeDecided t x.seq x.view))
+          (steps_at t fault.0) (backed fault.0)
+          (λ b step is wrong. state_backed step.1 is wrong.1) stands
       by c stands = absurd stands
 
 -- ---- lists with byte offsets

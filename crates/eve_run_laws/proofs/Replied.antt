@@ -3,11 +3,11 @@ use Rattle.std.proofs.Common.{◌≡◌, ℕ, zero, suc, ◌+◌, ◌-◌, List,
 use Rattle.std.proofs.Common.{refl, sym, ap, subst, ◌∙◌, zero-add, arith}
 use Rattle.std.specs.List.{AllByRecursion}
 use Rattle.std.proofs.lemmas.List.{map-append}
-use Rattle.std.specs.Prelude.{option_map}
+use Rattle.std.specs.Prelude.{option_map, replicate}
 use Rattle.eve_smallbank.specs.declared.request.Reply.{Reply}
 use Rattle.eve_smallbank.proofs.Members.{all_in, all_from_in}
-use Rattle.eve_grammar.specs.Trace.{Asked, Batch, Attempt, Commit, Step, Attempts, Commits, RollsBack, Sent, Trace}
-use Rattle.eve_grammar.specs.Trace.{request_id}
+use Rattle.eve_grammar.specs.Trace.{Asked, Batch, Attempt, Commit, Step, Attempts, Commits, RollsBack, TakesOver}
+use Rattle.eve_grammar.specs.Trace.{Sent, Trace, request_id}
 use Rattle.eve_grammar.specs.Frames.{OfReplica}
 use Rattle.eve_grammar.specs.Spelling.{frame_text, step_text, section_start, steps_of, steps_at}
 use Rattle.eve_grammar.proofs.Lists.{all-append, get_in_front}
@@ -16,8 +16,8 @@ use Rattle.eve_workload.specs.Workload.{Workload}
 use Rattle.eve_replica.specs.Sending.{answered, requests_there, requests_numbered, answers_of, sent_along, sent_from_on}
 use Rattle.eve_replica.specs.Run.{IsTraceOf}
 use Rattle.eve_votes.proofs.Places.{get_between, located_values}
-use Rattle.eve_history.specs.Section.{Placed, Landing, ByAttempt, SectionState, start, path_of, committing, next}
-use Rattle.eve_history.specs.Section.{state_after, no_batch, batch_at}
+use Rattle.eve_history.specs.Section.{Placed, Landing, ByAttempt, ByTransfer, Skipped, SectionState, start, path_of}
+use Rattle.eve_history.specs.Section.{committing, next, state_after, no_batch, batch_at}
 use Rattle.eve_history.specs.SectionHistory.{history, attempt_by, committed_at, IsRightSection}
 use Rattle.eve_chains.specs.Committed.{attempts_of}
 use Rattle.eve_chains.proofs.Linked.{committed_number}
@@ -81,6 +81,8 @@ stays_next : (s : SectionState) (step : ℕ × Step) (n : ℕ) (l : Landing) →
 stays_next s (at, Attempts a) n l there = there
 stays_next s (at, Commits c) n l there = stays_committing s s.pending n l there
 stays_next s (at, RollsBack r) n l there = there
+stays_next s (at, TakesOver x) n l there =
+    get_in_front s.landings (replicate (x.seq - (s.last + 1)) Skipped ++ ByTransfer at x ∷ []) n l there
 
 stays_reached : (s : SectionState) (steps : List (ℕ × Step)) (n : ℕ) (l : Landing) → slice_get s.landings n ≡ Some l
     → slice_get (state_after s steps).landings n ≡ Some l
@@ -141,6 +143,7 @@ module _ (batches : List Batch) (e : ℕ) where
       subst (λ (os : List Attempt). AreByCommitted s os ((at, Commits c) ∷ steps)) is
       (by_commit s s.pending at c steps refl (λ os same. along (committing s s.pending) os steps same))
   along s opened ((at, RollsBack r) ∷ steps) is = along (next s (at, RollsBack r)) [] steps refl
+  along s opened ((at, TakesOver x) ∷ steps) is = along (next s (at, TakesOver x)) [] steps refl
 
 section_by_committed : (t : Trace) (e : ℕ)
     → AllByRecursion (IsByCommitted t.batches e (history t e).landings) (sent_along t.batches e [] (steps_of t e))

@@ -11,7 +11,7 @@ use Rattle.std.proofs.lemmas.Map.Views.{any-filter_same}
 use Rattle.eve_smallbank.specs.declared.entry.Entry.{Entry}
 use Rattle.eve_smallbank.specs.Access.{Executed, is_write, writes_row}
 use Rattle.eve_smallbank.specs.Chain.{Table}
-use Rattle.eve_grammar.specs.Trace.{Attempt, Step, Attempts, Commits, RollsBack, Trace}
+use Rattle.eve_grammar.specs.Trace.{Attempt, Step, Attempts, Commits, RollsBack, TakesOver, Trace}
 use Rattle.eve_grammar.specs.declared.restore.Restore.{Restore}
 use Rattle.eve_history.specs.Section.{SectionState, next}
 use Rattle.eve_chains.specs.Visible.{execution, executions}
@@ -98,6 +98,7 @@ step_restores : (p : RunPlan) (t : Trace) (s : SectionState) (old new : Ledger) 
 step_restores p t s old new (Attempts a) alike made = refl
 step_restores p t s old new (Commits c) alike made = refl
 step_restores p t s old new (RollsBack r) alike made = restores_right t s old r.restores alike made.1.restores
+step_restores p t s old new (TakesOver x) alike made = absurd made
 
 -- along all steps, where the section follows the account
 pub restores_along : (p : RunPlan) (t : Trace)

@@ -24,7 +24,7 @@ use Rattle.eve_replica.specs.Run.{IsTraceOf, IsDecidedBy, has_committed, run_pla
 use Rattle.eve_run_laws.specs.Collision.{Collides}
 use Rattle.eve_run_laws.specs.RolledBack.{rolled_back_to, AreRolledBackOnce}
 use Rattle.eve_run_laws.proofs.Agreed.{outcomes_collide}
-use Rattle.eve_run_laws.proofs.RightRuns.{plan_of, sections_right, sections_due}
+use Rattle.eve_run_laws.proofs.RightRuns.{plan_of, sections_right, sections_by_attempts, sections_due}
 use Rattle.eve_run_laws.proofs.Voting.{votes_sound, all_backed}
 use Rattle.eve_run_laws.proofs.GoingBack.{DontFall, dont_fall, Differ, Repeats, differ_or_repeat, differ_before}
 use Rattle.eve_run_laws.proofs.GoingBack.{voted_back_to, voted_along}
@@ -76,7 +76,8 @@ count_or_one {A = A} p q (x ∷ xs) = by (p x) (q x) refl refl (count_or_one p q
 
 -- ---- one run
 
-module _ (w : Workload) (mixer : Mixer) (t : Trace) (run : IsTraceOf w mixer t) (limits : HasLimits t) where
+module _ (w : Workload) (mixer : Mixer) (t : Trace) (format : w.format ≡ 1) (run : IsTraceOf w mixer t)
+    (limits : HasLimits t) where
   abbrev p : RunPlan
   p = run_plan w mixer
 
@@ -143,11 +144,12 @@ module _ (w : Workload) (mixer : Mixer) (t : Trace) (run : IsTraceOf w mixer t) 
 
     gives_up : (f : ℕ) → f < length t.sections → is_whole (steps_of t f) ≡ true
         → token_given_up view [] (steps_of t f) ≡ Some (own f)
-    gives_up f there whole = gives_up_serial p t (plan_of w mixer t run) twice.number twice.rest run.sections f
+    gives_up f there whole = gives_up_serial p t (plan_of w mixer t run format) twice.number twice.rest run.sections f
         twice.before (goes_back f there whole)
 
     reached : (f : ℕ) → f < length t.sections → is_whole (steps_of t f) ≡ true → IsTrue (is_reached t f twice.number)
-    reached f there whole = has_reached p t (plan_of w mixer t run) twice.number twice.rest run.sections f twice.before
+    reached f there whole = has_reached p t (plan_of w mixer t run format) twice.number twice.rest run.sections f
+        twice.before
         (goes_back f there whole)
 
     abbrev gives_up_that : List Step → Bool
@@ -165,9 +167,11 @@ module _ (w : Workload) (mixer : Mixer) (t : Trace) (run : IsTraceOf w mixer t) 
         → ¬ (balances_to t e n ≡ balances_to t f n) → Collides t
     apart_collide f zero one other apart = absurd (apart refl)
     apart_collide f (suc n) one other apart =
-        let q = reached_item t e n one in
-        let r = reached_item t f n other in
-        outcomes_collide t limits (sections_right w mixer t run) (sections_due w mixer t run)
+        let only = sections_by_attempts w mixer t run format in
+        let q = reached_item t e n (only e (suc n)) one in
+        let r = reached_item t f n (only f (suc n)) other in
+        outcomes_collide t limits (plan_of w mixer t run format).version only (sections_right w mixer t run format)
+        (sections_due w mixer t run format)
         (votes_sound w mixer t run limits) (all_backed w mixer t run limits) e f (suc n) q.0 r.0 q.1 r.1
         (λ same. apart same.balances)
 

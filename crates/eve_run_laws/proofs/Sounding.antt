@@ -6,7 +6,7 @@ use Rattle.eve_smallbank.specs.Access.{Executed, Fits}
 use Rattle.eve_smallbank.specs.Chain.{Table}
 use Rattle.eve_smallbank.specs.SerialOrder.{IsSound}
 use Rattle.eve_smallbank.proofs.Chains.{rows_by_chain}
-use Rattle.eve_grammar.specs.Trace.{Attempt, Step, Attempts, Commits, RollsBack, Trace}
+use Rattle.eve_grammar.specs.Trace.{Attempt, Step, Attempts, Commits, RollsBack, TakesOver, Trace}
 use Rattle.eve_grammar.proofs.Lists.{all-append}
 use Rattle.eve_stamps.specs.Applied.{Applied}
 use Rattle.eve_history.specs.Section.{Placed, attempts_by, SectionState, start, path_of, committing, next}
@@ -79,3 +79,4 @@ module _ (p : RunPlan) (t : Trace) (plan : IsPlanOf p t) where
   sound_next s old new at (Commits c) alike made sound = sound_committing t s s.pending sound.1 sound
   sound_next s old new at (RollsBack r) alike made sound =
       (sound.0, tt, all-append (IsSoundAlong t) s.discarded s.pending sound.2 sound.1)
+  sound_next s old new at (TakesOver x) alike made sound = absurd made

@@ -4,8 +4,8 @@ use Rattle.std.proofs.Common.{All, get_or, refl, sym, ap, ◌∙◌, subst, arit
 use Rattle.std.specs.Bool.{⊤}
 use Rattle.std.proofs.lemmas.Bool.{and_from, eq-eqb}
 use Rattle.std.proofs.lemmas.List.Elements.{All-nil, All-cons, All-head, All-weaker, All-append}
-use Rattle.eve_grammar.specs.Trace.{Step, Attempts, Commits, RollsBack, Attempt, Commit, Choice, ForRollback, ForCommit}
-use Rattle.eve_grammar.specs.Trace.{Vote}
+use Rattle.eve_grammar.specs.Trace.{Step, Attempts, Commits, RollsBack, TakesOver, Attempt, Commit, Choice}
+use Rattle.eve_grammar.specs.Trace.{ForRollback, ForCommit, Vote}
 use Rattle.eve_grammar.proofs.Lists.{filter_kept, filter_dropped}
 use Rattle.eve_votes.specs.Votes.{is_vote_on}
 use Rattle.eve_votes.proofs.Sifting.{voted}
@@ -202,3 +202,4 @@ votes_rise p (RollsBack r ∷ steps) a b of_view goes =
           (votes_rise p steps goes.0 b
           (subst AreOfItsView (sym made.changed) (All-nil (λ (o : Opened). o.view ≡ a.view + 1))) goes.2),
     )
+votes_rise p (TakesOver x ∷ steps) a b of_view goes = absurd goes.1

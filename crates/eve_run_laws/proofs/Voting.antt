@@ -1,13 +1,14 @@
 -- What the verifiers of a run voted: each once on a batch in a view, and all of them for each commit and rollback.
 use Rattle.std.proofs.Common.{◌≡◌, ℕ, ◌+◌, ◌-◌, ◌<◌, ◌≤◌, ◌==◌, Bool, true, false, ◌⊎◌, inl, inr, List, []}
 use Rattle.std.proofs.Common.{◌∷◌, ◌++◌, All, length, filter, get_or, refl, sym, ap, ◌∙◌, subst, arith}
+use Rattle.std.specs.Prelude.{⊤}
 use Rattle.std.specs.List.{AllByRecursion}
 use Rattle.std.specs.Cmp.Lexicographic.{pointwise, other_text}
 use Rattle.std.proofs.lemmas.Bool.{cases_lt, eqb-true}
 use Rattle.std.proofs.lemmas.List.{append-nil, get_or_past}
 use Rattle.std.proofs.lemmas.List.Elements.{All-nil, All-cons, All-head, All-tail, recursion_from_All}
-use Rattle.eve_grammar.specs.Trace.{Step, Attempts, Commit, Commits, Rollback, RollsBack, Choice, ForRollback}
-use Rattle.eve_grammar.specs.Trace.{ForCommit, Vote, Trace}
+use Rattle.eve_grammar.specs.Trace.{Step, Attempts, Commit, Commits, Rollback, RollsBack, TakesOver, Choice}
+use Rattle.eve_grammar.specs.Trace.{ForRollback, ForCommit, Vote, Trace}
 use Rattle.eve_grammar.specs.Frames.{OfReplica}
 use Rattle.eve_grammar.specs.Spelling.{frame_text, step_text, section_start, steps_of, steps_at, votes_of}
 use Rattle.eve_grammar.specs.Limits.{HasLimits}
@@ -19,8 +20,8 @@ use Rattle.eve_history.proofs.Rights.{none_at}
 use Rattle.eve_agree.specs.Majority.{IsBacked, IsBackedSection, AllAreBacked}
 use Rattle.eve_workload.specs.declared.mixer.Mixer.{Mixer}
 use Rattle.eve_workload.specs.Workload.{Workload}
-use Rattle.eve_attempts.specs.Ledgers.{Opened}
-use Rattle.eve_replica.specs.Sections.{votes_on, votes_along, commits_in}
+use Rattle.eve_attempts.specs.Ledgers.{Opened, Ledger}
+use Rattle.eve_replica.specs.Sections.{RunPlan, MakesOf, GoesThrough, votes_on, votes_along, commits_in}
 use Rattle.eve_replica.specs.Run.{IsSectionOf, IsTraceOf, has_committed, run_plan}
 use Rattle.eve_replica.proofs.Counting.{counted_all}
 use Rattle.eve_run_laws.proofs.VotesApart.{Rise, IsAlone, AreOneCommit, votes_rise, all_alone, one_at_most}
@@ -137,6 +138,8 @@ each_on Q (RollsBack r ∷ steps) later all =
     let rest = votes_along steps ++ later in
     All-cons (λ x. All Q (votes_on x)) (RollsBack r) steps
     (All-cons Q w [] (All-head Q w rest all) (All-nil Q)) (each_on Q steps later (All-tail Q w rest all))
+each_on Q (TakesOver x ∷ steps) later all =
+    All-cons (λ x. All Q (votes_on x)) (TakesOver x) steps (All-nil Q) (each_on Q steps later all)
 
 same_self : (c : Choice) → same_choice c c ≡ true
 same_self ForRollback = refl
@@ -145,6 +148,24 @@ same_self (ForCommit token) = by (pointwise ◌==◌ token token) refl
     by : (b : Bool) → pointwise ◌==◌ token token ≡ b → pointwise ◌==◌ token token ≡ true
     by true is = is
     by false is = absurd (other_text token token (sym is) refl)
+
+-- a state that is taken over is no step of a run
+abbrev IsNoState : Step → Type 0
+IsNoState (Attempts a) = ⊤
+IsNoState (Commits c) = ⊤
+IsNoState (RollsBack r) = ⊤
+IsNoState (TakesOver x) = ⊥
+
+no_state : (p : RunPlan) (x : Step) (old new : Ledger) → MakesOf p x old new → IsNoState x
+no_state p (Attempts a) old new made = tt
+no_state p (Commits c) old new made = tt
+no_state p (RollsBack r) old new made = tt
+no_state p (TakesOver x) old new made = absurd made
+
+no_states : (p : RunPlan) (steps : List Step) (old new : Ledger) → GoesThrough p steps old new → All IsNoState steps
+no_states p [] old new way = All-nil IsNoState
+no_states p (x ∷ steps) old new way =
+    All-cons IsNoState x steps (no_state p x old way.0 way.1) (no_states p steps way.0 new way.2)
 
 module _ (t : Trace) (limits : HasLimits t) where
   -- what is each verifier's only vote on its batch in its view has all verifiers for it
@@ -156,14 +177,15 @@ module _ (t : Trace) (limits : HasLimits t) where
       let quorum = quorum_limits t limits in
       omega (arith, all, quorum.0)
 
-  backed : (x : Step) → All (λ votes. All (IsAlone votes) (votes_on x)) t.verifiers → IsBacked t x
-  backed (Attempts a) alone = tt
-  backed (Commits c) alone =
+  backed : (x : Step) → IsNoState x → All (λ votes. All (IsAlone votes) (votes_on x)) t.verifiers → IsBacked t x
+  backed (Attempts a) none alone = tt
+  backed (Commits c) none alone =
       let w = vote_to_commit c in
       all_for w (λ v d below. All-head (IsAlone (get_or t.verifiers v d)) w [] (alone v d below))
-  backed (RollsBack r) alone =
+  backed (RollsBack r) none alone =
       let w = vote_to_go_back r in
       all_for w (λ v d below. All-head (IsAlone (get_or t.verifiers v d)) w [] (alone v d below))
+  backed (TakesOver x) none alone = absurd none
 
   module _ (w : Workload) (mixer : Mixer) (is : IsTraceOf w mixer t) where
     alone_on : (e v : ℕ) (d : List Vote) → e < length t.sections → v < length t.verifiers
@@ -177,8 +199,11 @@ module _ (t : Trace) (limits : HasLimits t) where
         (subst (All (IsAlone votes)) by.first (all_alone 1 0 votes rise))
 
     steps_backed : (e : ℕ) → e < length t.sections → All (IsBacked t) (steps_of t e)
-    steps_backed e there = λ k x below.
-        backed (get_or (steps_of t e) k x) (λ v d lt. alone_on e v d there lt k x below)
+    steps_backed e there =
+        let own = is.sections e [] there in
+        let none = no_states (run_plan w mixer) (steps_of t e) (run_plan w mixer).first own.last own.through in
+        λ k x below. backed (get_or (steps_of t e) k x) (none k x below)
+        (λ v d lt. alone_on e v d there lt k x below)
 
 section_backed : (t : Trace) (e : ℕ) → All (IsBacked t) (steps_of t e) → IsBackedSection t e
 unfolding steps_at

@@ -1,4 +1,4 @@
--- Where a trace shows two messages with one hash. docs/MODEL.md, "A run is accepted".
+-- Where a trace of version 1 shows two messages with one hash. docs/MODEL.md, "A run is accepted".
 use Rattle.std.specs.Prelude.{◌≡◌, ◌≢◌, ℕ, ℤ, List, ◌++◌, IsTrue, Some, codes}
 use Rattle.std.specs.List.{list_all, flat_map}
 use Rattle.byteorder.specs.Endian.{big_bytes}
@@ -11,7 +11,8 @@ use Rattle.eve_history.specs.Section.{Placed}
 use Rattle.eve_history.specs.SectionHistory.{committed_at}
 use Rattle.eve_chains.specs.Committed.{balances_to}
 
--- what the token of a batch is the hash of: its number, all balances in row order, the replies in request order
+-- what the token of a batch is the hash of in version 1: its number, all balances in row order, the replies in request
+-- order
 abbrev pub message : ℕ → List ℤ → List Reply → List ℕ
 message n balances replies =
     codes "EVESB1" ++ (big_bytes 4 n ++ (flat_map money_text balances ++ flat_map reply_text replies))

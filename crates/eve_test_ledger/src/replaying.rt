@@ -118,6 +118,7 @@ pub fn replay_step(case: &Case, ledger: &mut Ledger, step: &Step, said: &mut Tex
             let told = rollback(case.alloc, ledger, frame, said);
             tell_step(" rollback to ", frame.to(), told, said);
         }
+        Step::Transfer(_) => said.words(" a state is taken over elsewhere,"),
     }
     tell_root(case.alloc, ledger, said);
 }

@@ -85,5 +85,6 @@ fn word_of(step: &Step) -> &'static str {
         Step::Attempt(_) => "parallel ",
         Step::Commit(_) => "commit ",
         Step::Rollback(_) => "rollback ",
+        Step::Transfer(_) => "transfer ",
     }
 }

@@ -1,3 +1,4 @@
+pub mod Spelled
 pub mod WorkedTokens
 pub mod Levels
 pub mod Leaves

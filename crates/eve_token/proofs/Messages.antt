@@ -1,32 +1,9 @@
 -- The messages to the hasher, as their parts are put into arrays.
-use Rattle.std.proofs.Common.{◌≡◌, ℕ, ◌+◌, ◌/◌, ◌%◌, suc, List, [], ◌∷◌, ◌++◌, length, take, drop, replicate, codes}
-use Rattle.std.proofs.Common.{refl, sym, ap, ◌∙◌, arith, append_assoc}
+use Rattle.std.proofs.Common.{◌≡◌, ℕ, List, ◌∷◌, ◌++◌, length, take, drop, replicate, codes}
+use Rattle.std.proofs.Common.{refl, ap, ◌∙◌, arith}
 use Rattle.std.proofs.lemmas.List.{append-nil, take_at, drop_at, drop_all}
 use borrow.Rule.Slice.PartMut.{put_mid}
 use Rattle.byteorder.specs.Endian.{big_bytes}
-
--- the lowest four bytes
-pub low-bytes : (n : ℕ) → big_bytes 4 (n % 4294967296) ≡ big_bytes 4 n
-low-bytes n =
-    let a : n % 4294967296 / 16777216 % 256 ≡ n / 16777216 % 256 = omega arith in
-    let b : n % 4294967296 / 65536 % 256 ≡ n / 65536 % 256 = omega arith in
-    let c : n % 4294967296 / 256 % 256 ≡ n / 256 % 256 = omega arith in
-    let d : n % 4294967296 % 256 ≡ n % 256 = omega arith in
-    rw (a, b, c, d)
-
--- a leaf's message: after a first byte the number and the text, and what the array holds past them
-pub leaf-message : (number len : ℕ) (head rest out more post text : List ℕ)
-    → head ≡ big_bytes 4 (number % 4294967296) ++ rest → out ≡ text ++ more → len ≡ length text
-    → take (5 + len) (0 ∷ (take 4 (head ++ []) ++ (out ++ post))) ≡ 0 ∷ (big_bytes 4 number ++ text)
-leaf-message number len head rest out more post text is written long =
-    let e : 5 + len ≡ suc (suc (suc (suc (suc len)))) = omega arith in
-    let tail : take len (out ++ post) ≡ text =
-    ap (λ t. take len (t ++ post)) written ∙ ap (take len) (append_assoc text more post)
-    ∙ take_at text (more ++ post) len (sym long) in
-    ap (λ k. take k (0 ∷ (take 4 (head ++ []) ++ (out ++ post)))) e
-    ∙ ap (λ h. take (suc (suc (suc (suc (suc len))))) (0 ∷ (take 4 (h ++ []) ++ (out ++ post)))) is
-    ∙ ap (λ t. 0 ∷ (big_bytes 4 (number % 4294967296) ++ t)) tail
-    ∙ ap (λ b. 0 ∷ (b ++ text)) (low-bytes number)
 
 -- two hashes one after the other, in the last 64 bytes of an array
 filled : (left right first second other : List ℕ) → first ≡ left → second ≡ right → length left ≡ 32 → length other ≡ 32

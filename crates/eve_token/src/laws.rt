@@ -1,7 +1,9 @@
 //! Laws about the definitions. Each body is empty: the contract is the law.
 
 ghost use Rattle.std.specs.Prelude.{◌≡◌, ◌<◌, ℕ, ℤ, List, [], ◌∷◌, length, take, drop};
+ghost use Rattle.std.specs.List.{flat_map};
 ghost use Rattle.eve_smallbank.specs.declared.request.Reply.{Reply};
+ghost use Rattle.eve_smallbank.specs.Spelling.{reply_text};
 ghost use Rattle.eve_token.specs.Merkle.{node_hash, levels_up, merkle_root, IsGreatestPowerBelow};
 ghost use Rattle.eve_token.specs.Token.{rows_root, token_from_root, token_of};
 
@@ -22,4 +24,11 @@ pub fn one_hash_is_left()
 pub fn tokens_are_made_of_roots()
     ensures { (seq : ℕ) (balances : List ℤ) (replies : List Reply)
         → token_of 2 seq balances replies ≡ token_from_root seq (rows_root balances) replies }
+{}
+
+/// Replies that are spelled alike have one token.
+pub fn replies_are_hashed_as_spelled()
+    ensures { (version seq : ℕ) (balances : List ℤ) (replies others : List Reply)
+        → flat_map reply_text replies ≡ flat_map reply_text others
+        → token_of version seq balances replies ≡ token_of version seq balances others }
 {}

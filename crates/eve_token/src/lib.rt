@@ -16,7 +16,7 @@ mod token_rows;
 mod tree;
 
 use crate::merkle::root_over;
-pub use crate::merkle::token_of;
+pub use crate::merkle::{token_of, token_of_root_and_spelled};
 use crate::spell::Spell;
 pub use crate::token_rows::TokenRows;
 pub use crate::tree::RowTree;

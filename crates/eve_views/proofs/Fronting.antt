@@ -5,10 +5,10 @@ use Rattle.std.specs.Prelude.{slice_get}
 use Rattle.std.specs.List.{AllByRecursion, flat_map, enumerate_from}
 use Rattle.std.proofs.lemmas.List.{length-append}
 use Rattle.std.proofs.lemmas.Option.{none-some, same_Some}
-use Rattle.eve_grammar.specs.Trace.{Step, Attempts, Commits, RollsBack, Vote, Sent, Trace}
+use Rattle.eve_grammar.specs.Trace.{Step, Attempts, Commits, RollsBack, TakesOver, Vote, Sent, Trace}
 use Rattle.eve_grammar.specs.Frames.{Frame, OfCustomer, OfBatch, OfReplica, OfAttempt, OfAccess, OfCommit, OfRollback}
-use Rattle.eve_grammar.specs.Frames.{OfVerifier, OfVote, OfSent, End, step_frames, section_frames, verifier_frames}
-use Rattle.eve_grammar.specs.Frames.{batches_of, sections_of, verifiers_of, frames_of}
+use Rattle.eve_grammar.specs.Frames.{OfTransfer, OfVerifier, OfVote, OfSent, End, step_frames, section_frames}
+use Rattle.eve_grammar.specs.Frames.{verifier_frames, batches_of, sections_of, verifiers_of, frames_of}
 use Rattle.eve_views.specs.Indexing.{frames_before_sent}
 use Rattle.eve_views.specs.Fronts.{before_sections, before_section, before_verifiers, before_verifier, before_sent}
 
@@ -96,6 +96,7 @@ replica_in_step : (s : Step) → Plain replica_number (step_frames s)
 replica_in_step (Attempts a) = (refl, plain-map replica_number OfAccess (λ x. refl) a.accesses)
 replica_in_step (Commits c) = (refl, tt)
 replica_in_step (RollsBack r) = (refl, tt)
+replica_in_step (TakesOver x) = (refl, tt)
 
 replica_in_verifier : (v : ℕ × List Vote) → Plain replica_number (verifier_frames v)
 replica_in_verifier v = (refl, plain-map replica_number OfVote (λ w. refl) v.1)
@@ -150,6 +151,7 @@ verifier_in_step : (s : Step) → Plain verifier_number (step_frames s)
 verifier_in_step (Attempts a) = (refl, plain-map verifier_number OfAccess (λ x. refl) a.accesses)
 verifier_in_step (Commits c) = (refl, tt)
 verifier_in_step (RollsBack r) = (refl, tt)
+verifier_in_step (TakesOver x) = (refl, tt)
 
 verifier_in_section : (s : ℕ × List Step) → Plain verifier_number (section_frames s)
 verifier_in_section s = (refl, plain-flat_map verifier_number step_frames verifier_in_step s.1)
@@ -206,6 +208,7 @@ frames_before_sent-behind (f ∷ before) fs plain = by f plain.0 (frames_before_
     by (OfAccess x) e r = omega (arith, r)
     by (OfCommit c) e r = omega (arith, r)
     by (OfRollback x) e r = omega (arith, r)
+    by (OfTransfer x) e r = omega (arith, r)
     by (OfVerifier n) e r = omega (arith, r)
     by (OfVote v) e r = omega (arith, r)
     by (OfSent s) e r = absurd cc
@@ -215,6 +218,7 @@ last_in_step : (s : Step) → Plain last_number (step_frames s)
 last_in_step (Attempts a) = (refl, plain-map last_number OfAccess (λ x. refl) a.accesses)
 last_in_step (Commits c) = (refl, tt)
 last_in_step (RollsBack r) = (refl, tt)
+last_in_step (TakesOver x) = (refl, tt)
 
 last_in_front : (t : Trace) → Plain last_number (before_sent t)
 unfolding before_sent

@@ -7,7 +7,7 @@ use Rattle.std.proofs.lemmas.Bool.{le-leb, ltb-false, and_from, and_left, and_ri
 use Rattle.std.proofs.lemmas.List.{length-drop}
 use Rattle.byteorder.specs.Endian.{big_number}
 use Rattle.eve_grammar.specs.Frames.{Frame, OfCustomer, OfBatch, OfReplica, OfAttempt, OfAccess, OfCommit, OfRollback}
-use Rattle.eve_grammar.specs.Frames.{OfVerifier, OfVote, OfSent, End, next_place, kind_of, is_allowed}
+use Rattle.eve_grammar.specs.Frames.{OfTransfer, OfVerifier, OfVote, OfSent, End, next_place, kind_of, is_allowed}
 use Rattle.eve_grammar.specs.Reading.{number_at, body_of}
 use Rattle.eve_grammar.specs.declared.head.Head.{Head}
 use Rattle.eve_grammar.specs.declared.place.Place.{Place}
@@ -126,6 +126,7 @@ next_moved p (OfAttempt a) = refl
 next_moved p (OfAccess x) = refl
 next_moved p (OfCommit c) = refl
 next_moved p (OfRollback r) = refl
+next_moved p (OfTransfer x) = refl
 next_moved p (OfVerifier n) = refl
 next_moved p (OfVote v) = refl
 next_moved p (OfSent s) = refl

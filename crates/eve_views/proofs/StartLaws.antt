@@ -7,7 +7,7 @@ use Rattle.std.proofs.lemmas.Bool.{cases_lt, eqb-true}
 use Rattle.std.proofs.lemmas.Bool.Decides.{nat_tests}
 use Rattle.std.proofs.lemmas.List.{length-append, length-set}
 use Rattle.eve_grammar.specs.Frames.{Frame, OfCustomer, OfBatch, OfReplica, OfAttempt, OfAccess, OfCommit, OfRollback}
-use Rattle.eve_grammar.specs.Frames.{OfVerifier, OfVote, OfSent, End, start_place, next_place, kind_of}
+use Rattle.eve_grammar.specs.Frames.{OfTransfer, OfVerifier, OfVote, OfSent, End, start_place, next_place, kind_of}
 use Rattle.eve_grammar.specs.Frames.{is_allowed}
 use Rattle.eve_grammar.specs.Limits.{FitsAt}
 use Rattle.eve_grammar.proofs.Lists.{get_in_front}
@@ -245,6 +245,7 @@ started_more h fs p s (OfAccess x) room st fits = started_same h fs p (next_plac
     (record { replicas = refl; verifiers = refl; sending = refl; ended = refl }) refl
 started_more h fs p s (OfCommit c) room st fits = started_same h fs p p s (OfCommit c) st (same_place p) refl
 started_more h fs p s (OfRollback r) room st fits = started_same h fs p p s (OfRollback r) st (same_place p) refl
+started_more h fs p s (OfTransfer x) room st fits = started_same h fs p p s (OfTransfer x) st (same_place p) refl
 started_more h fs p s (OfVerifier n) room st fits =
     started_verifier h fs p s n st
     (let below = few_verifiers h p fits.allowed room.one in omega (arith, below, room.verifiers))

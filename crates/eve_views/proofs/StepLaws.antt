@@ -8,16 +8,16 @@ use Rattle.std.proofs.lemmas.List.{length-append, length-take-le, length-drop, t
 use Rattle.std.proofs.lemmas.List.{drop_at, drop-drop}
 use Rattle.std.proofs.Math.Seq.{take-append-add}
 use Rattle.std.proofs.lemmas.Option.{same_Some}
-use Rattle.eve_grammar.specs.Trace.{Attempt, Step, Attempts, Commits, RollsBack}
-use Rattle.eve_grammar.specs.Frames.{Frame, OfAttempt, OfAccess, OfCommit, OfRollback, kind_of, without_accesses}
-use Rattle.eve_grammar.specs.Frames.{step_frames}
+use Rattle.eve_grammar.specs.Trace.{Attempt, Step, Attempts, Commits, RollsBack, TakesOver}
+use Rattle.eve_grammar.specs.Frames.{Frame, OfAttempt, OfAccess, OfCommit, OfRollback, OfTransfer, kind_of}
+use Rattle.eve_grammar.specs.Frames.{without_accesses, step_frames}
 use Rattle.eve_grammar.specs.Spelling.{frame_text, frames_text, located, accesses_at, step_text}
 use Rattle.eve_grammar.specs.Limits.{is_step, is_access, is_attempt}
 use Rattle.eve_grammar.specs.declared.limits.TheConstants.{MOST_ROWS}
 use Rattle.eve_grammar.proofs.Lists.{slice_get-behind}
-use Rattle.eve_frames.specs.Views.{has_attempt_body, has_commit_body, has_rollback_body, attempt_in}
-use Rattle.eve_frames.specs.Views.{commit_in, rollback_in, Says}
-use Rattle.eve_frames.proofs.Rereading.{attempt_again, commit_again, rollback_again}
+use Rattle.eve_frames.specs.Views.{has_attempt_body, has_commit_body, has_rollback_body, has_transfer_body, attempt_in}
+use Rattle.eve_frames.specs.Views.{commit_in, rollback_in, transfer_in, Says}
+use Rattle.eve_frames.proofs.Rereading.{attempt_again, commit_again, rollback_again, transfer_again}
 use Rattle.eve_views.specs.Parts.{byte_of, frames_between, accesses_between, steps_between, AreAccesses, AreSteps}
 use Rattle.eve_views.proofs.Locating.{length-frames_text}
 use Rattle.eve_views.proofs.PartLaws.{accesses_are, says_met, IsFrameAt}
@@ -116,11 +116,13 @@ abbrev first : Step → Frame
 first (Attempts a) = OfAttempt (without_accesses a)
 first (Commits c) = OfCommit c
 first (RollsBack r) = OfRollback r
+first (TakesOver x) = OfTransfer x
 
 others_of : (s : Step) → (others : List Frame) × (step_frames s ≡ first s ∷ others)
 others_of (Attempts a) = (map OfAccess a.accesses, refl)
 others_of (Commits c) = ([], refl)
 others_of (RollsBack r) = ([], refl)
+others_of (TakesOver x) = ([], refl)
 
 -- a step that is there, and its first frame
 record IsMet (fs : List Frame) (at to : ℕ) (f : Frame) : Type 0 where
@@ -189,6 +191,7 @@ attempt_met fs at to f bytes met kind text = by met.step met.is met.begins
     by : (s : Step) → IsNext fs at to met.rows s → f ≡ first s → IsAttemptMet fs at to bytes
     by (Commits c) next begins = absurd (omega (arith, kind, ap kind_of begins))
     by (RollsBack r) next begins = absurd (omega (arith, kind, ap kind_of begins))
+    by (TakesOver x) next begins = absurd (omega (arith, kind, ap kind_of begins))
     by (Attempts a) next begins =
         let few = met.few in
         let parts = and_parts (is_attempt a)
@@ -249,6 +252,9 @@ IsCommitMet = IsOneMet has_commit_body commit_in OfCommit Commits
 abbrev pub IsRollbackMet : List Frame → ℕ → ℕ → List ℕ → Type 0
 IsRollbackMet = IsOneMet has_rollback_body rollback_in OfRollback RollsBack
 
+abbrev pub IsTransferMet : List Frame → ℕ → ℕ → List ℕ → Type 0
+IsTransferMet = IsOneMet has_transfer_body transfer_in OfTransfer TakesOver
+
 commit_met : (fs : List Frame) (at to : ℕ) (f : Frame) (bytes : List ℕ) → IsMet fs at to f → kind_of f ≡ 19
     → bytes ≡ frame_text f → IsCommitMet fs at to bytes
 commit_met fs at to f bytes met kind text = by met.step met.is met.begins
@@ -256,6 +262,7 @@ commit_met fs at to f bytes met kind text = by met.step met.is met.begins
     by : (s : Step) → IsNext fs at to met.rows s → f ≡ first s → IsCommitMet fs at to bytes
     by (Attempts a) next begins = absurd (omega (arith, kind, ap kind_of begins))
     by (RollsBack r) next begins = absurd (omega (arith, kind, ap kind_of begins))
+    by (TakesOver x) next begins = absurd (omega (arith, kind, ap kind_of begins))
     by (Commits c) next begins =
         record {
           said = c;
@@ -265,17 +272,36 @@ commit_met fs at to f bytes met kind text = by met.step met.is met.begins
           value = next.value;
         }
 
-rollback_met : (fs : List Frame) (at to : ℕ) (f : Frame) (bytes : List ℕ) → IsMet fs at to f → kind_of f ≢ 17
-    → kind_of f ≢ 19 → bytes ≡ frame_text f → IsRollbackMet fs at to bytes
-rollback_met fs at to f bytes met other another text = by met.step met.is met.begins
+rollback_met : (fs : List Frame) (at to : ℕ) (f : Frame) (bytes : List ℕ) → IsMet fs at to f → kind_of f ≡ 20
+    → bytes ≡ frame_text f → IsRollbackMet fs at to bytes
+rollback_met fs at to f bytes met kind text = by met.step met.is met.begins
   where
     by : (s : Step) → IsNext fs at to met.rows s → f ≡ first s → IsRollbackMet fs at to bytes
-    by (Attempts a) next begins = absurd (other (ap kind_of begins))
-    by (Commits c) next begins = absurd (another (ap kind_of begins))
+    by (Attempts a) next begins = absurd (omega (arith, kind, ap kind_of begins))
+    by (Commits c) next begins = absurd (omega (arith, kind, ap kind_of begins))
+    by (TakesOver x) next begins = absurd (omega (arith, kind, ap kind_of begins))
     by (RollsBack r) next begins = record {
       said = r;
       says = says_met has_rollback_body rollback_in bytes f (OfRollback r) r text begins
           (rollback_again met.rows r next.right met.few);
+      text = text ∙ ap frame_text begins;
+      rest = next.rest;
+      value = next.value;
+    }
+
+-- a step of none of the other kinds
+transfer_met : (fs : List Frame) (at to : ℕ) (f : Frame) (bytes : List ℕ) → IsMet fs at to f → kind_of f ≢ 17
+    → kind_of f ≢ 19 → kind_of f ≢ 20 → bytes ≡ frame_text f → IsTransferMet fs at to bytes
+transfer_met fs at to f bytes met no_attempt no_commit no_rollback text = by met.step met.is met.begins
+  where
+    by : (s : Step) → IsNext fs at to met.rows s → f ≡ first s → IsTransferMet fs at to bytes
+    by (Attempts a) next begins = absurd (no_attempt (ap kind_of begins))
+    by (Commits c) next begins = absurd (no_commit (ap kind_of begins))
+    by (RollsBack r) next begins = absurd (no_rollback (ap kind_of begins))
+    by (TakesOver x) next begins = record {
+      said = x;
+      says = says_met has_transfer_body transfer_in bytes f (OfTransfer x) x text begins
+          (transfer_again met.rows x next.right);
       text = text ∙ ap frame_text begins;
       rest = next.rest;
       value = next.value;
@@ -297,10 +323,16 @@ commit_here fs at to bytes are more f kind =
     commit_met fs at to f.0 bytes (met_of fs at to f.0 are more f.1) (first_byte bytes f.0 f.2 ∙ kind) f.2
 
 pub rollback_here : (fs : List Frame) (at to : ℕ) (bytes : List ℕ) → AreSteps fs at to → at ≢ to → IsFrameAt fs at bytes
-    → slice_index bytes 0 ≢ 17 → slice_index bytes 0 ≢ 19 → IsRollbackMet fs at to bytes
-rollback_here fs at to bytes are more f other another =
-    rollback_met fs at to f.0 bytes (met_of fs at to f.0 are more f.1)
-    (λ e. other (sym (first_byte bytes f.0 f.2) ∙ e)) (λ e. another (sym (first_byte bytes f.0 f.2) ∙ e)) f.2
+    → slice_index bytes 0 ≡ 20 → IsRollbackMet fs at to bytes
+rollback_here fs at to bytes are more f kind =
+    rollback_met fs at to f.0 bytes (met_of fs at to f.0 are more f.1) (first_byte bytes f.0 f.2 ∙ kind) f.2
+
+pub transfer_here : (fs : List Frame) (at to : ℕ) (bytes : List ℕ) → AreSteps fs at to → at ≢ to → IsFrameAt fs at bytes
+    → slice_index bytes 0 ≢ 17 → slice_index bytes 0 ≢ 19 → slice_index bytes 0 ≢ 20 → IsTransferMet fs at to bytes
+transfer_here fs at to bytes are more f no_attempt no_commit no_rollback =
+    let same = sym (first_byte bytes f.0 f.2) in
+    transfer_met fs at to f.0 bytes (met_of fs at to f.0 are more f.1)
+    (λ e. no_attempt (same ∙ e)) (λ e. no_commit (same ∙ e)) (λ e. no_rollback (same ∙ e)) f.2
 
 -- the place after the accesses of an attempt that is met, by how many a view of it counts
 pub after_accesses : (fs : List Frame) (at to : ℕ) (bytes own : List ℕ) (count : ℕ) (met : IsAttemptMet fs at to bytes)

@@ -7,10 +7,10 @@ use Rattle.std.proofs.lemmas.Bool.{eq-eqb}
 use Rattle.std.proofs.lemmas.List.{take_rest, take-append-drop, take_at}
 use Rattle.std.proofs.lemmas.List.Elements.{All-cons, All-head, All-tail, All-append}
 use Rattle.byteorder.specs.Endian.{big_number}
-use Rattle.eve_grammar.specs.Trace.{Batch, Attempt, Access}
-use Rattle.eve_grammar.specs.Frames.{OfBatch, OfAttempt, OfAccess, is_allowed}
+use Rattle.eve_grammar.specs.Trace.{Batch, Attempt, Access, Transfer}
+use Rattle.eve_grammar.specs.Frames.{OfBatch, OfAttempt, OfAccess, OfTransfer, is_allowed}
 use Rattle.eve_grammar.specs.Limits.{is_head, row_count}
-use Rattle.eve_grammar.specs.Reading.{◌>>=◌, batch_of, attempt_of, access_of, body_of}
+use Rattle.eve_grammar.specs.Reading.{◌>>=◌, batch_of, attempt_of, access_of, transfer_of, body_of}
 use Rattle.eve_grammar.proofs.Codec.{IsBytes}
 use Rattle.eve_grammar.specs.declared.head.Head.{Head}
 use Rattle.eve_grammar.specs.declared.place.Place.{Place}
@@ -43,6 +43,16 @@ access_followed h p body right = by (access_of (row_count h) body) right
   where
     by : (o : Option Access) → is_some o ≡ true
         → Some 0 ≡ option_map accesses_in (o >>= (λ (x : Access). Some (OfAccess x)))
+    by (Some x) e = refl
+    by None e = absurd cc
+
+pub transfer_followed : (h : Head) (p : Place) (body : List ℕ) → IsTrue (is_right_body (row_count h) 21 body)
+    → Follow h p 21 body 0
+unfolding body_of
+transfer_followed h p body right = by (transfer_of (row_count h) body) right
+  where
+    by : (o : Option Transfer) → is_some o ≡ true
+        → Some 0 ≡ option_map accesses_in (o >>= (λ (x : Transfer). Some (OfTransfer x)))
     by (Some x) e = refl
     by None e = absurd cc
 

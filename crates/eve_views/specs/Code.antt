@@ -18,6 +18,7 @@ code_name code.Access = codes "Access"
 code_name code.WorkerOrder = codes "WorkerOrder"
 code_name code.Commit = codes "Commit"
 code_name code.Rollback = codes "Rollback"
+code_name code.Transfer = codes "Transfer"
 code_name code.Record = codes "Record"
 code_name code.Version = codes "Version"
 code_name code.Value = codes "Value"
@@ -27,7 +28,9 @@ code_name code.TwoVotes = codes "TwoVotes"
 code_name code.TwoDecisions = codes "TwoDecisions"
 code_name code.NoMajority = codes "NoMajority"
 code_name code.RollbackNoMajority = codes "RollbackNoMajority"
+code_name code.TransferNoMajority = codes "TransferNoMajority"
 code_name code.Outcome = codes "Outcome"
+code_name code.TransferBalances = codes "TransferBalances"
 code_name code.Reply = codes "Reply"
 
 -- the number that is printed
@@ -45,6 +48,7 @@ code_number code.Access = 22
 code_number code.WorkerOrder = 23
 code_number code.Commit = 24
 code_number code.Rollback = 25
+code_number code.Transfer = 26
 code_number code.Record = 30
 code_number code.Version = 40
 code_number code.Value = 41
@@ -54,7 +58,9 @@ code_number code.TwoVotes = 70
 code_number code.TwoDecisions = 71
 code_number code.NoMajority = 72
 code_number code.RollbackNoMajority = 73
+code_number code.TransferNoMajority = 74
 code_number code.Outcome = 80
+code_number code.TransferBalances = 81
 code_number code.Reply = 90
 
 -- The phase in which it is judged. Each phase has ten numbers of its own, but for votes and majorities, which share the

@@ -1,9 +1,9 @@
 -- Where the bytes that a view lends stand. docs/TRACE.md, "Frames".
 use Rattle.std.specs.Prelude.{◌≡◌, ℕ, List, ◌++◌, drop}
 use Rattle.eve_grammar.specs.Trace.{Trace}
-use Rattle.eve_grammar.specs.Frames.{OfAttempt, OfCommit, OfRollback}
+use Rattle.eve_grammar.specs.Frames.{OfAttempt, OfCommit, OfRollback, OfTransfer}
 use Rattle.eve_grammar.specs.Spelling.{frame_text, spelling}
-use Rattle.eve_frames.specs.Said.{attempt_said, commit_said, rollback_said}
+use Rattle.eve_frames.specs.Said.{attempt_said, commit_said, rollback_said, transfer_said}
 use Rattle.eve_views.specs.declared.steps.Step as met
 use Rattle.eve_views.specs.declared.steps.Step.TheVariants as of
 
@@ -17,3 +17,4 @@ abbrev pub LendsFrame : met.Step → Type 0
 LendsFrame (of.Attempt a accesses) = a.bytes.now ≡ frame_text (OfAttempt (attempt_said a))
 LendsFrame (of.Commit c) = c.bytes.now ≡ frame_text (OfCommit (commit_said c))
 LendsFrame (of.Rollback r) = r.bytes.now ≡ frame_text (OfRollback (rollback_said r))
+LendsFrame (of.Transfer x) = x.bytes.now ≡ frame_text (OfTransfer (transfer_said x))

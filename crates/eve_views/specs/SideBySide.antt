@@ -1,11 +1,11 @@
--- The bodies of batches, attempts and access records, judged apart from the frames among which they stand.
+-- The bodies of batches, attempts, access records and transfers, judged apart from the frames among which they stand.
 -- docs/ARCHITECTURE.md, "Threads of an audit".
 use Rattle.std.specs.Prelude.{◌≡◌, ℕ, ◌+◌, ◌≤◌, ◌<◌, Bool, true, ◌==◌, if◌then◌else◌, List, ◌++◌, length, take, drop}
 use Rattle.std.specs.Prelude.{slice_index, Ok, is_some, All, IsTrue}
 use Rattle.byteorder.specs.Endian.{big_number}
 use Rattle.eve_grammar.specs.Frames.{is_allowed}
 use Rattle.eve_grammar.specs.Limits.{row_count}
-use Rattle.eve_grammar.specs.Reading.{batch_of, attempt_of, access_of}
+use Rattle.eve_grammar.specs.Reading.{batch_of, attempt_of, access_of, transfer_of}
 use Rattle.eve_grammar.specs.declared.head.Head.{Head}
 use Rattle.eve_grammar.specs.declared.place.Place.{Place}
 use Rattle.eve_views.specs.Walk.{frame_at}
@@ -13,15 +13,16 @@ use Rattle.eve_views.specs.Indexing.{KeptFrame, kept}
 use Rattle.eve_views.specs.Walking.{Walking}
 use Rattle.eve_views.specs.declared.progress.Progress.{Progress}
 use Rattle.eve_grammar.specs.declared.frame_kind.TheConstants.{BATCH_FRAME, ATTEMPT_FRAME, ACCESS_FRAME}
-use Rattle.eve_grammar.specs.declared.frame_kind.TheConstants.{FRAME_HEAD_LEN}
+use Rattle.eve_grammar.specs.declared.frame_kind.TheConstants.{TRANSFER_FRAME, FRAME_HEAD_LEN}
 use Rattle.eve_grammar.specs.declared.head.TheConstants.{HEADER_LEN}
 
--- whether it is a body of this kind, where the kind is one of these three; the access record is of one of these rows
+-- whether it is a body of this kind, where the kind is one of these four; there are this many rows
 abbrev pub is_right_body : ℕ → ℕ → List ℕ → Bool
 is_right_body rows kind body =
     if kind == BATCH_FRAME then is_some (batch_of body)
     else if kind == ATTEMPT_FRAME then is_some (attempt_of body)
     else if kind == ACCESS_FRAME then is_some (access_of rows body)
+    else if kind == TRANSFER_FRAME then is_some (transfer_of rows body)
     else true
 
 -- the same of the body of the frame at the front of bytes

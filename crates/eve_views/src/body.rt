@@ -10,7 +10,7 @@ ghost use Rattle.eve_views.specs.Places.{accesses_in};
 use crate::reached::Reached;
 use eve_grammar::{
     FrameKind, MOST_CUSTOMERS, batch_number, certificate_len, is_access_body, is_commit_body,
-    is_customer_body, is_rollback_body, is_sent_body, is_vote_body, number_of,
+    is_customer_body, is_rollback_body, is_sent_body, is_transfer_body, is_vote_body, number_of,
 };
 
 /// Whether the body is right for a frame of this kind, other than an attempt, that stands here.
@@ -31,6 +31,7 @@ fn is_body(at: &Reached, kind: FrameKind, body: &[u8]) -> bool
         FrameKind::Access => is_access_body(rows, body),
         FrameKind::Commit => is_commit_body(body),
         FrameKind::Rollback => is_rollback_body(rows, body),
+        FrameKind::Transfer => is_transfer_body(rows, body),
         FrameKind::Verifier => number_of(body) == Some(at.place.verifiers),
         FrameKind::Vote => is_vote_body(at.head.batches, body),
         FrameKind::Sent => is_sent_body(at.head.replicas, at.head.batches, body),

@@ -37,6 +37,8 @@ pub enum Code {
     Commit,
     /// The rollback's number or view is not the one that is due.
     Rollback,
+    /// The number or the view of the state that is taken over is none that may be there.
+    Transfer,
     /// The record doesn't fit its request.
     Record,
     /// An entry sees another version than the one that is visible.
@@ -55,8 +57,12 @@ pub enum Code {
     NoMajority,
     /// Too few verifiers voted for the rollback.
     RollbackNoMajority,
+    /// Too few verifiers voted for a commit of the state that is taken over.
+    TransferNoMajority,
     /// The balances or the replies differ from those of another replica.
     Outcome,
+    /// The state that is taken over is not the one that a replica committed.
+    TransferBalances,
     /// The replica gave no such reply in a committed batch.
     Reply,
 }
@@ -80,6 +86,7 @@ impl Code {
             Code::WorkerOrder => "WorkerOrder",
             Code::Commit => "Commit",
             Code::Rollback => "Rollback",
+            Code::Transfer => "Transfer",
             Code::Record => "Record",
             Code::Version => "Version",
             Code::Value => "Value",
@@ -89,7 +96,9 @@ impl Code {
             Code::TwoDecisions => "TwoDecisions",
             Code::NoMajority => "NoMajority",
             Code::RollbackNoMajority => "RollbackNoMajority",
+            Code::TransferNoMajority => "TransferNoMajority",
             Code::Outcome => "Outcome",
+            Code::TransferBalances => "TransferBalances",
             Code::Reply => "Reply",
         }
     }
@@ -112,6 +121,7 @@ impl Code {
             Code::WorkerOrder => 23,
             Code::Commit => 24,
             Code::Rollback => 25,
+            Code::Transfer => 26,
             Code::Record => 30,
             Code::Version => 40,
             Code::Value => 41,
@@ -121,7 +131,9 @@ impl Code {
             Code::TwoDecisions => 71,
             Code::NoMajority => 72,
             Code::RollbackNoMajority => 73,
+            Code::TransferNoMajority => 74,
             Code::Outcome => 80,
+            Code::TransferBalances => 81,
             Code::Reply => 90,
         }
     }
@@ -134,14 +146,14 @@ impl Code {
             Code::Length | Code::Magic | Code::Head | Code::Frame | Code::Body => 1,
             Code::SameName | Code::SameRequest => 2,
             Code::Attempt | Code::Certificate | Code::Access => 3,
-            Code::WorkerOrder | Code::Commit | Code::Rollback => 3,
+            Code::WorkerOrder | Code::Commit | Code::Rollback | Code::Transfer => 3,
             Code::Record => 4,
             Code::Version | Code::Value => 5,
             Code::Restore => 6,
             Code::Token => 7,
             Code::TwoVotes | Code::TwoDecisions => 8,
-            Code::NoMajority | Code::RollbackNoMajority => 9,
-            Code::Outcome => 10,
+            Code::NoMajority | Code::RollbackNoMajority | Code::TransferNoMajority => 9,
+            Code::Outcome | Code::TransferBalances => 10,
             Code::Reply => 11,
         }
     }

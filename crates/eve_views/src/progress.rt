@@ -1,4 +1,5 @@
-//! The walk over a trace without judging the bodies of batches, attempts and access records, which are most of it.
+//! The walk over a trace without judging the bodies of batches, attempts, access records and transfers, which are most
+//! of it.
 
 ghost use Rattle.std.specs.Prelude.{◌≡◌, ℕ, ◌≤◌, ◌<◌, length, List, IsTrue, IfOk, IfSome, Some, drop};
 ghost use Rattle.std.specs.Option.{option_map};
@@ -53,7 +54,7 @@ fn says_number(body: &[u8], number: u32) -> bool
 }
 
 /// How many access frames have to follow a frame of this kind that stands here, if its body is right. Of a batch, an
-/// attempt and an access record nothing else of the body is judged; `None` where what is judged is wrong.
+/// attempt, an access record and a transfer nothing else of the body is judged; `None` where what is judged is wrong.
 #[inline(always)]
 fn accesses_unjudged(at: &Reached, kind: FrameKind, body: &[u8]) -> Option<usize>
     requires { at.now.head.customers ≤ MOST_CUSTOMERS }
@@ -61,7 +62,7 @@ fn accesses_unjudged(at: &Reached, kind: FrameKind, body: &[u8]) -> Option<usize
         → Some n ≡ option_map accesses_in (body_of at.now.head at.now.place (kind_byte kind) body.now)) }
 {
     match kind {
-        FrameKind::Access => Some(0),
+        FrameKind::Access | FrameKind::Transfer => Some(0),
         FrameKind::Attempt => accesses_said(body),
         FrameKind::Batch => {
             if at.place.batches < u32::MAX && says_number(body, at.place.batches + 1) {
@@ -74,8 +75,8 @@ fn accesses_unjudged(at: &Reached, kind: FrameKind, body: &[u8]) -> Option<usize
     }
 }
 
-/// The frame at the front of the bytes, where nothing is wrong with it but for the body of a batch, an attempt or an
-/// access record, which isn't judged.
+/// The frame at the front of the bytes, where nothing is wrong with it but for the body of a batch, an attempt, an
+/// access record or a transfer, which isn't judged.
 #[inline(always)]
 fn frame_unjudged(at: &Reached, bytes: &[u8]) -> Option<Framed>
     requires { at.now.head.customers ≤ MOST_CUSTOMERS }

@@ -43,6 +43,7 @@ impl Reached {
         match kind {
             FrameKind::Replica => self.place.replicas < self.head.replicas,
             FrameKind::Attempt | FrameKind::Commit | FrameKind::Rollback => 0 < self.place.replicas,
+            FrameKind::Transfer => 0 < self.place.replicas && self.head.version == 2,
             FrameKind::Verifier => self.place.replicas == self.head.replicas,
             _ => false,
         }
@@ -105,7 +106,7 @@ impl Reached {
             }
             FrameKind::Attempt => self.place.accesses = accesses,
             FrameKind::Access => self.place.accesses -= 1,
-            FrameKind::Commit | FrameKind::Rollback | FrameKind::Vote => {}
+            FrameKind::Commit | FrameKind::Rollback | FrameKind::Transfer | FrameKind::Vote => {}
             FrameKind::Verifier => {
                 prove!(self.place.verifiers == 0 || self.place.verifiers < self.head.verifiers);
                 self.place.verifiers += 1;

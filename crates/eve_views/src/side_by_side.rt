@@ -1,4 +1,4 @@
-//! The walk over a trace, with the bodies of batches, attempts and access records judged side by side.
+//! The walk over a trace, with the bodies of batches, attempts, access records and transfers judged side by side.
 
 ghost use Rattle.std.specs.Prelude.{◌≡◌, ◌≤◌, length, take, IsTrue, IfOk, IfErr, IfSome};
 ghost use denote.Param.Send.{IsSync};
@@ -15,7 +15,7 @@ use crate::progress::Progress;
 use crate::walk::{Index, index_of, kind_and_body};
 use eve_grammar::{
     FrameKind, HEADER_LEN, Head, MOST_BYTES, MOST_ROWS, batch_number, certificate_len,
-    is_access_body,
+    is_access_body, is_transfer_body,
 };
 use std::alloc::{AllocError, Global};
 use std::thread;
@@ -24,7 +24,8 @@ use std::thread::Threads;
 /// The fewest bytes for each thread.
 const LEAST_BYTES: usize = 1 << 16;
 
-/// Whether it is a body of this kind, where that is a batch, an attempt or an access record. There are this many rows.
+/// Whether it is a body of this kind, where that is a batch, an attempt, an access record or a transfer. There are this
+/// many rows.
 fn is_right_body(rows: u32, kind: FrameKind, body: &[u8]) -> bool
     requires { rows ≤ MOST_ROWS }
     ensures { result ≡ is_right_body rows (kind_byte kind) body.now }
@@ -33,6 +34,7 @@ fn is_right_body(rows: u32, kind: FrameKind, body: &[u8]) -> bool
         FrameKind::Access => is_access_body(rows, body),
         FrameKind::Attempt => certificate_len(body).is_some(),
         FrameKind::Batch => batch_number(body).is_some(),
+        FrameKind::Transfer => is_transfer_body(rows, body),
         _ => true,
     }
 }
@@ -48,7 +50,8 @@ fn is_right_frame(rows: u32, bytes: &[u8]) -> bool
     }
 }
 
-/// Whether the frames at these offsets have right bodies, where they are batches, attempts or access records.
+/// Whether the frames at these offsets have right bodies, where they are batches, attempts, access records or
+/// transfers.
 fn are_right_frames(rows: u32, bytes: &[u8], offsets: &[u32]) -> bool
     requires { rows ≤ MOST_ROWS }
     ensures { IsTrue result → AreRightFrames rows bytes.now offsets.now }
@@ -224,8 +227,8 @@ fn first_stop(at: usize, end: usize, threads: usize) -> usize {
     at + (end - at) / 5 * 3
 }
 
-/// Finds the frames after a header, with the bodies of batches, attempts and access records judged in threads;
-/// nothing where anything is wrong.
+/// Finds the frames after a header, with the bodies of batches, attempts, access records and transfers judged in
+/// threads; nothing where anything is wrong.
 ///
 /// The caller walks over the customers and the batches, which have most bytes in few frames. The other threads judge
 /// their bodies while the caller walks on; where there are three threads or more they judge what it found then while it
@@ -256,9 +259,9 @@ fn index_judged<R: Threads + Sync>(
     judge_to_end(rt, alloc, head, bytes, on, count, threads)
 }
 
-/// Finds the frames after a header, with the bodies of batches, attempts and access records judged in as many threads
-/// as there are jobs, or in fewer where a thread would have too little; nothing where anything is wrong, or where one
-/// thread is enough.
+/// Finds the frames after a header, with the bodies of batches, attempts, access records and transfers judged in as
+/// many threads as there are jobs, or in fewer where a thread would have too little; nothing where anything is wrong,
+/// or where one thread is enough.
 fn index_by_threads<R: Threads + Sync>(
     rt: &R,
     alloc: Global,
@@ -280,10 +283,10 @@ fn index_by_threads<R: Threads + Sync>(
 
 /// Finds the frames after a header, or the first fault among them, as `index_of` does, with up to `jobs` jobs.
 ///
-/// For two threads or more the caller walks over the frames without judging the bodies of batches, attempts and access
-/// records, which are most of a trace; those of batches are judged beside the rest of the walk, the others after it.
-/// Only where that way finds something wrong, the frames are walked again from the start, one by one, for the first
-/// fault.
+/// For two threads or more the caller walks over the frames without judging the bodies of batches, attempts, access
+/// records and transfers, which are most of a trace; those of batches are judged beside the rest of the walk, the
+/// others after it. Only where that way finds something wrong, the frames are walked again from the start, one by one,
+/// for the first fault.
 pub fn index_side_by_side<R: Threads + Sync>(
     rt: &R,
     alloc: Global,

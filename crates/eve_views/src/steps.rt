@@ -9,7 +9,7 @@ ghost use Rattle.eve_views.specs.Lent.{LendsFrame};
 
 use crate::accesses::Accesses;
 use crate::trace::Trace;
-use eve_frames::{AttemptView, CommitView, RollbackView};
+use eve_frames::{AttemptView, CommitView, RollbackView, TransferView};
 use eve_grammar::FrameKind;
 use std::marker::Model;
 
@@ -22,6 +22,8 @@ pub enum Step<'t, 'a> {
     Commit(CommitView<'a>),
     /// The open attempts are discarded.
     Rollback(RollbackView<'a>),
+    /// A state is taken over, and the open attempts are discarded.
+    Transfer(TransferView<'a>),
 }
 
 /// The steps of a section that are still to come.
@@ -80,9 +82,12 @@ impl<'t, 'a> Steps<'t, 'a> {
         } else if first == FrameKind::Commit.byte() {
             self.at += 1;
             Some(Step::Commit(CommitView::new(frame.offset, frame.bytes)))
-        } else {
+        } else if first == FrameKind::Rollback.byte() {
             self.at += 1;
             Some(Step::Rollback(RollbackView::new(frame.offset, frame.bytes)))
+        } else {
+            self.at += 1;
+            Some(Step::Transfer(TransferView::new(frame.offset, frame.bytes)))
         }
     }
 }

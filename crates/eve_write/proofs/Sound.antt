@@ -3,15 +3,15 @@ use Rattle.std.proofs.Common.{◌≡◌, ℕ, ◌≤◌, Bool, true, ◌&&◌, e
 use Rattle.std.proofs.Common.{map, Vec, refl, sym, ◌∙◌, ap, arith}
 use Rattle.std.specs.declared.alloc.Global.{Global}
 use Rattle.std.specs.List.{list_all}
-use Rattle.std.proofs.lemmas.Bool.{and_parts, and_from, le-leb}
+use Rattle.std.proofs.lemmas.Bool.{and_parts, and_from, eqb-true, le-leb}
 use Rattle.std.proofs.lemmas.List.{length-map}
 use Rattle.std.proofs.lemmas.List.Folds.{list_all-map}
 use Rattle.eve_grammar.specs.Trace.{head_of}
 use Rattle.eve_grammar.specs.Limits.{is_number, is_head, row_count, is_customer, is_batch, is_attempt}
-use Rattle.eve_grammar.specs.Limits.{is_access, is_rising, is_restore, is_step, is_vote, is_sent}
+use Rattle.eve_grammar.specs.Limits.{is_access, is_rising, is_restore, are_no_debts, is_versioned, is_step, is_of_version}
+use Rattle.eve_grammar.specs.Limits.{is_vote, is_sent}
 use Rattle.eve_write.specs.declared.step.Step as code
-use Rattle.eve_write.specs.declared.step.Step.TheVariants.{Attempt, Commit, Rollback}
-use Rattle.eve_write.specs.declared.vote.VoteData.{VoteData}
+use Rattle.eve_write.specs.declared.step.Step.TheVariants.{Attempt, Commit, Rollback, Transfer}
 use Rattle.eve_write.specs.declared.parts.Parts.{Parts}
 use Rattle.eve_write.specs.Data.{customer, batch, attempt, section, votes, step, vote, sent, trace}
 use Rattle.eve_write.specs.Writable.{fits_vote, HasSpelling}
@@ -34,6 +34,14 @@ step_fits rows few (Rollback r) right =
     let s = and_parts (is_rising restores) (list_all (is_restore rows) restores) q.1 in
     le-leb (length r.restores.items) 131072
     (omega (arith, few_restores rows restores s.0 s.1))
+step_fits rows few (Transfer x) right =
+    let taken = x.rows.items in
+    let last = eqb (length taken) rows && list_all is_versioned taken in
+    let p = and_parts (is_number 4 x.seq) (is_number 4 x.view && (are_no_debts 0 taken && last)) right in
+    let q = and_parts (is_number 4 x.view) (are_no_debts 0 taken && last) p.1 in
+    let s = and_parts (are_no_debts 0 taken) last q.1 in
+    let many = eqb-true (length taken) rows (and_parts (eqb (length taken) rows) (list_all is_versioned taken) s.1).0 in
+    le-leb (length taken) 131072 (omega arith)
 
 steps_fit : (rows : ℕ) → rows ≤ 131072 → (xs : List code.Step) → IsTrue (list_all (is_step rows) (map step xs))
     → IsTrue (list_all fits_step xs)
@@ -79,63 +87,54 @@ AreWritable-from_spelling p spelled =
 
 -- ---- the tests of parts
 
-right_steps : (h : Head) (xs : List code.Step) → list_all (right_step h) xs
-    ≡ list_all (is_step (row_count h)) (map step xs)
-right_steps h xs = sym (list_all-map (is_step (row_count h)) step xs)
+-- all pass two tests where all pass each of them
+module _ {X : Type 0} (p q : X → Bool) where
+  items_split : (xs : List X) → IsTrue (list_all (λ x. p x && q x) xs)
+      → IsTrue (list_all p xs) × IsTrue (list_all q xs)
+  items_split [] right = (refl, refl)
+  items_split (x ∷ xs) right =
+      let a = and_parts (p x && q x) (list_all (λ x. p x && q x) xs) right in
+      let b = and_parts (p x) (q x) a.0 in
+      let r = items_split xs a.1 in
+      (and_from (p x) (list_all p xs) b.0 r.0, and_from (q x) (list_all q xs) b.1 r.1)
 
-right_sections : (h : Head) (xs : List (Vec code.Step Global)) → list_all (λ s. list_all (right_step h) s.items) xs
-    ≡ list_all (list_all (is_step (row_count h))) (map section xs)
-right_sections h [] = refl
-right_sections h (x ∷ xs) =
-    ap (λ b. b && list_all (λ s. list_all (right_step h) s.items) xs) (right_steps h x.items)
-    ∙ ap (λ b. list_all (is_step (row_count h)) (map step x.items) && b) (right_sections h xs)
+  items_join : (xs : List X) → IsTrue (list_all p xs) → IsTrue (list_all q xs)
+      → IsTrue (list_all (λ x. p x && q x) xs)
+  items_join [] one other = refl
+  items_join (x ∷ xs) one other =
+      let a = and_parts (p x) (list_all p xs) one in
+      let b = and_parts (q x) (list_all q xs) other in
+      and_from (p x && q x) (list_all (λ x. p x && q x) xs) (and_from (p x) (q x) a.0 b.0) (items_join xs a.1 b.1)
 
--- votes whose tokens are due, and which are right
-votes_split : (h : Head) (xs : List VoteData) → IsTrue (list_all (right_vote h) xs)
-    → IsTrue (list_all (is_vote h.batches) (map vote xs)) × IsTrue (list_all fits_vote xs)
-votes_split h [] right = (refl, refl)
-votes_split h (x ∷ xs) right =
-    let p = and_parts (right_vote h x) (list_all (right_vote h) xs) right in
-    let q = and_parts (is_vote h.batches (vote x)) (fits_vote x) p.0 in
-    let r = votes_split h xs p.1 in (
-      and_from (is_vote h.batches (vote x)) (list_all (is_vote h.batches) (map vote xs)) q.0 r.0,
-      and_from (fits_vote x) (list_all fits_vote xs) q.1 r.1,
-    )
+  vecs_split : (xs : List (Vec X Global)) → IsTrue (list_all (λ v. list_all (λ x. p x && q x) v.items) xs)
+      → IsTrue (list_all (λ v. list_all p v.items) xs) × IsTrue (list_all (λ v. list_all q v.items) xs)
+  vecs_split [] right = (refl, refl)
+  vecs_split (v ∷ xs) right =
+      let a = and_parts (list_all (λ x. p x && q x) v.items) (list_all (λ v. list_all (λ x. p x && q x) v.items) xs) right
+      in
+      let b = items_split v.items a.0 in
+      let r = vecs_split xs a.1 in (
+        and_from (list_all p v.items) (list_all (λ v. list_all p v.items) xs) b.0 r.0,
+        and_from (list_all q v.items) (list_all (λ v. list_all q v.items) xs) b.1 r.1,
+      )
 
-verifiers_split : (h : Head) (xs : List (Vec VoteData Global))
-    → IsTrue (list_all (λ v. list_all (right_vote h) v.items) xs)
-    → IsTrue (list_all (list_all (is_vote h.batches)) (map votes xs))
-    × IsTrue (list_all (λ v. list_all fits_vote v.items) xs)
-verifiers_split h [] right = (refl, refl)
-verifiers_split h (x ∷ xs) right =
-    let p = and_parts (list_all (right_vote h) x.items) (list_all (λ v. list_all (right_vote h) v.items) xs) right in
-    let q = votes_split h x.items p.0 in
-    let r = verifiers_split h xs p.1 in (
-      and_from (list_all (is_vote h.batches) (map vote x.items))
-          (list_all (list_all (is_vote h.batches)) (map votes xs)) q.0 r.0,
-      and_from (list_all fits_vote x.items) (list_all (λ v. list_all fits_vote v.items) xs) q.1 r.1,
-    )
+  vecs_join : (xs : List (Vec X Global)) → IsTrue (list_all (λ v. list_all p v.items) xs)
+      → IsTrue (list_all (λ v. list_all q v.items) xs)
+      → IsTrue (list_all (λ v. list_all (λ x. p x && q x) v.items) xs)
+  vecs_join [] one other = refl
+  vecs_join (v ∷ xs) one other =
+      let a = and_parts (list_all p v.items) (list_all (λ v. list_all p v.items) xs) one in
+      let b = and_parts (list_all q v.items) (list_all (λ v. list_all q v.items) xs) other in
+      and_from (list_all (λ x. p x && q x) v.items) (list_all (λ v. list_all (λ x. p x && q x) v.items) xs)
+      (items_join v.items a.0 b.0) (vecs_join xs a.1 b.1)
 
-votes_join : (h : Head) (xs : List VoteData) → IsTrue (list_all (is_vote h.batches) (map vote xs))
-    → IsTrue (list_all fits_vote xs) → IsTrue (list_all (right_vote h) xs)
-votes_join h [] right due = refl
-votes_join h (x ∷ xs) right due =
-    let p = and_parts (is_vote h.batches (vote x)) (list_all (is_vote h.batches) (map vote xs)) right in
-    let q = and_parts (fits_vote x) (list_all fits_vote xs) due in
-    and_from (right_vote h x) (list_all (right_vote h) xs) (and_from (is_vote h.batches (vote x)) (fits_vote x) p.0 q.0)
-    (votes_join h xs p.1 q.1)
-
-verifiers_join : (h : Head) (xs : List (Vec VoteData Global))
-    → IsTrue (list_all (list_all (is_vote h.batches)) (map votes xs))
-    → IsTrue (list_all (λ v. list_all fits_vote v.items) xs)
-    → IsTrue (list_all (λ v. list_all (right_vote h) v.items) xs)
-verifiers_join h [] right due = refl
-verifiers_join h (x ∷ xs) right due =
-    let p = and_parts (list_all (is_vote h.batches) (map vote x.items))
-    (list_all (list_all (is_vote h.batches)) (map votes xs)) right in
-    let q = and_parts (list_all fits_vote x.items) (list_all (λ v. list_all fits_vote v.items) xs) due in
-    and_from (list_all (right_vote h) x.items) (list_all (λ v. list_all (right_vote h) v.items) xs)
-    (votes_join h x.items p.0 q.0) (verifiers_join h xs p.1 q.1)
+-- the items of the code that pass, as what they are
+vecs_are : {X Y : Type 0} (p : Y → Bool) (view : X → Y) (xs : List (Vec X Global))
+    → list_all (λ v. list_all (λ x. p (view x)) v.items) xs ≡ list_all (list_all p) (map (λ v. map view v.items) xs)
+vecs_are p view [] = refl
+vecs_are p view (v ∷ xs) =
+    ap (λ b. b && list_all (λ v. list_all (λ x. p (view x)) v.items) xs) (sym (list_all-map p view v.items))
+    ∙ ap (λ b. list_all p (map view v.items) && b) (vecs_are p view xs)
 
 -- parts that pass the tests under their header have a spelling
 pub HasSpelling-from_tests : (p : Parts) → IsTrue (is_head (head_of (trace p)))
@@ -151,15 +150,18 @@ HasSpelling-from_tests p right tests =
     let b = and_parts batches (sections && (verifiers && replies)) a.1 in
     let s = and_parts sections (verifiers && replies) b.1 in
     let v = and_parts verifiers replies s.1 in
-    let split = verifiers_split h p.verifiers.items v.0 in
+    let steps = vecs_split (λ s. is_of_version h.version (step s)) (λ s. is_step (row_count h) (step s))
+    p.sections.items s.0 in
+    let split = vecs_split (λ v. is_vote h.batches (vote v)) fits_vote p.verifiers.items v.0 in
     record {
       limits = record {
         counts = refl;
         head = right;
         customers = list_all-map is_customer customer p.customers.items ∙ a.0;
         batches = list_all-map is_batch batch p.batches.items ∙ b.0;
-        sections = sym (right_sections h p.sections.items) ∙ s.0;
-        votes = split.0;
+        sections = sym (vecs_are (is_step (row_count h)) step p.sections.items) ∙ steps.1;
+        kinds = sym (vecs_are (is_of_version h.version) step p.sections.items) ∙ steps.0;
+        votes = sym (vecs_are (is_vote h.batches) vote p.verifiers.items) ∙ split.0;
         sent = list_all-map (is_sent h.replicas h.batches) sent p.sent.items ∙ v.1;
       };
       tokens = split.1;
@@ -179,8 +181,13 @@ tests_from-HasSpelling p spelled =
     (sym (list_all-map is_customer customer p.customers.items) ∙ limits.customers)
     (and_from batches (sections && (verifiers && replies)) (sym (list_all-map is_batch batch p.batches.items)
     ∙ limits.batches)
-    (and_from sections (verifiers && replies) (right_sections h p.sections.items ∙ limits.sections)
-    (and_from verifiers replies (verifiers_join h p.verifiers.items limits.votes spelled.tokens)
+    (and_from sections (verifiers && replies)
+    (vecs_join (λ s. is_of_version h.version (step s)) (λ s. is_step (row_count h) (step s)) p.sections.items
+    (vecs_are (is_of_version h.version) step p.sections.items ∙ limits.kinds)
+    (vecs_are (is_step (row_count h)) step p.sections.items ∙ limits.sections))
+    (and_from verifiers replies
+    (vecs_join (λ v. is_vote h.batches (vote v)) fits_vote p.verifiers.items
+    (vecs_are (is_vote h.batches) vote p.verifiers.items ∙ limits.votes) spelled.tokens)
     (sym (list_all-map (is_sent h.replicas h.batches) sent p.sent.items) ∙ limits.sent))))
 
 -- what the tests tell under a header that is that of the parts

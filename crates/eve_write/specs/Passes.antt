@@ -6,10 +6,11 @@ use Rattle.eve_grammar.specs.declared.limits.TheConstants.{MOST_ROWS}
 use Rattle.eve_grammar.specs.Frames.{OfVote, OfSent, End, batches_of, sections_of, verifiers_of}
 use Rattle.eve_grammar.specs.Spelling.{frame_text, step_text, head_text, customer_text, batch_text, section_text}
 use Rattle.eve_grammar.specs.Spelling.{votes_text}
-use Rattle.eve_grammar.specs.Limits.{row_count, is_attempt, is_step, is_vote, is_customer, is_batch, is_sent}
+use Rattle.eve_grammar.specs.Limits.{row_count, is_attempt, is_step, is_of_version, is_vote, is_customer, is_batch}
+use Rattle.eve_grammar.specs.Limits.{is_sent}
 use Rattle.eve_grammar.specs.declared.head.Head.{Head}
 use Rattle.eve_write.specs.declared.step.Step.{Step}
-use Rattle.eve_write.specs.declared.step.Step.TheVariants.{Attempt, Commit, Rollback}
+use Rattle.eve_write.specs.declared.step.Step.TheVariants.{Attempt, Commit, Rollback, Transfer}
 use Rattle.eve_write.specs.declared.vote.VoteData.{VoteData}
 use Rattle.eve_write.specs.declared.parts.Parts.{Parts}
 use Rattle.eve_write.specs.Data.{customer, batch, attempt, step, vote, sent, trace}
@@ -20,10 +21,11 @@ abbrev pub fits_step : Step → Bool
 fits_step (Attempt a) = is_attempt (attempt a)
 fits_step (Commit c) = true
 fits_step (Rollback r) = nat_le (length r.restores.items) MOST_ROWS
+fits_step (Transfer x) = nat_le (length x.rows.items) MOST_ROWS
 
 -- whether a section of a trace with this header may hold the step
 abbrev pub right_step : Head → Step → Bool
-right_step h s = is_step (row_count h) (step s)
+right_step h s = is_of_version h.version (step s) && is_step (row_count h) (step s)
 
 -- whether a verifier of a trace with this header may give the vote
 abbrev pub right_vote : Head → VoteData → Bool

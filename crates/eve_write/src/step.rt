@@ -10,7 +10,8 @@ use crate::measure::Measure;
 use crate::right::Judge;
 use crate::rollback::{RollbackData, write_rollback};
 use crate::spell::Spell;
-use eve_grammar::{FRAME_HEAD_LEN, Head};
+use crate::transfer::{body_len, write_transfer};
+use eve_grammar::{FRAME_HEAD_LEN, Head, TransferData};
 use eve_streams::{SendFault, Sink};
 
 /// What a replica did. Contracts see it by `step`.
@@ -22,6 +23,8 @@ pub enum Step {
     Commit(CommitData),
     /// It rolled back.
     Rollback(RollbackData),
+    /// It took over a state.
+    Transfer(TransferData),
 }
 
 impl Spell for Step {
@@ -34,6 +37,7 @@ impl Spell for Step {
             Step::Attempt(attempt) => attempt.write_frames(out),
             Step::Commit(commit) => write_commit(out, commit),
             Step::Rollback(rollback) => write_rollback(out, rollback),
+            Step::Transfer(transfer) => write_transfer(out, transfer),
         }
     }
 }
@@ -48,6 +52,7 @@ impl Measure for Step {
             Step::Attempt(attempt) => attempt.text_len(),
             Step::Commit(commit) => FRAME_HEAD_LEN as u64 + commit.body_len() as u64,
             Step::Rollback(rollback) => FRAME_HEAD_LEN as u64 + rollback.body_len() as u64,
+            Step::Transfer(transfer) => FRAME_HEAD_LEN as u64 + body_len(transfer) as u64,
         }
     }
 }
@@ -63,6 +68,7 @@ impl Judge for Step {
                 true
             }
             Step::Rollback(rollback) => rollback.is_right(head),
+            Step::Transfer(transfer) => transfer.is_right(head),
         }
     }
 }

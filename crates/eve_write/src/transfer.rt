@@ -1,18 +1,22 @@
 //! Transfers and their frames.
 
-ghost use Rattle.std.specs.Prelude.{◌≡◌, ◌≤◌, ◌∷◌, ◌++◌, length};
+ghost use Rattle.std.specs.Prelude.{◌≡◌, ◌≤◌, ◌&&◌, ◌∷◌, ◌++◌, length};
 ghost use Rattle.byteorder.specs.Endian.{big_bytes};
 ghost use Rattle.eve_grammar.specs.Bodies.{transfer as plain};
-ghost use Rattle.eve_grammar.specs.Spelling.{transfer_text, transfer_frame};
+ghost use Rattle.eve_grammar.specs.Frames.{OfTransfer, has_transfers};
+ghost use Rattle.eve_grammar.specs.Limits.{row_count, is_no_debt, are_no_debts, is_transfer, is_versioned};
+ghost use Rattle.eve_grammar.specs.Spelling.{frame_text, transfer_text};
 ghost use Rattle.eve_write.specs.Writing.{Writes};
 
+use crate::right::{Judge, all_right, row_count};
 use crate::short::write_short;
 use crate::spell::send_texts;
-use eve_grammar::{MOST_ROWS, TRANSFER_FRAME, TransferData};
+use eve_grammar::{Head, MOST_ROWS, MOST_VERSIONS, TRANSFER_FRAME, TransferData};
+use eve_smallbank::Versioned;
 use eve_streams::{SendFault, Sink};
 
 /// How long the body of its frame is.
-fn body_len(transfer: &TransferData) -> u32
+pub(crate) fn body_len(transfer: &TransferData) -> u32
     requires { length transfer.now.rows.items ≤ MOST_ROWS }
     ensures { result ≡ length (transfer_text (plain transfer.now)) }
 {
@@ -37,8 +41,51 @@ fn write_front<W: Sink>(out: &mut W, transfer: &TransferData) -> Result<(), Send
 /// docs/TRACE.md, "Version 2". After a fault a front of the frame has been taken, and not all of it.
 pub fn write_transfer<W: Sink>(out: &mut W, transfer: &TransferData) -> Result<(), SendFault>
     requires { length transfer.now.rows.items ≤ MOST_ROWS }
-    ensures { Writes W.written W.failures out.old out.new result (transfer_frame (plain transfer.now)) }
+    ensures { Writes W.written W.failures out.old out.new result (frame_text (OfTransfer (plain transfer.now))) }
 {
     write_front(out, transfer)?;
     write_short(out, transfer.rows.as_slice())
+}
+
+impl Judge for Versioned {
+    ghost right = { λ h x. is_versioned x };
+
+    fn is_right(&self, _head: &Head) -> bool {
+        let _value = self.value.get();
+        self.version <= MOST_VERSIONS
+    }
+}
+
+/// Whether the value is none below 0, where savings stand in the row with this number.
+fn is_no_debt(row: usize, versioned: Versioned) -> bool
+    ensures { result ≡ is_no_debt row versioned }
+{
+    row % 2 != 0 || 0 <= versioned.value.get()
+}
+
+/// Whether no saving is below 0 in these rows, from the first on.
+fn are_no_debts(rows: &[Versioned]) -> bool
+    ensures { result ≡ are_no_debts 0 rows.now }
+{
+    for (row, versioned) in rows.iter().enumerate() {
+        if !is_no_debt(row, *versioned) {
+            return false;
+        }
+    }
+    true
+}
+
+impl Judge for TransferData {
+    ghost right = { λ h x. has_transfers h.version && is_transfer (row_count h) (plain x) };
+
+    /// The version of the trace has transfers, and each row has what it may have.
+    fn is_right(&self, head: &Head) -> bool {
+        let _seq = self.seq;
+        let _view = self.view;
+        let rows = self.rows.as_slice();
+        head.version == 2
+            && rows.len() == row_count(head)
+            && are_no_debts(rows)
+            && all_right(rows, head)
+    }
 }

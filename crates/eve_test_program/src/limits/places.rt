@@ -58,7 +58,7 @@ impl Places {
                     self.find_access(attempt.offset(), &accesses, index)
                 }
                 Step::Rollback(rollback) => self.rollback = Some(rollback.offset()),
-                Step::Commit(_) => {}
+                Step::Commit(_) | Step::Transfer(_) => {}
             }
         }
     }

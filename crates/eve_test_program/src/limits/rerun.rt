@@ -72,7 +72,7 @@ fn enter_view_1(step: &mut Step) {
             attempt.serial = attempt.seq == 1;
         }
         Step::Commit(commit) => commit.view = 1,
-        Step::Rollback(_) => {}
+        Step::Rollback(_) | Step::Transfer(_) => {}
     }
 }
 

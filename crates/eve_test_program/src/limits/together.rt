@@ -14,7 +14,7 @@ use std::alloc::Global;
 #[derive(Drop)]
 struct Replicas<'a> {
     histories: Vec<History<'a>>,
-    settled: Vec<Settled>,
+    settled: Vec<Settled<'a>>,
 }
 
 /// Reads what each replica did, one after another.

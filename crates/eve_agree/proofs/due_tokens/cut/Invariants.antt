@@ -1,10 +1,10 @@
 use Rattle.std.proofs.Common.{◌≡◌, length}
-use Rattle.eve_agree.specs.Stretches.{IsReadyStretch, AreReadyStretches}
+use Rattle.eve_agree.specs.Stretches.{IsComingStretch, AreReadyStretches}
 use Rattle.eve_agree.proofs.due_tokens.cut.Given as goal
 
 abbrev pub invariant-loop : goal.invariant-loop
 invariant-loop l = record {
   last : l.rest.last ≡ length l.settled.numbers;
-  rest : IsReadyStretch l.settled l.rest;
-  ready : AreReadyStretches l.settled l.rest.before l.stretches.items;
+  rest : IsComingStretch l.settled l.rest;
+  ready : AreReadyStretches l.trace.head.version l.settled l.rest.before l.stretches.items;
 }

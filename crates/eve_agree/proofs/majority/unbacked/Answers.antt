@@ -1,4 +1,4 @@
-use Rattle.eve_agree.proofs.Backing.{commit_met, rollback_met}
+use Rattle.eve_agree.proofs.Backing.{commit_met, rollback_met, transfer_met}
 use Rattle.eve_agree.proofs.majority.unbacked.Goals as goal
 
 pub returns-then-is_decided-clause-backed : goal.returns-then-is_decided-clause-backed
@@ -10,3 +10,8 @@ pub returns-then-is_rolled_back-clause-backed : goal.returns-then-is_rolled_back
 returns-then-is_rolled_back-clause-backed c = λ next step.
     rollback_met c.args.tally.now c.args.step c.in-Rollback.rollback next c.in-Rollback.is step
     (c.is_rolled_back.ensures.0 c.if-is_rolled_back.true)
+
+pub returns-then-is_some_decided-clause-backed : goal.returns-then-is_some_decided-clause-backed
+returns-then-is_some_decided-clause-backed c = λ next step.
+    transfer_met c.args.tally.now c.args.step c.in-Transfer.transfer next c.in-Transfer.is step
+    (c.is_some_decided.ensures.0 c.if-is_some_decided.true)

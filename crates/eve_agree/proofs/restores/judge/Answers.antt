@@ -12,9 +12,9 @@ use Rattle.eve_views.specs.declared.fault.CheckFault.TheVariants.{Found}
 use Rattle.eve_views.specs.declared.fault.Code.TheVariants as code
 use Rattle.eve_agree.specs.Marking.{marking_of}
 use Rattle.eve_agree.proofs.Marking.{none_marked}
-use Rattle.eve_agree.proofs.RestoresInOrder.{HasJudged, judged_start, on_attempt, on_commit, on_rollback}
-use Rattle.eve_agree.proofs.RestoresInOrder.{judged_rollback, restores_fit, wrong_is_least, judged_end, right_told}
-use Rattle.eve_agree.proofs.RestoresInOrder.{section_told, within_told, attempt_told, there_told, found_told}
+use Rattle.eve_agree.proofs.RestoresInOrder.{HasJudged, judged_start, on_attempt, on_commit, on_transfer}
+use Rattle.eve_agree.proofs.RestoresInOrder.{on_rollback, judged_rollback, restores_fit, wrong_is_least, judged_end}
+use Rattle.eve_agree.proofs.RestoresInOrder.{right_told, section_told, within_told, attempt_told, there_told, found_told}
 use Rattle.eve_agree.specs.Restores.{StandsInRestores}
 use Rattle.eve_agree.proofs.restores.judge.Goals as goal
 
@@ -80,6 +80,17 @@ loop-step-preserved-in-Commit c =
       none = c.loop-step.invariant.none;
     }
 
+pub loop-step-preserved : goal.loop-step-preserved
+loop-step-preserved c =
+    let t = c.args.trace.now in
+    record {
+      judged = on_transfer t c.args.history.now.replica c.loop-step.steps c.next.new.self c.loop-step.first
+          c.loop-step.end c.in-Some.step c.in-Transfer.field-0 c.in-Some.ensures.some c.in-Transfer.is
+          c.loop-step.invariant.judged;
+      many = c.loop-step.invariant.many;
+      none = c.loop-step.invariant.none;
+    }
+
 pub is_right-requires-clause-there : goal.is_right-requires-clause-there
 is_right-requires-clause-there c =
     let t = c.args.trace.now in
@@ -137,8 +148,8 @@ returns-then-not-is_right-clause-least c = λ sound.
     })) in
     subst (λ (x : CheckFault). IfFound x (IsLeast (IsFaultIn StandsInRestores t h.replica))) (sym same) least
 
-pub loop-step-preserved : goal.loop-step-preserved
-loop-step-preserved c =
+pub loop-step-preserved-in-Rollback : goal.loop-step-preserved-in-Rollback
+loop-step-preserved-in-Rollback c =
     let t = c.args.trace.now in
     let h = c.args.history.now in
     let r = rollback_in c.in-Rollback.rollback.bytes.now in

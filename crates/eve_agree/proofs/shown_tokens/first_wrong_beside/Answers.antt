@@ -12,8 +12,8 @@ loop-n-init c = record {
   due = λ n above below p at. absurd (omega arith);
 }
 
-pub is_shown-same-requires-clause-before : goal.is_shown-same-requires-clause-before
-is_shown-same-requires-clause-before c =
+pub is_shown-shown-requires-clause-before : goal.is_shown-shown-requires-clause-before
+is_shown-shown-requires-clause-before c =
     let n = c.loop-n.n in
     let last : n ≡ n + 1 - 1 = omega arith in
     subst (λ (m : ℕ). IsTrue c.loop-n.same → HaveSameBalances c.args.settled.now c.args.peer.settled.now m) last

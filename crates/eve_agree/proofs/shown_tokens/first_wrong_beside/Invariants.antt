@@ -1,12 +1,13 @@
 use Rattle.std.proofs.Common.{None, IsTrue}
 use Rattle.eve_chains.specs.Settling.{HaveSameBalances}
+use Rattle.eve_agree.specs.HashedRows.{balances_in}
 use Rattle.eve_agree.specs.Judging.{IsAfter}
 use Rattle.eve_agree.specs.DueTokens.{IsFirstWrong}
 use Rattle.eve_agree.proofs.shown_tokens.first_wrong_beside.Given as goal
 
 abbrev pub invariant-loop-n : goal.invariant-loop-n
 invariant-loop-n l = record {
-  balances : IsAfter l.settled l.n l.balances;
+  balances : IsAfter l.settled l.n (balances_in l.rows);
   others : IsAfter l.peer.settled.now l.n l.others;
   same : IsTrue l.same → HaveSameBalances l.settled l.peer.settled.now l.n;
   due : IsFirstWrong l.trace l.history.replica 0 l.n None;

@@ -38,7 +38,7 @@ returns-clause-due c alike =
     (λ m. c.settled_values_are_the_banks.ensures t f m c.recall_limits.ensures rights)
     c.committed_attempt-other.ensures c.requires.others in
     shown t e f c.args.n v.offset w.offset (attempt_in v.bytes.now) (attempt_in w.bytes.now) c.args.balances.now
-    c.args.others.now own its c.requires.peer.due (c.is_alike.ensures.0 alike)
+    c.args.others.now c.replies_are_hashed_as_spelled.ensures own its c.requires.peer.due (c.is_alike.ensures.0 alike)
 
 pub returns-clause-same : goal.returns-clause-same
 returns-clause-same c alike =

@@ -14,7 +14,8 @@ returns-clause-spelled c =
       refuted = c.faults_tell_what_is_wrong.ensures.fit;
       sound = c.sound_attempts_fit_and_see.ensures.sound;
     } in
-    yes_audited laws c.accepted_traces_are_audited.ensures c.bytes_spell_one_trace.ensures
+    yes_audited laws c.spelled_parts_are_within_limits.ensures.within c.accepted_traces_are_audited.ensures
+    c.bytes_spell_one_trace.ensures
 
 pub returns-clause-audited : goal.returns-clause-audited
 returns-clause-audited c = λ bytes s t is spells.

@@ -1,10 +1,9 @@
 use Rattle.std.proofs.Common.{ℕ, subst, sym, ◌∙◌, ap}
 use Rattle.eve_views.specs.Form.{IfFound, HasNone, IsFaultIn}
 use Rattle.eve_chains.specs.Settling.{settling}
-use Rattle.eve_agree.proofs.Outcomes.{replica_told}
 use Rattle.eve_audit.specs.Verdict.{IsOwnFault}
 use Rattle.eve_audit.specs.Reports.{IsFirstOf, IsSoundReplica}
-use Rattle.eve_audit.proofs.Told.{section_history_by_its_own}
+use Rattle.eve_audit.proofs.Told.{replica_told, section_history_by_its_own}
 use Rattle.eve_history.specs.Structure.{StandsInStructure}
 use Rattle.eve_audit.proofs.replicas.judge_replica.Goals as goal
 

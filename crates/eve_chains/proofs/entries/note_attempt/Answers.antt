@@ -41,7 +41,7 @@ loop-place-preserved c = record {
       let e = c.args.history.now.replica in
       let says = c.ordered-access.ensures.says in
       let own : says.0 ≡ r = same_Some says.0 r (sym says.1 ∙ at) in
-      let f = noted_by 0 c.view.result c.seq.result c.is_committed.result in
+      let f = noted_by c.taken_before.result c.view.result c.seq.result c.is_committed.result in
       subst (λ (ms : List Noted). EachHasGathered t e c.args.from ms c.note_record.new.rows.items)
       (list_more f ns r.ordered c.loop-place.place (said_at c.ordered-access.result)
       (ap (λ (q : ExecutedAttempt). slice_get q.ordered c.loop-place.place) (sym own) ∙ says.2))
@@ -50,7 +50,7 @@ loop-place-preserved c = record {
 }
 
 pub returns-clause-gathered : goal.returns-clause-gathered
-returns-clause-gathered c = λ ns r fate at its known.
+returns-clause-gathered c = λ ns r taken fate at as_many its known.
     let t = c.args.trace.now in
     let e = c.args.history.now.replica in
     let from = c.args.from in
@@ -61,6 +61,8 @@ returns-clause-gathered c = λ ns r fate at its known.
     ∙ ap (λ (q : ExecutedAttempt). q.attempt.view) own in
     let number : c.seq.result ≡ r.attempt.seq = c.seq.ensures ∙ ap (λ (a : Attempt). a.seq) says.3
     ∙ ap (λ (q : ExecutedAttempt). q.attempt.seq) own in
+    let before : c.taken_before.result ≡ taken =
+    same_Some c.taken_before.result taken (sym c.taken_before.ensures ∙ as_many) in
     let same : c.fate-fate.result ≡ fate = same_Some c.fate-fate.result fate (sym c.fate-fate.ensures ∙ its) in
     let commits : c.is_committed.result ≡ is_committed fate = c.is_committed.ensures ∙ ap is_committed same in
     let passes : is_settled fate ≡ true = ap is_settled (sym same) ∙ sym c.is_settled.ensures
@@ -72,6 +74,6 @@ returns-clause-gathered c = λ ns r fate at its known.
     ∙ ap (λ (a : Attempt). length a.certificate) says.3 ∙ ap (λ (q : ExecutedAttempt). length q.attempt.certificate) own in
     let over : length r.ordered ≤ c.loop-place.place = omega (arith, many, listed, c.loop-place-test.false) in
     subst (λ (ms : List Noted). EachHasGathered t e from (ns ++ ms) rows)
-    ((λ i. flat_map (noted_by 0 (view i) (number i) (commits i)) (take_all c.loop-place.place r.ordered over i))
-    ∙ sym (cond-true (is_settled fate) (noted_along r fate) [] passes))
+    ((λ i. flat_map (noted_by (before i) (view i) (number i) (commits i)) (take_all c.loop-place.place r.ordered over i))
+    ∙ sym (cond-true (is_settled fate) (noted_along (r, taken) fate) [] passes))
     (c.loop-place.invariant.gathered ns r at known)

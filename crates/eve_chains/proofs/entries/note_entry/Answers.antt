@@ -10,7 +10,7 @@ pub returns-in_default-clause-gathered : goal.returns-in_default-clause-gathered
 returns-in_default-clause-gathered c = λ t e ns known.
     let n : Noted = record {
       offset = c.args.at;
-      taken = 0;
+      taken = c.args.noting.taken;
       view = c.args.noting.view;
       number = c.args.noting.number;
       commits = c.args.noting.commits;
@@ -26,7 +26,7 @@ pub returns-clause-gathered : goal.returns-clause-gathered
 returns-clause-gathered c = λ t e ns known.
     let n : Noted = record {
       offset = c.args.at;
-      taken = 0;
+      taken = c.args.noting.taken;
       view = c.args.noting.view;
       number = c.args.noting.number;
       commits = c.args.noting.commits;

@@ -23,7 +23,7 @@ loop-place-preserved c =
       gathered = λ t e ns known.
           let f : Entry → Noted = λ x. record {
             offset = c.args.access.now.offset;
-            taken = 0;
+            taken = c.args.noting.taken;
             view = c.args.noting.view;
             number = c.args.noting.number;
             commits = c.args.noting.commits;
@@ -34,7 +34,7 @@ loop-place-preserved c =
           (one_more f ns es c.loop-place.place c.entry.result c.entry.ensures)
           (subst (λ (at : ℕ). EachHasGathered t e c.args.noting.from (before ++ record {
             offset = at;
-            taken = 0;
+            taken = c.args.noting.taken;
             view = c.args.noting.view;
             number = c.args.noting.number;
             commits = c.args.noting.commits;
@@ -48,7 +48,7 @@ returns-clause-gathered c = λ t e ns known.
     subst (λ (es : List Entry). EachHasGathered t e c.args.noting.from
     (ns ++ map (λ (x : Entry). record {
       offset = c.args.access.now.offset;
-      taken = 0;
+      taken = c.args.noting.taken;
       view = c.args.noting.view;
       number = c.args.noting.number;
       commits = c.args.noting.commits;

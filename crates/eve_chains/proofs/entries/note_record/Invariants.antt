@@ -11,7 +11,7 @@ invariant-loop-place l = record {
   gathered : (t : Trace) (e : ℕ) (ns : List Noted) → EachHasGathered t e l.noting.from ns l.fn.rows.items
       → EachHasGathered t e l.noting.from (ns ++ map (λ e. record {
         offset = l.access.offset;
-        taken = 0;
+        taken = l.noting.taken;
         view = l.noting.view;
         number = l.noting.number;
         commits = l.noting.commits;

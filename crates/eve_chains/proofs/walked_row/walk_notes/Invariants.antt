@@ -1,5 +1,5 @@
-use Rattle.std.proofs.Common.{ℕ, List, ◌++◌, map, take}
-use Rattle.eve_smallbank.specs.declared.versioned.Versioned.{Versioned}
+use Rattle.std.proofs.Common.{List, ◌++◌, map, take}
+use Rattle.eve_chains.specs.Bases.{base_at}
 use Rattle.eve_chains.specs.Rows.{Noted}
 use Rattle.eve_chains.specs.Notes.{noted_at}
 use Rattle.eve_chains.specs.Walked.{HasWalked}
@@ -7,5 +7,5 @@ use Rattle.eve_chains.proofs.walked_row.walk_notes.Given as goal
 
 abbrev pub invariant-loop-note : goal.invariant-loop-note
 invariant-loop-note l =
-    (bases : ℕ → Versioned) (ns : List Noted) → HasWalked l.replica bases ns l.fn.on
-    → HasWalked l.replica bases (ns ++ map (noted_at l.row) (take l.note-index l.notes)) l.on
+    (ns : List Noted) → HasWalked l.replica (base_at l.bases l.row) ns l.fn.on
+    → HasWalked l.replica (base_at l.bases l.row) (ns ++ map (noted_at l.row) (take l.note-index l.notes)) l.on

@@ -14,6 +14,7 @@ returns-clause-empty_run c =
       customers = refl;
       batches = refl;
       sections = refl;
+      kinds = refl;
       votes = refl;
       sent = refl;
     }) (omega arith)
@@ -27,6 +28,7 @@ returns-clause-deposit_committed c =
       customers = refl;
       batches = refl;
       sections = refl;
+      kinds = refl;
       votes = refl;
       sent = refl;
     }) (omega arith)

@@ -1,6 +1,7 @@
 use Rattle.eve_history.proofs.LandingLaws.{landings_counted, committed_told, told_committed, committed_numbered}
-use Rattle.eve_history.proofs.LandingLaws.{committed_after_reached, reached_by_attempts, told_by_attempts}
-use Rattle.eve_history.proofs.LandingLaws.{attempts_numbered}
+use Rattle.eve_history.proofs.LandingLaws.{committed_after_reached, attempts_numbered, landing_there, transfer_told}
+use Rattle.eve_history.proofs.LandingLaws.{told_transfer, told_skipped, transfer_numbered, transfer_lands}
+use Rattle.eve_history.proofs.AttemptsAlone.{by_attempts_to}
 use Rattle.eve_history.proofs.laws.numbers_are_reached.Goals as goal
 
 pub returns : goal.returns
@@ -11,6 +12,11 @@ returns c = record {
   numbers = committed_numbered;
   attempts = attempts_numbered;
   before = committed_after_reached;
-  by_attempts = reached_by_attempts;
-  are_by_attempt = told_by_attempts;
+  told_transfer = transfer_told;
+  tells_transfer = told_transfer;
+  tells_skipped = told_skipped;
+  transfers = transfer_numbered;
+  lands = transfer_lands;
+  there = landing_there;
+  by_attempts = by_attempts_to;
 }

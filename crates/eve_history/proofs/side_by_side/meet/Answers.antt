@@ -18,3 +18,8 @@ pub returns-in-Rollback : goal.returns-in-Rollback
 returns-in-Rollback c = λ t e rest next come is.
     meeting_other t e next rest c.args.mets.now.items _ (of.Rollback c.in-Rollback.field-0) refl
     (subst (λ s. IsStep s next) c.in-Rollback.is is) refl come
+
+pub returns-in-Transfer : goal.returns-in-Transfer
+returns-in-Transfer c = λ t e rest next come is.
+    meeting_other t e next rest c.args.mets.now.items _ (of.Transfer c.in-Transfer.field-0) refl
+    (subst (λ s. IsStep s next) c.in-Transfer.is is) refl come

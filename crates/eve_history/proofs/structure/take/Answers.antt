@@ -2,7 +2,7 @@ use Rattle.std.proofs.Common.{subst}
 use Rattle.std.proofs.lemmas.Result.{MatchResult-weaker, on_ok_weaker}
 use Rattle.eve_views.specs.StepKinds.{IsStep}
 use Rattle.eve_history.specs.Coming.{kept_section}
-use Rattle.eve_history.proofs.Taking.{weaker_found, comes_next, commit_next, rollback_next, come_as}
+use Rattle.eve_history.proofs.Taking.{weaker_found, comes_next, commit_next, rollback_next, transfer_next, come_as}
 use Rattle.eve_history.proofs.structure.take.Goals as goal
 
 pub take_attempt-requires-clause-comes : goal.take_attempt-requires-clause-comes
@@ -78,3 +78,28 @@ returns-in-Rollback-clause-wrong c =
     wrong rest
     (come_as c.args.trace.now c.args.e rest (kept_section c.args.notes.now) next _
     (rollback_next next c.in-Rollback.rollback (subst (λ s. IsStep s next) c.in-Rollback.is is)) come)) h)
+
+pub take_transfer-requires-clause-comes : goal.take_transfer-requires-clause-comes
+take_transfer-requires-clause-comes c =
+    let comes = c.requires.comes in (
+      comes.0,
+      come_as c.args.trace.now c.args.e comes.0 (kept_section c.args.notes.now) comes.1 _
+          (transfer_next comes.1 c.in-Transfer.transfer (subst (λ s. IsStep s comes.1) c.in-Transfer.is comes.3))
+          comes.2,
+    )
+
+pub returns-in-Transfer-clause-taken : goal.returns-in-Transfer-clause-taken
+returns-in-Transfer-clause-taken c =
+    on_ok_weaker c.take_transfer.result (λ taken rest next come is.
+    taken rest
+    (come_as c.args.trace.now c.args.e rest (kept_section c.args.notes.now) next _
+    (transfer_next next c.in-Transfer.transfer (subst (λ s. IsStep s next) c.in-Transfer.is is)) come))
+    c.take_transfer.ensures.taken
+
+pub returns-in-Transfer-clause-wrong : goal.returns-in-Transfer-clause-wrong
+returns-in-Transfer-clause-wrong c =
+    MatchResult-weaker c.take_transfer.result c.take_transfer.ensures.wrong (λ _ h. h)
+    (λ x h. weaker_found x _ _ (λ f wrong rest next come is.
+    wrong rest
+    (come_as c.args.trace.now c.args.e rest (kept_section c.args.notes.now) next _
+    (transfer_next next c.in-Transfer.transfer (subst (λ s. IsStep s next) c.in-Transfer.is is)) come)) h)

@@ -6,7 +6,7 @@ use Rattle.eve_views.specs.StepKinds.{IsStep}
 use Rattle.eve_history.specs.SectionHistory.{attempts_among}
 use Rattle.eve_history.specs.Coming.{kept_section}
 use Rattle.eve_history.specs.SideBySide.{IsKeptAhead}
-use Rattle.eve_history.proofs.Taking.{commit_next, rollback_next, come_as}
+use Rattle.eve_history.proofs.Taking.{commit_next, rollback_next, transfer_next, come_as}
 use Rattle.eve_history.proofs.Ahead.{ahead_other, some_weaker, next_attempt}
 use Rattle.eve_history.proofs.structure.take_ahead.Goals as goal
 
@@ -52,6 +52,20 @@ returns-then-right-2 c = λ rest next ahead is.
     (taken r _ ok c.take_rollback.ensures.taken rest
     (come_as t c.args.e rest (kept_section n) next _ own ahead.come))
     (taken r _ ok c.take_rollback.ensures.noted) (taken r _ ok c.take_rollback.ensures.records)
+
+pub returns-then-right-3 : goal.returns-then-right-3
+returns-then-right-3 c = λ rest next ahead is.
+    let t = c.args.trace.now in
+    let n = c.args.notes.now in
+    let after = c.take_transfer.new.self in
+    let r = c.take_transfer.result in
+    let ok : IsOk r = c.in_ok-right-in-Transfer.ensures c.if-right-3.true in
+    let own = transfer_next next c.in-Transfer.transfer (subst (λ s. IsStep s next) c.in-Transfer.is is) in
+    ahead_other t c.args.e next rest c.args.from n after
+    (ap (λ (x : ℕ × Step). attempts_among (x ∷ rest)) own) ahead
+    (taken r _ ok c.take_transfer.ensures.taken rest
+    (come_as t c.args.e rest (kept_section n) next _ own ahead.come))
+    (taken r _ ok c.take_transfer.ensures.noted) (taken r _ ok c.take_transfer.ensures.records)
 
 pub returns-in-Attempt : goal.returns-in-Attempt
 returns-in-Attempt c =

@@ -3,17 +3,19 @@ use Rattle.std.proofs.Common.{refl}
 use Rattle.std.proofs.Common.{sym, ap, ◌∙◌, subst, arith}
 use Rattle.std.proofs.lemmas.List.{map-append, length-map, nil_from_length}
 use Rattle.std.proofs.lemmas.Option.{slice_get-map, slice_get_read, same_Some}
-use Rattle.eve_grammar.specs.Trace.{Batch, Step, Attempts, Commits, RollsBack}
+use Rattle.eve_grammar.specs.Bodies.{transfer}
+use Rattle.eve_grammar.specs.Trace.{Batch, Step, Attempts, Commits, RollsBack, TakesOver}
 use Rattle.eve_write.specs.Data.{attempt, batch, commit, rollback, section, sent, step}
 use Rattle.eve_replica.specs.declared.server.Server.{Server}
 use Rattle.eve_replica.specs.Sending.{sent_along}
 use Rattle.eve_replica.specs.Serving.{AreReplies}
 use Rattle.eve_replica.proofs.Answering.{attempt_sent, commit_sent, empty_commit_sent, rollback_sent, section_sent}
+use Rattle.eve_replica.proofs.Answering.{transfer_sent}
 use Rattle.eve_replica.proofs.Answering.{along_is, step_at, first_removed}
 use Rattle.eve_replica.proofs.sending.send_section.Goals as goal
 use Rattle.eve_replica.proofs.sending.send_section.Goals.{in-Attempt+in_ok-push-in-Attempt}
 use Rattle.eve_replica.proofs.sending.send_section.Goals.{in-Commit+then-not-is_empty+in_ok-send_attempt-in-Commit}
-use Rattle.eve_replica.proofs.sending.send_section.Goals.{in-Commit+else-not-is_empty, in-Rollback}
+use Rattle.eve_replica.proofs.sending.send_section.Goals.{in-Commit+else-not-is_empty, in-Rollback, in-Transfer}
 
 pub loop-step-preserved : goal.loop-step-preserved
 loop-step-preserved c =
@@ -92,6 +94,20 @@ loop-step-preserved c =
                 before _ (omega (arith, length-map steps step))
                 (step_at steps i c.step-item.result (RollsBack r) (omega arith) c.step-item.is
                 (ap step w.in-Rollback.is))
+                was.sent);
+          }
+      | in-Transfer w ↦
+          let x = transfer w.in-Transfer.field-0 in
+          record {
+            limits = subst (λ v. AreReplies (length c.args.servers.now) (length c.args.batches.now) v.items)
+                (sym w.replies-is) was.limits;
+            sent = along_is batches place before _ [] _ rest _ (ap (λ v. map sent v.items) w.replies-is)
+                (ap (λ v. map (λ x. attempt x.now) v.items) w.opened-is
+                ∙ ap (map (λ x. attempt x.now)) w.clear-in-Transfer.ensures.items)
+                (transfer_sent batches place (map (λ x. attempt x.now) c.loop-step.opened.items) x (map step steps) i
+                before _ (omega (arith, length-map steps step))
+                (step_at steps i c.step-item.result (TakesOver x) (omega arith) c.step-item.is
+                (ap step w.in-Transfer.is))
                 was.sent);
           }
     ]

@@ -1,13 +1,16 @@
-use Rattle.std.proofs.Common.{◌≡◌, IsTrue, Some, IfSome, None, Option, ℕ, drop}
+use Rattle.std.proofs.Common.{◌≡◌, IsTrue, Some, IfSome, None, Option, ℕ, drop, inl, inr}
 use Rattle.byteorder.specs.Endian.{big_number}
 use Rattle.eve_grammar.specs.Limits.{row_count}
 use Rattle.eve_views.specs.SideBySide.{is_right_body}
-use Rattle.eve_views.proofs.Unjudged.{access_followed, attempt_followed, batch_followed, Follow}
+use Rattle.eve_views.proofs.Unjudged.{access_followed, transfer_followed, attempt_followed, batch_followed, Follow}
 use Rattle.eve_views.proofs.progress.accesses_unjudged.Goals as goal
 
 pub returns-in-Access : goal.returns-in-Access
 returns-in-Access c =
-    rw c.in-Access.is (access_followed c.args.at.now.head c.args.at.now.place c.args.body.now)
+    elim c.in-Access.is [
+      | inl access ↦ rw access (access_followed c.args.at.now.head c.args.at.now.place c.args.body.now)
+      | inr transfer ↦ rw transfer (transfer_followed c.args.at.now.head c.args.at.now.place c.args.body.now)
+    ]
 
 pub returns-in-Attempt : goal.returns-in-Attempt
 returns-in-Attempt c = rw c.in-Attempt.is (said c.accesses_said.result c.accesses_said.ensures)

@@ -1,13 +1,36 @@
-use Rattle.std.proofs.Common.{map}
+use Rattle.std.proofs.Common.{map, refl, ap}
 use Rattle.eve_smallbank.specs.Access.{balance_of_row}
 use Rattle.eve_chains.specs.Changes.{change_of}
+use Rattle.eve_chains.specs.Landed.{values_said}
+use Rattle.eve_chains.specs.Settling.{Wrote, TookOverValues, Nothing}
 use Rattle.eve_chains.proofs.AdvancingBanks.{values_then, banks_are}
 use Rattle.eve_chains.proofs.settled.Settled.advance.Goals as goal
 
-pub returns-clause-values : goal.returns-clause-values
-returns-clause-values c = values_then c.args.self.now c.args.n (map change_of c.changes_of.result.now)
-    (balance_of_row c.args.balances.now) (balance_of_row c.set_all.new.balances) c.requires.one
-    c.changes_of.ensures.says c.requires.before c.set_all.ensures.values
+pub returns-in-Wrote-clause-values : goal.returns-in-Wrote-clause-values
+returns-in-Wrote-clause-values g c =
+    values_then c.args.self.now c.args.n (Wrote (map change_of c.in-Wrote.changes.now))
+    (balance_of_row (g.T.SetRow.rows c.args.rows.now)) (balance_of_row (g.T.SetRow.rows c.set_all.new.rows))
+    c.requires.one c.in-Wrote.ensures.says c.requires.before c.set_all.ensures.values
 
-pub returns-clause-bank : goal.returns-clause-bank
-returns-clause-bank c = banks_are c.args.self.now c.args.n c.set_all.new.balances (returns-clause-values c)
+pub returns-in-Wrote-clause-bank : goal.returns-in-Wrote-clause-bank
+returns-in-Wrote-clause-bank g c =
+    banks_are c.args.self.now c.args.n (g.T.SetRow.rows c.set_all.new.rows) (returns-in-Wrote-clause-values g c)
+
+pub returns-in-TookOver-clause-values : goal.returns-in-TookOver-clause-values
+returns-in-TookOver-clause-values g c =
+    values_then c.args.self.now c.args.n (TookOverValues (values_said c.in-TookOver.state))
+    (balance_of_row (g.T.SetRow.rows c.args.rows.now)) (balance_of_row (g.T.SetRow.rows c.take_over.new.rows))
+    c.requires.one c.in-TookOver.ensures.says c.requires.before (ap balance_of_row c.take_over.ensures)
+
+pub returns-in-TookOver-clause-bank : goal.returns-in-TookOver-clause-bank
+returns-in-TookOver-clause-bank g c =
+    banks_are c.args.self.now c.args.n (g.T.SetRow.rows c.take_over.new.rows) (returns-in-TookOver-clause-values g c)
+
+pub returns-in-Nothing-clause-values : goal.returns-in-Nothing-clause-values
+returns-in-Nothing-clause-values g c =
+    values_then c.args.self.now c.args.n Nothing (balance_of_row (g.T.SetRow.rows c.args.rows.now))
+    (balance_of_row (g.T.SetRow.rows c.args.rows.now)) c.requires.one c.in-Nothing.ensures.says c.requires.before refl
+
+pub returns-in-Nothing-clause-bank : goal.returns-in-Nothing-clause-bank
+returns-in-Nothing-clause-bank g c =
+    banks_are c.args.self.now c.args.n (g.T.SetRow.rows c.args.rows.now) (returns-in-Nothing-clause-values g c)

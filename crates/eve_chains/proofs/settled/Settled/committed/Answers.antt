@@ -1,9 +1,10 @@
 use Rattle.std.proofs.Common.{length, ap, sym, ◌∙◌}
 use Rattle.eve_chains.specs.Settling.{Settling}
-use Rattle.eve_chains.proofs.ByNumber.{wrote_counted}
+use Rattle.eve_chains.proofs.LandedChanges.{kept_counted}
 use Rattle.eve_chains.proofs.settled.Settled.committed.Goals as goal
 
 pub returns : goal.returns
 returns c =
-    let x = c.self.inside.numbered in
-    sym (wrote_counted x.count x.starts.items x.changes.items) ∙ ap (λ (s : Settling). length s.numbers) c.self.view_is
+    let x = c.self.inside in
+    sym (kept_counted (length x.opening) x.numbered.count x.transfers.items x.landings.items x.numbered.starts.items
+    x.numbered.changes.items c.self.invariant.1) ∙ ap (λ (s : Settling). length s.numbers) c.self.view_is

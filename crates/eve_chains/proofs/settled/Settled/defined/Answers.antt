@@ -1,14 +1,56 @@
-use Rattle.std.proofs.Common.{sym, ap, ◌∙◌}
-use Rattle.std.specs.Prelude.{nat_le}
+use Rattle.std.proofs.Common.{◌≡◌, ◌<◌, ◌≤◌, ◌-◌, None, slice_get, length, sym, ap, ◌∙◌, arith}
+use Rattle.eve_history.specs.declared.landing.Landing.TheVariants as landing
 use Rattle.eve_chains.specs.Changes.{from_starts}
 use Rattle.eve_chains.specs.Settling.{Settling}
-use Rattle.eve_chains.proofs.AdvancingBanks.{wrote_defined}
-use Rattle.eve_chains.proofs.ByNumber.{starts_counted}
+use Rattle.eve_chains.proofs.LandedChanges.{none_past, change_kept, state_among, taken_is_change, defined_at}
 use Rattle.eve_chains.proofs.settled.Settled.defined.Goals as goal
 
-pub returns : goal.returns
-returns c =
-    let x = c.self.inside.numbered in
-    ap (nat_le c.args.n) (sym (starts_counted x.count x.starts.items x.changes.items))
-    ∙ wrote_defined c.args.self.now (from_starts x.count x.starts.items x.changes.items) c.args.n
-    (sym (ap (λ (s : Settling). s.numbers) c.self.view_is))
+pub returns-then-self-n : goal.returns-then-self-n
+returns-then-self-n c =
+    let x = c.self.inside in
+    let n = c.args.n in
+    let past : length x.landings.items ≤ n - 1 = omega (arith, c.self.invariant.1.many, c.if-self-n.true) in
+    sym (defined_at c.args.self.now n None (omega (arith, c.if-self-n.true))
+    (ap (λ (s : Settling). slice_get s.numbers (n - 1)) (sym c.self.view_is)
+    ∙ none_past x.transfers.items x.landings.items
+    (from_starts x.numbered.count x.numbered.starts.items x.numbered.changes.items) (n - 1) past))
+
+pub returns-in-Attempt : goal.returns-in-Attempt
+returns-in-Attempt c =
+    let x = c.self.inside in
+    let n = c.args.n in
+    let one : 1 ≤ n = omega (arith, c.if-n-eq0.false) in
+    let lt : n - 1 < x.numbered.count = omega (arith, one, c.if-self-n.false) in
+    sym (defined_at c.args.self.now n _ one
+    (ap (λ (s : Settling). slice_get s.numbers (n - 1)) (sym c.self.view_is)
+    ∙ change_kept (length x.opening) x.numbered.count x.transfers.items x.landings.items x.numbered.starts.items
+    x.numbered.changes.items (n - 1) c.index.result.now (landing.Attempt c.in-Attempt.field-0) c.self.invariant.1 lt
+    c.index.ensures c.in-Attempt.is))
+
+pub returns-in-Transfer : goal.returns-in-Transfer
+returns-in-Transfer c =
+    let x = c.self.inside in
+    let n = c.args.n in
+    let i = c.in-Transfer.field-0 in
+    let one : 1 ≤ n = omega (arith, c.if-n-eq0.false) in
+    let lt : n - 1 < x.numbered.count = omega (arith, one, c.if-self-n.false) in
+    sym (defined_at c.args.self.now n _ one
+    (ap (λ (s : Settling). slice_get s.numbers (n - 1)) (sym c.self.view_is)
+    ∙ change_kept (length x.opening) x.numbered.count x.transfers.items x.landings.items x.numbered.starts.items
+    x.numbered.changes.items (n - 1) c.index.result.now (landing.Transfer i) c.self.invariant.1 lt
+    c.index.ensures c.in-Transfer.is)
+    ∙ taken_is_change x.transfers.items i
+    (state_among (length x.opening) x.numbered.count x.transfers.items x.landings.items (n - 1) i c.index.result.now
+    c.self.invariant.1 lt c.index.ensures c.in-Transfer.is))
+
+pub returns-in-Skipped : goal.returns-in-Skipped
+returns-in-Skipped c =
+    let x = c.self.inside in
+    let n = c.args.n in
+    let one : 1 ≤ n = omega (arith, c.if-n-eq0.false) in
+    let lt : n - 1 < x.numbered.count = omega (arith, one, c.if-self-n.false) in
+    sym (defined_at c.args.self.now n _ one
+    (ap (λ (s : Settling). slice_get s.numbers (n - 1)) (sym c.self.view_is)
+    ∙ change_kept (length x.opening) x.numbered.count x.transfers.items x.landings.items x.numbered.starts.items
+    x.numbered.changes.items (n - 1) c.index.result.now landing.Skipped c.self.invariant.1 lt
+    c.index.ensures c.in-Skipped.is))

@@ -1,16 +1,24 @@
-use Rattle.std.proofs.Common.{◌≡◌, ℕ, ℤ, ◌*◌, List, map, length, sym, subst, ap, ◌∙◌}
-use Rattle.std.specs.Prelude.{All, IfOk}
+use Rattle.std.proofs.Common.{◌≡◌, ◌≤◌, ℕ, ℤ, ◌*◌, List, map, length, sym, subst, ap, ◌∙◌, arith}
+use Rattle.std.specs.Prelude.{All}
+use Rattle.std.proofs.lemmas.List.{length-map}
+use Rattle.std.proofs.lemmas.List.Elements.{All-from_recursion}
+use Rattle.eve_accounts.specs.declared.limits.TheConstants.{MOST_NAMED_ROWS}
+use Rattle.eve_grammar.specs.Trace.{head_of}
+use Rattle.eve_grammar.proofs.HeadLimits.{few_customers}
 use Rattle.eve_grammar.proofs.OpeningRows.{length-opening_rows}
 use Rattle.eve_history.specs.SectionHistory.{history}
 use Rattle.eve_chains.specs.declared.changed.Changed.{Changed}
-use Rattle.eve_chains.specs.Changes.{by_number}
-use Rattle.eve_chains.specs.Numbered.{HasNumber, IsRowBelow}
-use Rattle.eve_chains.specs.Settling.{Settling, Wrote, settling}
+use Rattle.eve_chains.specs.Changes.{by_number, from_starts}
+use Rattle.eve_chains.specs.Landed.{transfer_at, HasRows, IsStateAmong}
+use Rattle.eve_chains.specs.Numbered.{HasNumber, IsRowBelow, IsInOrder}
+use Rattle.eve_chains.specs.Settling.{settling}
 use Rattle.eve_chains.proofs.CommittedChanges.{joined_numbers, joined_below, joined_by_number, landings_counted}
+use Rattle.eve_chains.proofs.LandedChanges.{told_counted, told_among, numbers_told}
+use Rattle.eve_chains.proofs.TakenRows.{views_have_rows}
 use Rattle.eve_chains.proofs.settled.Settled.of_walked.Goals as goal
 
-pub of_changes-requires-clause-numbers : goal.of_changes-requires-clause-numbers
-of_changes-requires-clause-numbers c =
+pub of-requires-clause-numbers : goal.of-requires-clause-numbers
+of-requires-clause-numbers c =
     let t = c.args.trace.now in
     let h = c.args.history.now in
     let right = c.recall_right.ensures.section t h.replica c.requires.history in
@@ -20,16 +28,37 @@ of_changes-requires-clause-numbers c =
     (subst (λ (cs : List Changed). All (HasNumber (length (history t h.replica).landings)) cs) (sym same)
     (joined_numbers t h.replica right c.args.walked.items c.requires.walked))
 
-pub of_changes-requires-clause-rows : goal.of_changes-requires-clause-rows
-of_changes-requires-clause-rows c =
+pub of-requires-clause-rows : goal.of-requires-clause-rows
+of-requires-clause-rows c =
     let t = c.args.trace.now in
     let h = c.args.history.now in
     let right = c.recall_right.ensures.section t h.replica c.requires.history in
     let same = c.deref.ensures.value ∙ c.in_ok-changes.ensures in
-    let rows = ap (λ (xs : List ℤ). length xs) c.requires.opening ∙ length-opening_rows t.customers in
+    let rows = c.len.ensures.len ∙ ap (λ (xs : List ℤ). length xs) c.requires.opening ∙ length-opening_rows t.customers in
     subst (λ (n : ℕ). All (IsRowBelow n) c.deref.result.now) (sym rows)
     (subst (λ (cs : List Changed). All (IsRowBelow (2 * length t.customers)) cs) (sym same)
     (joined_below t h.replica right c.args.walked.items c.requires.walked))
+
+pub invariant_of-result : goal.invariant_of-result
+invariant_of-result c =
+    let t = c.args.trace.now in
+    let h = c.args.history.now in
+    let states = c.in_ok-transfers.transfers.items in
+    let rows : length c.args.opening ≡ 2 * length t.customers =
+    ap (λ (xs : List ℤ). length xs) c.requires.opening ∙ length-opening_rows t.customers in
+    let many : length h.transfers ≡ length states =
+    ap length (sym c.in_ok-transfers.ensures) ∙ length-map states transfer_at in (
+      subst (λ (n : ℕ). IsInOrder n c.in_ok-numbered.numbered) c.len.ensures.len c.in_ok-numbered.ensures.order,
+      record {
+        many = told_counted h c.in_ok-landings.landings.items h.landings c.in_ok-landings.ensures
+            ∙ sym c.committed.ensures.count ∙ sym c.in_ok-numbered.ensures.count;
+        there = All-from_recursion (IsStateAmong (length states)) c.in_ok-landings.landings.items
+            (told_among h (length states) c.in_ok-landings.landings.items h.landings c.in_ok-landings.ensures many);
+        whole = subst (λ (n : ℕ). All (HasRows n) states) (sym rows)
+            (views_have_rows t h.replica h states c.recall_limits.ensures c.requires.history c.in_ok-transfers.ensures);
+        few = omega (arith, rows, few_customers (head_of t) c.recall_limits.ensures.head);
+      },
+    )
 
 pub returns : goal.returns
 unfolding settling
@@ -39,8 +68,11 @@ returns c =
     let right = c.recall_right.ensures.section t h.replica c.requires.history in
     let same = c.deref.ensures.value ∙ c.in_ok-changes.ensures in
     let count = c.committed.ensures.count ∙ landings_counted t h.replica h right c.numbers_are_reached.ensures.count c.requires.history in
-    let numbers = (λ i. map Wrote (by_number (count i) (same i)))
+    let x = c.in_ok-numbered.numbered in
+    let wrote = ap (λ (n : ℕ). from_starts n x.starts.items x.changes.items) c.in_ok-numbered.ensures.count
+    ∙ c.in_ok-numbered.ensures.numbers ∙ (λ i. by_number (count i) (same i))
     ∙ joined_by_number t h.replica right c.args.walked.items c.requires.walked in
-    let own : Settling = record { opening = c.args.opening; numbers = map Wrote (by_number c.committed.result c.deref.result.now) } in
-    let all : own ≡ settling t h.replica = λ i. record { opening = c.requires.opening i; numbers = numbers i } in
-    subst (λ (s : Settling). IfOk c.of_changes.result (λ settled. settled ≡ s)) all c.of_changes.ensures
+    let numbers = numbers_told t h c.in_ok-transfers.transfers.items h.replica c.in_ok-landings.landings.items
+    (from_starts x.count x.starts.items x.changes.items) c.requires.history c.in_ok-transfers.ensures c.in_ok-landings.ensures
+    wrote in
+    λ i. record { opening = c.requires.opening i; numbers = numbers i }

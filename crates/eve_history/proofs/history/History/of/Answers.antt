@@ -3,7 +3,7 @@ use Rattle.std.proofs.Common.{ℕ, List, ◌∷◌, ◌∙◌, sym, subst, rules
 use Rattle.std.proofs.lemmas.Result.{err_from_is_err_and}
 use Rattle.std.specs.List.{AllByRecursion}
 use Rattle.eve_grammar.specs.Trace.{Step}
-use Rattle.eve_history.specs.Standing.{IsAttemptAt, IsAccessAt, IsRollbackAt}
+use Rattle.eve_history.specs.Standing.{IsAttemptAt, IsAccessAt, IsRollbackAt, IsTransferAt}
 use Rattle.eve_grammar.specs.Spelling.{steps_at}
 use Rattle.eve_grammar.specs.Following.{Spells}
 use Rattle.eve_views.specs.StepKinds.{IsStep}
@@ -30,6 +30,8 @@ loop-step-init c =
               tt;
           rollbacks = subst (AllByRecursion (IsRollbackAt c.new-notes.result.bytes.now))
               (sym c.new-notes.ensures.rollbacks) tt;
+          transfers = subst (AllByRecursion (IsTransferAt c.new-notes.result.bytes.now))
+              (sym c.new-notes.ensures.transfers) tt;
         };
       },
     )

@@ -13,7 +13,7 @@ loop-step-init c =
     let n = c.with_records-notes in
     subst (λ (xs : List (ℕ × Step)). IsKeptAhead t e xs 0 n.result) (sym c.section-steps.ensures)
     (ahead_start t e n.result c.bytes.result.now c.args.records.items c.bytes.ensures n.ensures.bytes
-    c.requires.ordered n.ensures.records n.ensures.attempts n.ensures.rollbacks n.ensures.kept)
+    c.requires.ordered n.ensures.records n.ensures.attempts n.ensures.rollbacks n.ensures.transfers n.ensures.kept)
 
 pub returns-clause-section_history : goal.returns-clause-section_history
 returns-clause-section_history c =

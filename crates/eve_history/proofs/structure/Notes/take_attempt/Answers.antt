@@ -13,11 +13,12 @@ use Rattle.eve_history.specs.declared.structure.Attempted.{Attempted}
 use Rattle.eve_history.specs.Section.{start, state_after}
 use Rattle.eve_history.specs.SectionHistory.{ordered, access_with}
 use Rattle.eve_history.specs.Structure.{accesses_of, StandsInStructure}
-use Rattle.eve_history.specs.Coming.{KeptAttempt, kept_section, kept_attempt, seen, HasCome, ComesNext}
+use Rattle.eve_history.specs.Coming.{KeptAttempt, kept_section, kept_attempt, seen, took_over, HasCome, ComesNext}
 use Rattle.eve_history.proofs.Coming.{come_wrong, come_attempt, with_attempt}
 use Rattle.eve_history.proofs.Finding.{found_offsets, listed_small}
 use Rattle.eve_history.specs.Standing.{frame_in, IsAttemptAt, IsAccessAt}
 use Rattle.eve_history.proofs.Standing.{attempt_there, all_seen, all_small, seen_in_order, access_frames}
+use Rattle.eve_history.proofs.Standing.{transfers_small}
 use Rattle.eve_history.proofs.Taking.{its_records_count, its_indexes, its_order}
 use Rattle.eve_history.proofs.structure.Notes.take_attempt.Goals as goal
 
@@ -70,6 +71,14 @@ overflow_cast-offset c =
     let small = there.1.framed.small in
     record { fits = omega (arith, small, c.offset.ensures) }
 
+pub overflow_cast-taken : goal.overflow_cast-taken
+overflow_cast-taken c =
+    let n = c.args.self.now in
+    let small = transfers_small n.bytes.now c.args.trace.now c.args.e c.requires.comes.0 (kept_section n)
+    c.args.attempt.now.offset (Attempts c.requires.comes.1) c.requires.noted.spelled c.requires.comes.2.come in
+    let count : c.len-taken.result ≡ length n.transfers.items = search rules in
+    record { fits = omega (arith, small, count, length-map n.transfers.items (took_over n.bytes.now)) }
+
 pub returns-clause-taken : goal.returns-clause-taken
 returns-clause-taken c = λ rest b comes.
     let t = c.args.trace.now in
@@ -83,19 +92,25 @@ returns-clause-taken c = λ rest b comes.
     let from : c.len-from.result ≡ length k.records =
     (let count : c.len-from.result ≡ length n.records.items = search rules in count
     ∙ sym (length-map n.records.items (seen n.bytes.now))) in
-    let added : KeptAttempt = record { offset = at; attempt = without_accesses b; from = length k.records } in
+    let taken : c.len-taken.result ≡ length k.transfers =
+    (let count : c.len-taken.result ≡ length n.transfers.items = search rules in count
+    ∙ sym (length-map n.transfers.items (took_over n.bytes.now))) in
+    let added : KeptAttempt =
+    record { offset = at; attempt = without_accesses b; taken = length k.transfers; from = length k.records } in
     let keep = kept_attempt n.bytes.now in
     let there = attempt_there n.bytes.now t c.args.e rest k at b c.requires.noted.spelled comes.come in
-    let same : added ≡ keep (record { at = c.offset.result; from = c.len-from.result }) =
+    let same : added ≡ keep (record { at = c.offset.result; taken = c.len-taken.result; from = c.len-from.result }) =
     λ i. record {
       offset = sym c.offset.ensures i;
       attempt = (sym there.0 ∙ ap (λ (o : ℕ). attempt_in (frame_in n.bytes.now o)) (sym c.offset.ensures)) i;
+      taken = sym taken i;
       from = sym from i;
     } in
     let attempts : k.attempts ++ added ∷ [] ≡ map keep c.push.new.self.items =
     ap (λ (a : KeptAttempt). k.attempts ++ a ∷ []) same
     ∙ sym (ap (map keep) c.in_ok-push.ensures.items
-    ∙ map-append keep n.attempts.items (record { at = c.offset.result; from = c.len-from.result } ∷ [])) in
+    ∙ map-append keep n.attempts.items
+    (record { at = c.offset.result; taken = c.len-taken.result; from = c.len-from.result } ∷ [])) in
     let own = take c.len.result c.read_order.new.order in
     let listed : AllByRecursion (λ i. (i < 256) × IsTrue (list_any (λ y. y.index == i) (accesses_of xs))) own =
     subst (AllByRecursion (λ i. (i < 256) × IsTrue (list_any (λ y. y.index == i) (accesses_of xs)))) (sym order)
@@ -159,12 +174,14 @@ returns-clause-noted c =
       spelled = c.requires.noted.spelled;
       framed = record {
         attempts = subst (AllByRecursion is_there) (sym c.in_ok-push.ensures.items)
-            (all-push is_there n.attempts.items (record { at = c.offset.result; from = c.len-from.result })
+            (all-push is_there n.attempts.items
+            (record { at = c.offset.result; taken = c.len-taken.result; from = c.len-from.result })
             c.requires.noted.framed.attempts (subst (IsAttemptAt n.bytes.now) (sym c.offset.ensures) there.1));
         records = subst (AllByRecursion (IsAccessAt n.bytes.now)) (sym kept)
             (access_frames n.bytes.now xs n.records.items own
             (all_seen n.bytes.now t c.args.e c.requires.comes.0 b (kept_section n) at said xs c.requires.noted.spelled
             comes) listed c.requires.noted.framed.records);
         rollbacks = c.requires.noted.framed.rollbacks;
+        transfers = c.requires.noted.framed.transfers;
       };
     }

@@ -59,7 +59,7 @@ overflow_cast-place c =
     let k = kept_section c.args.self.now in
     let comes = c.requires.comes in
     let small = attempts_small c.args.self.now.bytes.now comes.0 c.args.e comes.1 k c.args.commit.now.offset
-    (commit_in c.args.commit.now.bytes.now) comes.2.spelled comes.3 in
+    (Commits (commit_in c.args.commit.now.bytes.now)) comes.2.spelled comes.3 in
     let fewer : length k.fates ≤ length k.attempts = comes.3.stands.fewer in
     let place : length k.fates ≡ c.len-place.result = search rules in
     record { fits = omega (arith, small) }

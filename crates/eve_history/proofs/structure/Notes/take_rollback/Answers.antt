@@ -98,5 +98,6 @@ returns-clause-noted c =
         rollbacks = subst (AllByRecursion (IsRollbackAt n.bytes.now)) (sym c.in_ok-push.ensures.items)
             (all-push (IsRollbackAt n.bytes.now) n.rollbacks.items c.offset-2.result c.requires.noted.framed.rollbacks
             (subst (IsRollbackAt n.bytes.now) (sym c.offset-2.ensures) there.1));
+        transfers = c.requires.noted.framed.transfers;
       };
     }

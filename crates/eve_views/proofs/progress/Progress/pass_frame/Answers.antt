@@ -12,7 +12,7 @@ use Rattle.eve_views.specs.Indexing.{kept_in}
 use Rattle.eve_views.specs.SideBySide.{AreRightFrames}
 use Rattle.eve_views.specs.Walking.{Walking}
 use Rattle.eve_views.specs.declared.starts.Starts.{Starts}
-use Rattle.eve_views.proofs.Reaching.{room_of, verifier_room}
+use Rattle.eve_views.proofs.Reaching.{room_of, replica_room, verifier_room}
 use Rattle.eve_views.proofs.Unjudged.{walking_unjudged}
 use Rattle.eve_views.proofs.progress.Progress.pass_frame.Goals as goal
 
@@ -20,6 +20,13 @@ pub frame_unjudged-requires : goal.frame_unjudged-requires
 frame_unjudged-requires c =
     let small = few_customers c.args.head c.requires.says.limits in
     omega (arith, small, ap (λ (h : Head). h.customers) c.requires.walked.head)
+
+pub note-requires-clause-replica : goal.note-requires-clause-replica
+note-requires-clause-replica c =
+    let p = c.args.self.now.reached.place in
+    let kind = kind_byte c.in-Some.frame.kind in
+    let allowed = subst (λ (g : Head). IsTrue (is_allowed g p kind)) c.requires.walked.head c.in-Some.ensures.allowed in
+    (λ is. replica_room c.args.head p kind (room_of c.args.head c.requires.says.limits) allowed (ap kind_byte is))
 
 pub note-requires-clause-verifier : goal.note-requires-clause-verifier
 note-requires-clause-verifier c =

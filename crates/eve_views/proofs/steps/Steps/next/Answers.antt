@@ -1,10 +1,11 @@
 use Rattle.std.proofs.Common.{◌<◌, ◌+◌, ◌^◌, sym, ap, ◌∙◌, arith, rules}
-use Rattle.eve_grammar.specs.Trace.{Attempts, Commits, RollsBack}
-use Rattle.eve_grammar.specs.Frames.{OfAttempt, OfCommit, OfRollback, frames_of}
+use Rattle.eve_grammar.specs.Trace.{Attempts, Commits, RollsBack, TakesOver}
+use Rattle.eve_grammar.specs.Frames.{OfAttempt, OfCommit, OfRollback, OfTransfer, frames_of}
 use Rattle.eve_grammar.specs.Spelling.{frame_text}
-use Rattle.eve_frames.specs.Views.{attempt_in, commit_in, rollback_in}
+use Rattle.eve_frames.specs.Views.{attempt_in, commit_in, rollback_in, transfer_in}
 use Rattle.eve_views.specs.Parts.{byte_of}
-use Rattle.eve_views.proofs.StepLaws.{none_left, attempt_here, commit_here, rollback_here, after_accesses}
+use Rattle.eve_views.proofs.StepLaws.{none_left, attempt_here, commit_here, rollback_here, transfer_here}
+use Rattle.eve_views.proofs.StepLaws.{after_accesses}
 use Rattle.eve_views.proofs.steps.Steps.next.Goals as goal
 
 pub returns-then-self-clause-none : goal.returns-then-self-clause-none
@@ -113,41 +114,82 @@ returns-then-first-byte-2-clause-text c =
 
 -- ---- a rollback
 
-pub new-requires-else-first-byte-2 : goal.new-requires-else-first-byte-2
-new-requires-else-first-byte-2 c =
+pub new-requires-then-first-byte-3 : goal.new-requires-then-first-byte-3
+new-requires-then-first-byte-3 c =
     let met = rollback_here (frames_of c.self.inside.trace.now) c.self.inside.at c.self.inside.to
     c.frame-frame.result.bytes.now c.self.invariant c.if-self.false c.frame-frame.ensures.frame
-    (λ e. c.if-first-byte.false (e ∙ sym c.byte.ensures))
-    (λ e. c.if-first-byte-2.false (e ∙ sym c.byte-else-first-byte.ensures)) in
+    (c.if-first-byte-3.true ∙ c.byte-else-first-byte-2.ensures) in
     met.says.0
 
-pub invariant_of-self-else-first-byte-2 : goal.invariant_of-self-else-first-byte-2
-invariant_of-self-else-first-byte-2 c =
+pub invariant_of-self-then-first-byte-3 : goal.invariant_of-self-then-first-byte-3
+invariant_of-self-then-first-byte-3 c =
     let met = rollback_here (frames_of c.self.inside.trace.now) c.self.inside.at c.self.inside.to
     c.frame-frame.result.bytes.now c.self.invariant c.if-self.false c.frame-frame.ensures.frame
-    (λ e. c.if-first-byte.false (e ∙ sym c.byte.ensures))
-    (λ e. c.if-first-byte-2.false (e ∙ sym c.byte-else-first-byte.ensures)) in
+    (c.if-first-byte-3.true ∙ c.byte-else-first-byte-2.ensures) in
     met.rest
 
-pub returns-else-first-byte-2-clause-some : goal.returns-else-first-byte-2-clause-some
-returns-else-first-byte-2-clause-some c =
+pub returns-then-first-byte-3-clause-some : goal.returns-then-first-byte-3-clause-some
+returns-then-first-byte-3-clause-some c =
     let met = rollback_here (frames_of c.self.inside.trace.now) c.self.inside.at c.self.inside.to
     c.frame-frame.result.bytes.now c.self.invariant c.if-self.false c.frame-frame.ensures.frame
-    (λ e. c.if-first-byte.false (e ∙ sym c.byte.ensures))
-    (λ e. c.if-first-byte-2.false (e ∙ sym c.byte-else-first-byte.ensures)) in (
+    (c.if-first-byte-3.true ∙ c.byte-else-first-byte-2.ensures) in (
       (byte_of (frames_of c.self.inside.trace.now) c.self.inside.at, RollsBack met.said),
       sym c.self.view_is ∙ met.value,
       (
-        c.new-else-first-byte-2.ensures.offset ∙ c.frame-frame.ensures.offset,
-        ap rollback_in c.new-else-first-byte-2.ensures.bytes ∙ met.says.1,
+        c.new-then-first-byte-3.ensures.offset ∙ c.frame-frame.ensures.offset,
+        ap rollback_in c.new-then-first-byte-3.ensures.bytes ∙ met.says.1,
       ),
     )
 
-pub returns-else-first-byte-2-clause-text : goal.returns-else-first-byte-2-clause-text
-returns-else-first-byte-2-clause-text c =
+pub returns-then-first-byte-3-clause-text : goal.returns-then-first-byte-3-clause-text
+returns-then-first-byte-3-clause-text c =
     let met = rollback_here (frames_of c.self.inside.trace.now) c.self.inside.at c.self.inside.to
     c.frame-frame.result.bytes.now c.self.invariant c.if-self.false c.frame-frame.ensures.frame
+    (c.if-first-byte-3.true ∙ c.byte-else-first-byte-2.ensures) in
+    c.new-then-first-byte-3.ensures.bytes ∙ met.text
+    ∙ ap (λ x. frame_text (OfRollback x)) (sym (ap rollback_in c.new-then-first-byte-3.ensures.bytes ∙ met.says.1))
+
+-- ---- a state taken over
+
+pub new-requires-else-first-byte-3 : goal.new-requires-else-first-byte-3
+new-requires-else-first-byte-3 c =
+    let met = transfer_here (frames_of c.self.inside.trace.now) c.self.inside.at c.self.inside.to
+    c.frame-frame.result.bytes.now c.self.invariant c.if-self.false c.frame-frame.ensures.frame
     (λ e. c.if-first-byte.false (e ∙ sym c.byte.ensures))
-    (λ e. c.if-first-byte-2.false (e ∙ sym c.byte-else-first-byte.ensures)) in
-    c.new-else-first-byte-2.ensures.bytes ∙ met.text
-    ∙ ap (λ x. frame_text (OfRollback x)) (sym (ap rollback_in c.new-else-first-byte-2.ensures.bytes ∙ met.says.1))
+    (λ e. c.if-first-byte-2.false (e ∙ sym c.byte-else-first-byte.ensures))
+    (λ e. c.if-first-byte-3.false (e ∙ sym c.byte-else-first-byte-2.ensures)) in
+    met.says.0
+
+pub invariant_of-self-else-first-byte-3 : goal.invariant_of-self-else-first-byte-3
+invariant_of-self-else-first-byte-3 c =
+    let met = transfer_here (frames_of c.self.inside.trace.now) c.self.inside.at c.self.inside.to
+    c.frame-frame.result.bytes.now c.self.invariant c.if-self.false c.frame-frame.ensures.frame
+    (λ e. c.if-first-byte.false (e ∙ sym c.byte.ensures))
+    (λ e. c.if-first-byte-2.false (e ∙ sym c.byte-else-first-byte.ensures))
+    (λ e. c.if-first-byte-3.false (e ∙ sym c.byte-else-first-byte-2.ensures)) in
+    met.rest
+
+pub returns-else-first-byte-3-clause-some : goal.returns-else-first-byte-3-clause-some
+returns-else-first-byte-3-clause-some c =
+    let met = transfer_here (frames_of c.self.inside.trace.now) c.self.inside.at c.self.inside.to
+    c.frame-frame.result.bytes.now c.self.invariant c.if-self.false c.frame-frame.ensures.frame
+    (λ e. c.if-first-byte.false (e ∙ sym c.byte.ensures))
+    (λ e. c.if-first-byte-2.false (e ∙ sym c.byte-else-first-byte.ensures))
+    (λ e. c.if-first-byte-3.false (e ∙ sym c.byte-else-first-byte-2.ensures)) in (
+      (byte_of (frames_of c.self.inside.trace.now) c.self.inside.at, TakesOver met.said),
+      sym c.self.view_is ∙ met.value,
+      (
+        c.new-else-first-byte-3.ensures.offset ∙ c.frame-frame.ensures.offset,
+        ap transfer_in c.new-else-first-byte-3.ensures.bytes ∙ met.says.1,
+      ),
+    )
+
+pub returns-else-first-byte-3-clause-text : goal.returns-else-first-byte-3-clause-text
+returns-else-first-byte-3-clause-text c =
+    let met = transfer_here (frames_of c.self.inside.trace.now) c.self.inside.at c.self.inside.to
+    c.frame-frame.result.bytes.now c.self.invariant c.if-self.false c.frame-frame.ensures.frame
+    (λ e. c.if-first-byte.false (e ∙ sym c.byte.ensures))
+    (λ e. c.if-first-byte-2.false (e ∙ sym c.byte-else-first-byte.ensures))
+    (λ e. c.if-first-byte-3.false (e ∙ sym c.byte-else-first-byte-2.ensures)) in
+    c.new-else-first-byte-3.ensures.bytes ∙ met.text
+    ∙ ap (λ x. frame_text (OfTransfer x)) (sym (ap transfer_in c.new-else-first-byte-3.ensures.bytes ∙ met.says.1))

@@ -1,5 +1,6 @@
 use Rattle.std.proofs.Common.{sym, ap, ◌∙◌, subst, append-nil}
-use Rattle.eve_grammar.specs.Frames.{OfCommit, OfRollback}
+use Rattle.eve_grammar.specs.Bodies.{transfer}
+use Rattle.eve_grammar.specs.Frames.{OfCommit, OfRollback, OfTransfer}
 use Rattle.eve_grammar.specs.Spelling.{frame_text, step_text}
 use Rattle.eve_write.specs.Data.{step, commit, rollback}
 use Rattle.eve_write.specs.Writing.{Writes}
@@ -21,3 +22,9 @@ returns-in-Rollback g c =
     subst (Writes g.W.Sink.written g.W.Sink.failures c.args.out.now c.write_rollback.new.out c.write_rollback.result)
     (sym (append-nil (frame_text (OfRollback (rollback c.in-Rollback.rollback))))
     ∙ sym (ap (λ s. step_text (step s)) c.in-Rollback.is)) c.write_rollback.ensures
+
+pub returns-in-Transfer : goal.returns-in-Transfer
+returns-in-Transfer g c =
+    subst (Writes g.W.Sink.written g.W.Sink.failures c.args.out.now c.write_transfer.new.out c.write_transfer.result)
+    (sym (append-nil (frame_text (OfTransfer (transfer c.in-Transfer.transfer))))
+    ∙ sym (ap (λ s. step_text (step s)) c.in-Transfer.is)) c.write_transfer.ensures

@@ -1,0 +1,55 @@
+use Rattle.std.proofs.Common.{◌≡◌, ℕ, ◌-◌, length, subst, ap, inl, inr, arith}
+use Rattle.std.proofs.lemmas.Bool.{cases_lt}
+use Rattle.eve_agree.specs.Judging.{AgreesIn, bound_of}
+use Rattle.eve_agree.proofs.Agreeing.{bound_low, judged_on, judged_apart}
+use Rattle.eve_agree.proofs.AtNumber.{as_many_histories}
+use Rattle.eve_agree.proofs.SameBefore.{all_have_same}
+use Rattle.eve_agree.proofs.agreement.judge_number.Goals as goal
+
+pub wrong_in-requires-clause-there : goal.wrong_in-requires-clause-there
+wrong_in-requires-clause-there c =
+    let t = c.args.trace.now in
+    let known = c.requires.after in
+    let count = as_many_histories t c.args.histories.now c.args.settled.now c.args.all.now c.args.n known in
+    let low = bound_low t (c.args.n - 1) c.args.least c.requires.before in
+    let bound : bound_of (length c.args.histories.now) c.args.least ≡ bound_of (length t.sections) c.args.least =
+    ap (λ (k : ℕ). bound_of k c.args.least) count in
+    omega (arith, c.loop-e-test.true)
+
+pub wrong_in-requires-clause-before : goal.wrong_in-requires-clause-before
+wrong_in-requires-clause-before c =
+    let t = c.args.trace.now in
+    let known = c.requires.after in
+    let count = as_many_histories t c.args.histories.now c.args.settled.now c.args.all.now c.args.n known in
+    let bound : bound_of (length c.args.histories.now) c.args.least ≡ bound_of (length t.sections) c.args.least =
+    ap (λ (k : ℕ). bound_of k c.args.least) count in
+    all_have_same t known.values known.states (c.args.n - 1) c.loop-e.e c.args.least c.requires.before
+    (omega (arith, c.loop-e-test.true))
+
+pub loop-e-preserved : goal.loop-e-preserved
+loop-e-preserved c = λ i lt. elim (cases_lt i c.loop-e.e) [
+  | inl early ↦ c.loop-e.invariant i early
+  | inr late ↦
+      let same : c.loop-e.e ≡ i = omega arith in
+      subst (λ (k : ℕ). AgreesIn c.args.trace.now k c.args.n) same c.in_default.ensures.agrees
+]
+
+pub returns-in-Some : goal.returns-in-Some
+returns-in-Some c =
+    let t = c.args.trace.now in
+    let known = c.requires.after in
+    let count = as_many_histories t c.args.histories.now c.args.settled.now c.args.all.now c.args.n known in
+    let bound : bound_of (length c.args.histories.now) c.args.least ≡ bound_of (length t.sections) c.args.least =
+    ap (λ (k : ℕ). bound_of k c.args.least) count in
+    judged_apart t c.args.n c.loop-e.e c.args.least c.in-Some.fault c.requires.before
+    (omega (arith, c.loop-e-test.true)) c.loop-e.invariant c.in-Some.ensures.apart
+
+pub returns : goal.returns
+returns c =
+    let t = c.args.trace.now in
+    let known = c.requires.after in
+    let count = as_many_histories t c.args.histories.now c.args.settled.now c.args.all.now c.args.n known in
+    let bound : bound_of (length c.args.histories.now) c.args.least ≡ bound_of (length t.sections) c.args.least =
+    ap (λ (k : ℕ). bound_of k c.args.least) count in
+    judged_on t c.args.n c.args.least c.requires.before
+    (λ i lt. c.loop-e.invariant i (omega (arith, c.loop-e-test.false)))

@@ -1,0 +1,233 @@
+-- What is kept of how each number was reached gives what it changed.
+use Rattle.std.proofs.Common.{◌≡◌, ℕ, ℤ, zero, suc, ◌+◌, ◌-◌, ◌*◌, ◌<◌, ◌≤◌, Bool, true, false, List, [], ◌∷◌, ◌++◌}
+use Rattle.std.proofs.Common.{map, length, slice_get, slice_range, get_or, Option, Some, None, All, refl, sym, subst, ap, ◌∙◌, append_assoc}
+use Rattle.std.proofs.Common.{length-append, arith}
+use Rattle.std.specs.List.{AllByRecursion, AllZip}
+use Rattle.std.proofs.lemmas.Option.{same_Some}
+use Rattle.std.proofs.lemmas.List.{length-map}
+use Rattle.std.proofs.lemmas.List.Elements.{All-from_recursion}
+use Rattle.eve_grammar.specs.Trace.{Trace, Transfer}
+use Rattle.eve_frames.specs.Said.{transfer_said}
+use Rattle.eve_frames.specs.declared.transfer.TransferView.{TransferView}
+use Rattle.eve_history.specs.declared.landing.Landing as told
+use Rattle.eve_history.specs.declared.landing.Landing.TheVariants as landing
+use Rattle.eve_history.specs.Section.{Landing, ByAttempt, ByTransfer, Skipped, transfers_by}
+use Rattle.eve_history.specs.SectionHistory.{SectionHistory, section_history, history, IsToldOf, IsRightSection}
+use Rattle.eve_history.specs.SectionHistory.{Landed, LandedBy, LandedFrom, NotLanded, landed_from}
+use Rattle.eve_chains.specs.declared.changed.Changed.{Changed}
+use Rattle.eve_chains.specs.Changes.{change_of, from_starts, changes_below}
+use Rattle.eve_chains.specs.Landed.{transfer_at, values_said, HasRows, taken_values, change_in, changes_in, IsStateAmong}
+use Rattle.eve_chains.specs.Landed.{AreLandings}
+use Rattle.eve_chains.specs.Settling.{Change, Wrote, TookOverValues, Nothing, Settling, change_at, settling, is_change}
+use Rattle.eve_chains.specs.Settling.{defined}
+use Rattle.eve_chains.proofs.ByNumber.{starts_counted, starts_at}
+use Rattle.eve_chains.proofs.CommittedChanges.{entries_by, entries_of_all}
+use Rattle.eve_chains.proofs.Linked.{none≢some}
+
+-- ---- a state that is there
+
+state_at : (states : List TransferView) (i : ℕ) → i < length states
+    → (v : TransferView) × (slice_get states i ≡ Some v)
+state_at [] i lt = absurd (omega (arith, lt))
+state_at (v ∷ states) zero lt = (v, refl)
+state_at (v ∷ states) (suc i) lt = state_at states i (omega (arith, lt))
+
+-- ---- of each number
+
+pub changes_counted : (states : List TransferView) (ls : List told.Landing) (css : List (List (ℕ × ℤ)))
+    → length ls ≡ length css → length (changes_in states ls css) ≡ length ls
+changes_counted states [] css many = refl
+changes_counted states (l ∷ ls) [] many = absurd (omega (arith, many))
+changes_counted states (l ∷ ls) (cs ∷ css) many = ap suc (changes_counted states ls css (omega (arith, many)))
+
+pub change_found : (states : List TransferView) (ls : List told.Landing) (css : List (List (ℕ × ℤ))) (n : ℕ)
+    (l : told.Landing) (cs : List (ℕ × ℤ)) → slice_get ls n ≡ Some l → slice_get css n ≡ Some cs
+    → slice_get (changes_in states ls css) n ≡ Some (change_in states l cs)
+change_found states [] css n l cs at its = none≢some l at
+change_found states (k ∷ ls) [] n l cs at its = none≢some cs its
+change_found states (k ∷ ls) (ds ∷ css) zero l cs at its =
+    λ i. Some (change_in states (same_Some k l at i) (same_Some ds cs its i))
+change_found states (k ∷ ls) (ds ∷ css) (suc n) l cs at its = change_found states ls css n l cs at its
+
+at_place : {A : Type 0} (xs : List A) (i : ℕ) (x : A) → i < length xs → x ≡ get_or xs i x → slice_get xs i ≡ Some x
+at_place [] i x lt is = absurd (omega (arith, lt))
+at_place (y ∷ xs) zero x lt is = ap Some (sym is)
+at_place (y ∷ xs) (suc i) x lt is = at_place xs i x (omega (arith, lt)) is
+
+-- what is kept of a number
+pub change_kept : (rows count : ℕ) (states : List TransferView) (ls : List told.Landing) (starts : List ℕ)
+    (all : List Changed) (n : ℕ) (l k : told.Landing) → AreLandings rows count states ls → n < count → l ≡ get_or ls n l
+    → l ≡ k → slice_get (changes_in states ls (from_starts count starts all)) n
+    ≡ Some (change_in states k (map change_of (slice_range all (get_or starts n 0) (get_or starts (suc n) 0))))
+change_kept rows count states ls starts all n l k known lt is same =
+    let own = map change_of (slice_range all (get_or starts n 0) (get_or starts (suc n) 0)) in
+    change_found states ls (from_starts count starts all) n l own
+    (at_place ls n l (omega (arith, lt, known.many)) is) (starts_at count starts all n lt)
+    ∙ ap (λ (x : told.Landing). Some (change_in states x own)) same
+
+-- and of its batch, where it was reached by an attempt
+pub wrote_kept : (rows count : ℕ) (states : List TransferView) (ls : List told.Landing) (starts : List ℕ)
+    (all : List Changed) (n : ℕ) (l k : told.Landing) (cs : List (ℕ × ℤ)) → AreLandings rows count states ls → n < count
+    → l ≡ get_or ls n l → l ≡ k → slice_get (from_starts count starts all) n ≡ Some cs
+    → slice_get (changes_in states ls (from_starts count starts all)) n ≡ Some (change_in states k cs)
+wrote_kept rows count states ls starts all n l k cs known lt is same wrote =
+    change_found states ls (from_starts count starts all) n l cs
+    (at_place ls n l (omega (arith, lt, known.many)) is) wrote
+    ∙ ap (λ (x : told.Landing). Some (change_in states x cs)) same
+
+pub kept_counted : (rows count : ℕ) (states : List TransferView) (ls : List told.Landing) (starts : List ℕ)
+    (all : List Changed) → AreLandings rows count states ls
+    → length (changes_in states ls (from_starts count starts all)) ≡ count
+kept_counted rows count states ls starts all known =
+    changes_counted states ls (from_starts count starts all) (known.many ∙ sym (starts_counted count starts all))
+    ∙ known.many
+
+-- a state by which a number was reached is there
+pub state_among : (rows count : ℕ) (states : List TransferView) (ls : List told.Landing) (n i : ℕ) (l : told.Landing)
+    → AreLandings rows count states ls → n < count → l ≡ get_or ls n l → l ≡ landing.Transfer i → i < length states
+state_among rows count states ls n i l known lt is same =
+    subst (IsStateAmong (length states)) same
+    (subst (IsStateAmong (length states)) (sym is) (known.there n l (omega (arith, lt, known.many))))
+
+pub state_is : (states : List TransferView) (i : ℕ) (v : TransferView) → i < length states → v ≡ get_or states i v
+    → taken_values (slice_get states i) ≡ TookOverValues (values_said v)
+state_is states i v lt is = ap taken_values (at_place states i v lt is)
+
+-- ---- whether there are balances
+
+pub defined_at : (s : Settling) (n : ℕ) (o : Option Change) → 1 ≤ n → slice_get s.numbers (n - 1) ≡ o
+    → defined s n ≡ is_change o
+defined_at s zero o one is = absurd (omega (arith, one))
+defined_at s (suc n) o one is =
+    let same : n ≡ suc n - 1 = omega arith in
+    ap is_change (ap (slice_get s.numbers) same ∙ is)
+
+pub taken_is_change : (states : List TransferView) (i : ℕ) → i < length states
+    → is_change (Some (taken_values (slice_get states i))) ≡ true
+taken_is_change states i lt =
+    ap (λ (o : Option TransferView). is_change (Some (taken_values o))) (state_at states i lt).1
+
+-- past the last nothing is changed
+pub none_past : (states : List TransferView) (ls : List told.Landing) (css : List (List (ℕ × ℤ))) (n : ℕ)
+    → length ls ≤ n → slice_get (changes_in states ls css) n ≡ None
+none_past states [] css n past = refl
+none_past states (l ∷ ls) [] n past = refl
+none_past states (l ∷ ls) (cs ∷ css) zero past = absurd (omega (arith, past))
+none_past states (l ∷ ls) (cs ∷ css) (suc n) past = none_past states ls css n (omega (arith, past))
+
+-- it is what it says
+state_of : (states : List TransferView) (k : ℕ) (y : ℕ × Transfer) → slice_get (map transfer_at states) k ≡ Some y
+    → (v : TransferView) × (slice_get states k ≡ Some v) × (transfer_at v ≡ y)
+state_of [] k y at = none≢some y at
+state_of (v ∷ states) zero y at = (v, refl, same_Some (transfer_at v) y at)
+state_of (v ∷ states) (suc k) y at = state_of states k y at
+
+item_behind : {A : Type 0} (xs : List A) (x : A) (ys : List A) → slice_get (xs ++ x ∷ ys) (length xs) ≡ Some x
+item_behind [] x ys = refl
+item_behind (y ∷ xs) x ys = item_behind xs x ys
+
+pub zip_more : {A B : Type 0} (P : A → B → Type 0) (xs : List A) (ys : List B) (x : A) (y : B) → AllZip P xs ys → P x y
+    → AllZip P (xs ++ x ∷ []) (ys ++ y ∷ [])
+zip_more P [] [] x y each last = (last, tt)
+zip_more P [] (z ∷ ys) x y each last = absurd each
+zip_more P (w ∷ xs) [] x y each last = absurd each
+zip_more P (w ∷ xs) (z ∷ ys) x y each last = (each.0, zip_more P xs ys x y each.1 last)
+
+-- ---- of a history
+
+pub told_counted : (h : SectionHistory) (ls : List told.Landing) (ms : List Landed) → AllZip (IsToldOf h) ls ms
+    → length ls ≡ length ms
+told_counted h [] [] each = refl
+told_counted h [] (m ∷ ms) each = absurd each
+told_counted h (l ∷ ls) [] each = absurd each
+told_counted h (l ∷ ls) (m ∷ ms) each = ap suc (told_counted h ls ms each.1)
+
+pub told_among : (h : SectionHistory) (count : ℕ) (ls : List told.Landing) (ms : List Landed)
+    → AllZip (IsToldOf h) ls ms → length h.transfers ≡ count → AllByRecursion (IsStateAmong count) ls
+told_among h count [] ms each many = tt
+told_among h count (l ∷ ls) [] each many = absurd each
+told_among h count (l ∷ ls) (m ∷ ms) each many = (one l each.0, told_among h count ls ms each.1 many)
+  where
+    one : (k : told.Landing) → IsToldOf h k m → IsStateAmong count k
+    one (landing.Attempt i) is = tt
+    one (landing.Transfer i) is = subst (λ (n : ℕ). i < n) many is.1
+    one landing.Skipped is = tt
+
+module _ (t : Trace) (h : SectionHistory) (states : List TransferView) where
+  abbrev rows : ℕ
+  rows = 2 * length t.customers
+
+  abbrev written_by : List Landing → List (List (ℕ × ℤ))
+  written_by ls = map (changes_below rows) (entries_of_all ls)
+
+  one_taken : (front : List (ℕ × Transfer)) (at : ℕ) (x : Transfer) (rest : List (ℕ × Transfer)) (l : told.Landing)
+      (cs : List (ℕ × ℤ)) → map transfer_at states ≡ front ++ (at, x) ∷ rest → IsToldOf h l (LandedFrom (length front))
+      → change_in states l cs ≡ TookOverValues (map (λ v. v.value) x.rows)
+  one_taken front at x rest (landing.Attempt i) cs are is = absurd (other is.0 (length front) is.1)
+    where
+      other : (r : _) (n : ℕ) → LandedFrom n ≡ LandedBy r → ⊥
+      other r n e = cc
+  one_taken front at x rest (landing.Transfer i) cs are is =
+      let found = state_of states (length front) (at, x)
+      (ap (λ (ys : List (ℕ × Transfer)). slice_get ys (length front)) are ∙ item_behind front (at, x) rest) in
+      ap (λ (k : ℕ). taken_values (slice_get states k)) (sym (same (length front) i is.0))
+      ∙ ap taken_values found.1
+      ∙ ap (λ (y : ℕ × Transfer). TookOverValues (map (λ v. v.value) y.1.rows)) found.2
+    where
+      same : (m n : ℕ) → LandedFrom m ≡ LandedFrom n → m ≡ n
+      same m n e = cc
+  one_taken front at x rest landing.Skipped cs are is = absurd (other (length front) is)
+    where
+      other : (n : ℕ) → LandedFrom n ≡ NotLanded → ⊥
+      other n e = cc
+
+  one_ran : (r : _) (l : told.Landing) (cs : List (ℕ × ℤ)) → IsToldOf h l (LandedBy r) → change_in states l cs ≡ Wrote cs
+  one_ran r (landing.Attempt i) cs is = refl
+  one_ran r (landing.Transfer i) cs is = absurd (other i is.0)
+    where
+      other : (n : ℕ) → LandedBy r ≡ LandedFrom n → ⊥
+      other n e = cc
+  one_ran r landing.Skipped cs is = absurd (other is)
+    where
+      other : LandedBy r ≡ NotLanded → ⊥
+      other e = cc
+
+  one_skipped : (l : told.Landing) (cs : List (ℕ × ℤ)) → IsToldOf h l NotLanded → change_in states l cs ≡ Nothing
+  one_skipped (landing.Attempt i) cs is = absurd (other is.0 is.1)
+    where
+      other : (r : _) → NotLanded ≡ LandedBy r → ⊥
+      other r e = cc
+  one_skipped (landing.Transfer i) cs is = absurd (other i is.0)
+    where
+      other : (n : ℕ) → NotLanded ≡ LandedFrom n → ⊥
+      other n e = cc
+  one_skipped landing.Skipped cs is = refl
+
+  same_changes : (front : List (ℕ × Transfer)) (Ls : List Landing) (ls : List told.Landing)
+      → map transfer_at states ≡ front ++ transfers_by Ls → AllZip (IsToldOf h) ls (landed_from (length front) Ls)
+      → changes_in states ls (written_by Ls) ≡ map (change_at t) Ls
+  same_changes front [] [] are each = refl
+  same_changes front [] (l ∷ ls) are each = absurd each
+  same_changes front (ByAttempt p ∷ Ls) [] are each = absurd each
+  same_changes front (ByTransfer at x ∷ Ls) [] are each = absurd each
+  same_changes front (Skipped ∷ Ls) [] are each = absurd each
+  same_changes front (ByAttempt p ∷ Ls) (l ∷ ls) are each =
+      λ i. one_ran _ l (changes_below rows (entries_by (ByAttempt p))) each.0 i ∷ same_changes front Ls ls are each.1 i
+  same_changes front (ByTransfer at x ∷ Ls) (l ∷ ls) are each =
+      let next : length (front ++ (at, x) ∷ []) ≡ suc (length front) =
+      length-append front ((at, x) ∷ []) ∙ omega arith in
+      λ i. one_taken front at x (transfers_by Ls) l (changes_below rows []) are each.0 i
+      ∷ same_changes (front ++ (at, x) ∷ []) Ls ls (are ∙ sym (append_assoc front ((at, x) ∷ []) (transfers_by Ls)))
+      (subst (λ (n : ℕ). AllZip (IsToldOf h) ls (landed_from n Ls)) (sym next) each.1) i
+  same_changes front (Skipped ∷ Ls) (l ∷ ls) are each =
+      λ i. one_skipped l (changes_below rows []) each.0 i ∷ same_changes front Ls ls are each.1 i
+
+  -- of a section's history
+  pub numbers_told : (e : ℕ) (ls : List told.Landing) (css : List (List (ℕ × ℤ))) → h ≡ section_history t e
+      → map transfer_at states ≡ h.transfers → AllZip (IsToldOf h) ls h.landings
+      → css ≡ written_by (history t e).landings → changes_in states ls css ≡ (settling t e).numbers
+  unfolding section_history settling history
+  numbers_told e ls css is are each wrote =
+      ap (changes_in states ls) wrote
+      ∙ same_changes [] (history t e).landings ls (are ∙ ap (λ (k : SectionHistory). k.transfers) is)
+      (subst (λ (k : SectionHistory). AllZip (IsToldOf h) ls k.landings) is each)

@@ -1,0 +1,100 @@
+use Rattle.std.proofs.Common.{◌≡◌, ◌<◌, ◌≤◌, ◌-◌, Some, map, slice_get, length, sym, subst, ap, ◌∙◌, arith, rules}
+use Rattle.eve_accounts.specs.declared.limits.TheConstants.{MOST_NAMED_ROWS}
+use Rattle.eve_frames.specs.declared.transfer.TransferView.{TransferView}
+use Rattle.eve_history.specs.declared.landing.Landing.TheVariants as landing
+use Rattle.eve_chains.specs.Changes.{change_of}
+use Rattle.eve_chains.specs.Landed.{HasRows, values_said}
+use Rattle.eve_chains.specs.Settling.{Settling}
+use Rattle.eve_chains.proofs.LandedChanges.{kept_counted, change_kept, wrote_kept, state_among, state_is}
+use Rattle.eve_chains.proofs.settled.Settled.change_at.Goals as goal
+
+pub index-requires : goal.index-requires
+index-requires c =
+    let x = c.self.inside in
+    let count : x.numbered.count ≡ length c.args.self.now.numbers =
+    sym (kept_counted (length x.opening) x.numbered.count x.transfers.items x.landings.items x.numbered.starts.items
+    x.numbered.changes.items c.self.invariant.1) ∙ ap (λ (s : Settling). length s.numbers) c.self.view_is in
+    let lt : c.args.n - 1 < length x.landings.items =
+    omega (arith, c.self.invariant.1.many, count, c.requires.one, c.requires.there) in
+    search rules
+
+pub written-requires-clause-there : goal.written-requires-clause-there
+written-requires-clause-there c =
+    let x = c.self.inside in
+    let count : x.numbered.count ≡ length c.args.self.now.numbers =
+    sym (kept_counted (length x.opening) x.numbered.count x.transfers.items x.landings.items x.numbered.starts.items
+    x.numbered.changes.items c.self.invariant.1) ∙ ap (λ (s : Settling). length s.numbers) c.self.view_is in
+    omega (arith, count, c.requires.there)
+
+pub index-requires-in-Transfer : goal.index-requires-in-Transfer
+index-requires-in-Transfer c =
+    let x = c.self.inside in
+    let n = c.args.n in
+    let count : x.numbered.count ≡ length c.args.self.now.numbers =
+    sym (kept_counted (length x.opening) x.numbered.count x.transfers.items x.landings.items x.numbered.starts.items
+    x.numbered.changes.items c.self.invariant.1) ∙ ap (λ (s : Settling). length s.numbers) c.self.view_is in
+    let lt : c.in-Transfer.i < length x.transfers.items =
+    state_among (length x.opening) x.numbered.count x.transfers.items x.landings.items (n - 1) c.in-Transfer.i
+    c.index.result.now c.self.invariant.1 (omega (arith, count, c.requires.one, c.requires.there)) c.index.ensures
+    c.in-Transfer.is in
+    search rules
+
+pub returns-in-Attempt-clause-says : goal.returns-in-Attempt-clause-says
+returns-in-Attempt-clause-says c =
+    let x = c.self.inside in
+    let n = c.args.n in
+    let count : x.numbered.count ≡ length c.args.self.now.numbers =
+    sym (kept_counted (length x.opening) x.numbered.count x.transfers.items x.landings.items x.numbered.starts.items
+    x.numbered.changes.items c.self.invariant.1) ∙ ap (λ (s : Settling). length s.numbers) c.self.view_is in
+    ap (λ (s : Settling). slice_get s.numbers (n - 1)) (sym c.self.view_is)
+    ∙ wrote_kept (length x.opening) x.numbered.count x.transfers.items x.landings.items x.numbered.starts.items
+    x.numbered.changes.items (n - 1) c.index.result.now (landing.Attempt c.in-Attempt.field-0)
+    (map change_of c.written.result.now) c.self.invariant.1 (omega (arith, count, c.requires.one, c.requires.there))
+    c.index.ensures c.in-Attempt.is c.written.ensures.says
+
+pub returns-in-Transfer-clause-says : goal.returns-in-Transfer-clause-says
+returns-in-Transfer-clause-says c =
+    let x = c.self.inside in
+    let n = c.args.n in
+    let i = c.in-Transfer.i in
+    let count : x.numbered.count ≡ length c.args.self.now.numbers =
+    sym (kept_counted (length x.opening) x.numbered.count x.transfers.items x.landings.items x.numbered.starts.items
+    x.numbered.changes.items c.self.invariant.1) ∙ ap (λ (s : Settling). length s.numbers) c.self.view_is in
+    let within : n - 1 < x.numbered.count = omega (arith, count, c.requires.one, c.requires.there) in
+    ap (λ (s : Settling). slice_get s.numbers (n - 1)) (sym c.self.view_is)
+    ∙ change_kept (length x.opening) x.numbered.count x.transfers.items x.landings.items x.numbered.starts.items
+    x.numbered.changes.items (n - 1) c.index.result.now (landing.Transfer i) c.self.invariant.1 within
+    c.index.ensures c.in-Transfer.is
+    ∙ ap Some (state_is x.transfers.items i c.index-in-Transfer.result.now
+    (state_among (length x.opening) x.numbered.count x.transfers.items x.landings.items (n - 1) i
+    c.index.result.now c.self.invariant.1 within c.index.ensures c.in-Transfer.is) c.index-in-Transfer.ensures)
+
+pub returns-in-Transfer-clause-rows : goal.returns-in-Transfer-clause-rows
+returns-in-Transfer-clause-rows c =
+    let x = c.self.inside in
+    let n = c.args.n in
+    let i = c.in-Transfer.i in
+    let v = c.index-in-Transfer.result.now in
+    let count : x.numbered.count ≡ length c.args.self.now.numbers =
+    sym (kept_counted (length x.opening) x.numbered.count x.transfers.items x.landings.items x.numbered.starts.items
+    x.numbered.changes.items c.self.invariant.1) ∙ ap (λ (s : Settling). length s.numbers) c.self.view_is in
+    let there : i < length x.transfers.items =
+    state_among (length x.opening) x.numbered.count x.transfers.items x.landings.items (n - 1) i c.index.result.now
+    c.self.invariant.1 (omega (arith, count, c.requires.one, c.requires.there)) c.index.ensures c.in-Transfer.is in
+    let rows : length x.opening ≡ length c.args.self.now.opening =
+    ap (λ (s : Settling). length s.opening) c.self.view_is in (
+      subst (HasRows (length x.opening)) (sym c.index-in-Transfer.ensures) (c.self.invariant.1.whole i v there) ∙ rows,
+      omega (arith, rows, c.self.invariant.1.few),
+    )
+
+pub returns-in-Skipped-clause-says : goal.returns-in-Skipped-clause-says
+returns-in-Skipped-clause-says c =
+    let x = c.self.inside in
+    let n = c.args.n in
+    let count : x.numbered.count ≡ length c.args.self.now.numbers =
+    sym (kept_counted (length x.opening) x.numbered.count x.transfers.items x.landings.items x.numbered.starts.items
+    x.numbered.changes.items c.self.invariant.1) ∙ ap (λ (s : Settling). length s.numbers) c.self.view_is in
+    ap (λ (s : Settling). slice_get s.numbers (n - 1)) (sym c.self.view_is)
+    ∙ change_kept (length x.opening) x.numbered.count x.transfers.items x.landings.items x.numbered.starts.items
+    x.numbered.changes.items (n - 1) c.index.result.now landing.Skipped c.self.invariant.1
+    (omega (arith, count, c.requires.one, c.requires.there)) c.index.ensures c.in-Skipped.is

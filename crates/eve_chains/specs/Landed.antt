@@ -1,0 +1,87 @@
+-- What is kept of how each number was reached, beside what its batch changed.
+use Rattle.std.specs.Prelude.{◌≡◌, ◌<◌, ◌≤◌, ℕ, ℤ, List, [], ◌∷◌, Option, Some, None, All, ⊤, length, map, slice_get, ◌-◌}
+use Rattle.std.specs.Prelude.{option_map}
+use Rattle.eve_accounts.specs.declared.limits.TheConstants.{MOST_NAMED_ROWS}
+use Rattle.eve_grammar.specs.Trace.{Transfer}
+use Rattle.eve_frames.specs.Said.{transfer_said}
+use Rattle.eve_frames.specs.declared.transfer.TransferView.{TransferView}
+use Rattle.eve_history.specs.declared.landing.Landing as told
+use Rattle.eve_history.specs.declared.landing.Landing.TheVariants as landing
+use Rattle.eve_chains.specs.Changes.{change_of}
+use Rattle.eve_chains.specs.Numbered.{IsRowBelow}
+use Rattle.eve_chains.specs.Settling.{Change, Wrote, TookOverValues, Nothing, Settling}
+use Rattle.eve_chains.specs.declared.settled.Change as met
+use Rattle.eve_chains.specs.declared.settled.Change.TheVariants as change
+
+-- ---- states that were taken over
+
+-- what a transfer frame says, with its offset
+abbrev pub transfer_at : TransferView → ℕ × Transfer
+transfer_at v = (v.offset, transfer_said v)
+
+-- the values that a state has, row by row
+abbrev pub values_said : TransferView → List ℤ
+values_said v = map (λ r. r.value) (transfer_said v).rows
+
+-- it has this many rows
+abbrev pub HasRows : ℕ → TransferView → Type 0
+HasRows rows v = length (transfer_said v).rows ≡ rows
+
+-- ---- what numbers changed
+
+abbrev pub taken_values : Option TransferView → Change
+taken_values (Some v) = TookOverValues (values_said v)
+taken_values None = Nothing
+
+-- what a number changed, of the states, of how it was reached, and of what its batch changed if it was reached by one
+abbrev pub change_in : List TransferView → told.Landing → List (ℕ × ℤ) → Change
+change_in states (landing.Attempt i) changes = Wrote changes
+change_in states (landing.Transfer i) changes = taken_values (slice_get states i)
+change_in states landing.Skipped changes = Nothing
+
+-- the same of each number
+abbrev pub changes_in : List TransferView → List told.Landing → List (List (ℕ × ℤ)) → List Change
+changes_in states [] css = []
+changes_in states (l ∷ ls) [] = []
+changes_in states (l ∷ ls) (cs ∷ css) = change_in states l cs ∷ changes_in states ls css
+
+-- the state, if the number was reached by one, is among this many
+abbrev pub IsStateAmong : ℕ → told.Landing → Type 0
+IsStateAmong count (landing.Attempt i) = ⊤
+IsStateAmong count (landing.Transfer i) = i < count
+IsStateAmong count landing.Skipped = ⊤
+
+-- there is one for each number, and each state is there and has all rows
+pub record AreLandings (rows count : ℕ) (states : List TransferView) (ls : List told.Landing) : Type 0 where
+  pub many : length ls ≡ count
+  pub there : All (IsStateAmong (length states)) ls
+  pub whole : All (HasRows rows) states
+  pub few : rows ≤ MOST_NAMED_ROWS
+
+-- ---- one number
+
+-- what a call says that a number changed
+abbrev pub change_said : met.Change → Change
+change_said (change.Wrote changes) = Wrote (map change_of changes.now)
+change_said (change.TookOver v) = TookOverValues (values_said v)
+change_said change.Nothing = Nothing
+
+-- it is of the rows below this number: of some, of all, or of none
+abbrev pub IsOfRows : ℕ → met.Change → Type 0
+IsOfRows rows (change.Wrote changes) = All (IsRowBelow rows) changes.now
+IsOfRows rows (change.TookOver v) = HasRows rows v × (rows ≤ MOST_NAMED_ROWS)
+IsOfRows rows change.Nothing = ⊤
+
+-- the rows that a number changed, each with its value, where it isn't all of them
+abbrev pub some_rows : Change → Option (List (ℕ × ℤ))
+some_rows (Wrote changes) = Some changes
+some_rows (TookOverValues balances) = None
+some_rows Nothing = Some []
+
+abbrev pub some_rows_of : Option Change → Option (List (ℕ × ℤ))
+some_rows_of (Some c) = some_rows c
+some_rows_of None = None
+
+-- the same of number n, of the numbers from 1 on
+abbrev pub rows_changed_at : Settling → ℕ → Option (List (ℕ × ℤ))
+rows_changed_at s n = some_rows_of (slice_get s.numbers (n - 1))

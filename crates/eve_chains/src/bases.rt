@@ -1,0 +1,80 @@
+//! What rows have at first, and after each state that was taken over.
+
+ghost use Rattle.std.specs.Prelude.{◌≡◌, [], map, pos, slice_index_or};
+ghost use Rattle.eve_smallbank.specs.Access.{balance_of_row};
+ghost use Rattle.eve_frames.specs.Said.{transfer_said};
+ghost use Rattle.eve_chains.specs.Bases.{base_at};
+ghost use Rattle.eve_chains.specs.Visible.{taken_table};
+
+use eve_accounts::{Balances, Cents, Row};
+use eve_frames::TransferView;
+use eve_history::History;
+use eve_smallbank::Versioned;
+
+/// What the rows' walks go back to where more states were taken over. Nothing is kept of it row by row: a state is read
+/// where it lies.
+#[derive(Clone, Copy)]
+pub struct Bases<'b, 'a> {
+    /// The opening balances.
+    pub opening: &'b Balances,
+    /// The replica's history, with the states that it took over.
+    pub history: &'b History<'a>,
+}
+
+impl<'b, 'a> Bases<'b, 'a> {
+    /// What a row has after this many states: the opening balance after none, and else what the last of them has. Past
+    /// the end it is version 0 and value 0.
+    pub fn row(&self, row: Row, taken: u32) -> Versioned
+        ensures { result ≡ base_at self.now row taken }
+    {
+        let number = row.number() as usize;
+        if taken == 0 {
+            return opening_row(self.opening, number);
+        }
+        state_row(self.history, taken as usize - 1, number)
+    }
+}
+
+/// What the row with this number has at first.
+fn opening_row(opening: &Balances, number: usize) -> Versioned
+    ensures { result ≡ record { version = 0; value = balance_of_row opening.now number } }
+{
+    let value = if number < opening.len() {
+        opening.as_slice()[number]
+    } else {
+        Cents::ZERO
+    };
+    Versioned { version: 0, value }
+}
+
+/// What it has in the state at this place.
+fn state_row(history: &History<'_>, k: usize, number: usize) -> Versioned
+    ensures { result ≡ taken_table (slice_index_or (map (λ x. x.1.rows) history.now.transfers) k []) number }
+{
+    if k < history.transfers() {
+        row_in(&history.transfer(k), number)
+    } else {
+        nothing()
+    }
+}
+
+/// What it has in a state.
+fn row_in(state: &TransferView<'_>, number: usize) -> Versioned
+    ensures { result ≡ taken_table (transfer_said state.now).rows number }
+{
+    if number < state.len() {
+        state.row(number)
+    } else {
+        nothing()
+    }
+}
+
+/// What it has past the end.
+fn nothing() -> Versioned
+    ensures { result ≡ record { version = 0; value = pos 0 } }
+{
+    Versioned {
+        version: 0,
+        value: Cents::ZERO,
+    }
+}
