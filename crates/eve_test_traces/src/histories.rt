@@ -8,7 +8,7 @@ use eve_agree::equal_balances;
 use eve_chains::Settled;
 use eve_frames::VoteView;
 use eve_grammar::Choice;
-use eve_history::History;
+use eve_history::{History, Landing};
 use eve_testing::Text;
 use eve_views::{CheckFault, Trace};
 use eve_votes::Tally;
@@ -24,13 +24,32 @@ fn push_attempts(text: &mut Text, history: &History) {
     }
 }
 
-/// By which attempts it committed its batches.
-fn push_commits(text: &mut Text, history: &History) {
+/// How it reached a number.
+fn push_landing(text: &mut Text, landing: Landing) {
+    match landing {
+        Landing::Attempt(i) => text.value(" by attempt ", u64::from(i)),
+        Landing::Transfer(i) => text.value(" by transfer ", u64::from(i)),
+        Landing::Skipped => text.words(" skipped"),
+    }
+}
+
+/// Whether a number was reached by the commit of this attempt.
+fn is_by(landing: Landing, attempt: usize) -> bool {
+    match landing {
+        Landing::Attempt(i) => i as usize == attempt,
+        _ => false,
+    }
+}
+
+/// How it reached each number up to the last; and that the attempt that it committed is told otherwise, where it is.
+fn push_landings(text: &mut Text, history: &History) {
     for n in 0..history.committed() {
+        let landing = history.landing(n + 1);
+        text.value("\n  batch ", u64::from(n + 1));
+        push_landing(text, landing);
         if history.by_attempt(n + 1) {
-            let attempt = history.committed_attempt(n + 1);
-            text.value("\n  batch ", u64::from(n + 1));
-            text.value(" by attempt ", attempt as u64);
+            let alike = is_by(landing, history.committed_attempt(n + 1));
+            text.words(if alike { "" } else { "(unlike)" });
         }
     }
 }
@@ -43,13 +62,22 @@ fn push_rollbacks(text: &mut Text, history: &History) {
     }
 }
 
-/// A replica's attempts with their fates, its committed batches, and its rollbacks.
+fn push_transfers(text: &mut Text, history: &History) {
+    for i in 0..history.transfers() {
+        let offset = history.transfer(i).offset();
+        text.value("\n  transfer ", i as u64);
+        text.value(" at ", offset);
+    }
+}
+
+/// A replica's attempts with their fates, how it reached its numbers, its rollbacks, and the states that it took over.
 fn push_history(text: &mut Text, history: &History) {
     text.value("\n replica ", u64::from(history.replica()));
     text.value(" committed ", u64::from(history.committed()));
     push_attempts(text, history);
-    push_commits(text, history);
+    push_landings(text, history);
     push_rollbacks(text, history);
+    push_transfers(text, history);
 }
 
 /// All balances, in row order, behind their words.

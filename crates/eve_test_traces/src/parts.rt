@@ -3,9 +3,10 @@
 use crate::texts::{push_entry, push_reply, push_request};
 use eve_frames::{
     AccessView, AttemptView, BatchView, CommitView, CustomerView, FrameView, RollbackView,
-    SentView, VoteView,
+    SentView, TransferView, VoteView,
 };
 use eve_grammar::{Choice, Restore};
+use eve_smallbank::Versioned;
 use eve_testing::Text;
 use eve_views::{Accesses, Step, Trace};
 
@@ -164,6 +165,33 @@ fn push_sent(text: &mut Text, view: SentView) {
     push_reply(text, view.reply());
 }
 
+/// Whether a row isn't what comes next.
+fn is_unlike(row: Versioned, next: Option<Versioned>) -> bool {
+    match next {
+        Some(next) => next.version != row.version || next.value != row.value,
+        None => true,
+    }
+}
+
+/// A state that was taken over: after which batch, in which view, and version and value of each row.
+fn push_transfer(text: &mut Text, view: TransferView) {
+    push_place(
+        text,
+        view.offset(),
+        " transfer to ",
+        view.seq(),
+        view.view(),
+    );
+    let mut all = view.rows();
+    for i in 0..view.len() {
+        let row = view.row(i);
+        text.value(" ", row.version);
+        text.value("/", row.value.get());
+        push_unlike(text, is_unlike(row, all.next()));
+    }
+    push_unlike(text, all.next().is_some());
+}
+
 fn push_step(text: &mut Text, step: Step) {
     match step {
         Step::Attempt(view, accesses) => {
@@ -172,6 +200,7 @@ fn push_step(text: &mut Text, step: Step) {
         }
         Step::Commit(view) => push_commit(text, view),
         Step::Rollback(view) => push_rollback(text, view),
+        Step::Transfer(view) => push_transfer(text, view),
     }
 }
 

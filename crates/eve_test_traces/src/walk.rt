@@ -6,7 +6,7 @@
 ghost use Rattle.std.specs.Prelude.{◌<◌, length};
 
 use eve_accounts::{Balances, Cents, Names};
-use eve_frames::AccessView;
+use eve_frames::{AccessView, TransferView};
 use eve_history::{Fate, History};
 use eve_smallbank::{Entry, Kind, UpToThree, Versioned, fits, touched};
 use eve_views::{Code, Fault, Step, Trace, first_of};
@@ -25,7 +25,7 @@ pub struct Walk {
     unfit: Option<Fault>,
     /// The first fault of chains.
     wrong: Option<Fault>,
-    /// The balances of all rows at the opening, and after each committed batch.
+    /// The balances of all rows at the opening, and after each number.
     balances: Vec<Vec<Cents>>,
 }
 
@@ -214,6 +214,27 @@ impl Walk {
         Ok(())
     }
 
+    /// Takes a state over: the open attempts are discarded, and numbers that are skipped leave what was there.
+    fn take_over(
+        &mut self,
+        alloc: Global,
+        history: &History,
+        state: &TransferView<'_>,
+    ) -> Result<(), AllocError> {
+        self.roll_back(alloc, history)?;
+        for _ in self.balances.len()..state.seq() as usize {
+            let values = values_of(alloc, &self.committed)?;
+            self.balances.push(values)?;
+        }
+        self.committed.clear();
+        for row in state.rows() {
+            self.committed.push(row)?;
+        }
+        let values = values_of(alloc, &self.committed)?;
+        self.balances.push(values)?;
+        Ok(())
+    }
+
     fn take(
         &mut self,
         alloc: Global,
@@ -227,6 +248,7 @@ impl Walk {
             }
             Step::Commit(_) => self.commit(alloc, history),
             Step::Rollback(_) => self.roll_back(alloc, history),
+            Step::Transfer(view) => self.take_over(alloc, history, &view),
         }
     }
 
