@@ -1,33 +1,31 @@
 -- A section, step after step.
-use Rattle.std.proofs.Common.{◌≡◌, ℕ, zero, suc, ◌+◌, ◌<◌, true, false, Vec, List, [], ◌∷◌, ◌++◌, map, length, take, refl, sym, ap, subst, ◌∙◌}
-use Rattle.std.proofs.Common.{append_assoc, arith}
+use Rattle.std.proofs.Common.{◌≡◌, ℕ, ◌+◌, ◌-◌, ◌<◌, true, false, Vec, List, [], ◌∷◌, ◌++◌, map, length}
+use Rattle.std.proofs.Common.{take, replicate, Some, None, refl, sym, ap, subst, ◌∙◌, append_assoc, arith}
 use Rattle.std.specs.declared.alloc.Global.{Global}
 use Rattle.std.specs.List.{AllByRecursion, take-map}
-use Rattle.std.proofs.lemmas.List.Concat.{flat_map-append}
+use Rattle.std.proofs.lemmas.List.Sums.{fold-append}
 use Rattle.std.proofs.lemmas.List.{map-append, length-map, length-append, append-nil}
-use Rattle.std.specs.Prelude.{IsTrue}
-use Rattle.std.proofs.lemmas.Bool.{false≢true}
-use Rattle.eve_grammar.specs.Trace.{Access, Attempt, Rollback, Step, Attempts, Commits, RollsBack, TakesOver}
-use Rattle.eve_grammar.specs.Limits.{is_of_version}
+use Rattle.eve_grammar.specs.Trace.{Access, Attempt, Rollback, Transfer, Step, Attempts, Commits, RollsBack, TakesOver}
 use Rattle.eve_grammar.specs.Frames.{without_accesses}
 use Rattle.eve_grammar.specs.Spelling.{accesses_at}
 use Rattle.eve_grammar.proofs.Lists.{all-push}
-use Rattle.eve_frames.specs.Said.{attempt_said, rollback_said}
+use Rattle.eve_frames.specs.Said.{attempt_said, rollback_said, transfer_said}
 use Rattle.eve_frames.specs.declared.attempt.AttemptView.{AttemptView}
 use Rattle.eve_frames.specs.declared.commit.CommitView.{CommitView}
 use Rattle.eve_frames.specs.declared.rollback.RollbackView.{RollbackView}
 use Rattle.eve_frames.specs.declared.transfer.TransferView.{TransferView}
 use Rattle.eve_views.specs.StepKinds.{IsStep}
 use Rattle.eve_views.specs.declared.steps.Step.TheVariants as of
-use Rattle.eve_history.specs.Section.{Came, Ran, Placed, ByAttempt, came_by, attempts_by, SectionState, next}
+use Rattle.eve_history.specs.Section.{Placed, Landing, ByAttempt, ByTransfer, Skipped, SectionState, next}
 use Rattle.eve_history.specs.Section.{committing, path_of}
 use Rattle.eve_history.specs.SectionHistory.{placed_at}
 use Rattle.eve_history.specs.Structure.{accesses_of}
-use Rattle.eve_history.proofs.FateLaws.{attempts_by_push}
 use Rattle.eve_history.proofs.StructureLaws.{accesses_of-at}
 use Rattle.eve_evidence.specs.declared.course.Course.{Course}
 use Rattle.eve_evidence.specs.declared.course.OnPath.{OnPath}
-use Rattle.eve_evidence.specs.Course.{placed_on, IsOnPath, standing, IsCourse}
+use Rattle.eve_evidence.specs.Course.{placed_on, IsOnPath, standing, IsCourse, later_state, last_state}
+use Rattle.eve_evidence.specs.Course.{state_number, and_landing, attempts_behind}
+use Rattle.eve_evidence.proofs.Lists.{all-take}
 
 -- an attempt that was met, with its access records
 pub attempt_whole : (at : ℕ) (said a : Attempt) (xs : List (ℕ × Access)) → said ≡ without_accesses a
@@ -37,18 +35,13 @@ attempt_whole at said a xs is accesses =
     ∙ ap (λ (ys : List (ℕ × Access)). record a { accesses = accesses_of ys }) accesses
     ∙ ap (λ (ys : List Access). record a { accesses = ys }) (accesses_of-at at a)
 
-pub standing_count : (s : SectionState) → length (standing s) ≡ length (attempts_by s.landings) + length s.pending
-standing_count s = length-map (attempts_by s.landings ++ s.pending) placed_at
-    ∙ length-append (attempts_by s.landings) s.pending
+pub standing_count : (s : SectionState) → length (standing s) ≡ length (attempts_behind s.landings) + length s.pending
+standing_count s = length-map (attempts_behind s.landings ++ s.pending) placed_at
+    ∙ length-append (attempts_behind s.landings) s.pending
 
 pub path_count : (s : SectionState) (c : Course) → IsCourse s c → length c.path.items
-    ≡ length (attempts_by s.landings) + length s.pending
+    ≡ length (attempts_behind s.landings) + length s.pending
 path_count s c is = sym (length-map c.path.items placed_on) ∙ ap length is.path ∙ standing_count s
-
-all-take : {A : Type 0} (P : A → Type 0) (n : ℕ) (xs : List A) → AllByRecursion P xs → AllByRecursion P (take n xs)
-all-take P zero xs all = tt
-all-take P (suc n) [] all = tt
-all-take P (suc n) (x ∷ xs) all = (all.0, all-take P n xs all.1)
 
 take-append-here : {A : Type 0} (xs ys : List A) → take (length xs) (xs ++ ys) ≡ xs
 take-append-here [] ys = refl
@@ -69,14 +62,14 @@ attempt_comes s c (at, Attempts a) attempt xs path is stands more =
     record {
       view = is.view;
       rolled_back = refl;
+      taken = is.taken;
       committed = is.committed;
       last = is.last;
-      alone = is.alone;
       path = ap (map placed_on) more ∙ map-append placed_on c.path.items (new ∷ [])
           ∙ ap (λ (ys : List (ℕ × Attempt)). ys ++ placed_on new ∷ []) is.path
           ∙ ap (λ (y : ℕ × Attempt). standing s ++ y ∷ []) whole
-          ∙ sym (map-append placed_at (attempts_by s.landings ++ s.pending) (p ∷ []))
-          ∙ ap (map placed_at) (append_assoc (attempts_by s.landings) s.pending (p ∷ []));
+          ∙ sym (map-append placed_at (attempts_behind s.landings ++ s.pending) (p ∷ []))
+          ∙ ap (map placed_at) (append_assoc (attempts_behind s.landings) s.pending (p ∷ []));
       framed = subst (AllByRecursion IsOnPath) (sym more)
           (all-push IsOnPath c.path.items new is.framed
           (stands.2 ∙ ap (λ (y : ℕ × Attempt). accesses_at y.0 y.1) (sym whole)));
@@ -89,22 +82,23 @@ attempt_comes s c (at, TakesOver x) attempt xs path is stands more = elim stands
 one_committed : (s : SectionState) (c : Course) (p : Placed) (ps : List Placed) → IsCourse s c → s.pending ≡ p ∷ ps
     → IsCourse (committing s (p ∷ ps)) (record c { committed = c.committed + 1 })
 one_committed s c p ps is first =
-    let push : attempts_by (s.landings ++ ByAttempt p ∷ []) ≡ attempts_by s.landings ++ p ∷ [] =
-    attempts_by_push s.landings p in
-    let longer : length (attempts_by (s.landings ++ ByAttempt p ∷ [])) ≡ length (attempts_by s.landings) + 1 =
-    ap length push ∙ length-append (attempts_by s.landings) (p ∷ []) in
+    let push : attempts_behind (s.landings ++ ByAttempt p ∷ []) ≡ attempts_behind s.landings ++ p ∷ [] =
+    fold-append and_landing [] s.landings (ByAttempt p ∷ []) in
+    let state : last_state (s.landings ++ ByAttempt p ∷ []) ≡ last_state s.landings =
+    fold-append later_state None s.landings (ByAttempt p ∷ []) in
+    let number : state_number (last_state (s.landings ++ ByAttempt p ∷ [])) ≡ state_number (last_state s.landings) =
+    ap state_number state in
+    let longer : length (attempts_behind (s.landings ++ ByAttempt p ∷ [])) ≡ length (attempts_behind s.landings) + 1 =
+    ap length push ∙ length-append (attempts_behind s.landings) (p ∷ []) in
     record {
       view = is.view;
       rolled_back = is.rolled_back;
+      taken = is.taken ∙ sym state;
       committed = ap (λ (n : ℕ). n + 1) is.committed ∙ sym longer;
-      last = ap (λ (n : ℕ). n + 1) is.last ∙ sym longer;
-      alone = flat_map-append came_by s.landings (ByAttempt p ∷ [])
-          ∙ ap (λ (cs : List Came). cs ++ Ran p.attempt ∷ []) is.alone
-          ∙ sym (map-append (λ q. Ran q.attempt) (attempts_by s.landings) (p ∷ []))
-          ∙ ap (map (λ q. Ran q.attempt)) (sym push);
+      last = omega (arith, is.last, number, longer);
       path = is.path
-          ∙ ap (λ (qs : List Placed). map placed_at (attempts_by s.landings ++ qs)) first
-          ∙ ap (map placed_at) (sym (append_assoc (attempts_by s.landings) (p ∷ []) ps))
+          ∙ ap (λ (qs : List Placed). map placed_at (attempts_behind s.landings ++ qs)) first
+          ∙ ap (map placed_at) (sym (append_assoc (attempts_behind s.landings) (p ∷ []) ps))
           ∙ ap (λ (qs : List Placed). map placed_at (qs ++ ps)) (sym push);
       framed = is.framed;
     }
@@ -125,35 +119,58 @@ commit_comes s c (at, TakesOver x) commit is stands some = elim stands [ ]
 pub rollback_comes : (s : SectionState) (c : Course) (step : ℕ × Step) (rollback : RollbackView) (view : ℕ)
     (path : Vec OnPath Global) → IsCourse s c → IsStep (of.Rollback rollback) step → view ≡ (rollback_said rollback).view
     → path.items ≡ take c.committed c.path.items
-    → IsCourse (next s step) (record { view = view; rolled_back = true; committed = c.committed; path = path })
+    → IsCourse (next s step)
+    (record { view = view; rolled_back = true; taken = c.taken; committed = c.committed; path = path })
 rollback_comes s c (at, RollsBack r) rollback view path is stands view_is kept = record {
   view = view_is ∙ ap (λ (q : Rollback). q.view) stands.1;
   rolled_back = refl;
+  taken = is.taken;
   committed = is.committed;
   last = is.last;
-  alone = is.alone;
   path = ap (map placed_on) kept ∙ sym (take-map placed_on c.committed c.path.items)
       ∙ ap (take c.committed) is.path
       ∙ ap (λ (n : ℕ). take n (standing s)) is.committed
-      ∙ ap (take (length (attempts_by s.landings))) (map-append placed_at (attempts_by s.landings) s.pending)
+      ∙ ap (take (length (attempts_behind s.landings))) (map-append placed_at (attempts_behind s.landings) s.pending)
       ∙ front
-      ∙ ap (map placed_at) (sym (append-nil (attempts_by s.landings)));
+      ∙ ap (map placed_at) (sym (append-nil (attempts_behind s.landings)));
   framed = subst (AllByRecursion IsOnPath) (sym kept) (all-take IsOnPath c.committed c.path.items is.framed);
 }
   where
-    front : take (length (attempts_by s.landings)) (map placed_at (attempts_by s.landings) ++ map placed_at s.pending)
-        ≡ map placed_at (attempts_by s.landings)
-    front = ap (λ (n : ℕ). take n (map placed_at (attempts_by s.landings) ++ map placed_at s.pending))
-        (sym (length-map (attempts_by s.landings) placed_at))
-        ∙ take-append-here (map placed_at (attempts_by s.landings)) (map placed_at s.pending)
+    front : take (length (attempts_behind s.landings))
+        (map placed_at (attempts_behind s.landings) ++ map placed_at s.pending)
+        ≡ map placed_at (attempts_behind s.landings)
+    front = ap (λ (n : ℕ). take n (map placed_at (attempts_behind s.landings) ++ map placed_at s.pending))
+        (sym (length-map (attempts_behind s.landings) placed_at))
+        ∙ take-append-here (map placed_at (attempts_behind s.landings)) (map placed_at s.pending)
 rollback_comes s c (at, Attempts a) rollback view path is stands view_is kept = elim stands [ ]
 rollback_comes s c (at, Commits d) rollback view path is stands view_is kept = elim stands [ ]
 rollback_comes s c (at, TakesOver x) rollback view path is stands view_is kept = elim stands [ ]
 
--- a state is taken over in no trace of version 1
-pub none_taken_over : (step : ℕ × Step) (x : TransferView) → IsStep (of.Transfer x) step
-    → IsTrue (is_of_version 1 step.1) → ⊥
-none_taken_over (at, TakesOver y) x stands own = false≢true own
-none_taken_over (at, Attempts a) x stands own = elim stands [ ]
-none_taken_over (at, Commits d) x stands own = elim stands [ ]
-none_taken_over (at, RollsBack r) x stands own = elim stands [ ]
+-- a state is taken over
+pub state_comes : (s : SectionState) (step : ℕ × Step) (state : TransferView) (view : ℕ) (path : Vec OnPath Global)
+    → IsStep (of.Transfer state) step → view ≡ (transfer_said state).view → path.items ≡ []
+    → IsCourse (next s step)
+    (record { view = view; rolled_back = false; taken = Some state; committed = 0; path = path })
+state_comes s (at, TakesOver x) state view path stands view_is none =
+    let skipped : List Landing = replicate (x.seq - (s.last + 1)) Skipped in
+    let all : List Landing = s.landings ++ (skipped ++ ByTransfer at x ∷ []) in
+    let behind : attempts_behind all ≡ [] =
+    fold-append and_landing [] s.landings (skipped ++ ByTransfer at x ∷ [])
+    ∙ fold-append and_landing (attempts_behind s.landings) skipped (ByTransfer at x ∷ []) in
+    let last : last_state all ≡ Some (at, x) =
+    fold-append later_state None s.landings (skipped ++ ByTransfer at x ∷ [])
+    ∙ fold-append later_state (last_state s.landings) skipped (ByTransfer at x ∷ []) in
+    let number : state_number (last_state all) ≡ x.seq = ap state_number last in
+    let count : length (attempts_behind all) ≡ 0 = ap length behind in
+    record {
+      view = view_is ∙ ap (λ (y : Transfer). y.view) stands.1;
+      rolled_back = refl;
+      taken = (λ i. Some (stands.0 i, stands.1 i)) ∙ sym last;
+      committed = sym count;
+      last = omega (arith, number, count);
+      path = ap (map placed_on) none ∙ ap (λ (ps : List Placed). map placed_at (ps ++ [])) (sym behind);
+      framed = subst (AllByRecursion IsOnPath) (sym none) tt;
+    }
+state_comes s (at, Attempts a) state view path stands view_is none = elim stands [ ]
+state_comes s (at, Commits d) state view path stands view_is none = elim stands [ ]
+state_comes s (at, RollsBack r) state view path stands view_is none = elim stands [ ]

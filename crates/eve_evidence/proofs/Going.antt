@@ -1,16 +1,10 @@
 -- A fault that stands ahead in a section's steps, while they come.
-use Rattle.std.proofs.Common.{◌≡◌, ℕ, true, false, List, [], ◌∷◌, ◌++◌, refl, sym, subst, ◌∙◌, inl, inr, append_assoc}
-use Rattle.std.specs.Prelude.{IsTrue, IsFalse}
-use Rattle.std.specs.List.{list_all}
-use Rattle.std.proofs.lemmas.Bool.{and_parts, false≢true}
-use Rattle.eve_grammar.specs.Trace.{Step, Attempts, Commits, RollsBack, TakesOver, Trace}
-use Rattle.eve_grammar.specs.Frames.{has_transfers}
-use Rattle.eve_grammar.specs.Limits.{is_of_version, HasLimits}
+use Rattle.std.proofs.Common.{◌≡◌, ℕ, List, [], ◌∷◌, ◌++◌, refl, sym, subst, ◌∙◌, inl, inr, append_assoc}
+use Rattle.eve_grammar.specs.Trace.{Step, Trace}
 use Rattle.eve_grammar.specs.Spelling.{steps_at}
 use Rattle.eve_views.specs.declared.fault.Code.{Code}
 use Rattle.eve_views.specs.Form.{SomePlace}
 use Rattle.eve_history.specs.Section.{SectionState, start, next, state_after}
-use Rattle.eve_history.proofs.Coming.{steps_all}
 use Rattle.eve_history.proofs.Places.{place_cases, no_place}
 use Rattle.eve_history.proofs.StructureLaws.{state_after-append}
 use Rattle.eve_evidence.specs.declared.course.Course.{Course}
@@ -24,25 +18,10 @@ pub record Goes (c : Code) (t : Trace) (e place : ℕ) (rest : List (ℕ × Step
   pub split : steps_at t e ≡ front ++ rest
   pub is : IsCourse (state_after start front) course
   pub ahead : SomePlace rest (λ before step. StandsAtStep c t place (state_after (state_after start front) before) step)
-  pub kinds : list_all (λ x. is_of_version t.head.version x.1) rest ≡ true
 
-pub goes_first : (c : Code) (t : Trace) (e place : ℕ) (course : Course) → HasLimits t → IsCourse start course
+pub goes_first : (c : Code) (t : Trace) (e place : ℕ) (course : Course) → IsCourse start course
     → StandsAlong c t e place → Goes c t e place (steps_at t e) course
-goes_first c t e place course limits is stands = record {
-  front = [];
-  split = refl;
-  is = is;
-  ahead = stands;
-  kinds = steps_all (is_of_version t.head.version) t e limits.kinds;
-}
-
--- a step of a version without transfers is one of version 1
-of_version_1 : (version : ℕ) (step : Step) → has_transfers version ≡ false → is_of_version version step ≡ true
-    → is_of_version 1 step ≡ true
-of_version_1 version (Attempts a) none kind = refl
-of_version_1 version (Commits d) none kind = refl
-of_version_1 version (RollsBack r) none kind = refl
-of_version_1 version (TakesOver x) none kind = absurd (false≢true (sym none ∙ kind))
+goes_first c t e place course is stands = record { front = []; split = refl; is = is; ahead = stands }
 
 -- no step is left where a fault is to come
 pub goes_no_further : (c : Code) (t : Trace) (e place : ℕ) (course : Course) → Goes c t e place [] course → ⊥
@@ -52,15 +31,6 @@ module _ (c : Code) (t : Trace) (e place : ℕ) (step : ℕ × Step) (rest : Lis
     (goes : Goes c t e place (step ∷ rest) course) where
   abbrev pub now : SectionState
   now = state_after start goes.front
-
-  abbrev kinds_here : (is_of_version t.head.version step.1 ≡ true)
-      × (list_all (λ x. is_of_version t.head.version x.1) rest ≡ true)
-  kinds_here = and_parts (is_of_version t.head.version step.1) (list_all (λ x. is_of_version t.head.version x.1) rest)
-      goes.kinds
-
-  -- the next is a step of version 1
-  pub none_taken : IsFalse (has_transfers t.head.version) → IsTrue (is_of_version 1 step.1)
-  none_taken none = of_version_1 t.head.version step.1 none kinds_here.0
 
   further : (s : SectionState) → s ≡ next now step
       → SomePlace rest (λ before x. StandsAtStep c t place (state_after now (step ∷ before)) x)
@@ -88,7 +58,6 @@ module _ (c : Code) (t : Trace) (e place : ℕ) (step : ℕ × Step) (rest : Lis
               | inl here ↦ absurd (not_here here)
               | inr there ↦ there
             ]);
-        kinds = kinds_here.1;
       }
 
   -- what tells it at the next tells it along the section

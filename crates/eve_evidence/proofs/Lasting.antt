@@ -9,6 +9,7 @@ use Rattle.eve_smallbank.specs.declared.entry.Entry.{Entry}
 use Rattle.eve_smallbank.specs.declared.versioned.Versioned.{Versioned}
 use Rattle.eve_smallbank.specs.Access.{writes_row}
 use Rattle.eve_smallbank.specs.Chain.{Table, left_by, table_after}
+use Rattle.eve_grammar.specs.Trace.{Transfer}
 use Rattle.eve_grammar.proofs.Lists.{all-append}
 use Rattle.eve_evidence.specs.declared.sources.Left.{Left}
 use Rattle.eve_evidence.specs.Sources.{Passed, IsWriter, NoneWrites, IsLeftBy, last_left, table_after_way}
@@ -139,5 +140,7 @@ module _ (row : ℕ) where
   none_alone x none writes = false≢true (sym (ap is_some none) ∙ left_some x.entries ∙ writes)
 
   -- who left what the row has
-  pub left_of_last : (way : List Passed) (l : Left) → IsLast row way l → IsLeftBy row way l.by
-  left_of_last way l last = subst (IsLeftBy row way) (sym last.own.by_is) (last.found, last.nearest, refl, refl, refl)
+  pub left_of_last : (state : Option (ℕ × Transfer)) (way : List Passed) (l : Left) → IsLast row way l
+      → IsLeftBy state row way l.by
+  left_of_last state way l last =
+      subst (IsLeftBy state row way) (sym last.own.by_is) (last.found, last.nearest, refl, refl, refl)

@@ -2,6 +2,7 @@ pub mod Versions
 pub mod Lists
 pub mod Coursing
 pub mod Telling
+pub mod Certifying
 pub mod Lasting
 pub mod Ways
 pub mod Searching

@@ -33,6 +33,12 @@ pub all_more : {A : Type 0} (P : A → Type 0) (xs : List A) (i : ℕ) (x : A) �
 all_more P xs i x got all own =
     subst (AllByRecursion P) (sym (take_one_more xs i x got)) (all-push P (take i xs) x all own)
 
+-- what holds of all items holds of a front's
+pub all-take : {A : Type 0} (P : A → Type 0) (n : ℕ) (xs : List A) → AllByRecursion P xs → AllByRecursion P (take n xs)
+all-take P zero xs all = tt
+all-take P (suc n) [] all = tt
+all-take P (suc n) (x ∷ xs) all = (all.0, all-take P n xs all.1)
+
 -- at this place of a list
 pub place_at : {A : Type 0} (P : List A → A → Type 0) (xs : List A) (i : ℕ) (x : A) → slice_get xs i ≡ Some x
     → P (take i xs) x → SomePlace xs P
@@ -44,7 +50,7 @@ place_at P xs i x got holds = record {
   holds = holds;
 }
 
-take-take : {A : Type 0} (i n : ℕ) (xs : List A) → i ≤ n → take i (take n xs) ≡ take i xs
+pub take-take : {A : Type 0} (i n : ℕ) (xs : List A) → i ≤ n → take i (take n xs) ≡ take i xs
 take-take zero n xs le = refl
 take-take (suc i) zero xs le = absurd (omega arith)
 take-take (suc i) (suc n) [] le = refl

@@ -1,6 +1,8 @@
 -- Where a fault of a section stands: at one of its steps.
-use Rattle.std.proofs.Common.{◌≡◌, ℕ, ◌⊎◌, inl, inr, List, [], ◌∷◌, ◌++◌, refl, sym, subst}
+use Rattle.std.proofs.Common.{◌≡◌, ℕ, ◌==◌, Bool, true, false, ◌⊎◌, inl, inr, List, [], ◌∷◌, ◌++◌, length, refl}
+use Rattle.std.proofs.Common.{sym, subst}
 use Rattle.std.specs.Prelude.{IsTrue, IsFalse}
+use Rattle.std.proofs.lemmas.Bool.{and_parts, eqb-true}
 use Rattle.eve_smallbank.proofs.Members.{In, here, there}
 use Rattle.eve_grammar.specs.Accesses.{is_right_place}
 use Rattle.eve_grammar.specs.Trace.{Access, Attempt, Step, Attempts, Commits, RollsBack, TakesOver, Trace}
@@ -8,10 +10,11 @@ use Rattle.eve_grammar.specs.Spelling.{steps_at, accesses_at}
 use Rattle.eve_views.specs.declared.fault.Code.TheVariants as code
 use Rattle.eve_views.specs.Form.{SomePlace}
 use Rattle.eve_history.specs.Section.{Placed, attempts_by, SectionState, start, next, committing, state_after, settled}
-use Rattle.eve_history.specs.Section.{is_right_attempt, is_right_certificate, is_right_access, is_right_commit}
-use Rattle.eve_history.specs.Section.{is_right_rollback, are_right, are_right_accesses}
+use Rattle.eve_history.specs.Section.{request_count, is_due, is_right_attempt, is_right_certificate, is_right_access}
+use Rattle.eve_history.specs.Section.{is_right_commit}
+use Rattle.eve_history.specs.Section.{is_right_rollback, is_right_transfer, are_right, are_right_accesses}
 use Rattle.eve_history.specs.SectionHistory.{history}
-use Rattle.eve_history.specs.Structure.{OfAttempt, OfCommit, OfRollback, accesses_of, StandsInStructure}
+use Rattle.eve_history.specs.Structure.{OfAttempt, OfCommit, OfRollback, OfTransfer, accesses_of, StandsInStructure}
 use Rattle.eve_history.proofs.FateLaws.{attempts_by_push, attempts_by_taking}
 use Rattle.eve_history.proofs.Places.{weaker_place, place_here, place_later}
 use Rattle.eve_chains.proofs.Distinct.{in_right, in_split}
@@ -32,6 +35,44 @@ attempt_along t e at stands = weaker_place _ _ (steps_at t e) by stands
     by before (o, Commits c) h = elim h.1.1 [ ]
     by before (o, RollsBack r) h = elim h.1.1 [ ]
     by before (o, TakesOver x) h = elim h.1.1 [ ]
+
+pub certificate_along : (t : Trace) (e at : ℕ) → StandsInStructure code.Certificate t e at
+    → (StandsInStructure code.Attempt t e at → ⊥) → StandsAlong code.Certificate t e at
+certificate_along t e at stands apart = record {
+  before = stands.before;
+  item = stands.item;
+  rest = stands.rest;
+  is = stands.is;
+  holds = by stands.item
+      (λ wrong. apart (record {
+        before = stands.before;
+        item = stands.item;
+        rest = stands.rest;
+        is = stands.is;
+        holds = wrong;
+      }))
+      stands.holds;
+}
+  where
+    true_there : (b : Bool) → (b ≡ false → ⊥) → b ≡ true
+    true_there true other = refl
+    true_there false other = absurd (other refl)
+
+    by : (step : ℕ × Step)
+        → (IsTrue (are_right t start stands.before) × ((step.0 ≡ at)
+        × OfAttempt step.1 (λ a. IsFalse (is_right_attempt t (state_after start stands.before) a))) → ⊥)
+        → IsTrue (are_right t start stands.before) × ((step.0 ≡ at)
+        × OfAttempt step.1 (λ a. IsFalse (is_right_certificate t a)))
+        → StandsAtStep code.Certificate t at (state_after start stands.before) step
+    by (o, Attempts a) none h =
+        let s = state_after start stands.before in
+        let right : is_right_attempt t s a ≡ true =
+        true_there (is_right_attempt t s a) (λ wrong. none (h.0, (h.1.0, wrong))) in
+        let count = and_parts (is_due t s a) (length a.certificate == request_count t a) right in
+        inl (h.1.0, (eqb-true (length a.certificate) (request_count t a) count.1, h.1.1))
+    by (o, Commits c) none h = elim h.1.1 [ ]
+    by (o, RollsBack r) none h = elim h.1.1 [ ]
+    by (o, TakesOver x) none h = elim h.1.1 [ ]
 
 pub commit_along : (t : Trace) (e at : ℕ) → StandsInStructure code.Commit t e at → StandsAlong code.Commit t e at
 commit_along t e at stands = weaker_place _ _ (steps_at t e) by stands
@@ -54,6 +95,17 @@ rollback_along t e at stands = weaker_place _ _ (steps_at t e) by stands
     by before (o, Commits c) h = elim h.1.1 [ ]
     by before (o, RollsBack r) h = (h.1.0, h.1.1)
     by before (o, TakesOver x) h = elim h.1.1 [ ]
+
+pub transfer_along : (t : Trace) (e at : ℕ) → StandsInStructure code.Transfer t e at → StandsAlong code.Transfer t e at
+transfer_along t e at stands = weaker_place _ _ (steps_at t e) by stands
+  where
+    by : (before : List (ℕ × Step)) (step : ℕ × Step) → IsTrue (are_right t start before) × ((step.0 ≡ at)
+        × OfTransfer step.1 (λ x. IsFalse (is_right_transfer t (state_after start before) x)))
+        → StandsAtStep code.Transfer t at (state_after start before) step
+    by before (o, Attempts a) h = elim h.1.1 [ ]
+    by before (o, Commits c) h = elim h.1.1 [ ]
+    by before (o, RollsBack r) h = elim h.1.1 [ ]
+    by before (o, TakesOver x) h = (h.1.0, h.1.1)
 
 abbrev AtRight : Trace → ℕ → (Attempt → List Access → Access → Type 0) → List (ℕ × Step) → ℕ × Step → Type 0
 AtRight t at P before step = IsTrue (are_right t start before) × OfAttempt step.1 (λ a.

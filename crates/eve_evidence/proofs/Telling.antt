@@ -16,14 +16,14 @@ use Rattle.eve_grammar.specs.declared.head.TheConstants.{HEADER_LEN}
 use Rattle.eve_grammar.proofs.Lists.{slice_get-behind}
 use Rattle.eve_frames.specs.Said.{attempt_said}
 use Rattle.eve_views.proofs.Locating.{located_get}
-use Rattle.eve_history.specs.Section.{Placed, attempts_by, SectionState, no_batch, batch_at, commits_first}
+use Rattle.eve_history.specs.Section.{Placed, SectionState, no_batch, batch_at, commits_first}
 use Rattle.eve_history.specs.Section.{is_right_commit}
 use Rattle.eve_history.specs.Section.{is_due, is_right_attempt, is_right_access, request_count, worker_count}
 use Rattle.eve_history.specs.SectionHistory.{names_of, placed_at}
 use Rattle.eve_history.proofs.Finding.{batch_is}
 use Rattle.eve_evidence.specs.declared.course.Course.{Course}
 use Rattle.eve_evidence.specs.declared.course.OnPath.{OnPath}
-use Rattle.eve_evidence.specs.Course.{placed_on, standing, IsCourse}
+use Rattle.eve_evidence.specs.Course.{placed_on, attempts_behind, standing, IsCourse}
 use Rattle.eve_evidence.specs.declared.evidence.Numbers.{Numbers}
 use Rattle.eve_evidence.specs.declared.evidence.CommitFault.TheVariants.{View, Token}
 use Rattle.eve_evidence.specs.Told.{request_in, row_name}
@@ -166,18 +166,18 @@ pub first_open : (s : SectionState) (c : Course) (o : OnPath) → IsCourse s c �
     → FirstOpen s o
 first_open s c o is got = by s.pending refl
   where
-    there : slice_get (standing s) (length (attempts_by s.landings)) ≡ Some (placed_on o)
-    there = ap (λ (xs : List (ℕ × Attempt)). slice_get xs (length (attempts_by s.landings))) (sym is.path)
+    there : slice_get (standing s) (length (attempts_behind s.landings)) ≡ Some (placed_on o)
+    there = ap (λ (xs : List (ℕ × Attempt)). slice_get xs (length (attempts_behind s.landings))) (sym is.path)
         ∙ ap (slice_get (map placed_on c.path.items)) (sym is.committed)
         ∙ slice_get-map placed_on c.path.items c.committed ∙ ap (option_map placed_on) got
 
     behind : slice_get (map placed_at s.pending) 0 ≡ Some (placed_on o)
     behind =
-        sym (slice_get-behind (map placed_at (attempts_by s.landings)) (map placed_at s.pending) 0)
-        ∙ ap (slice_get (map placed_at (attempts_by s.landings) ++ map placed_at s.pending))
-        (add-zero (length (map placed_at (attempts_by s.landings))) ∙ length-map (attempts_by s.landings) placed_at)
-        ∙ ap (λ (xs : List (ℕ × Attempt)). slice_get xs (length (attempts_by s.landings)))
-        (sym (map-append placed_at (attempts_by s.landings) s.pending))
+        sym (slice_get-behind (map placed_at (attempts_behind s.landings)) (map placed_at s.pending) 0)
+        ∙ ap (slice_get (map placed_at (attempts_behind s.landings) ++ map placed_at s.pending))
+        (add-zero (length (map placed_at (attempts_behind s.landings))) ∙ length-map (attempts_behind s.landings) placed_at)
+        ∙ ap (λ (xs : List (ℕ × Attempt)). slice_get xs (length (attempts_behind s.landings)))
+        (sym (map-append placed_at (attempts_behind s.landings) s.pending))
         ∙ there
 
     none-some : {A : Type 0} (x : A) → ◌≡◌ {A = Option A} None (Some x) → ⊥

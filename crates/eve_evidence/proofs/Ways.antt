@@ -1,20 +1,22 @@
 -- The way to a record, and what the rows have at its end.
-use Rattle.std.proofs.Common.{◌≡◌, ℕ, ◌+◌, Bool, true, false, cond, ◌==◌, List, [], ◌∷◌, ◌++◌, map, length, fold, refl, sym, ap, ◌∙◌}
+use Rattle.std.proofs.Common.{◌≡◌, ℕ, ◌+◌, Bool, true, false, cond, ◌==◌, List, [], ◌∷◌, ◌++◌, map, length, fold}
+use Rattle.std.proofs.Common.{Option, Some, None, refl, sym, ap, ◌∙◌}
 use Rattle.std.specs.List.{flat_map}
 use Rattle.std.proofs.lemmas.List.{map-append}
+use Rattle.std.proofs.lemmas.List.Sums.{fold-append}
 use Rattle.eve_smallbank.specs.declared.entry.Entry.{Entry}
 use Rattle.eve_smallbank.specs.Chain.{Table, table_after, table_after_all}
-use Rattle.eve_grammar.specs.Trace.{Access, Attempt, Trace}
+use Rattle.eve_grammar.specs.Trace.{Access, Attempt, Transfer, Trace}
 use Rattle.eve_grammar.specs.Frames.{OfAccess, OfAttempt}
 use Rattle.eve_grammar.specs.Spelling.{frame_text, located, accesses_at}
-use Rattle.eve_history.specs.Section.{Came, Ran, Placed, came_by, attempts_by, SectionState, path_of}
+use Rattle.eve_history.specs.Section.{Came, Ran, Placed, Landing, ByAttempt, ByTransfer, Skipped, came_by}
+use Rattle.eve_history.specs.Section.{SectionState, path_of}
 use Rattle.eve_history.specs.SectionHistory.{access_with, placed_at}
 use Rattle.eve_chains.specs.Visible.{entries_with, executed_in, with_came, rows_after, opening_table}
 use Rattle.eve_chains.specs.Visible.{before_index, visible_to}
-use Rattle.eve_evidence.specs.declared.course.Course.{Course}
-use Rattle.eve_evidence.specs.Course.{standing, IsCourse}
+use Rattle.eve_evidence.specs.Course.{later_state, last_state, and_landing, attempts_behind, standing}
 use Rattle.eve_evidence.specs.Told.{placed_in}
-use Rattle.eve_evidence.specs.Sources.{passed, passed_in, way_to, table_after_way}
+use Rattle.eve_evidence.specs.Sources.{passed, passed_in, way_to, state_table, table_after_way}
 use Rattle.eve_evidence.proofs.Lasting.{along-append}
 
 abbrev access_text : Access → List ℕ
@@ -31,12 +33,8 @@ same_entries at (x ∷ xs) i = by (x.index == i) (same_entries (at + length (acc
     by true rest = refl
     by false rest = rest
 
--- what happened to the rows is the attempts that stand
-path_alone : (s : SectionState) → flat_map came_by s.landings ≡ map (λ p. Ran p.attempt) (attempts_by s.landings)
-    → path_of s ≡ map (λ p. Ran p.attempt) (attempts_by s.landings ++ s.pending)
-path_alone s alone =
-    ap (λ (cs : List Came). cs ++ map (λ p. Ran p.attempt) s.pending) alone
-    ∙ sym (map-append (λ p. Ran p.attempt) (attempts_by s.landings) s.pending)
+abbrev ran : Placed → Came
+ran p = Ran p.attempt
 
 module _ (t : Trace) where
   order_table : (table : Table) (at : ℕ) (a : Attempt) (order : List ℕ)
@@ -48,23 +46,46 @@ module _ (t : Trace) where
       (sym (same_entries (at + length (frame_text (OfAttempt a))) a.accesses i))
       ∙ order_table (table_after table (access_with (accesses_at at a) i).1.entries) at a order
 
-  path_table : (table : Table) (ps : List Placed) → fold (with_came t) table (map (λ p. Ran p.attempt) ps)
+  path_table : (table : Table) (ps : List Placed) → fold (with_came t) table (map ran ps)
       ≡ table_after_way table (flat_map passed_in (map placed_at ps))
   path_table table [] = refl
   path_table table (p ∷ ps) =
       let own = passed_in (placed_at p) in
-      ap (λ (now : Table). fold (with_came t) now (map (λ q. Ran q.attempt) ps))
+      ap (λ (now : Table). fold (with_came t) now (map ran ps))
       (order_table table p.offset p.attempt p.attempt.certificate)
       ∙ path_table (table_after_way table own) ps
       ∙ sym (along-append 0 table own (flat_map passed_in (map placed_at ps)))
 
+  -- what came by landings is what their last state has, and what the attempts behind it did
+  landings_table : (state : Option (ℕ × Transfer)) (ps : List Placed) (ls : List Landing)
+      → fold (with_came t) (fold (with_came t) (state_table t state) (map ran ps)) (flat_map came_by ls)
+      ≡ fold (with_came t) (state_table t (fold later_state state ls)) (map ran (fold and_landing ps ls))
+  landings_table state ps [] = refl
+  landings_table state ps (ByAttempt p ∷ ls) =
+      ap (λ (now : Table). fold (with_came t) now (flat_map came_by ls))
+      (sym (fold-append (with_came t) (state_table t state) (map ran ps) (ran p ∷ []))
+      ∙ ap (fold (with_came t) (state_table t state)) (sym (map-append ran ps (p ∷ []))))
+      ∙ landings_table state (ps ++ p ∷ []) ls
+  landings_table state ps (ByTransfer at x ∷ ls) = landings_table (Some (at, x)) [] ls
+  landings_table state ps (Skipped ∷ ls) = landings_table state ps ls
+
+  path_rows : (s : SectionState) → rows_after t (path_of s)
+      ≡ fold (with_came t) (state_table t (last_state s.landings)) (map ran (attempts_behind s.landings ++ s.pending))
+  path_rows s =
+      let first = state_table t (last_state s.landings) in
+      fold-append (with_came t) (opening_table t) (flat_map came_by s.landings) (map ran s.pending)
+      ∙ ap (λ (now : Table). fold (with_came t) now (map ran s.pending)) (landings_table None [] s.landings)
+      ∙ sym (fold-append (with_came t) first (map ran (attempts_behind s.landings)) (map ran s.pending))
+      ∙ ap (fold (with_came t) first) (sym (map-append ran (attempts_behind s.landings) s.pending))
+
   -- what an entry must see is what the records on its way leave
-  pub way_table : (s : SectionState) (course : Course) (at : ℕ) (a : Attempt) (index : ℕ) → IsCourse s course
-      → visible_to t (placed_in s at a) index ≡ table_after_way (opening_table t) (way_to (standing s) at a index)
-  way_table s course at a index is =
+  pub way_table : (s : SectionState) (at : ℕ) (a : Attempt) (index : ℕ)
+      → visible_to t (placed_in s at a) index
+      ≡ table_after_way (state_table t (last_state s.landings)) (way_to (standing s) at a index)
+  way_table s at a index =
       let own = before_index index a.certificate in
+      let first = state_table t (last_state s.landings) in
       ap (λ (now : Table). table_after_all now (executed_in t a own))
-      (ap (rows_after t) (path_alone s is.alone)
-      ∙ path_table (opening_table t) (attempts_by s.landings ++ s.pending))
-      ∙ order_table (table_after_way (opening_table t) (flat_map passed_in (standing s))) at a own
-      ∙ sym (along-append 0 (opening_table t) (flat_map passed_in (standing s)) (passed a.seq (accesses_at at a) own))
+      (path_rows s ∙ path_table first (attempts_behind s.landings ++ s.pending))
+      ∙ order_table (table_after_way first (flat_map passed_in (standing s))) at a own
+      ∙ sym (along-append 0 first (flat_map passed_in (standing s)) (passed a.seq (accesses_at at a) own))

@@ -1,5 +1,6 @@
 pub mod Course
 pub mod Told
+pub mod Certificate
 pub mod Structure
 pub mod Record
 pub mod Sources

@@ -1,15 +1,16 @@
 -- Faults of a replica's section as they stand at its steps, and what shows them. docs/MODEL.md, "Faults".
-use Rattle.std.specs.Prelude.{◌≡◌, ◌≢◌, ℕ, IsFalse, List, ◌⊎◌}
+use Rattle.std.specs.Prelude.{◌≡◌, ◌≢◌, ℕ, IsFalse, List, length, ◌⊎◌}
 use Rattle.eve_smallbank.specs.Access.{Fits}
 use Rattle.eve_grammar.specs.Trace.{Access, Attempt, Commit, Rollback, Step, Attempts, Commits, RollsBack, TakesOver}
-use Rattle.eve_grammar.specs.Trace.{Trace}
+use Rattle.eve_grammar.specs.Trace.{Transfer, Trace}
 use Rattle.eve_grammar.specs.Accesses.{is_right_place}
 use Rattle.eve_grammar.specs.Spelling.{accesses_at, steps_at}
 use Rattle.eve_views.specs.declared.fault.Code.{Code}
 use Rattle.eve_views.specs.declared.fault.Code.TheVariants as code
 use Rattle.eve_views.specs.Form.{SomePlace}
-use Rattle.eve_history.specs.Section.{SectionState, start, state_after, is_right_attempt, is_right_commit}
-use Rattle.eve_history.specs.Section.{is_right_access, is_right_rollback}
+use Rattle.eve_history.specs.Section.{SectionState, start, state_after, batch_at, request_count, is_right_attempt}
+use Rattle.eve_history.specs.Section.{is_right_certificate, is_right_commit}
+use Rattle.eve_history.specs.Section.{is_right_access, is_right_rollback, is_right_transfer}
 use Rattle.eve_history.specs.SectionHistory.{names_of}
 use Rattle.eve_history.specs.Structure.{accesses_of}
 use Rattle.eve_chains.specs.Visible.{executed_by, visible_to}
@@ -17,7 +18,9 @@ use Rattle.eve_chains.specs.Along.{SeesAnother}
 use Rattle.eve_evidence.specs.declared.evidence.Evidence.{Evidence}
 use Rattle.eve_evidence.specs.declared.evidence.Evidence.TheVariants as shown
 use Rattle.eve_evidence.specs.Told.{IsToldRequest, told_attempt, placed_in}
-use Rattle.eve_evidence.specs.Structure.{IsAttemptFault, IsAccessFault, IsCommitFault, IsRollbackFault, place_numbers}
+use Rattle.eve_evidence.specs.Structure.{IsAttemptFault, IsAccessFault, IsCommitFault, IsRollbackFault}
+use Rattle.eve_evidence.specs.Structure.{IsTransferFault, place_numbers}
+use Rattle.eve_evidence.specs.Certificate.{IsCertificateFault}
 use Rattle.eve_evidence.specs.Record.{IsRecordFault}
 use Rattle.eve_evidence.specs.Chain.{IsFirstWrongEntry}
 
@@ -26,6 +29,7 @@ use Rattle.eve_evidence.specs.Chain.{IsFirstWrongEntry}
 -- with an attempt by its own frame, where its section has come to this
 abbrev pub WrongAttempt : Code → Trace → SectionState → Attempt → Type 0
 WrongAttempt code.Attempt t s a = IsFalse (is_right_attempt t s a)
+WrongAttempt code.Certificate t s a = (length a.certificate ≡ request_count t a) × IsFalse (is_right_certificate t a)
 WrongAttempt _ t s a = ⊥
 
 -- with an access record of an attempt whose frame stands at this offset
@@ -49,14 +53,19 @@ abbrev pub WrongRollback : Code → Trace → SectionState → Rollback → Type
 WrongRollback code.Rollback t s r = IsFalse (is_right_rollback t s r)
 WrongRollback _ t s r = ⊥
 
--- A fault of this code stands at this byte, where a step's frames are. None is told where a state is taken over.
+-- with a state that is taken over
+abbrev pub WrongTransfer : Code → Trace → SectionState → Transfer → Type 0
+WrongTransfer code.Transfer t s x = IsFalse (is_right_transfer t s x)
+WrongTransfer _ t s x = ⊥
+
+-- a fault of this code stands at this byte, where a step's frames are
 abbrev pub StandsAtStep : Code → Trace → ℕ → SectionState → ℕ × Step → Type 0
 StandsAtStep c t place s (at, Attempts a) =
     ((at ≡ place) × WrongAttempt c t s a)
     ⊎ SomePlace (accesses_at at a) (λ own x. (x.0 ≡ place) × WrongAccess c t s at a own x.1)
 StandsAtStep c t place s (at, Commits d) = (at ≡ place) × WrongCommit c s d
 StandsAtStep c t place s (at, RollsBack r) = (at ≡ place) × WrongRollback c t s r
-StandsAtStep c t place s (at, TakesOver x) = ⊥
+StandsAtStep c t place s (at, TakesOver x) = (at ≡ place) × WrongTransfer c t s x
 
 -- it stands somewhere along replica e's section
 abbrev pub StandsAlong : Code → Trace → ℕ → ℕ → Type 0
@@ -66,9 +75,12 @@ StandsAlong c t e place =
 -- ---- what shows it
 
 -- at an attempt's own frame
-abbrev pub TellsAttempt : Code → Trace → SectionState → Attempt → Evidence → Type 0
-TellsAttempt c t s a (shown.Attempt x) = (c ≡ code.Attempt) × IsAttemptFault t s a x
-TellsAttempt c t s a _ = ⊥
+abbrev pub TellsAttempt : Code → Trace → SectionState → ℕ → Attempt → Evidence → Type 0
+TellsAttempt c t s at a (shown.Attempt x) = (c ≡ code.Attempt) × IsAttemptFault t s a x
+TellsAttempt c t s at a (shown.Certificate attempt wrong) =
+    (c ≡ code.Certificate) × (attempt ≡ told_attempt at a)
+    × IsCertificateFault (batch_at t a.seq).sizes (request_count t a) a.serial a.certificate wrong
+TellsAttempt c t s at a _ = ⊥
 
 -- at the frame of an access record of an attempt
 abbrev pub TellsAccess : Code → Trace → SectionState → ℕ → Attempt → List (ℕ × Access) → ℕ × Access → Evidence → Type 0
@@ -95,14 +107,19 @@ abbrev pub TellsRollback : Code → Trace → SectionState → Rollback → Evid
 TellsRollback c t s r (shown.Rollback x) = (c ≡ code.Rollback) × IsRollbackFault t s r x
 TellsRollback c t s r _ = ⊥
 
+-- at a state that is taken over
+abbrev pub TellsTransfer : Code → Trace → SectionState → Transfer → Evidence → Type 0
+TellsTransfer c t s x (shown.Transfer wrong) = (c ≡ code.Transfer) × IsTransferFault t s x wrong
+TellsTransfer c t s x _ = ⊥
+
 -- at this byte, where a step's frames are
 abbrev pub TellsStep : Code → Trace → ℕ → SectionState → ℕ × Step → Evidence → Type 0
 TellsStep c t place s (at, Attempts a) evidence =
-    ((at ≡ place) × TellsAttempt c t s a evidence)
+    ((at ≡ place) × TellsAttempt c t s at a evidence)
     ⊎ SomePlace (accesses_at at a) (λ own x. (x.0 ≡ place) × TellsAccess c t s at a own x evidence)
 TellsStep c t place s (at, Commits d) evidence = (at ≡ place) × TellsCommit c s d evidence
 TellsStep c t place s (at, RollsBack r) evidence = (at ≡ place) × TellsRollback c t s r evidence
-TellsStep c t place s (at, TakesOver x) evidence = ⊥
+TellsStep c t place s (at, TakesOver x) evidence = (at ≡ place) × TellsTransfer c t s x evidence
 
 -- The evidence shows a fault of this code at this byte, somewhere along replica e's section, by where the section has
 -- come to there.

@@ -1,16 +1,18 @@
--- Who left what an entry must see: the nearest earlier write of its row. docs/MODEL.md, "Visible version, chained".
+-- Who left what an entry must see: the nearest earlier write of its row, or the last state that was taken over.
+-- docs/MODEL.md, "Visible version, chained".
 use Rattle.std.specs.Prelude.{◌≡◌, ℕ, ◌++◌, List, ◌∷◌, map, IsTrue, Option, None, Some, if◌then◌else◌, fold}
 use Rattle.std.specs.List.{AllByRecursion, flat_map, list_any}
+use Rattle.std.specs.Option.{option_map}
 use Rattle.eve_smallbank.specs.declared.entry.Entry.{Entry}
 use Rattle.eve_smallbank.specs.declared.versioned.Versioned.{Versioned}
 use Rattle.eve_smallbank.specs.Access.{writes_row}
 use Rattle.eve_smallbank.specs.Chain.{Table, left_by, table_after}
-use Rattle.eve_grammar.specs.Trace.{Access, Attempt}
+use Rattle.eve_grammar.specs.Trace.{Access, Attempt, Trace, Transfer}
 use Rattle.eve_grammar.specs.Spelling.{accesses_at}
 use Rattle.eve_history.specs.SectionHistory.{access_with}
-use Rattle.eve_chains.specs.Visible.{before_index}
+use Rattle.eve_chains.specs.Visible.{before_index, opening_table, taken_table}
 use Rattle.eve_evidence.specs.declared.evidence.Source.{Source}
-use Rattle.eve_evidence.specs.declared.evidence.Source.TheVariants.{Opening, Write}
+use Rattle.eve_evidence.specs.declared.evidence.Source.TheVariants as source
 
 -- an access record: the number of its batch, the index of its request, its frame's offset, and its entries
 pub record Passed : Type 0 where
@@ -52,13 +54,19 @@ pub record IsNearest (row : ℕ) (way : List Passed) (x : Passed) : Type 0 where
   pub writes : IsWriter row x
   pub none : NoneWrites row behind
 
--- who left what the row has at the end of the way
-abbrev pub IsLeftBy : ℕ → List Passed → Source → Type 0
-IsLeftBy row way Opening = NoneWrites row way
-IsLeftBy row way (Write index batch at) =
+-- who left what the row has at the end of the way, which begins behind this state, or at the opening
+abbrev pub IsLeftBy : Option (ℕ × Transfer) → ℕ → List Passed → Source → Type 0
+IsLeftBy state row way source.Opening = (state ≡ None) × NoneWrites row way
+IsLeftBy state row way (source.Transfer at) = (option_map (λ x. x.0) state ≡ Some at) × NoneWrites row way
+IsLeftBy state row way (source.Write index batch at) =
     (x : Passed) × IsNearest row way x × (x.index ≡ index) × (x.batch ≡ batch) × (x.at ≡ at)
 
 -- ---- what the rows have
+
+-- what the rows have in this state, or at the opening
+abbrev pub state_table : Trace → Option (ℕ × Transfer) → Table
+state_table t None = opening_table t
+state_table t (Some x) = taken_table x.1.rows
 
 -- what the last of these entries that writes the row leaves in it, if one does
 abbrev pub last_left : ℕ → List Entry → Option Versioned

@@ -1,7 +1,7 @@
 -- What shows a fault of structure. docs/MODEL.md, "Section state, fate".
 use Rattle.std.specs.Prelude.{◌≡◌, ◌≢◌, ℕ, ◌+◌, ◌<◌, ◌≤◌, ◌==◌, List, [], ◌∷◌, length}
 use Rattle.std.specs.List.{AllByRecursion, count_by}
-use Rattle.eve_grammar.specs.Trace.{Access, Attempt, Commit, Rollback, Trace}
+use Rattle.eve_grammar.specs.Trace.{Access, Attempt, Commit, Rollback, Transfer, Trace}
 use Rattle.eve_views.specs.Form.{SomePlace}
 use Rattle.eve_history.specs.Section.{Placed, SectionState, request_count, worker_count}
 use Rattle.eve_history.specs.Structure.{accesses_of}
@@ -14,6 +14,8 @@ use Rattle.eve_evidence.specs.declared.evidence.CommitFault.{CommitFault}
 use Rattle.eve_evidence.specs.declared.evidence.CommitFault.TheVariants as commit
 use Rattle.eve_evidence.specs.declared.evidence.RollbackFault.{RollbackFault}
 use Rattle.eve_evidence.specs.declared.evidence.RollbackFault.TheVariants as rollback
+use Rattle.eve_evidence.specs.declared.evidence.TransferFault.{TransferFault}
+use Rattle.eve_evidence.specs.declared.evidence.TransferFault.TheVariants as transfer
 
 -- this was found, and that was due
 abbrev pub numbers : ℕ → ℕ → Numbers
@@ -86,3 +88,13 @@ IsRollbackFault t s r (rollback.NothingLeft n) =
     (n ≡ numbers s.last (length t.batches)) × (r.to ≡ s.last) × (length t.batches ≤ s.last)
 IsRollbackFault t s r (rollback.View n) =
     (n ≡ numbers r.view (s.view + 1)) × (r.to ≡ s.last) × (s.last < length t.batches) × (r.view ≢ s.view + 1)
+
+-- ---- a state that is taken over
+
+-- the first thing that is wrong with it where the section has come to this
+abbrev pub IsTransferFault : Trace → SectionState → Transfer → TransferFault → Type 0
+IsTransferFault t s x (transfer.Number n) = (n ≡ numbers x.seq s.last) × (x.seq ≤ s.last)
+IsTransferFault t s x (transfer.PastBatches n) =
+    (n ≡ numbers x.seq (length t.batches)) × (s.last < x.seq) × (length t.batches < x.seq)
+IsTransferFault t s x (transfer.View n) =
+    (n ≡ numbers x.view s.view) × (s.last < x.seq) × (x.seq ≤ length t.batches) × (x.view < s.view)

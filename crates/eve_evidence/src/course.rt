@@ -1,13 +1,12 @@
 //! A replica's section up to one of its steps.
 
-ghost use Rattle.std.specs.Prelude.{◌≡◌, ℕ, IsTrue, OnOk, IfSome, IfNone, slice_get, Some};
-ghost use Rattle.eve_grammar.specs.Limits.{is_of_version};
+ghost use Rattle.std.specs.Prelude.{◌≡◌, ℕ, OnOk};
 ghost use Rattle.eve_grammar.specs.Trace.{Step as StepValue};
 ghost use Rattle.eve_views.specs.StepKinds.{IsStep};
 ghost use Rattle.eve_history.specs.Section.{SectionState, start, next};
-ghost use Rattle.eve_evidence.specs.Course.{IsCourse};
+ghost use Rattle.eve_evidence.specs.Course.{IsCourse, state_number, state_said};
 
-use eve_frames::AttemptView;
+use eve_frames::{AttemptView, TransferView};
 use eve_views::{Accesses, Step};
 use std::alloc::{AllocError, Global};
 
@@ -29,9 +28,11 @@ pub struct Course<'t, 'a> {
     pub view: u32,
     /// Whether no attempt came since a rollback.
     pub rolled_back: bool,
-    /// How many of the attempts are committed. The others are open.
+    /// The last state that was taken over. The path begins behind it.
+    pub taken: Option<TransferView<'a>>,
+    /// How many of the attempts on the path are committed. The others are open.
     pub committed: usize,
-    /// The attempts that no rollback discarded, in the order of their frames.
+    /// The attempts behind that state that no rollback discarded, in the order of their frames.
     pub path: Vec<OnPath<'t, 'a>>,
 }
 
@@ -43,15 +44,26 @@ impl<'t, 'a> Course<'t, 'a> {
         Course {
             view: 0,
             rolled_back: false,
+            taken: None,
             committed: 0,
             path: Vec::new(alloc),
         }
     }
 
-    /// Goes on over a step of version 1: no state is taken over.
+    /// The number of the last state that was taken over, or 0.
+    pub fn state_number(&self) -> u32
+        ensures { result ≡ state_number (state_said self.now.taken) }
+    {
+        match self.taken {
+            Some(state) => state.seq(),
+            None => 0,
+        }
+    }
+
+    /// Goes on over a step.
     pub fn take(&mut self, step: Step<'t, 'a>) -> Result<(), AllocError>
         ensures { OnOk result ((s : SectionState) (step_is : ℕ × StepValue) → IsCourse s self.old
-            → IsStep step.entry step_is → IsTrue (is_of_version 1 step_is.1) → IsCourse (next s step_is) self.new) }
+            → IsStep step.entry step_is → IsCourse (next s step_is) self.new) }
     {
         match step {
             Step::Attempt(attempt, accesses) => {
@@ -68,8 +80,13 @@ impl<'t, 'a> Course<'t, 'a> {
                 self.view = rollback.view();
                 self.rolled_back = true;
             }
-            // None in a trace of version 1.
-            Step::Transfer(_) => {}
+            Step::Transfer(state) => {
+                self.path.truncate(0);
+                self.committed = 0;
+                self.view = state.view();
+                self.rolled_back = false;
+                self.taken = Some(state);
+            }
         }
         Ok(())
     }

@@ -225,6 +225,17 @@ pub enum RollbackFault {
     View(Numbers),
 }
 
+/// The first thing that is wrong with a state that was taken over.
+#[derive(Clone, Copy, PartialEq, Eq)]
+pub enum TransferFault {
+    /// Its number is not above the last one that was reached: due is above that.
+    Number(Numbers),
+    /// There is no such batch: due is the last, at most.
+    PastBatches(Numbers),
+    /// Its view is below the section's: due is that one, at least.
+    View(Numbers),
+}
+
 /// The first thing in which a record differs from what its request must note, given what its entries saw. Entries are
 /// counted from 0.
 #[derive(Clone, Copy)]
@@ -266,6 +277,8 @@ pub enum Source {
     Opening,
     /// The nearest earlier write, by the request of this index and batch, whose Access frame begins at byte `at`.
     Write { index: u16, batch: u32, at: u64 },
+    /// No write came after the last state that was taken over, whose Transfer frame begins at byte `at`.
+    Transfer { at: u64 },
 }
 
 /// The first entry of a record that doesn't see what it must.
@@ -336,6 +349,48 @@ pub struct Poll<'a> {
     pub due: u8,
     /// What each verifier did, in their order.
     pub votes: Vec<VerifierVote>,
+}
+
+/// What a verifier said about a batch in a view, whatever it was asked for.
+#[derive(Clone, Copy)]
+pub enum VerifierChoice<'a> {
+    /// It voted for the commit with this token, in the frame that begins at byte `at`.
+    Commit { token: &'a [u8], at: u64 },
+    /// It voted for a rollback, in the frame that begins at this byte.
+    Rollback(u64),
+    /// It has no vote.
+    NoVote,
+}
+
+/// Who voted for the commit of a batch whose state was taken over, where no token has a majority.
+#[derive(Drop)]
+pub struct TransferPoll<'a> {
+    /// The number of the batch.
+    pub batch: u32,
+    /// The view.
+    pub view: u32,
+    /// The most verifiers that count for its commit with one token.
+    pub found: u8,
+    /// How many must.
+    pub due: u8,
+    /// What each verifier said, in their order.
+    pub votes: Vec<VerifierChoice<'a>>,
+}
+
+/// The first thing in which a state that was taken over differs from the one that was committed.
+#[derive(Clone, Copy)]
+pub enum StateFault<'a> {
+    /// No replica committed the batch by an attempt.
+    NoneCommitted,
+    /// A row has another value. `first` is the lowest-numbered replica that committed the batch by an attempt, whose
+    /// frame begins at byte `first_at`.
+    Row {
+        first: u8,
+        first_at: u64,
+        row: ToldRow<'a>,
+        found: Cents,
+        due: Cents,
+    },
 }
 
 /// The first thing in which the outcome of a batch differs from that of the replica that it is compared with.
@@ -445,6 +500,8 @@ pub enum Evidence<'a> {
     Commit(CommitFault<'a>),
     /// F25.
     Rollback(RollbackFault),
+    /// F26.
+    Transfer(TransferFault),
     /// F30, in the Access frame at the fault's byte.
     Record {
         attempt: ToldAttempt,
@@ -480,6 +537,8 @@ pub enum Evidence<'a> {
     },
     /// F72 and F73.
     Majority(Poll<'a>),
+    /// F74.
+    TransferMajority(TransferPoll<'a>),
     /// F80: the lowest-numbered replica that committed the batch, and its attempt's frame.
     Outcome {
         attempt: ToldAttempt,
@@ -487,6 +546,8 @@ pub enum Evidence<'a> {
         first_at: u64,
         wrong: OutcomeFault<'a>,
     },
+    /// F81.
+    TransferState(StateFault<'a>),
     /// F90.
     Reply(SentFault<'a>),
     /// Evidence of this code is not told yet: the verdict's line is all.

@@ -1,6 +1,7 @@
 //! Evidence of a fault: what is wrong at its frame, what was due there, and what says so.
 #![tactic(auto)]
 
+mod certificate;
 mod chain;
 mod course;
 mod evidence;
@@ -14,7 +15,8 @@ mod told;
 pub use evidence::{
     AccessFault, AttemptFault, BodyField, CertificateFault, CommitFault, Counts, Evidence,
     FrameFault, HeadField, LengthFault, Numbers, OutcomeFault, Poll, RecordFault, ReplicaCounts,
-    RestoreFault, RollbackFault, SentFault, Source, ToldAttempt, ToldDecision, ToldRequest,
-    ToldRow, ToldState, VerifierVote, WrongEntry,
+    RestoreFault, RollbackFault, SentFault, Source, StateFault, ToldAttempt, ToldDecision,
+    ToldRequest, ToldRow, ToldState, TransferFault, TransferPoll, VerifierChoice, VerifierVote,
+    WrongEntry,
 };
 pub use section::section_evidence;

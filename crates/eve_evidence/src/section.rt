@@ -1,6 +1,6 @@
 //! The evidence of a fault in a replica's section.
 
-ghost use Rattle.std.specs.Prelude.{◌≡◌, ◌<◌, ℕ, IfSome, IfNone, IfOk, IsFalse, List, length, take, slice_get};
+ghost use Rattle.std.specs.Prelude.{◌≡◌, ◌<◌, ℕ, IfSome, IfNone, IfOk, List, length, take, slice_get};
 ghost use Rattle.std.specs.Prelude.{slice_index_or, Some};
 ghost use Rattle.eve_smallbank.specs.Access.{Fits};
 ghost use Rattle.eve_smallbank.specs.declared.request.Reply.TheVariants.{Done};
@@ -10,25 +10,29 @@ ghost use Rattle.eve_chains.specs.Visible.{executed_by, visible_to};
 ghost use Rattle.eve_chains.specs.Along.{SeesAnother};
 ghost use Rattle.eve_evidence.specs.Told.{placed_in};
 ghost use Rattle.eve_grammar.specs.Trace.{Access as AccessValue, Attempt as AttemptValue, Step as StepValue};
-ghost use Rattle.eve_grammar.specs.Frames.{has_transfers, without_accesses};
+ghost use Rattle.eve_grammar.specs.Frames.{without_accesses};
 ghost use Rattle.eve_grammar.specs.Spelling.{accesses_at};
-ghost use Rattle.eve_frames.specs.Said.{access_said, attempt_said, commit_said, rollback_said};
+ghost use Rattle.eve_frames.specs.Said.{access_said, attempt_said, commit_said, rollback_said, transfer_said};
 ghost use Rattle.eve_views.specs.Form.{SomePlace};
 ghost use Rattle.eve_views.specs.StepKinds.{IsStep};
 ghost use Rattle.eve_history.specs.Section.{SectionState};
 ghost use Rattle.eve_evidence.specs.Course.{IsCourse};
-ghost use Rattle.eve_evidence.specs.Section.{WrongAttempt, WrongAccess, WrongCommit, WrongRollback, StandsAtStep, StandsAlong};
-ghost use Rattle.eve_evidence.specs.Section.{TellsAttempt, TellsAccess, TellsCommit, TellsRollback, TellsStep, TellsAlong};
+ghost use Rattle.eve_evidence.specs.Section.{WrongAttempt, WrongAccess, WrongCommit, WrongRollback, WrongTransfer};
+ghost use Rattle.eve_evidence.specs.Section.{StandsAtStep, StandsAlong, TellsAttempt, TellsAccess, TellsCommit};
+ghost use Rattle.eve_evidence.specs.Section.{TellsRollback, TellsTransfer, TellsStep, TellsAlong};
 ghost use Rattle.eve_evidence.specs.Places.{TellsPlace, HasNonePlace};
 
+use crate::certificate::certificate_fault;
 use crate::chain::wrong_entry;
 use crate::course::Course;
 use crate::evidence::Evidence;
 use crate::record::record_fault;
-use crate::structure::{access_fault, attempt_fault, commit_fault, place_fault, rollback_fault};
+use crate::structure::{
+    access_fault, attempt_fault, commit_fault, place_fault, rollback_fault, transfer_fault,
+};
 use crate::told::{told_attempt, told_request};
 use eve_accounts::Names;
-use eve_frames::{AccessView, AttemptView, CommitView, RollbackView};
+use eve_frames::{AccessView, AttemptView, CommitView, RollbackView, TransferView};
 use eve_smallbank::Reply;
 use eve_views::{Accesses, Code, Step, Trace};
 use std::alloc::{AllocError, Global};
@@ -42,13 +46,20 @@ fn at_attempt<'a>(
 ) -> Option<Evidence<'a>>
     requires { (s : SectionState) × IsCourse s course.now }
     ensures told { IfSome result (λ x. (s : SectionState) → IsCourse s course.now
-        → TellsAttempt code trace.now s (attempt_said attempt.now) x) }
+        → TellsAttempt code trace.now s attempt.now.offset (attempt_said attempt.now) x) }
     ensures none { IfNone result ((s : SectionState) → IsCourse s course.now
         → ¬ WrongAttempt code trace.now s (attempt_said attempt.now)) }
 {
     match code {
         Code::Attempt => match attempt_fault(trace, course, attempt) {
             Some(wrong) => Some(Evidence::Attempt(wrong)),
+            None => None,
+        },
+        Code::Certificate => match certificate_fault(trace, attempt) {
+            Some(wrong) => Some(Evidence::Certificate {
+                attempt: told_attempt(attempt),
+                wrong,
+            }),
             None => None,
         },
         _ => None,
@@ -65,7 +76,8 @@ fn at_own_frame<'a>(
 ) -> Option<Evidence<'a>>
     requires { (s : SectionState) × IsCourse s course.now }
     ensures told { IfSome result (λ x. (s : SectionState) → IsCourse s course.now
-        → (attempt.now.offset ≡ place) × TellsAttempt code trace.now s (attempt_said attempt.now) x) }
+        → (attempt.now.offset ≡ place)
+        × TellsAttempt code trace.now s attempt.now.offset (attempt_said attempt.now) x) }
     ensures none { IfNone result ((s : SectionState) → IsCourse s course.now → attempt.now.offset ≡ place
         → ¬ WrongAttempt code trace.now s (attempt_said attempt.now)) }
 {
@@ -279,7 +291,11 @@ fn at_step<'a>(
         } else {
             None
         },
-        Step::Transfer(_) => None,
+        Step::Transfer(state) => if state.offset() == place {
+            at_transfer(trace, course, state, code)
+        } else {
+            None
+        },
     }
 }
 
@@ -311,6 +327,7 @@ fn at_rollback<'a>(
     rollback: &RollbackView<'a>,
     code: Code,
 ) -> Option<Evidence<'a>>
+    requires { (s : SectionState) × IsCourse s course.now }
     ensures told { IfSome result (λ x. (s : SectionState) → IsCourse s course.now
         → TellsRollback code trace.now s (rollback_said rollback.now) x) }
     ensures none { IfNone result ((s : SectionState) → IsCourse s course.now
@@ -325,10 +342,32 @@ fn at_rollback<'a>(
     }
 }
 
+/// What shows a fault at a state that is taken over, if there is one of this code.
+fn at_transfer<'a>(
+    trace: &Trace<'a>,
+    course: &Course<'_, 'a>,
+    state: &TransferView<'a>,
+    code: Code,
+) -> Option<Evidence<'a>>
+    requires { (s : SectionState) × IsCourse s course.now }
+    ensures told { IfSome result (λ x. (s : SectionState) → IsCourse s course.now
+        → TellsTransfer code trace.now s (transfer_said state.now) x) }
+    ensures none { IfNone result ((s : SectionState) → IsCourse s course.now
+        → ¬ WrongTransfer code trace.now s (transfer_said state.now)) }
+{
+    match code {
+        Code::Transfer => match transfer_fault(trace, course, state) {
+            Some(wrong) => Some(Evidence::Transfer(wrong)),
+            None => None,
+        },
+        _ => None,
+    }
+}
+
 /// What shows a fault of a replica's section, by the replica's number from 0: one of this code that stands at this byte.
 ///
 /// docs/MODEL.md, "Faults". One pass over the section's frames, up to the one that is wrong; some fifty bytes for each
-/// attempt on the way. The trace is of a version without transfers.
+/// attempt on the way.
 pub fn section_evidence<'a>(
     alloc: Global,
     trace: &Trace<'a>,
@@ -339,11 +378,9 @@ pub fn section_evidence<'a>(
 ) -> Result<Evidence<'a>, AllocError>
     requires there { e < length trace.now.sections }
     requires names { names.now.items ≡ names_of trace.now }
-    requires version { IsFalse (has_transfers trace.now.head.version) }
     requires stands { StandsAlong code trace.now e place }
     ensures { IfOk result (TellsAlong code trace.now e place) }
 {
-    trace.recall_limits();
     let mut course = Course::start(alloc);
     let mut steps = trace.section(e);
     while let Some(step) = steps.next() {

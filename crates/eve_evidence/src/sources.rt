@@ -1,6 +1,6 @@
-//! Who left what an entry must see: the nearest earlier write of its row.
+//! Who left what an entry must see: the nearest earlier write of its row, or the last state that was taken over.
 
-ghost use Rattle.std.specs.Prelude.{◌≡◌, ◌≤◌, IfSome, IfNone, IsFalse, Some, length, take, map, if◌then◌else◌};
+ghost use Rattle.std.specs.Prelude.{◌≡◌, ◌≤◌, IfSome, IfNone, IsFalse, List, Some, length, take, map, if◌then◌else◌};
 ghost use Rattle.std.specs.List.{AllByRecursion, flat_map, list_any};
 ghost use Rattle.eve_grammar.specs.Trace.{Attempt as AttemptValue};
 ghost use Rattle.eve_grammar.specs.Frames.{without_accesses};
@@ -8,19 +8,20 @@ ghost use Rattle.eve_grammar.specs.Spelling.{accesses_at};
 ghost use Rattle.eve_smallbank.specs.Access.{writes_row};
 ghost use Rattle.eve_smallbank.specs.Chain.{left_by};
 ghost use Rattle.eve_grammar.specs.declared.limits.TheConstants.{MOST_VERSIONS};
-ghost use Rattle.eve_frames.specs.Said.{access_said, attempt_said};
+ghost use Rattle.eve_frames.specs.Said.{access_said, attempt_said, transfer_said};
 ghost use Rattle.eve_history.specs.Section.{SectionState};
 ghost use Rattle.eve_history.specs.SectionHistory.{access_with, no_access};
-ghost use Rattle.eve_chains.specs.Visible.{opening_of, before_index, visible_to};
-ghost use Rattle.eve_evidence.specs.Course.{IsCourse, IsOnPath, placed_on, standing};
+ghost use Rattle.eve_chains.specs.Visible.{opening_of, before_index, taken_table, visible_to};
+ghost use Rattle.eve_evidence.specs.Course.{IsCourse, IsOnPath, last_state, placed_on, standing, state_said};
 ghost use Rattle.eve_evidence.specs.Told.{placed_in};
 ghost use Rattle.eve_evidence.specs.Sources.{passed, passed_by, passed_in, way_to, last_left, IsWriter, NoneWrites, IsLeftBy};
+ghost use Rattle.eve_evidence.specs.Sources.{Passed, state_table};
 ghost use Rattle.eve_evidence.specs.Lasts.{IsLast, IsLeftAlone};
 
 use crate::course::{Course, OnPath};
 use crate::evidence::Source;
 use eve_accounts::{Cents, Row};
-use eve_frames::{AccessView, AttemptView};
+use eve_frames::{AccessView, AttemptView, TransferView};
 use eve_smallbank::{Entry, Versioned};
 use eve_views::{Accesses, Trace};
 
@@ -29,7 +30,7 @@ use eve_views::{Accesses, Trace};
 pub struct Left {
     /// Its version and its value.
     pub has: Versioned,
-    /// The nearest earlier write.
+    /// The nearest earlier write, or where none came the state that was taken over, or the opening.
     pub by: Source,
 }
 
@@ -194,9 +195,44 @@ fn opening_value(trace: &Trace<'_>, row: Row) -> Cents
     customer.checking()
 }
 
+/// What a row has in a state.
+fn row_in(state: &TransferView<'_>, row: Row) -> Versioned
+    ensures { result ≡ taken_table (transfer_said state.now).rows row }
+{
+    let number = row.number() as usize;
+    if number < state.len() {
+        return state.row(number);
+    }
+    Versioned {
+        version: 0,
+        value: Cents::ZERO,
+    }
+}
+
+/// What a row has where the path begins, and who left it: the last state that was taken over, or the opening.
+fn left_at_first(trace: &Trace<'_>, course: &Course<'_, '_>, row: Row) -> Left
+    ensures by { (way : List Passed) → NoneWrites row way → IsLeftBy (state_said course.now.taken) row way result.by }
+    ensures has { result.has ≡ state_table trace.now (state_said course.now.taken) row }
+{
+    match course.taken {
+        Some(state) => Left {
+            has: row_in(&state, row),
+            by: Source::Transfer { at: state.offset() },
+        },
+        None => Left {
+            has: Versioned {
+                version: 0,
+                value: opening_value(trace, row),
+            },
+            by: Source::Opening,
+        },
+    }
+}
+
 /// What the request with this index of an attempt must see in a row, and who left it.
 ///
-/// docs/MODEL.md, "Visible version, chained". It goes back over the records until it finds the write.
+/// docs/MODEL.md, "Visible version, chained". It goes back over the records until it finds the write, and no further
+/// than to the last state that was taken over.
 pub fn left_to(
     trace: &Trace<'_>,
     course: &Course<'_, '_>,
@@ -208,7 +244,7 @@ pub fn left_to(
     requires { (s : SectionState) × IsCourse s course.now }
     ensures by { (s : SectionState) (a : AttemptValue) → IsCourse s course.now
         → attempt_said attempt.now ≡ without_accesses a → accesses.now ≡ accesses_at attempt.now.offset a
-        → IsLeftBy row (way_to (standing s) attempt.now.offset a index) result.by }
+        → IsLeftBy (last_state s.landings) row (way_to (standing s) attempt.now.offset a index) result.by }
     ensures has { (s : SectionState) (a : AttemptValue) → IsCourse s course.now
         → attempt_said attempt.now ≡ without_accesses a → accesses.now ≡ accesses_at attempt.now.offset a
         → result.has ≡ visible_to trace.now (placed_in s attempt.now.offset a) index row }
@@ -219,11 +255,5 @@ pub fn left_to(
     if let Some(left) = last_on_path(course, row) {
         return left;
     }
-    Left {
-        has: Versioned {
-            version: 0,
-            value: opening_value(trace, row),
-        },
-        by: Source::Opening,
-    }
+    left_at_first(trace, course, row)
 }

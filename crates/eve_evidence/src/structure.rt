@@ -1,21 +1,23 @@
 //! What is wrong with a step of a section.
 
-ghost use Rattle.std.specs.Prelude.{◌≡◌, ◌≢◌, ◌<◌, ◌≤◌, ℕ, IfSome, IfNone, IsTrue, length, take, slice_get, Some};
+ghost use Rattle.std.specs.Prelude.{◌≡◌, ◌≢◌, ◌<◌, ◌≤◌, ◌+◌, ℕ, IfSome, IfNone, IsTrue, length, take, slice_get, Some};
 ghost use Rattle.std.specs.List.{AllByRecursion};
-ghost use Rattle.eve_frames.specs.Said.{attempt_said, commit_said, rollback_said};
+ghost use Rattle.eve_frames.specs.Said.{attempt_said, commit_said, rollback_said, transfer_said};
 ghost use Rattle.eve_history.specs.Section.{SectionState, request_count, worker_count, is_right_attempt, is_right_access};
-ghost use Rattle.eve_history.specs.Section.{is_right_commit, is_right_rollback};
+ghost use Rattle.eve_history.specs.Section.{is_right_commit, is_right_rollback, is_right_transfer};
 ghost use Rattle.eve_history.specs.Structure.{accesses_of};
 ghost use Rattle.eve_grammar.specs.Trace.{Access as AccessValue};
 ghost use Rattle.eve_grammar.specs.Accesses.{is_right_place};
 ghost use Rattle.eve_views.specs.Form.{SomePlace};
 ghost use Rattle.eve_evidence.specs.Course.{IsCourse};
 ghost use Rattle.eve_evidence.specs.Structure.{IsNumbered, IsAttemptFault, IsAccessFault, IsCommitFault, IsRollbackFault};
-ghost use Rattle.eve_evidence.specs.Structure.{numbers, place_numbers};
+ghost use Rattle.eve_evidence.specs.Structure.{IsTransferFault, due_number, numbers, place_numbers};
 
 use crate::course::Course;
-use crate::evidence::{AccessFault, AttemptFault, CommitFault, Numbers, RollbackFault};
-use eve_frames::{AttemptView, CommitView, RollbackView};
+use crate::evidence::{
+    AccessFault, AttemptFault, CommitFault, Numbers, RollbackFault, TransferFault,
+};
+use eve_frames::{AttemptView, CommitView, RollbackView, TransferView};
 use eve_views::{Accesses, Trace};
 
 /// A number that was found, and the one that was due.
@@ -23,6 +25,30 @@ fn numbers(found: u64, due: u64) -> Numbers
     ensures { result ≡ numbers found due }
 {
     Numbers { found, due }
+}
+
+/// The last number that a section reached.
+fn last_number(course: &Course<'_, '_>) -> u64
+    requires { (s : SectionState) × IsCourse s course.now }
+    ensures { (s : SectionState) → IsCourse s course.now → result ≡ s.last }
+{
+    u64::from(course.state_number()) + course.committed as u64
+}
+
+/// The number that the next commit must have.
+fn commit_number(course: &Course<'_, '_>) -> u64
+    requires { (s : SectionState) × IsCourse s course.now }
+    ensures { (s : SectionState) → IsCourse s course.now → result ≡ s.last + 1 }
+{
+    u64::from(course.state_number()) + course.committed as u64 + 1
+}
+
+/// The number that the next attempt must have.
+fn attempt_number(course: &Course<'_, '_>) -> u64
+    requires { (s : SectionState) × IsCourse s course.now }
+    ensures { (s : SectionState) → IsCourse s course.now → result ≡ due_number s }
+{
+    u64::from(course.state_number()) + course.path.len() as u64 + 1
 }
 
 /// The first thing that is wrong with an attempt, by itself and where its section has come to.
@@ -39,7 +65,7 @@ pub fn attempt_fault(
 {
     let seq = attempt.seq();
     let found = u64::from(seq);
-    let next = course.path.len() as u64 + 1;
+    let next = attempt_number(course);
     if found != next {
         return Some(AttemptFault::Number(numbers(found, next)));
     }
@@ -47,7 +73,7 @@ pub fn attempt_fault(
     if batches < found {
         return Some(AttemptFault::PastBatches(numbers(found, batches)));
     }
-    let room = course.committed as u64 + u64::from(trace.head().window);
+    let room = last_number(course) + u64::from(trace.head().window);
     if room < found {
         return Some(AttemptFault::PastWindow(numbers(found, room)));
     }
@@ -96,7 +122,7 @@ pub fn commit_fault<'a>(course: &Course<'_, 'a>, commit: &CommitView<'a>) -> Opt
         → IsTrue (is_right_commit s (commit_said commit.now))) }
 {
     let seq = u64::from(commit.seq());
-    let next = course.committed as u64 + 1;
+    let next = commit_number(course);
     if seq != next {
         return Some(CommitFault::Number(numbers(seq, next)));
     }
@@ -121,13 +147,14 @@ pub fn rollback_fault(
     course: &Course<'_, '_>,
     rollback: &RollbackView<'_>,
 ) -> Option<RollbackFault>
+    requires { (s : SectionState) × IsCourse s course.now }
     ensures told { IfSome result (λ x. (s : SectionState) → IsCourse s course.now
         → IsRollbackFault trace.now s (rollback_said rollback.now) x) }
     ensures right { IfNone result ((s : SectionState) → IsCourse s course.now
         → IsTrue (is_right_rollback trace.now s (rollback_said rollback.now))) }
 {
     let to = u64::from(rollback.to());
-    let last = course.committed as u64;
+    let last = last_number(course);
     if to != last {
         return Some(RollbackFault::To(numbers(to, last)));
     }
@@ -139,6 +166,35 @@ pub fn rollback_fault(
     let next = u64::from(course.view) + 1;
     if view != next {
         return Some(RollbackFault::View(numbers(view, next)));
+    }
+    None
+}
+
+/// The first thing that is wrong with a state that is taken over where its section has come to.
+pub fn transfer_fault(
+    trace: &Trace<'_>,
+    course: &Course<'_, '_>,
+    state: &TransferView<'_>,
+) -> Option<TransferFault>
+    requires { (s : SectionState) × IsCourse s course.now }
+    ensures told { IfSome result (λ x. (s : SectionState) → IsCourse s course.now
+        → IsTransferFault trace.now s (transfer_said state.now) x) }
+    ensures right { IfNone result ((s : SectionState) → IsCourse s course.now
+        → IsTrue (is_right_transfer trace.now s (transfer_said state.now))) }
+{
+    let seq = u64::from(state.seq());
+    let last = last_number(course);
+    if seq <= last {
+        return Some(TransferFault::Number(numbers(seq, last)));
+    }
+    let batches = u64::from(trace.batch_count());
+    if batches < seq {
+        return Some(TransferFault::PastBatches(numbers(seq, batches)));
+    }
+    let view = u64::from(state.view());
+    let own = u64::from(course.view);
+    if view < own {
+        return Some(TransferFault::View(numbers(view, own)));
     }
     None
 }

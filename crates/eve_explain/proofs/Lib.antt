@@ -1,2 +1,4 @@
 pub mod Voting
 pub mod Telling
+pub mod ByCode
+pub mod Settled

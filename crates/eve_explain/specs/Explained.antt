@@ -1,7 +1,6 @@
 -- A verdict, and what shows it. docs/MODEL.md, "Evidence".
 use Rattle.std.specs.Prelude.{◌≡◌, ◌≢◌, ℕ, Bool, true, false, IsTrue, IsFalse, List, Some, ⊤}
 use Rattle.eve_grammar.specs.Trace.{Trace}
-use Rattle.eve_grammar.specs.Frames.{has_transfers}
 use Rattle.eve_grammar.specs.Following.{Spells}
 use Rattle.eve_views.specs.declared.fault.Code.{Code}
 use Rattle.eve_views.specs.declared.fault.Code.TheVariants as code
@@ -11,6 +10,14 @@ use Rattle.eve_audit.specs.declared.verdict.Verdict.TheVariants as verdict
 use Rattle.eve_evidence.specs.declared.evidence.Evidence.{Evidence}
 use Rattle.eve_evidence.specs.declared.evidence.Evidence.TheVariants.{TwoVotes, Untold}
 use Rattle.eve_evidence.specs.Section.{TellsAlong}
+use Rattle.eve_evidence_form.specs.Form.{TellsForm}
+use Rattle.eve_evidence_form.specs.Orders.{TellsTwice}
+use Rattle.eve_evidence_outcomes.specs.Majority.{TellsMajority}
+use Rattle.eve_evidence_outcomes.specs.Decisions.{TellsTwoDecisions}
+use Rattle.eve_evidence_outcomes.specs.Outcome.{TellsOutcome}
+use Rattle.eve_evidence_outcomes.specs.Outcomes.{TellsState}
+use Rattle.eve_evidence_outcomes.specs.Sent.{TellsReply}
+use Rattle.eve_evidence_outcomes.specs.Token.{TellsToken}
 use Rattle.eve_explain.specs.Votes.{IsVotedAgain}
 use Rattle.eve_explain.specs.declared.explained.Explained.{Explained}
 use Rattle.eve_explain.specs.declared.explained.Explained.TheVariants.{Yes, No}
@@ -23,10 +30,12 @@ verdict_in (No f evidence) = verdict.No f
 -- the codes whose evidence lies in one replica's section
 abbrev pub is_told_along : Code → Bool
 is_told_along code.Attempt = true
+is_told_along code.Certificate = true
 is_told_along code.Access = true
 is_told_along code.WorkerOrder = true
 is_told_along code.Commit = true
 is_told_along code.Rollback = true
+is_told_along code.Transfer = true
 is_told_along code.Record = true
 is_told_along code.Version = true
 is_told_along code.Value = true
@@ -37,16 +46,46 @@ abbrev pub TellsVotes : Trace → ℕ → Evidence → Type 0
 TellsVotes t at (TwoVotes first) = IsVotedAgain t at first
 TellsVotes t at _ = ⊥
 
--- The evidence of a fault in a trace: along the section that the fault names, if it is of such a code and the trace of
--- a version without transfers, in which no replica takes over a state; of votes; else none is told.
+-- the codes of a step that no majority voted for
+abbrev pub is_of_majority : Code → Bool
+is_of_majority code.NoMajority = true
+is_of_majority code.RollbackNoMajority = true
+is_of_majority code.TransferNoMajority = true
+is_of_majority _ = false
+
+-- the codes of what stands twice
+abbrev pub is_of_orders : Code → Bool
+is_of_orders code.SameName = true
+is_of_orders code.SameRequest = true
+is_of_orders _ = false
+
+-- the codes whose evidence isn't told yet
+abbrev pub is_untold : Code → Bool
+is_untold code.Restore = true
+is_untold _ = false
+
+-- The evidence of a fault in a trace, by its code: of what stands twice; along the section that the fault names; of a
+-- token; of votes, and of a majority that is missing; of an outcome, and of a state that was taken over; of a reply that
+-- was sent.
 pub record IsEvidence (t : Trace) (f : Fault) (evidence : Evidence) : Type 0 where
-  pub along : IsTrue (is_told_along f.code) → IsFalse (has_transfers t.head.version) → (e : ℕ) → f.replica ≡ Some e
-      → TellsAlong f.code t e f.offset evidence
+  pub twice : IsTrue (is_of_orders f.code) → TellsTwice t f evidence
+  pub along : IsTrue (is_told_along f.code) → (e : ℕ) → f.replica ≡ Some e → TellsAlong f.code t e f.offset evidence
+  pub token : f.code ≡ code.Token → (e : ℕ) → f.replica ≡ Some e → TellsToken t e f.offset evidence
   pub votes : f.code ≡ code.TwoVotes → TellsVotes t f.offset evidence
-  pub untold : IsFalse (is_told_along f.code) → f.code ≢ code.TwoVotes → evidence ≡ Untold
-  pub with_transfers : IsTrue (has_transfers t.head.version) → f.code ≢ code.TwoVotes → evidence ≡ Untold
+  pub decisions : f.code ≡ code.TwoDecisions → TellsTwoDecisions t f.offset evidence
+  pub majority : IsTrue (is_of_majority f.code) → (e : ℕ) → f.replica ≡ Some e
+      → TellsMajority f.code t e f.offset evidence
+  pub outcome : f.code ≡ code.Outcome → (e : ℕ) → f.replica ≡ Some e → TellsOutcome t e f.offset evidence
+  pub state : f.code ≡ code.TransferBalances → (e : ℕ) → f.replica ≡ Some e → TellsState t e f.offset evidence
+  pub reply : f.code ≡ code.Reply → TellsReply t f.offset evidence
+  pub untold : IsTrue (is_untold f.code) → evidence ≡ Untold
+
+-- The evidence of a fault of bytes: in the trace that they spell, or of form where they spell none.
+pub record IsEvidenceOf (bytes : List ℕ) (f : Fault) (evidence : Evidence) : Type 0 where
+  pub in_trace : (t : Trace) → Spells bytes t → IsEvidence t f evidence
+  pub in_form : ((t : Trace) → ¬ Spells bytes t) → TellsForm bytes f evidence
 
 -- a no has the evidence of its fault
 abbrev pub HasEvidence : List ℕ → Explained → Type 0
 HasEvidence bytes (Yes s) = ⊤
-HasEvidence bytes (No f evidence) = (t : Trace) → Spells bytes t → IsEvidence t f evidence
+HasEvidence bytes (No f evidence) = IsEvidenceOf bytes f evidence

@@ -10,15 +10,24 @@ ghost use Rattle.eve_audit.specs.Verdict.{IsFirst, IsVerdict, SpellsAudited};
 ghost use Rattle.eve_audit.specs.Where.{NamesItsSection};
 ghost use Rattle.eve_grammar.specs.Trace.{Trace as TraceValue};
 ghost use Rattle.eve_history.specs.SectionHistory.{names_of};
-ghost use Rattle.eve_explain.specs.Explained.{verdict_in, IsEvidence, HasEvidence};
+ghost use Rattle.std.specs.Prelude.{Some, IsTrue};
+ghost use Rattle.eve_evidence.specs.Section.{TellsAlong};
+ghost use Rattle.eve_explain.specs.Explained.{is_told_along, verdict_in};
+ghost use Rattle.eve_explain.specs.Explained.{IsEvidence, IsEvidenceOf, HasEvidence};
 
 use crate::explained::Explained;
-use crate::phase::{is_told_along, may_take_over};
+use crate::outcomes::{
+    evidence_of_majority, evidence_of_outcome, evidence_of_reply, evidence_of_state,
+    evidence_of_token,
+};
+use crate::phase::{is_of_majority, is_of_orders, is_told_along};
 use crate::votes::voted_again;
 use eve_accounts::Names;
 use eve_audit::{AuditFault, Verdict, audit};
 use eve_evidence::laws::faults_stand_along_the_section;
 use eve_evidence::{Evidence, section_evidence};
+use eve_evidence_form::{form_evidence, trace_evidence};
+use eve_evidence_outcomes::decisions_evidence;
 use eve_grammar::MOST_AUDIT_WORKERS;
 use eve_grammar::laws::bytes_spell_one_trace;
 use eve_recorder::Gate;
@@ -48,7 +57,7 @@ fn names_in_order<'a>(
     Ok(names)
 }
 
-/// The evidence of a fault in the trace, where it isn't one of two votes.
+/// The evidence of a fault along the section of the replica that it names.
 fn evidence_along<'a>(
     alloc: Global,
     trace: &Trace<'a>,
@@ -56,20 +65,15 @@ fn evidence_along<'a>(
     random: RandomState,
 ) -> Result<Evidence<'a>, AuditFault>
     requires first { (bytes : List ℕ) × Spells bytes trace.now × IsFirst bytes fault.now }
-    requires other { fault.now.code ≢ code.TwoVotes }
-    ensures { IfOk result (IsEvidence trace.now fault.now) }
+    requires along { IsTrue (is_told_along fault.now.code) }
+    ensures { IfOk result (λ x. (e : ℕ) → fault.now.replica ≡ Some e
+        → TellsAlong fault.now.code trace.now e fault.now.offset x) }
 {
     bytes_spell_one_trace();
     faults_stand_along_the_section();
     let Some(e) = fault.replica else {
         return Ok(Evidence::Untold);
     };
-    if !is_told_along(fault.code) {
-        return Ok(Evidence::Untold);
-    }
-    if may_take_over(trace) {
-        return Ok(Evidence::Untold);
-    }
     let names = match names_in_order(alloc, trace, random) {
         Ok(names) => names,
         Err(AllocError) => return Err(AuditFault::Memory),
@@ -91,11 +95,25 @@ fn evidence_in<'a>(
     ensures { IfOk result (IsEvidence trace.now fault.now) }
 {
     bytes_spell_one_trace();
+    if is_told_along(fault.code) {
+        return evidence_along(alloc, trace, fault, random);
+    }
+    if is_of_majority(fault.code) {
+        return evidence_of_majority(alloc, trace, fault);
+    }
+    if is_of_orders(fault.code) {
+        return Ok(trace_evidence(trace, fault));
+    }
     match fault.code {
         Code::TwoVotes => Ok(Evidence::TwoVotes {
             first: voted_again(trace, fault.offset),
         }),
-        _ => evidence_along(alloc, trace, fault, random),
+        Code::TwoDecisions => Ok(decisions_evidence(trace, fault.offset)),
+        Code::Token => evidence_of_token(alloc, trace, fault),
+        Code::Outcome => evidence_of_outcome(alloc, trace, fault),
+        Code::TransferBalances => evidence_of_state(alloc, trace, fault),
+        Code::Reply => evidence_of_reply(alloc, trace, fault),
+        _ => Ok(Evidence::Untold),
     }
 }
 
@@ -107,12 +125,15 @@ fn evidence_of<'a>(
     random: RandomState,
 ) -> Result<Evidence<'a>, AuditFault>
     requires { IsFirst bytes.now fault.now }
-    ensures { IfOk result (λ x. (t : TraceValue) → Spells bytes.now t → IsEvidence t fault.now x) }
+    ensures { IfOk result (IsEvidenceOf bytes.now fault.now) }
 {
     bytes_spell_one_trace();
     match Trace::read(alloc, bytes) {
         Ok(trace) => evidence_in(alloc, &trace, fault, random),
-        Err(CheckFault::Found(_)) => Ok(Evidence::Untold),
+        Err(CheckFault::Found(_)) => match form_evidence(alloc, bytes, fault) {
+            Ok(evidence) => Ok(evidence),
+            Err(AllocError) => Err(AuditFault::Memory),
+        },
         Err(CheckFault::Memory) => Err(AuditFault::Memory),
     }
 }
@@ -121,8 +142,7 @@ fn evidence_of<'a>(
 /// the fault names, what was due there, and what says so.
 ///
 /// docs/MODEL.md, "Verdict" and "Evidence". The trace is audited first. Only where the verdict is no it is read again,
-/// and once more gone through up to the fault. A code that isn't told yet has `Untold` for its evidence. So has each
-/// fault of a section in a trace of version 2, in which a replica may take over a state.
+/// and once more gone through up to the fault. A code that isn't told yet has `Untold` for its evidence.
 pub fn explain<'a, R: Threads + Wait + Sync, G: Gate>(
     rt: &R,
     alloc: Global,

@@ -1,25 +1,38 @@
 //! Which faults' evidence is told.
 
 ghost use Rattle.std.specs.Prelude.{◌≡◌};
-ghost use Rattle.eve_grammar.specs.Frames.{has_transfers};
-ghost use Rattle.eve_explain.specs.Explained.{is_told_along};
+ghost use Rattle.eve_explain.specs.Explained.{is_of_majority, is_of_orders, is_told_along};
 
-use eve_views::{Code, Trace};
+use eve_views::Code;
 
 /// Whether the evidence of a code lies in one replica's section.
 pub fn is_told_along(code: Code) -> bool
     ensures { result ≡ is_told_along code }
 {
     match code {
-        Code::Attempt | Code::Access | Code::WorkerOrder | Code::Commit | Code::Rollback => true,
+        Code::Attempt | Code::Certificate | Code::Access | Code::WorkerOrder => true,
+        Code::Commit | Code::Rollback | Code::Transfer => true,
         Code::Record | Code::Version | Code::Value => true,
         _ => false,
     }
 }
 
-/// Whether the trace is of a version with transfers: a replica may take over a state.
-pub fn may_take_over(trace: &Trace<'_>) -> bool
-    ensures { result ≡ has_transfers trace.now.head.version }
+/// Whether a step that no majority voted for has the code.
+pub fn is_of_majority(code: Code) -> bool
+    ensures { result ≡ is_of_majority code }
 {
-    trace.head().version == 2
+    match code {
+        Code::NoMajority | Code::RollbackNoMajority | Code::TransferNoMajority => true,
+        _ => false,
+    }
+}
+
+/// Whether the code is of what stands twice.
+pub fn is_of_orders(code: Code) -> bool
+    ensures { result ≡ is_of_orders code }
+{
+    match code {
+        Code::SameName | Code::SameRequest => true,
+        _ => false,
+    }
 }

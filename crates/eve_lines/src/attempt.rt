@@ -20,7 +20,7 @@ pub(crate) struct AttemptWords<'a> {
 }
 
 /// `serial` or `parallel`.
-fn mode_word(serial: bool) -> &'static str
+pub fn mode_word(serial: bool) -> &'static str
     ensures { length result.now ≤ 8 }
 {
     if serial { "serial" } else { "parallel" }

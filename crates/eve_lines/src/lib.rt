@@ -16,6 +16,7 @@ mod short;
 mod token;
 mod transfer;
 
+pub use attempt::mode_word;
 pub use entry::{kind_word, put_entry};
 pub use frame::FrameWords;
 pub use header::put_header;

@@ -5,7 +5,7 @@ use Rattle.eve_smallbank.specs.declared.versioned.Versioned.{Versioned}
 use Rattle.eve_frames.specs.Said.{access_said}
 use Rattle.eve_chains.specs.Visible.{visible_to}
 use Rattle.eve_chains.specs.Along.{SeesAnother}
-use Rattle.eve_evidence.specs.Course.{standing}
+use Rattle.eve_evidence.specs.Course.{last_state, standing}
 use Rattle.eve_evidence.specs.Told.{placed_in}
 use Rattle.eve_evidence.specs.Sources.{way_to, IsLeftBy}
 use Rattle.eve_evidence.proofs.Lists.{all_more, place_at}
@@ -29,8 +29,8 @@ returns-then-sees_another-clause-told c = λ s a is said xs.
       row = c.told_row.ensures;
       saw = refl;
       due = has;
-      left = subst (λ (n : ℕ). IsLeftBy e.row (way_to (standing s) at a n) c.left_to-left.result.by) c.index.ensures
-          (c.left_to-left.ensures.by s a is said xs);
+      left = subst (λ (n : ℕ). IsLeftBy (last_state s.landings) e.row (way_to (standing s) at a n)
+          c.left_to-left.result.by) c.index.ensures (c.left_to-left.ensures.by s a is said xs);
     })
 
 pub loop-i-preserved : goal.loop-i-preserved

@@ -1,6 +1,6 @@
 use Rattle.std.proofs.Common.{ℕ, List, sym, subst}
 use Rattle.eve_grammar.specs.Trace.{Step}
-use Rattle.eve_evidence.proofs.Going.{Goes, goes_first, goes_no_further, goes_on, none_taken, now}
+use Rattle.eve_evidence.proofs.Going.{Goes, goes_first, goes_no_further, goes_on, now}
 use Rattle.eve_evidence.proofs.section.section_evidence.Goals as goal
 
 pub loop-step-init : goal.loop-step-init
@@ -8,8 +8,7 @@ loop-step-init c =
     let t = c.args.trace.now in
     subst (λ (xs : List (ℕ × Step)). Goes c.args.code t c.args.e c.args.place xs c.start-course.result)
     (sym c.section-steps.ensures)
-    (goes_first c.args.code t c.args.e c.args.place c.start-course.result c.recall_limits.ensures c.start-course.ensures
-    c.requires.stands)
+    (goes_first c.args.code t c.args.e c.args.place c.start-course.result c.start-course.ensures c.requires.stands)
 
 pub loop-step-preserved : goal.loop-step-preserved
 loop-step-preserved c =
@@ -21,9 +20,7 @@ loop-step-preserved c =
     (c.in_default-at_step.ensures.none (now c.args.code t c.args.e c.args.place some.0 c.next.new.self c.loop-step.course
     c.take.new.self goes) some.0 goes.is some.2)
     (c.in_ok-take.ensures (now c.args.code t c.args.e c.args.place some.0 c.next.new.self c.loop-step.course
-    c.take.new.self goes) some.0 goes.is some.2
-    (none_taken c.args.code t c.args.e c.args.place some.0 c.next.new.self c.loop-step.course c.take.new.self goes
-    c.requires.version))
+    c.take.new.self goes) some.0 goes.is some.2)
 
 pub unreachable-requires : goal.unreachable-requires
 unreachable-requires c =

@@ -18,7 +18,7 @@ returns-then-view-due-clause-told c = λ s is.
     let got = there c.args.course.now.path.items c.deref.result.now c.args.course.now.committed o c.deref.ensures.value
     c.in-Some.ensures.lookup.0 c.in-Some.ensures.lookup.1 in
     let next : (commit_said c.args.commit.now).seq ≡ s.last + 1 =
-    omega (arith, is.last, is.committed, c.seq.ensures, c.from-seq.ensures, c.if-seq-next.false) in
+    omega (arith, c.commit_number-next.ensures s is, c.seq.ensures, c.from-seq.ensures, c.if-seq-next.false) in
     other_view s c.args.course.now o is got (commit_said c.args.commit.now) next c.numbers-then-view-due.result
     (c.numbers-then-view-due.ensures ∙ (λ i. record {
       found = (c.from.ensures ∙ c.view-view.ensures) i;
@@ -32,7 +32,7 @@ returns-then-ne-clause-told c = λ s is.
     let got = there c.args.course.now.path.items c.deref.result.now c.args.course.now.committed o c.deref.ensures.value
     c.in-Some.ensures.lookup.0 c.in-Some.ensures.lookup.1 in
     let next : (commit_said c.args.commit.now).seq ≡ s.last + 1 =
-    omega (arith, is.last, is.committed, c.seq.ensures, c.from-seq.ensures, c.if-seq-next.false) in
+    omega (arith, c.commit_number-next.ensures s is, c.seq.ensures, c.from-seq.ensures, c.if-seq-next.false) in
     other_token s c.args.course.now o is got (commit_said c.args.commit.now) next c.token-found.result c.token-due.result
     c.token-found.ensures c.token-due.ensures
     (sym c.view-view.ensures ∙ c.if-view-due.false ∙ c.view-due.ensures)
@@ -44,7 +44,7 @@ returns-clause-right c = λ s is.
     let got = there c.args.course.now.path.items c.deref.result.now c.args.course.now.committed o c.deref.ensures.value
     c.in-Some.ensures.lookup.0 c.in-Some.ensures.lookup.1 in
     let next : (commit_said c.args.commit.now).seq ≡ s.last + 1 =
-    omega (arith, is.last, is.committed, c.seq.ensures, c.from-seq.ensures, c.if-seq-next.false) in
+    omega (arith, c.commit_number-next.ensures s is, c.seq.ensures, c.from-seq.ensures, c.if-seq-next.false) in
     right_commit s c.args.course.now o is got (commit_said c.args.commit.now) next
     (sym c.view-view.ensures ∙ c.if-view-due.false ∙ c.view-due.ensures)
     (sym c.token-found.ensures ∙ same_not c.token-found.result.now c.token-due.result.now c.if-ne.ensures

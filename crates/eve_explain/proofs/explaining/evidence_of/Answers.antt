@@ -2,13 +2,17 @@ use Rattle.std.proofs.Common.{subst}
 use Rattle.std.proofs.lemmas.Result.{IfOk-weaker}
 use Rattle.eve_grammar.specs.Trace.{Trace}
 use Rattle.eve_grammar.specs.Following.{Spells}
-use Rattle.eve_explain.specs.Explained.{IsEvidence}
+use Rattle.eve_explain.specs.Explained.{IsEvidence, IsEvidenceOf}
+use Rattle.eve_explain.proofs.ByCode.{first_of_form}
 use Rattle.eve_explain.proofs.explaining.evidence_of.Goals as goal
 
 pub returns-in-Ok : goal.returns-in-Ok
 returns-in-Ok c =
     IfOk-weaker c.evidence_in.result (IsEvidence c.in-Ok.trace c.args.fault.now)
-    (λ x. (t : Trace) → Spells c.args.bytes.now t → IsEvidence t c.args.fault.now x)
-    (λ x told t spelled. subst (λ (u : Trace). IsEvidence u c.args.fault.now x)
-    (c.bytes_spell_one_trace.ensures c.args.bytes.now c.in-Ok.trace t c.in-Ok.ensures.trace spelled) told)
+    (IsEvidenceOf c.args.bytes.now c.args.fault.now)
+    (λ x told. record {
+      in_trace = λ t spelled. subst (λ (u : Trace). IsEvidence u c.args.fault.now x)
+          (c.bytes_spell_one_trace.ensures c.args.bytes.now c.in-Ok.trace t c.in-Ok.ensures.trace spelled) told;
+      in_form = λ none. absurd (none c.in-Ok.trace c.in-Ok.ensures.trace);
+    })
     c.evidence_in.ensures

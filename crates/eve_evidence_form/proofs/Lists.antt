@@ -1,0 +1,70 @@
+-- Lists: bytes that are the same, places where something stands again, and where nothing can.
+use Rattle.std.proofs.Common.{◌≡◌, ◌≢◌, ℕ, zero, suc, ◌≤◌, true, false}
+use Rattle.std.proofs.Common.{List, [], ◌∷◌, ◌++◌, length, map, take, drop, refl}
+use Rattle.std.proofs.Common.{sym, ap, subst, ◌∙◌, arith}
+use Rattle.std.specs.Prelude.{Contains, nat_eq}
+use Rattle.std.specs.List.{AllByRecursion}
+use Rattle.std.specs.Cmp.Lexicographic.{pointwise}
+use Rattle.std.proofs.lemmas.Bool.{and_parts, and_from, eq-eqb, eqb-true, false≢true}
+use Rattle.std.proofs.lemmas.List.{length-drop, take_all}
+use Rattle.eve_views.specs.Form.{SomePlace}
+
+-- ---- bytes
+
+itself : (xs : List ℕ) → pointwise nat_eq xs xs ≡ true
+itself [] = refl
+itself (x ∷ xs) = and_from (nat_eq x x) (pointwise nat_eq xs xs) (eq-eqb x x refl) (itself xs)
+
+pub same_bytes : (xs ys : List ℕ) → pointwise nat_eq xs ys ≡ true → xs ≡ ys
+same_bytes [] [] e = refl
+same_bytes [] (y ∷ ys) e = absurd (false≢true e)
+same_bytes (x ∷ xs) [] e = absurd (false≢true e)
+same_bytes (x ∷ xs) (y ∷ ys) e =
+    let parts = and_parts (nat_eq x y) (pointwise nat_eq xs ys) e in
+    λ i. eqb-true x y parts.0 i ∷ same_bytes xs ys parts.1 i
+
+pub other_bytes : (xs ys : List ℕ) → pointwise nat_eq xs ys ≡ false → xs ≢ ys
+other_bytes xs ys e = λ same.
+    let yes : pointwise nat_eq xs ys ≡ true = subst (λ (zs : List ℕ). pointwise nat_eq xs zs ≡ true) same (itself xs) in
+    false≢true (sym e ∙ yes)
+
+-- ---- places
+
+pub no_place : {A : Type 0} (P : List A → A → Type 0) → SomePlace [] P → ⊥
+no_place {A = A} P place = by place.before place.is
+  where
+    by : (b : List A) → ◌≡◌ {A = List A} [] (b ++ place.item ∷ place.rest) → ⊥
+    by [] e = cc
+    by (x ∷ b) e = cc
+
+-- what a list contains, not all of it differs from
+pub not_all_other : {A B : Type 0} (f : A → B) (xs : List A) (y : B) → Contains (map f xs) y
+    → AllByRecursion (λ x. f x ≢ y) xs → ⊥
+not_all_other f [] y (k, lt, e) all = absurd (omega arith)
+not_all_other f (x ∷ xs) y (zero, lt, e) all = all.0 e
+not_all_other f (x ∷ xs) y (suc k, lt, e) all = not_all_other f xs y (k, omega arith, e) all.1
+
+-- ---- fronts
+
+all_front : {A : Type 0} (P : A → Type 0) (xs : List A) (n : ℕ) → AllByRecursion P xs → AllByRecursion P (take n xs)
+all_front P xs zero all = tt
+all_front P [] (suc n) all = tt
+all_front P (x ∷ xs) (suc n) all = (all.0, all_front P xs n all.1)
+
+-- of a shorter front
+pub all_before : {A : Type 0} (P : A → Type 0) (xs : List A) (n i : ℕ) → n ≤ i → AllByRecursion P (take i xs)
+    → AllByRecursion P (take n xs)
+all_before P xs zero i le all = tt
+all_before P xs (suc n) zero le all = absurd (omega arith)
+all_before P [] (suc n) (suc i) le all = tt
+all_before P (x ∷ xs) (suc n) (suc i) le all = (all.0, all_before P xs n i (omega arith) all.1)
+
+-- and of any, where all of the list has it
+pub all_before_end : {A : Type 0} (P : A → Type 0) (xs : List A) (n i : ℕ) → length xs ≤ i
+    → AllByRecursion P (take i xs)
+    → AllByRecursion P (take n xs)
+all_before_end P xs n i le all = all_front P xs n (subst (AllByRecursion P) (take_all i xs le) all)
+
+-- where nothing is left, the end was reached
+pub none_left : {A : Type 0} (xs : List A) (i : ℕ) → drop i xs ≡ [] → length xs ≤ i
+none_left xs i e = omega (arith, ap length e, length-drop i xs)

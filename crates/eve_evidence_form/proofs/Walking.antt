@@ -1,0 +1,163 @@
+-- Going over the frames before a byte.
+use Rattle.std.proofs.Common.{◌≡◌, ℕ, ◌+◌, ◌-◌, ◌<◌, ◌≤◌, List, [], ◌∷◌}
+use Rattle.std.proofs.Common.{◌++◌, length, take, drop, Some, refl, sym, ap, subst, ◌∙◌}
+use Rattle.std.proofs.Common.{append_assoc, arith}
+use Rattle.std.proofs.lemmas.List.{append-nil, drop_at, length-append}
+use Rattle.std.proofs.lemmas.List.{length-drop, length-take, take_all, take-append-drop}
+use Rattle.std.proofs.lemmas.List.Concat.{flat_map-append}
+use Rattle.eve_grammar.specs.Frames.{Frame, start_place, next_place}
+use Rattle.eve_grammar.specs.Spelling.{frame_text, frames_text}
+use Rattle.eve_grammar.specs.Limits.{FitsAt}
+use Rattle.eve_grammar.specs.Following.{Follow, after}
+use Rattle.eve_grammar.specs.Reading.{header_of}
+use Rattle.eve_grammar.specs.declared.head.Head.{Head}
+use Rattle.eve_grammar.specs.declared.place.Place.{Place}
+use Rattle.eve_grammar.proofs.FrameLaws.{Exact-header}
+use Rattle.eve_views.specs.Form.{IsReached, SaysHead, said_by}
+use Rattle.eve_views.proofs.FrameLaws.{length-frame_text}
+use Rattle.eve_evidence_form.specs.Walk.{BeginsWith}
+use Rattle.eve_evidence_form.proofs.Headers.{said_by_text}
+
+-- what a header says is read
+pub head_again : (bytes : List ℕ) (h : Head) → SaysHead bytes h → header_of (said_by bytes) ≡ Some h
+head_again bytes h s = ap header_of (s.said ∙ said_by_text h) ∙ Exact-header.again h s.limits
+
+-- the frames up to the byte `next` have been gone over
+pub record IsPassed (bytes : List ℕ) (at : ℕ) (r : IsReached bytes at) (next : ℕ) (place : Place) : Type 0 where
+  pub front : List Frame
+  pub rest : List Frame
+  pub is : r.front ≡ front ++ rest
+  pub next_at : next ≡ 32 + length (frames_text front)
+  pub place_is : place ≡ after start_place front
+
+-- the next frame
+pub record IsNext (bytes : List ℕ) (at : ℕ) (r : IsReached bytes at) (next : ℕ) (place : Place) : Type 0 where
+  pub frame : Frame
+  pub begins : BeginsWith (drop next bytes) frame
+  pub fits : FitsAt r.head place frame
+  pub passed : IsPassed bytes at r (next + length (frame_text frame)) (next_place place frame)
+  pub within : next + length (frame_text frame) ≤ at
+
+pub none_passed : (bytes : List ℕ) (at : ℕ) (r : IsReached bytes at) → IsPassed bytes at r 32 start_place
+none_passed bytes at r = record { front = []; rest = r.front; is = refl; next_at = refl; place_is = refl }
+
+-- where the byte itself was reached, all have been
+pub all_passed : (bytes : List ℕ) (at : ℕ) (r : IsReached bytes at) (next : ℕ) (place : Place)
+    → IsPassed bytes at r next place
+    → at ≤ next → place ≡ after start_place r.front
+all_passed bytes at r next place passed le = by passed.rest passed.is
+  where
+    by : (rest : List Frame) → r.front ≡ passed.front ++ rest → place ≡ after start_place r.front
+    by [] e = passed.place_is ∙ ap (after start_place) (sym (append-nil passed.front) ∙ sym e)
+    by (f ∷ more) e = absurd (omega (
+      arith,
+      r.at_is,
+      passed.next_at,
+      le,
+      ap (λ (fs : List Frame). length (frames_text fs)) e ∙ ap length (flat_map-append frame_text passed.front
+          (f ∷ more)),
+      length-append (frames_text passed.front) (frames_text (f ∷ more)),
+      length-append (frame_text f) (frames_text more),
+      length-frame_text f,
+    ))
+
+fits_there : (h : Head) (p : Place) (front : List Frame) (f : Frame) (more : List Frame) → Follow h p (front
+    ++ f ∷ more)
+    → FitsAt h (after p front) f
+fits_there h p [] f more follow = follow.0
+fits_there h p (g ∷ front) f more follow = fits_there h (next_place p g) front f more follow.1
+
+after_one : (p : Place) (front : List Frame) (f : Frame) → after p (front ++ f ∷ []) ≡ next_place (after p front) f
+after_one p [] f = refl
+after_one p (g ∷ front) f = after_one (next_place p g) front f
+
+module _ (bytes : List ℕ) (at : ℕ) (r : IsReached bytes at) (next : ℕ) (place : Place)
+    (passed : IsPassed bytes at r next place)
+    (f : Frame) (more : List Frame) (e : r.front ≡ passed.front ++ f ∷ more) where
+  texts : frames_text r.front ≡ frames_text passed.front ++ (frame_text f ++ frames_text more)
+  texts = ap frames_text e ∙ flat_map-append frame_text passed.front (f ∷ more)
+
+  sizes : length (frames_text r.front) ≡ length (frames_text passed.front)
+      + (length (frame_text f) + length (frames_text more))
+  sizes = omega (
+    arith,
+    ap length texts,
+    length-append (frames_text passed.front) (frame_text f ++ frames_text more),
+    length-append (frame_text f) (frames_text more),
+  )
+
+  whole : bytes ≡ (take 32 bytes ++ frames_text passed.front) ++ (frame_text f ++ (frames_text more ++ drop at bytes))
+  whole = sym (take-append-drop at bytes) ∙ ap (λ (b : List ℕ). b ++ drop at bytes) (r.before ∙ ap (λ (b : List ℕ).
+      take 32 bytes ++ b) texts ∙ sym (append_assoc (take 32 bytes) (frames_text passed.front)
+      (frame_text f ++ frames_text more)))
+      ∙ append_assoc (take 32 bytes ++ frames_text passed.front) (frame_text f ++ frames_text more) (drop at bytes)
+      ∙ ap (λ (b : List ℕ). (take 32 bytes ++ frames_text passed.front) ++ b)
+      (append_assoc (frame_text f) (frames_text more) (drop at bytes))
+
+  there : drop next bytes ≡ frame_text f ++ (frames_text more ++ drop at bytes)
+  there = ap (drop next) whole ∙ drop_at (take 32 bytes ++ frames_text passed.front)
+      (frame_text f ++ (frames_text more ++ drop at bytes)) next
+      (omega (
+        arith,
+        length-append (take 32 bytes) (frames_text passed.front),
+        length-take 32 bytes,
+        r.at_is,
+        r.within,
+        passed.next_at,
+      ))
+
+  fits : FitsAt r.head place f
+  fits = subst (λ (p : Place). FitsAt r.head p f) (sym passed.place_is)
+      (fits_there r.head start_place passed.front f more (subst (Follow r.head start_place) e r.right))
+
+  next_one : IsNext bytes at r next place
+  next_one = record {
+    frame = f;
+    begins = record {
+      head = r.head;
+      place = place;
+      body = fits.body;
+      short = fits.short;
+      rest = frames_text more ++ drop at bytes;
+      is = there;
+    };
+    fits = fits;
+    passed = record {
+      front = passed.front ++ f ∷ [];
+      rest = more;
+      is = e ∙ sym (append_assoc passed.front (f ∷ []) more);
+      next_at = omega (
+        arith,
+        passed.next_at,
+        ap length (flat_map-append frame_text passed.front (f ∷ [])),
+        length-append (frames_text passed.front) (frames_text (f ∷ [])),
+        ap length (append-nil (frame_text f)),
+      );
+      place_is = ap (λ (p : Place). next_place p f) passed.place_is ∙ sym (after_one start_place passed.front f);
+    };
+    within = omega (arith, sizes, r.at_is, passed.next_at);
+  }
+
+-- and where it wasn't, a frame is next
+pub next_frame : (bytes : List ℕ) (at : ℕ) (r : IsReached bytes at) (next : ℕ) (place : Place)
+    → IsPassed bytes at r next place
+    → next < at → IsNext bytes at r next place
+next_frame bytes at r next place passed lt = by passed.rest passed.is
+  where
+    by : (rest : List Frame) → r.front ≡ passed.front ++ rest → IsNext bytes at r next place
+    by [] e = absurd (omega (
+      arith,
+      r.at_is,
+      passed.next_at,
+      lt,
+      ap (λ (fs : List Frame). length (frames_text fs)) (e ∙ append-nil passed.front),
+    ))
+    by (f ∷ more) e = next_one bytes at r next place passed f more e
+
+-- it stands in front of what is sliced off
+pub begins_there : (bytes : List ℕ) (at : ℕ) (r : IsReached bytes at) (next : ℕ) (place : Place)
+    → (n : IsNext bytes at r next place) → BeginsWith (take (length bytes - next) (drop next bytes)) n.frame
+begins_there bytes at r next place n =
+    let whole : take (length bytes - next) (drop next bytes) ≡ drop next bytes =
+    take_all (length bytes - next) (drop next bytes) (omega (arith, length-drop next bytes)) in
+    subst (λ (ys : List ℕ). BeginsWith ys n.frame) (sym whole) n.begins

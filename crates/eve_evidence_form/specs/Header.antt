@@ -1,0 +1,54 @@
+-- What shows a fault of the header. docs/MODEL.md, "Evidence"; docs/TRACE.md, "Header".
+use Rattle.std.specs.Prelude.{◌≡◌, ◌≢◌, ℕ, ◌+◌, ◌/◌, ◌<◌, ◌≤◌, List, [], ◌∷◌, length, drop}
+use Rattle.std.specs.List.{AllByRecursion}
+use Rattle.byteorder.specs.Endian.{big_number}
+use Rattle.eve_grammar.specs.Limits.{most_customers}
+use Rattle.eve_grammar.specs.declared.head.TheConstants.{HEADER_LEN}
+use Rattle.eve_grammar.specs.declared.limits.TheConstants.{MOST_REPLICAS, MOST_VERIFIERS, MOST_WINDOW, MOST_WORKERS}
+use Rattle.eve_grammar.specs.declared.limits.TheConstants.{MOST_BATCHES, MOST_BYTES, NEWEST_VERSION}
+use Rattle.eve_views.specs.Form.{SomePlace}
+use Rattle.eve_evidence.specs.declared.evidence.LengthFault.{LengthFault}
+use Rattle.eve_evidence.specs.declared.evidence.LengthFault.TheVariants as length_is
+use Rattle.eve_evidence.specs.declared.evidence.HeadField.{HeadField}
+use Rattle.eve_evidence.specs.declared.evidence.HeadField.TheVariants as field
+use Rattle.eve_evidence_form.specs.declared.head.HeadNumber.{HeadNumber}
+
+-- the number of n bytes at a place
+abbrev pub said : ℕ → ℕ → List ℕ → ℕ
+said n at bytes = big_number n (drop at bytes)
+
+-- what is wrong with the length
+abbrev pub IsLengthFault : List ℕ → LengthFault → Type 0
+IsLengthFault bytes length_is.TooShort = length bytes < HEADER_LEN
+IsLengthFault bytes length_is.TooLong = MOST_BYTES < length bytes
+IsLengthFault bytes (length_is.Another total) =
+    (HEADER_LEN ≤ length bytes) × (length bytes ≤ MOST_BYTES) × (total ≡ said 8 24 bytes) × (total ≢ length bytes)
+
+-- a number of the header: its name, its first byte, what it says, and the least and the most that it may say
+abbrev pub number : HeadField → ℕ → ℕ → ℕ → ℕ → HeadNumber
+number name at found least most = record { field = name; at = at; found = found; least = least; most = most }
+
+-- the numbers of a header, in the order of their bytes
+abbrev pub head_numbers : List ℕ → List HeadNumber
+head_numbers bytes =
+    number field.Version 6 (said 2 6 bytes) 1 NEWEST_VERSION
+    ∷ number field.Replicas 8 (said 1 8 bytes) 1 MOST_REPLICAS
+    ∷ number field.Verifiers 9 (said 1 9 bytes) 1 MOST_VERIFIERS
+    ∷ number field.Quorum 10 (said 1 10 bytes) (said 1 9 bytes / 2 + 1) (said 1 9 bytes)
+    ∷ number field.Window 11 (said 1 11 bytes) 1 MOST_WINDOW
+    ∷ number field.Workers 12 (said 1 12 bytes) 1 MOST_WORKERS
+    ∷ number field.Zero 13 (said 1 13 bytes) 0 0
+    ∷ number field.Zero 14 (said 1 14 bytes) 0 0
+    ∷ number field.Zero 15 (said 1 15 bytes) 0 0
+    ∷ number field.Customers 16 (said 4 16 bytes) 1 (most_customers (said 2 6 bytes))
+    ∷ number field.Batches 20 (said 4 20 bytes) 0 MOST_BATCHES
+    ∷ []
+
+-- it says a number of its range
+abbrev pub LiesWithin : HeadNumber → Type 0
+LiesWithin n = (n.least ≤ n.found) × (n.found ≤ n.most)
+
+-- the number is the first of the header that doesn't
+abbrev pub IsFirstWrongNumber : List ℕ → HeadNumber → Type 0
+IsFirstWrongNumber bytes n =
+    SomePlace (head_numbers bytes) (λ before m. (m ≡ n) × AllByRecursion LiesWithin before × ¬ LiesWithin m)

@@ -1,0 +1,132 @@
+//! Which kinds of frames may stand at a place, and what is wrong with what stands there.
+
+ghost use Rattle.std.specs.Prelude.{◌≡◌, ◌<◌, ◌++◌, ◌∷◌, [], if◌then◌else◌, IfOk, OnOk, length, slice_get, Some};
+ghost use Rattle.eve_grammar.specs.Kinds.{kind_byte};
+ghost use Rattle.eve_grammar.specs.Frames.{is_allowed, is_allowed_in_sections, is_allowed_behind_sections};
+ghost use Rattle.eve_views.specs.Form.{HasNoFrame};
+ghost use Rattle.eve_evidence_form.specs.Due.{all_kinds, due_kinds, IsFrameFault};
+
+use byteorder::{BigEndian, ByteOrder};
+use eve_evidence::FrameFault;
+use eve_grammar::{FRAME_HEAD_LEN, FrameKind, Head, Place};
+use std::alloc::{AllocError, Global};
+
+/// Whether a frame of the kind may stand there, after customers and batches, and before the first verifier.
+fn is_allowed_in_sections(head: &Head, place: &Place, kind: FrameKind) -> bool
+    ensures { result ≡ is_allowed_in_sections head.now place.now (kind_byte kind) }
+{
+    match kind {
+        FrameKind::Replica => place.replicas < head.replicas,
+        FrameKind::Attempt | FrameKind::Commit | FrameKind::Rollback => 0 < place.replicas,
+        FrameKind::Transfer => 0 < place.replicas && head.version == 2,
+        FrameKind::Verifier => place.replicas == head.replicas,
+        _ => false,
+    }
+}
+
+/// Whether a frame of the kind may stand there, after the first verifier.
+fn is_allowed_behind_sections(head: &Head, place: &Place, kind: FrameKind) -> bool
+    ensures { result ≡ is_allowed_behind_sections head.now place.now (kind_byte kind) }
+{
+    match kind {
+        FrameKind::Verifier => !place.sending && place.verifiers < head.verifiers,
+        FrameKind::Vote => !place.sending,
+        FrameKind::Sent | FrameKind::End => place.verifiers == head.verifiers,
+        _ => false,
+    }
+}
+
+/// Whether a frame of the kind may stand there.
+fn is_allowed(head: &Head, place: &Place, kind: FrameKind) -> bool
+    ensures { result ≡ is_allowed head.now place.now (kind_byte kind) }
+{
+    if place.ended {
+        false
+    } else if place.customers < head.customers {
+        kind == FrameKind::Customer
+    } else if place.batches < head.batches {
+        kind == FrameKind::Batch
+    } else if 0 < place.accesses {
+        kind == FrameKind::Access
+    } else if place.verifiers == 0 {
+        is_allowed_in_sections(head, place, kind)
+    } else {
+        is_allowed_behind_sections(head, place, kind)
+    }
+}
+
+/// The kinds of frames, in the order of their bytes.
+fn all_kinds() -> [FrameKind; 12]
+    ensures { result ≡ all_kinds }
+{
+    [
+        FrameKind::Customer,
+        FrameKind::Batch,
+        FrameKind::Replica,
+        FrameKind::Attempt,
+        FrameKind::Access,
+        FrameKind::Commit,
+        FrameKind::Rollback,
+        FrameKind::Transfer,
+        FrameKind::Verifier,
+        FrameKind::Vote,
+        FrameKind::Sent,
+        FrameKind::End,
+    ]
+}
+
+/// The kind at this place of a list.
+fn kind_at(kinds: &[FrameKind], i: usize) -> FrameKind
+    requires { i < length kinds.now }
+    ensures { slice_get kinds.now i ≡ Some result }
+{
+    kinds[i]
+}
+
+/// Puts a kind behind others, if it may stand there.
+fn keep_if(due: &mut Vec<FrameKind>, allowed: bool, kind: FrameKind) -> Result<(), AllocError>
+    ensures { OnOk result (due.new.items ≡ due.old.items ++ (if allowed then kind ∷ [] else [])) }
+{
+    if allowed {
+        due.push(kind)?;
+    }
+    Ok(())
+}
+
+/// The kinds of frames that may stand there, in the order of their bytes.
+pub fn due_kinds(alloc: Global, head: &Head, place: &Place) -> Result<Vec<FrameKind>, AllocError>
+    ensures { IfOk result (λ due. due.items ≡ due_kinds head.now place.now) }
+{
+    let kinds = all_kinds();
+    let mut due = Vec::new(alloc);
+    for i in 0..kinds.len() {
+        let kind = kind_at(&kinds, i);
+        keep_if(&mut due, is_allowed(head, place, kind), kind)?;
+    }
+    Ok(due)
+}
+
+/// What is wrong with the bytes where a frame is due, or after the end.
+pub fn frame_fault(head: &Head, place: &Place, bytes: &[u8]) -> FrameFault
+    requires { HasNoFrame head.now place.now bytes.now }
+    ensures { IsFrameFault head.now place.now bytes.now result }
+{
+    if place.ended {
+        return FrameFault::AfterEnd(bytes.len() as u64);
+    }
+    if bytes.len() < FRAME_HEAD_LEN {
+        return FrameFault::TooFew(bytes.len() as u64);
+    }
+    let first = bytes[0];
+    let Some(kind) = FrameKind::of(first) else {
+        return FrameFault::Kind(first);
+    };
+    if !is_allowed(head, place, kind) {
+        return FrameFault::Kind(first);
+    }
+    FrameFault::Cut {
+        kind,
+        body: BigEndian::read_u32(&bytes[1..]),
+        left: (bytes.len() - FRAME_HEAD_LEN) as u64,
+    }
+}

@@ -1,0 +1,178 @@
+//! What shows that a request stands twice.
+
+ghost use Rattle.std.specs.Prelude.{◌≡◌, ◌≢◌, ◌<◌, ◌≤◌, ℕ, ◌++◌, IfSome, IfNone, IsTrue, IsFalse, length, take};
+ghost use Rattle.std.specs.Prelude.{slice_get, Some};
+ghost use Rattle.std.specs.List.{flat_map};
+ghost use Rattle.eve_grammar.specs.Trace.{Batch as BatchValue, request_id};
+ghost use Rattle.eve_grammar.specs.Bodies.{borrowed_asked};
+ghost use Rattle.eve_grammar.specs.Spelling.{batches_at};
+ghost use Rattle.eve_grammar.specs.declared.limits.TheConstants.{MOST_REQUESTS};
+ghost use Rattle.eve_frames.specs.Said.{batch_said};
+ghost use Rattle.eve_views.specs.declared.fault.Code.TheVariants as code;
+ghost use Rattle.eve_evidence_form.specs.Requests.{requests_listed, NoneAsked, IsFirstAsked};
+ghost use Rattle.eve_evidence_form.specs.Requests.{NoneAgain, IsFirstAgain, IsRequestAgain};
+ghost use Rattle.eve_evidence_form.specs.Orders.{StandsTwice};
+
+use eve_evidence::ToldRequest;
+use eve_frames::BatchView;
+use eve_grammar::Asked;
+use eve_views::Trace;
+
+/// The first request that has a client and a number.
+#[derive(Clone, Copy)]
+pub struct FirstAsked<'a> {
+    /// The request.
+    pub request: ToldRequest<'a>,
+    /// The byte at which its batch's frame begins.
+    pub at: u64,
+}
+
+/// A request whose client and number stand twice.
+#[derive(Clone, Copy)]
+pub struct AskedAgain<'a> {
+    /// The request.
+    pub request: ToldRequest<'a>,
+    /// The first that has them.
+    pub first: FirstAsked<'a>,
+}
+
+/// Whether a request has this client and number.
+fn has_id(asked: &Asked<'_>, client: u32, number: u64) -> bool
+    ensures yes { IsTrue result → request_id (borrowed_asked asked.now) ≡ (client, number) }
+    ensures no { IsFalse result → request_id (borrowed_asked asked.now) ≢ (client, number) }
+{
+    asked.client == client && asked.number == number
+}
+
+/// The first of the first `count` requests of a batch that has this client and number, if one does.
+fn first_in<'a>(
+    batch: &BatchView<'a>,
+    count: usize,
+    client: u32,
+    number: u64,
+) -> Option<FirstAsked<'a>>
+    requires { length (batch_said batch.now).1.requests ≤ MOST_REQUESTS }
+    ensures first { IfSome result (λ f. IsFirstAsked (client, number)
+        (take count (requests_listed (batch.now.offset, batch_said batch.now))) f.request f.at) }
+    ensures none { IfNone result (NoneAsked (client, number)
+        (take count (requests_listed (batch.now.offset, batch_said batch.now)))) }
+{
+    let mut index: u16 = 0;
+    for asked in batch.requests() {
+        if count <= index as usize {
+            return None;
+        }
+        if has_id(&asked, client, number) {
+            return Some(FirstAsked {
+                request: ToldRequest {
+                    index,
+                    batch: batch.seq(),
+                    asked,
+                },
+                at: batch.offset(),
+            });
+        }
+        index += 1;
+    }
+    None
+}
+
+/// The first request of the first `n` batches that has this client and number, if one does.
+fn first_before<'a>(trace: &Trace<'a>, n: u32, client: u32, number: u64) -> Option<FirstAsked<'a>>
+    requires { n ≤ length trace.now.batches }
+    ensures first { IfSome result (λ f. IsFirstAsked (client, number)
+        (flat_map requests_listed (take n (batches_at trace.now))) f.request f.at) }
+    ensures none { IfNone result (NoneAsked (client, number) (flat_map requests_listed (take n (batches_at trace.now)))) }
+{
+    trace.recall_limits();
+    for i in 0..n {
+        let batch = trace.batch(i + 1);
+        if let Some(first) = first_in(&batch, batch.len(), client, number) {
+            return Some(first);
+        }
+    }
+    None
+}
+
+/// The first request that has this client and number, of the first `n` batches and of the first `count` requests of
+/// another, if one does.
+fn earliest<'a>(
+    trace: &Trace<'a>,
+    n: u32,
+    batch: &BatchView<'a>,
+    count: usize,
+    client: u32,
+    number: u64,
+) -> Option<FirstAsked<'a>>
+    requires there { n ≤ length trace.now.batches }
+    requires few { length (batch_said batch.now).1.requests ≤ MOST_REQUESTS }
+    ensures first { IfSome result (λ f. IsFirstAsked (client, number) (flat_map requests_listed (take n (batches_at trace.now))
+        ++ take count (requests_listed (batch.now.offset, batch_said batch.now))) f.request f.at) }
+    ensures none { IfNone result (NoneAsked (client, number) (flat_map requests_listed (take n (batches_at trace.now))
+        ++ take count (requests_listed (batch.now.offset, batch_said batch.now)))) }
+{
+    match first_before(trace, n, client, number) {
+        Some(first) => Some(first),
+        None => first_in(batch, count, client, number),
+    }
+}
+
+/// The first request of a batch behind the first `n` whose client and number stand earlier, and the earliest that has
+/// them, if there is one.
+fn again_in<'a>(trace: &Trace<'a>, n: u32, batch: &BatchView<'a>) -> Option<AskedAgain<'a>>
+    requires there { n ≤ length trace.now.batches }
+    requires few { length (batch_said batch.now).1.requests ≤ MOST_REQUESTS }
+    ensures again { IfSome result (λ x. IsFirstAgain (flat_map requests_listed (take n (batches_at trace.now)))
+        (requests_listed (batch.now.offset, batch_said batch.now)) x.request x.first.request x.first.at) }
+    ensures none { IfNone result (NoneAgain (flat_map requests_listed (take n (batches_at trace.now)))
+        (requests_listed (batch.now.offset, batch_said batch.now))) }
+{
+    let mut index: u16 = 0;
+    for asked in batch.requests() {
+        if let Some(first) = earliest(trace, n, batch, index as usize, asked.client, asked.number) {
+            return Some(AskedAgain {
+                request: ToldRequest {
+                    index,
+                    batch: batch.seq(),
+                    asked,
+                },
+                first,
+            });
+        }
+        index += 1;
+    }
+    None
+}
+
+/// The same for the batch behind the first `n`, if its frame begins at this byte.
+fn again_at<'a>(trace: &Trace<'a>, n: u32, at: u64) -> Option<AskedAgain<'a>>
+    requires { n < length trace.now.batches }
+    ensures again { IfSome result (λ x. (b : ℕ × (ℕ × BatchValue)) → slice_get (batches_at trace.now) n ≡ Some b
+        → (b.0 ≡ at) × IsFirstAgain (flat_map requests_listed (take n (batches_at trace.now))) (requests_listed b) x.request
+        x.first.request x.first.at) }
+    ensures none { IfNone result ((b : ℕ × (ℕ × BatchValue)) → slice_get (batches_at trace.now) n ≡ Some b → b.0 ≡ at
+        → NoneAgain (flat_map requests_listed (take n (batches_at trace.now))) (requests_listed b)) }
+{
+    trace.recall_limits();
+    let batch = trace.batch(n + 1);
+    if batch.offset() != at {
+        return None;
+    }
+    again_in(trace, n, &batch)
+}
+
+/// The first request, of the batch whose frame begins at this byte, whose client and number stand earlier, and the
+/// earliest that has them.
+///
+/// docs/MODEL.md, "Evidence". It goes through the requests before it once for each request of the batch up to it.
+pub fn asked_again<'a>(trace: &Trace<'a>, at: u64) -> AskedAgain<'a>
+    requires { StandsTwice code.SameRequest trace.now at }
+    ensures { IsRequestAgain trace.now at result.request result.first.request result.first.at }
+{
+    for n in 0..trace.batch_count() {
+        if let Some(again) = again_at(trace, n, at) {
+            return again;
+        }
+    }
+    unreachable!()
+}

@@ -1,0 +1,123 @@
+//! How far the frames before a byte have come.
+
+ghost use Rattle.std.specs.Prelude.{◌≡◌, ◌≤◌, ℕ, ◌++◌, List, IsTrue, length};
+ghost use Rattle.eve_grammar.specs.Kinds.{kind_byte};
+ghost use Rattle.eve_grammar.specs.Frames.{Frame, is_allowed, kind_of, next_place};
+ghost use Rattle.eve_grammar.specs.Limits.{FitsAt};
+ghost use Rattle.eve_grammar.specs.Spelling.{frame_text};
+ghost use Rattle.eve_grammar.specs.declared.head.Head.{Head as HeadValue};
+ghost use Rattle.eve_views.specs.Form.{IsReached, SaysHead, place_at};
+ghost use Rattle.eve_views.specs.Places.{accesses_in, place_after};
+ghost use Rattle.eve_evidence_form.specs.Walk.{BeginsWith};
+
+use byteorder::{BigEndian, ByteOrder};
+use eve_grammar::{FRAME_HEAD_LEN, FrameKind, HEADER_LEN, Head, Place};
+
+/// The head that a header says.
+pub fn head_said(bytes: &[u8]) -> Head
+    requires long { 24 ≤ length bytes.now }
+    requires says { (h : HeadValue) × SaysHead bytes.now h }
+    ensures { (h : HeadValue) → SaysHead bytes.now h → result ≡ h }
+{
+    match Head::read(&bytes[6..24]) {
+        Some(head) => head,
+        None => unreachable!(),
+    }
+}
+
+/// The kind of the frame with which the bytes begin.
+fn kind_in_front(bytes: &[u8]) -> FrameKind
+    requires { (f : Frame) × BeginsWith bytes.now f }
+    ensures { (f : Frame) → BeginsWith bytes.now f → kind_byte result ≡ kind_of f }
+{
+    match FrameKind::of(bytes[0]) {
+        Some(kind) => kind,
+        None => unreachable!(),
+    }
+}
+
+/// How many bytes the frame has with which the bytes begin.
+fn len_in_front(bytes: &[u8]) -> usize
+    requires { (f : Frame) × BeginsWith bytes.now f }
+    ensures { (f : Frame) → BeginsWith bytes.now f → result ≡ length (frame_text f) }
+{
+    FRAME_HEAD_LEN + BigEndian::read_u32(&bytes[1..]) as usize
+}
+
+/// How many access frames have to follow the frame of this kind with which the bytes begin.
+fn accesses_in_front(bytes: &[u8], kind: FrameKind) -> usize
+    requires { (f : Frame) × BeginsWith bytes.now f × (kind_byte kind ≡ kind_of f) }
+    ensures { (f : Frame) → BeginsWith bytes.now f → kind_byte kind ≡ kind_of f → result ≡ accesses_in f }
+{
+    match kind {
+        FrameKind::Attempt => usize::from(BigEndian::read_u16(&bytes[14..])),
+        _ => 0,
+    }
+}
+
+/// The place after a frame of a kind that may stand there, which that many access frames have to follow.
+fn pass(head: &Head, place: Place, kind: FrameKind, accesses: usize) -> Place
+    requires { IsTrue (is_allowed head.now place (kind_byte kind)) }
+    ensures { result ≡ place_after place (kind_byte kind) accesses }
+{
+    let mut after = place;
+    match kind {
+        FrameKind::Customer => {
+            prove!(after.customers < head.customers);
+            after.customers += 1;
+        }
+        FrameKind::Batch => {
+            prove!(after.batches < head.batches);
+            after.batches += 1;
+        }
+        FrameKind::Replica => {
+            prove!(after.replicas < head.replicas);
+            after.replicas += 1;
+        }
+        FrameKind::Attempt => after.accesses = accesses,
+        FrameKind::Access => after.accesses -= 1,
+        FrameKind::Commit | FrameKind::Rollback | FrameKind::Transfer | FrameKind::Vote => {}
+        FrameKind::Verifier => {
+            prove!(after.verifiers == 0 || after.verifiers < head.verifiers);
+            after.verifiers += 1;
+        }
+        FrameKind::Sent => after.sending = true,
+        FrameKind::End => after.ended = true,
+    }
+    after
+}
+
+/// The place after the frame with which the bytes begin, and which fits there.
+fn step(head: &Head, place: Place, bytes: &[u8]) -> Place
+    requires { (f : Frame) × BeginsWith bytes.now f × FitsAt head.now place f }
+    ensures { (f : Frame) → BeginsWith bytes.now f → FitsAt head.now place f → result ≡ next_place place f }
+{
+    let kind = kind_in_front(bytes);
+    let accesses = accesses_in_front(bytes, kind);
+    pass(head, place, kind, accesses)
+}
+
+/// How far the frames before this byte have come.
+///
+/// docs/TRACE.md, "Order of frames". One pass over them, whose bodies aren't judged.
+pub fn place_reached(head: &Head, bytes: &[u8], at: usize) -> Place
+    requires { (r : IsReached bytes.now at) × (r.head ≡ head.now) }
+    ensures { (r : IsReached bytes.now at) → r.head ≡ head.now → result ≡ place_at r }
+{
+    let mut place = Place {
+        customers: 0,
+        batches: 0,
+        replicas: 0,
+        accesses: 0,
+        verifiers: 0,
+        sending: false,
+        ended: false,
+    };
+    let mut next = HEADER_LEN;
+    'frames: while next < at {
+        let frame = &bytes[next..];
+        place = step(head, place, frame);
+        next += len_in_front(frame);
+    }
+    place
+}

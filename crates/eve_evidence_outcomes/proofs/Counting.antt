@@ -1,0 +1,35 @@
+-- Requests and fates, counted one after another.
+use Rattle.std.proofs.Common.{◌≡◌, ℕ, ◌+◌, ◌≤◌, Bool, cond, count_by, List, length, take, slice_get, get_or, Some, sym, ap}
+use Rattle.std.proofs.Common.{◌∙◌, arith, zero, suc, [], ◌∷◌, ◌++◌, subst}
+use Rattle.eve_chains.proofs.Linked.{none≢some}
+use Rattle.std.specs.List.{sum_by}
+use Rattle.std.proofs.lemmas.List.Sums.{sum_by_more}
+use Rattle.std.proofs.lemmas.Option.{slice_get_within, get_or_from_slice_get, same_Some}
+use Rattle.eve_frames.specs.Said.{batch_said}
+use Rattle.eve_frames.specs.declared.batch.BatchView.{BatchView}
+use Rattle.eve_frames.proofs.BatchPlaces.{batch_few, batch_total}
+
+pub sum_more : {A : Type 0} (f : A → ℕ) (xs : List A) (i : ℕ) (x : A) → slice_get xs i ≡ Some x
+    → sum_by f (take i xs) + f x ≡ sum_by f (take (i + 1) xs)
+sum_more f xs i x got =
+    sym (sum_by_more f xs i x (slice_get_within xs i x got)
+    ∙ ap (λ y. sum_by f (take i xs) + f y) (get_or_from_slice_get xs i x x got))
+
+pub count_more : {A : Type 0} (p : A → Bool) (xs : List A) (i : ℕ) (x : A) → slice_get xs i ≡ Some x
+    → count_by p (take i xs) + cond (p x) 1 0 ≡ count_by p (take (i + 1) xs)
+count_more p xs i x got = sum_more (λ y. cond (p y) 1 0) xs i x got
+
+pub requests_few : (b : BatchView) → length (batch_said b).1.requests ≤ 256
+requests_few b =
+    let few = batch_few b.bytes.now b.whole in
+    let total = batch_total b.bytes.now b.whole in
+    omega (arith, few, total)
+
+pub each_pushed : {A : Type 0} (P : ℕ → A → Type 0) (xs : List A) (x : A)
+    → ((u : ℕ) (y : A) → slice_get xs u ≡ Some y → P u y) → P (length xs) x
+    → (u : ℕ) (y : A) → slice_get (xs ++ x ∷ []) u ≡ Some y → P u y
+each_pushed P [] x all own zero y got = subst (P 0) (same_Some x y got) own
+each_pushed P [] x all own (suc u) y got = absurd (none≢some y got)
+each_pushed P (z ∷ xs) x all own zero y got = all zero y got
+each_pushed P (z ∷ xs) x all own (suc u) y got =
+    each_pushed (λ k. P (suc k)) xs x (λ v w g. all (suc v) w g) own u y got

@@ -1,0 +1,13 @@
+pub mod OnBatch
+pub mod Backing
+pub mod Lacking
+pub mod Deciding
+pub mod Asking
+pub mod Committing
+pub mod Replying
+pub mod Tokens
+pub mod Firsts
+pub mod Taking
+pub mod Requesting
+pub mod Comparing
+pub mod Counting

@@ -1,0 +1,9 @@
+pub mod Polls
+pub mod Majority
+pub mod Decisions
+pub mod Committed
+pub mod Sent
+pub mod Token
+pub mod Outcomes
+pub mod Outcome
+pub mod Counts

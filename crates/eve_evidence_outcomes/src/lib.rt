@@ -1,0 +1,24 @@
+//! Evidence of what was voted, and of what replicas came to: who voted how, and what is due of the outcomes.
+#![tactic(auto)]
+
+mod apart;
+mod balances;
+mod committed;
+mod decisions;
+mod majority;
+mod outcome;
+mod polls;
+mod request;
+mod sent;
+mod state;
+mod summary;
+mod token;
+mod votes;
+
+pub use decisions::decisions_evidence;
+pub use majority::majority_evidence;
+pub use outcome::outcome_evidence;
+pub use sent::reply_evidence;
+pub use state::state_evidence;
+pub use summary::counts;
+pub use token::token_evidence;

@@ -1,0 +1,170 @@
+//! The evidence of an attempt whose outcome isn't the one that was committed first.
+
+ghost use Rattle.std.specs.Prelude.{◌≡◌, ◌<◌, ◌≤◌, ◌↔◌, IsTrue, IfOk, IfSome, IfNone, length, slice_get};
+ghost use Rattle.eve_frames.specs.Said.{attempt_said};
+ghost use Rattle.eve_views.specs.declared.fault.Code.TheVariants as code;
+ghost use Rattle.eve_history.specs.SectionHistory.{section_histories};
+ghost use Rattle.eve_chains.specs.Settling.{settling, settlings};
+ghost use Rattle.eve_chains.specs.Committed.{balances_to};
+ghost use Rattle.eve_agree.specs.Agreement.{StandsInAgreement};
+ghost use Rattle.eve_evidence_outcomes.specs.Outcome.{IsFirstApart, IsReplyFault, TellsOutcomeFault, TellsOutcome};
+ghost use Rattle.eve_evidence_outcomes.specs.Outcome.{HasThatOfFirst};
+
+use crate::committed::committed_attempt;
+use crate::request::told_request;
+use crate::sent::{has_reply, reply_of};
+use crate::state::{first_committed, row_apart};
+use crate::token::told_attempt;
+use eve_chains::Settled;
+use eve_evidence::{Evidence, OutcomeFault};
+use eve_frames::AttemptView;
+use eve_history::History;
+use eve_views::Trace;
+use std::alloc::{AllocError, Global};
+
+/// Whether two attempts have the same reply for the request of an index, or both have none.
+fn have_same_reply(own: &AttemptView<'_>, its: &AttemptView<'_>, index: u16) -> bool
+    ensures { IsTrue result ↔ (slice_get (attempt_said own.now).replies index
+        ≡ slice_get (attempt_said its.now).replies index) }
+{
+    if (index as usize) < own.len() {
+        return has_reply(its, index, own.reply(index as usize));
+    }
+    its.len() <= index as usize
+}
+
+/// The first index for which two attempts have other replies, if there is one.
+fn first_reply_apart(own: &AttemptView<'_>, its: &AttemptView<'_>) -> Option<u16>
+    ensures apart { IfSome result (IsFirstApart (attempt_said own.now).replies (attempt_said its.now).replies) }
+    ensures none { IfNone result ((attempt_said own.now).replies ≡ (attempt_said its.now).replies) }
+{
+    for index in 0..256 {
+        if !have_same_reply(own, its, index) {
+            return Some(index);
+        }
+    }
+    None
+}
+
+/// The first request to which two attempts of a batch have other replies, if there is one.
+fn reply_apart<'a>(
+    trace: &Trace<'a>,
+    n: u32,
+    own: &AttemptView<'_>,
+    its: &AttemptView<'_>,
+) -> Option<OutcomeFault<'a>>
+    ensures apart { IfSome result (IsReplyFault trace.now n (attempt_said own.now).replies
+        (attempt_said its.now).replies) }
+    ensures none { IfNone result ((attempt_said own.now).replies ≡ (attempt_said its.now).replies) }
+{
+    let Some(index) = first_reply_apart(own, its) else {
+        return None;
+    };
+    Some(OutcomeFault::Reply {
+        request: told_request(trace, n, index),
+        found: reply_of(own, index),
+        due: reply_of(its, index),
+    })
+}
+
+/// The first thing in which replica e's outcome of batch n isn't that of replica f, if there is one.
+fn outcome_fault<'a>(
+    alloc: Global,
+    trace: &Trace<'a>,
+    histories: &[History<'_>],
+    settled: &[Settled<'_>],
+    e: u8,
+    f: u8,
+    n: u32,
+    own: &AttemptView<'_>,
+    its: &AttemptView<'_>,
+) -> Result<Option<OutcomeFault<'a>>, AllocError>
+    requires histories { histories.now ≡ section_histories trace.now }
+    requires settled { settled.now ≡ settlings trace.now }
+    requires there { e < length trace.now.sections }
+    requires number { n ≤ length (settling trace.now e).numbers }
+    requires its { f < length trace.now.sections }
+    requires its_number { n ≤ length (settling trace.now f).numbers }
+    ensures told { IfOk result (λ x. IfSome x (TellsOutcomeFault trace.now e f n (attempt_said own.now).replies
+        (attempt_said its.now).replies)) }
+    ensures none { IfOk result (λ x. IfNone x ((balances_to trace.now e n ≡ balances_to trace.now f n)
+        × ((attempt_said own.now).replies ≡ (attempt_said its.now).replies))) }
+{
+    match row_apart(alloc, trace, histories, settled, e, f, n) {
+        Ok(Some(apart)) => Ok(Some(OutcomeFault::Row {
+            row: apart.row,
+            found: apart.found,
+            due: apart.due,
+        })),
+        Ok(None) => Ok(reply_apart(trace, n, own, its)),
+        Err(why) => Err(why),
+    }
+}
+
+/// The evidence of batch n, if the attempt by which replica e committed it begins at this byte and its outcome isn't
+/// that of the first that committed it.
+fn at_number<'a>(
+    alloc: Global,
+    trace: &Trace<'a>,
+    histories: &[History<'_>],
+    settled: &[Settled<'_>],
+    e: u8,
+    n: u32,
+    place: u64,
+) -> Result<Option<Evidence<'a>>, AllocError>
+    requires histories { histories.now ≡ section_histories trace.now }
+    requires settled { settled.now ≡ settlings trace.now }
+    requires there { e < length trace.now.sections }
+    requires number { n ≤ length (settling trace.now e).numbers }
+    ensures told { IfOk result (λ x. IfSome x (TellsOutcome trace.now e place)) }
+    ensures none { IfOk result (λ x. IfNone x (HasThatOfFirst trace.now e place n)) }
+{
+    let Some(own) = committed_attempt(&histories[e as usize], n) else {
+        return Ok(None);
+    };
+    if own.offset() != place {
+        return Ok(None);
+    }
+    let Some((first, its)) = first_committed(histories, n) else {
+        return Ok(None);
+    };
+    match outcome_fault(alloc, trace, histories, settled, e, first, n, &own, &its) {
+        Ok(Some(wrong)) => Ok(Some(Evidence::Outcome {
+            attempt: told_attempt(&own),
+            first,
+            first_at: its.offset(),
+            wrong,
+        })),
+        Ok(None) => Ok(None),
+        Err(why) => Err(why),
+    }
+}
+
+/// The evidence of an attempt whose outcome isn't that of the lowest-numbered replica that committed its batch, by the
+/// replica's number from 0 and the byte of its frame: that replica and its attempt, and the first row whose balance
+/// differs after the batch, or else the first request, by its index, whose reply does.
+///
+/// docs/MODEL.md, "Agreement" and "Evidence". The histories and what they settled are those of all replicas, in their
+/// order. It takes the balances of two replicas.
+pub fn outcome_evidence<'a>(
+    alloc: Global,
+    trace: &Trace<'a>,
+    histories: &[History<'_>],
+    settled: &[Settled<'_>],
+    e: u8,
+    place: u64,
+) -> Result<Evidence<'a>, AllocError>
+    requires histories { histories.now ≡ section_histories trace.now }
+    requires settled { settled.now ≡ settlings trace.now }
+    requires there { e < length trace.now.sections }
+    requires stands { StandsInAgreement code.Outcome trace.now e place }
+    ensures told { IfOk result (TellsOutcome trace.now e place) }
+{
+    let count = settled[e as usize].committed();
+    for n in 0..count {
+        if let Some(found) = at_number(alloc, trace, histories, settled, e, n + 1, place)? {
+            return Ok(found);
+        }
+    }
+    unreachable!()
+}

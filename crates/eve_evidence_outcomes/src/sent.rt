@@ -1,0 +1,162 @@
+//! The evidence of a reply that was sent and not committed.
+
+ghost use Rattle.std.specs.Prelude.{◌≡◌, ◌<◌, ◌≤◌, IsTrue, IfSome, IfNone, Some, length, slice_get, slice_index_or};
+ghost use Rattle.std.specs.Prelude.{◌↔◌, ◌==◌, ◌&&◌, ℕ};
+ghost use Rattle.eve_smallbank.specs.declared.request.Reply.TheVariants.{Done};
+ghost use Rattle.eve_grammar.specs.Limits.{is_batch};
+ghost use Rattle.eve_grammar.specs.Trace.{Sent as SentValue};
+ghost use Rattle.eve_grammar.specs.Spelling.{sent_at};
+ghost use Rattle.eve_frames.specs.Said.{attempt_said, batch_said, sent_said};
+ghost use Rattle.eve_views.specs.declared.fault.Code.TheVariants as code;
+ghost use Rattle.eve_history.specs.SectionHistory.{section_history, section_histories};
+ghost use Rattle.eve_agree.specs.SentReplies.{IsReplied, StandsInReplies};
+ghost use Rattle.eve_evidence_outcomes.specs.Sent.{NoneHas, IsFoundRequest, TellsSent, TellsReply};
+
+use crate::committed::committed_attempt;
+use eve_evidence::{Evidence, SentFault, ToldRequest};
+use eve_frames::{AttemptView, BatchView, SentView};
+use eve_grammar::Asked;
+use eve_history::History;
+use eve_smallbank::Reply;
+use eve_views::Trace;
+
+/// Whether a request has this client and number.
+fn is_of(asked: &Asked<'_>, client: u32, number: u64) -> bool
+    ensures { result ≡ (asked.now.client == client) && (asked.now.number == number) }
+{
+    asked.client == client && asked.number == number
+}
+
+/// The first request of a batch with this client and number, if there is one.
+fn request_with<'a>(
+    batch: &BatchView<'a>,
+    seq: u32,
+    client: u32,
+    number: u64,
+) -> Option<ToldRequest<'a>>
+    requires { IsTrue (is_batch (batch_said batch.now).1) }
+    ensures found { IfSome result (IsFoundRequest (client, number) (batch_said batch.now).1.requests) }
+    ensures batch { IfSome result (λ r. r.batch ≡ seq) }
+    ensures none { IfNone result (NoneHas (client, number) (batch_said batch.now).1.requests) }
+{
+    let mut index: u16 = 0;
+    for asked in batch.requests() {
+        if is_of(&asked, client, number) {
+            return Some(ToldRequest {
+                index,
+                batch: seq,
+                asked,
+            });
+        }
+        index += 1;
+    }
+    None
+}
+
+/// The reply that an attempt has for the request of an index, or `Done` where it has none.
+pub(crate) fn reply_of(attempt: &AttemptView<'_>, index: u16) -> Reply
+    ensures { result ≡ slice_index_or (attempt_said attempt.now).replies index Done }
+{
+    if (index as usize) < attempt.len() {
+        attempt.reply(index as usize)
+    } else {
+        Reply::Done
+    }
+}
+
+/// Whether an attempt has this reply for the request of an index.
+pub(crate) fn has_reply(attempt: &AttemptView<'_>, index: u16, reply: Reply) -> bool
+    ensures { IsTrue result ↔ (slice_get (attempt_said attempt.now).replies index ≡ Some reply) }
+{
+    if attempt.len() <= index as usize {
+        return false;
+    }
+    attempt.reply(index as usize) == reply
+}
+
+/// The first thing that is wrong with a reply that was sent, if it isn't one that its replica committed.
+fn wrong_with<'a>(
+    trace: &Trace<'a>,
+    history: &History<'_>,
+    sent: &SentView<'_>,
+) -> Option<SentFault<'a>>
+    requires history { history.now ≡ section_history trace.now (sent_said sent.now).replica }
+    requires one { 1 ≤ (sent_said sent.now).seq }
+    requires there { (sent_said sent.now).seq ≤ length trace.now.batches }
+    ensures told { IfSome result (TellsSent trace.now (sent_said sent.now)) }
+    ensures none { IfNone result (IsReplied trace.now (sent_said sent.now)) }
+{
+    trace.recall_limits();
+    let seq = sent.seq();
+    let client = sent.client();
+    let number = sent.number();
+    let batch = trace.batch(seq);
+    let Some(request) = request_with(&batch, seq, client, number) else {
+        return Some(SentFault::NoRequest {
+            client,
+            number,
+            batch: seq,
+        });
+    };
+    let Some(attempt) = committed_attempt(history, seq) else {
+        return Some(SentFault::NotCommitted {
+            batch: seq,
+            replica: sent.replica(),
+        });
+    };
+    let found = sent.reply();
+    let index = request.index;
+    if has_reply(&attempt, index, found) {
+        return None;
+    }
+    let due = reply_of(&attempt, index);
+    Some(SentFault::Another {
+        request,
+        found,
+        due,
+    })
+}
+
+/// The evidence of a reply sent, by its place from 0, if its frame begins at this byte and it was not committed.
+fn at_sent<'a>(
+    trace: &Trace<'a>,
+    histories: &[History<'_>],
+    i: usize,
+    place: u64,
+) -> Option<Evidence<'a>>
+    requires there { i < length trace.now.sent }
+    requires histories { histories.now ≡ section_histories trace.now }
+    ensures told { IfSome result (TellsReply trace.now place) }
+    ensures none { IfNone result ((s : ℕ × SentValue) → slice_get (sent_at trace.now) i ≡ Some s
+        → s.0 ≡ place → IsReplied trace.now s.1) }
+{
+    trace.recall_limits();
+    let sent = trace.sent(i);
+    if sent.offset() != place {
+        return None;
+    }
+    let history = &histories[sent.replica() as usize];
+    match wrong_with(trace, history, &sent) {
+        Some(wrong) => Some(Evidence::Reply(wrong)),
+        None => None,
+    }
+}
+
+/// The evidence of a reply that was sent and not committed, by the byte of its frame: that its batch has no such
+/// request, or that its replica didn't commit the batch by an attempt, or the request with the reply sent and the one
+/// committed.
+///
+/// docs/MODEL.md, "Sent replies" and "Evidence". It takes no memory. One pass over the replies sent, up to that frame,
+/// and one over its batch. The histories are those of all replicas, in their order.
+pub fn reply_evidence<'a>(trace: &Trace<'a>, histories: &[History<'_>], place: u64) -> Evidence<'a>
+    requires histories { histories.now ≡ section_histories trace.now }
+    requires stands { StandsInReplies code.Reply trace.now place }
+    ensures told { TellsReply trace.now place result }
+{
+    for i in 0..trace.sent_count() {
+        if let Some(found) = at_sent(trace, histories, i, place) {
+            return found;
+        }
+    }
+    unreachable!()
+}

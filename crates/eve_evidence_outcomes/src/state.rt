@@ -1,0 +1,207 @@
+//! The evidence of a state that was taken over and isn't the one that was committed.
+
+ghost use Rattle.std.specs.Prelude.{◌≡◌, ◌<◌, ◌≤◌, IfOk, IfSome, IfNone, None, Some, length};
+ghost use Rattle.eve_grammar.specs.Trace.{Trace as TraceValue};
+ghost use Rattle.eve_frames.specs.Said.{transfer_said};
+ghost use Rattle.eve_views.specs.declared.fault.Code.TheVariants as code;
+ghost use Rattle.eve_history.specs.SectionHistory.{section_histories};
+ghost use Rattle.eve_chains.specs.Committed.{balances_to};
+ghost use Rattle.eve_chains.specs.Settling.{settling, settlings};
+ghost use Rattle.eve_agree.specs.ByNumber.{told_state_at};
+ghost use Rattle.eve_agree.specs.Agreement.{first_to_commit, StandsInAgreement};
+ghost use Rattle.eve_evidence_outcomes.specs.Committed.{IsCommittedBy};
+ghost use Rattle.eve_evidence_outcomes.specs.Outcomes.{IsRowFoundApart, TellsStateFault, TellsState, HasThoseOfFirst};
+ghost use Rattle.eve_evidence_outcomes.specs.Outcomes.{IsRightAt};
+
+use crate::apart::{RowApart, first_apart};
+use crate::balances::balances_to;
+use crate::committed::committed_attempt;
+use eve_accounts::Balances;
+use eve_chains::Settled;
+use eve_chains::laws::states_are_the_balances;
+use eve_evidence::{Evidence, StateFault};
+use eve_frames::{AttemptView, TransferView};
+use eve_history::laws::numbers_are_reached;
+use eve_history::{History, Landing};
+use eve_views::Trace;
+use std::alloc::{AllocError, Global};
+
+/// The lowest-numbered replica that committed batch n by an attempt, and that attempt, if one did.
+pub(crate) fn first_committed<'a>(
+    histories: &[History<'a>],
+    n: u32,
+) -> Option<(u8, AttemptView<'a>)>
+    ensures some { IfSome result (λ x. (t : TraceValue) → histories.now ≡ section_histories t
+        → (x.0 < length t.sections) × (first_to_commit t n ≡ Some x.0) × IsCommittedBy t x.0 n x.1) }
+    ensures none { IfNone result ((t : TraceValue) → histories.now ≡ section_histories t
+        → first_to_commit t n ≡ None) }
+{
+    for e in 0..histories.len() {
+        let history = &histories[e];
+        if let Some(attempt) = committed_attempt(history, n) {
+            return Some((history.replica(), attempt));
+        }
+    }
+    None
+}
+
+/// The balances that replica e has after number n, of all customers, row by row.
+fn balances_of(
+    alloc: Global,
+    trace: &Trace<'_>,
+    histories: &[History<'_>],
+    settled: &[Settled<'_>],
+    e: u8,
+    n: u32,
+) -> Result<Balances, AllocError>
+    requires histories { histories.now ≡ section_histories trace.now }
+    requires settled { settled.now ≡ settlings trace.now }
+    requires there { e < length trace.now.sections }
+    requires number { n ≤ length (settling trace.now e).numbers }
+    ensures { IfOk result (λ balances. balances ≡ balances_to trace.now e n) }
+{
+    balances_to(
+        alloc,
+        trace,
+        &histories[e as usize],
+        &settled[e as usize],
+        n,
+    )
+}
+
+/// The first row in which replica e's balances after number n aren't those of replica f.
+pub(crate) fn row_apart<'a>(
+    alloc: Global,
+    trace: &Trace<'a>,
+    histories: &[History<'_>],
+    settled: &[Settled<'_>],
+    e: u8,
+    f: u8,
+    n: u32,
+) -> Result<Option<RowApart<'a>>, AllocError>
+    requires histories { histories.now ≡ section_histories trace.now }
+    requires settled { settled.now ≡ settlings trace.now }
+    requires there { e < length trace.now.sections }
+    requires number { n ≤ length (settling trace.now e).numbers }
+    requires its { f < length trace.now.sections }
+    requires its_number { n ≤ length (settling trace.now f).numbers }
+    ensures apart { IfOk result (λ x. IfSome x (IsRowFoundApart trace.now (balances_to trace.now e n)
+        (balances_to trace.now f n))) }
+    ensures none { IfOk result (λ x. IfNone x (balances_to trace.now e n ≡ balances_to trace.now f n)) }
+{
+    let own = balances_of(alloc, trace, histories, settled, e, n)?;
+    let its = balances_of(alloc, trace, histories, settled, f, n)?;
+    Ok(first_apart(trace, &own, &its))
+}
+
+/// The first thing in which replica e's balances after number n aren't those of the first that committed the batch.
+fn state_fault<'a>(
+    alloc: Global,
+    trace: &Trace<'a>,
+    histories: &[History<'_>],
+    settled: &[Settled<'_>],
+    e: u8,
+    n: u32,
+) -> Result<Option<StateFault<'a>>, AllocError>
+    requires histories { histories.now ≡ section_histories trace.now }
+    requires settled { settled.now ≡ settlings trace.now }
+    requires there { e < length trace.now.sections }
+    requires number { n ≤ length (settling trace.now e).numbers }
+    ensures told { IfOk result (λ x. IfSome x (TellsStateFault trace.now e n)) }
+    ensures none { IfOk result (λ x. IfNone x (HasThoseOfFirst trace.now e n)) }
+{
+    let Some((first, attempt)) = first_committed(histories, n) else {
+        return Ok(Some(StateFault::NoneCommitted));
+    };
+    match row_apart(alloc, trace, histories, settled, e, first, n) {
+        Ok(Some(apart)) => Ok(Some(StateFault::Row {
+            first,
+            first_at: attempt.offset(),
+            row: apart.row,
+            found: apart.found,
+            due: apart.due,
+        })),
+        Ok(None) => Ok(None),
+        Err(why) => Err(why),
+    }
+}
+
+/// The state by which a replica reached number n, if it took one over there.
+fn taken_over<'a>(history: &History<'a>, n: u32) -> Option<TransferView<'a>>
+    ensures some { IfSome result (λ x. told_state_at history.now n ≡ Some (x.offset, transfer_said x)) }
+    ensures none { IfNone result (told_state_at history.now n ≡ None) }
+{
+    if n == 0 || history.committed() < n {
+        return None;
+    }
+    match history.landing(n) {
+        Landing::Attempt(_) => None,
+        Landing::Transfer(i) => Some(history.transfer(i as usize)),
+        Landing::Skipped => None,
+    }
+}
+
+/// The evidence of the state of number n, if replica e took it over at this byte and it isn't the committed one.
+fn at_number<'a>(
+    alloc: Global,
+    trace: &Trace<'a>,
+    histories: &[History<'_>],
+    settled: &[Settled<'_>],
+    e: u8,
+    n: u32,
+    place: u64,
+) -> Result<Option<Evidence<'a>>, AllocError>
+    requires histories { histories.now ≡ section_histories trace.now }
+    requires settled { settled.now ≡ settlings trace.now }
+    requires there { e < length trace.now.sections }
+    requires one { 1 ≤ n }
+    requires number { n ≤ length (settling trace.now e).numbers }
+    ensures told { IfOk result (λ x. IfSome x (TellsState trace.now e place)) }
+    ensures none { IfOk result (λ x. IfNone x (IsRightAt trace.now e place n)) }
+{
+    numbers_are_reached();
+    states_are_the_balances();
+    trace.recall_limits();
+    let history = &histories[e as usize];
+    history.recall_right();
+    let Some(state) = taken_over(history, n) else {
+        return Ok(None);
+    };
+    if state.offset() != place {
+        return Ok(None);
+    }
+    match state_fault(alloc, trace, histories, settled, e, n) {
+        Ok(Some(wrong)) => Ok(Some(Evidence::TransferState(wrong))),
+        Ok(None) => Ok(None),
+        Err(why) => Err(why),
+    }
+}
+
+/// The evidence of a state that was taken over and isn't the one that was committed, by the replica's number from 0 and
+/// the byte of its frame: that no replica committed the batch by an attempt, or the lowest-numbered that did and the
+/// first row whose balance differs.
+///
+/// docs/MODEL.md, "Agreement" and "Evidence". The histories and what they settled are those of all replicas, in their
+/// order. It takes the balances of two replicas.
+pub fn state_evidence<'a>(
+    alloc: Global,
+    trace: &Trace<'a>,
+    histories: &[History<'_>],
+    settled: &[Settled<'_>],
+    e: u8,
+    place: u64,
+) -> Result<Evidence<'a>, AllocError>
+    requires histories { histories.now ≡ section_histories trace.now }
+    requires settled { settled.now ≡ settlings trace.now }
+    requires there { e < length trace.now.sections }
+    requires stands { StandsInAgreement code.TransferBalances trace.now e place }
+    ensures told { IfOk result (TellsState trace.now e place) }
+{
+    let count = settled[e as usize].committed();
+    for n in 0..count {
+        if let Some(found) = at_number(alloc, trace, histories, settled, e, n + 1, place)? {
+            return Ok(found);
+        }
+    }
+    unreachable!()
+}

@@ -1,0 +1,135 @@
+//! What a trace without a fault has, in numbers.
+
+ghost use Rattle.std.specs.Prelude.{◌≡◌, ◌<◌, ◌≤◌, ℕ, if◌then◌else◌, IfOk, Some, length, slice_get};
+ghost use Rattle.std.specs.List.{sum_by};
+ghost use Rattle.eve_frames.specs.Said.{batch_said};
+ghost use Rattle.eve_history.specs.SectionHistory.{section_history, section_histories};
+ghost use Rattle.eve_evidence.specs.declared.evidence.ReplicaCounts.{ReplicaCounts as ReplicaCountsValue};
+ghost use Rattle.eve_evidence_outcomes.specs.Counts.{is_fate, counted, fate_count, IsReplicaCounts, AreCounts};
+
+use eve_evidence::{Counts, ReplicaCounts};
+use eve_frames::BatchView;
+use eve_history::{Fate, History};
+use eve_views::Trace;
+use std::alloc::{AllocError, Global};
+
+/// A number as 32 bits hold it, which is itself wherever they can.
+fn counted(n: usize) -> u32
+    ensures { result ≡ counted n }
+{
+    n.min(4_294_967_295) as u32
+}
+
+/// How many requests a batch has.
+fn requests_in(batch: &BatchView<'_>) -> u32
+    ensures count { result ≡ length (batch_said batch.now).1.requests }
+    ensures few { result ≤ 256 }
+{
+    counted(batch.len())
+}
+
+/// How many requests all batches have.
+fn requests_in_all(trace: &Trace<'_>) -> u32
+    ensures { result ≡ sum_by (λ b. length b.requests) trace.now.batches }
+{
+    trace.recall_limits();
+    let mut count: u32 = 0;
+    for i in 0..trace.batch_count() {
+        let batch = trace.batch(i + 1);
+        count += requests_in(&batch);
+    }
+    count
+}
+
+/// 1 where it is that fate, else 0.
+fn one_if(of: Fate, fate: Fate) -> usize
+    ensures is { result ≡ if is_fate of fate then 1 else 0 }
+    ensures few { result ≤ 1 }
+{
+    match of {
+        Fate::Committed => match fate {
+            Fate::Committed => 1,
+            _ => 0,
+        },
+        Fate::Discarded => match fate {
+            Fate::Discarded => 1,
+            _ => 0,
+        },
+        Fate::Open => match fate {
+            Fate::Open => 1,
+            _ => 0,
+        },
+    }
+}
+
+/// How many of a replica's attempts came to that.
+fn fate_count(history: &History<'_>, of: Fate) -> u32
+    ensures { result ≡ fate_count of history.now }
+{
+    let mut count: usize = 0;
+    for i in 0..history.attempts() {
+        count += one_if(of, history.fate(i));
+    }
+    counted(count)
+}
+
+/// What a replica did, in numbers.
+fn counts_of(history: &History<'_>) -> ReplicaCounts
+    ensures { IsReplicaCounts history.now result }
+{
+    ReplicaCounts {
+        committed: fate_count(history, Fate::Committed),
+        taken_over: counted(history.transfers()),
+        discarded: fate_count(history, Fate::Discarded),
+        open: fate_count(history, Fate::Open),
+        rollbacks: counted(history.rollbacks()),
+    }
+}
+
+/// What replica e did, in numbers.
+fn counts_at(trace: &Trace<'_>, histories: &[History<'_>], e: u8) -> ReplicaCounts
+    requires histories { histories.now ≡ section_histories trace.now }
+    requires there { e < length trace.now.sections }
+    ensures { IsReplicaCounts (section_history trace.now e) result }
+{
+    counts_of(&histories[e as usize])
+}
+
+/// What each replica did, in their order.
+fn counts_of_all(
+    alloc: Global,
+    trace: &Trace<'_>,
+    histories: &[History<'_>],
+) -> Result<Vec<ReplicaCounts>, AllocError>
+    requires histories { histories.now ≡ section_histories trace.now }
+    ensures as_many { IfOk result (λ all. length all.items ≡ length trace.now.sections) }
+    ensures each { IfOk result (λ all. (e : ℕ) (x : ReplicaCountsValue) → slice_get all.items e ≡ Some x
+        → IsReplicaCounts (section_history trace.now e) x) }
+{
+    let count = trace.section_count();
+    let mut all = Vec::with_capacity(alloc, count as usize)?;
+    for e in 0..count {
+        all.push(counts_at(trace, histories, e))?;
+    }
+    Ok(all)
+}
+
+/// How many requests all batches have, and what each replica did, in their order: numbers committed by an attempt,
+/// states taken over, attempts discarded and open at the end, and rollbacks.
+///
+/// docs/MODEL.md, "Section state, fate" and "Evidence". The histories are those of all replicas, in their order. One
+/// pass over the batches, three over what became of the attempts, and an entry of memory for each replica.
+pub fn counts(
+    alloc: Global,
+    trace: &Trace<'_>,
+    histories: &[History<'_>],
+) -> Result<Counts, AllocError>
+    requires histories { histories.now ≡ section_histories trace.now }
+    ensures { IfOk result (AreCounts trace.now) }
+{
+    let replicas = counts_of_all(alloc, trace, histories)?;
+    Ok(Counts {
+        requests: requests_in_all(trace),
+        replicas,
+    })
+}

@@ -1,0 +1,129 @@
+//! The evidence of a token that isn't due.
+
+ghost use Rattle.std.specs.Prelude.{◌≡◌, ◌≤◌, IfOk, IfSome, IfNone, length};
+ghost use Rattle.eve_frames.specs.Said.{attempt_said};
+ghost use Rattle.eve_views.specs.declared.fault.Code.TheVariants as code;
+ghost use Rattle.eve_token.specs.Token.{token_of};
+ghost use Rattle.eve_history.specs.SectionHistory.{section_history};
+ghost use Rattle.eve_chains.specs.Committed.{balances_to};
+ghost use Rattle.eve_chains.specs.Settling.{settling};
+ghost use Rattle.eve_agree.specs.DueTokens.{StandsInTokens};
+ghost use Rattle.eve_agree.specs.Stretches.{AreOfSection};
+ghost use Rattle.eve_evidence.specs.Told.{told_attempt};
+ghost use Rattle.eve_evidence_outcomes.specs.Token.{TellsToken, IsDueAt};
+
+use crate::balances::balances_to;
+use crate::committed::committed_attempt;
+use eve_chains::Settled;
+use eve_evidence::{Evidence, ToldAttempt};
+use eve_frames::AttemptView;
+use eve_history::History;
+use eve_history::laws::numbers_are_reached;
+use eve_smallbank::Reply;
+use eve_token::token;
+use eve_views::Trace;
+use std::alloc::{AllocError, Global};
+
+/// An attempt, by its own frame.
+pub(crate) fn told_attempt(attempt: &AttemptView<'_>) -> ToldAttempt
+    ensures { result ≡ told_attempt attempt.now.offset (attempt_said attempt.now) }
+{
+    ToldAttempt {
+        batch: attempt.seq(),
+        view: attempt.view(),
+        serial: attempt.is_serial(),
+        at: attempt.offset(),
+    }
+}
+
+/// The replies of an attempt, by request index.
+fn replies_of(alloc: Global, attempt: &AttemptView<'_>) -> Result<Vec<Reply>, AllocError>
+    ensures { IfOk result (λ replies. replies.items ≡ (attempt_said attempt.now).replies) }
+{
+    let count = attempt.len();
+    let mut replies = Vec::with_capacity(alloc, count)?;
+    for i in 0..count {
+        replies.push(attempt.reply(i))?;
+    }
+    Ok(replies)
+}
+
+/// The version's token of the balances after number n, of an attempt's batch and of its replies.
+fn token_after(
+    alloc: Global,
+    trace: &Trace<'_>,
+    history: &History<'_>,
+    settled: &Settled<'_>,
+    n: u32,
+    attempt: &AttemptView<'_>,
+) -> Result<[u8; 32], AllocError>
+    requires section { AreOfSection trace.now history.now settled.now }
+    requires there { n ≤ length settled.now.numbers }
+    ensures { IfOk result (λ due. due ≡ token_of trace.now.head.version (attempt_said attempt.now).seq
+        (balances_to trace.now history.now.replica n) (attempt_said attempt.now).replies) }
+{
+    trace.recall_limits();
+    let balances = balances_to(alloc, trace, history, settled, n)?;
+    let replies = replies_of(alloc, attempt)?;
+    Ok(token(trace.head().version, attempt.seq(), &balances, &replies))
+}
+
+/// The evidence of the token of batch n, if the attempt by which the replica committed it begins at this byte and its
+/// token isn't due.
+fn at_number<'a>(
+    alloc: Global,
+    trace: &Trace<'a>,
+    history: &History<'a>,
+    settled: &Settled<'_>,
+    n: u32,
+    place: u64,
+) -> Result<Option<Evidence<'a>>, AllocError>
+    requires section { AreOfSection trace.now history.now settled.now }
+    requires there { n ≤ length settled.now.numbers }
+    ensures told { IfOk result (λ x. IfSome x (TellsToken trace.now history.now.replica place)) }
+    ensures none { IfOk result (λ x. IfNone x (IsDueAt trace.now history.now.replica place n)) }
+{
+    numbers_are_reached();
+    history.recall_right();
+    let Some(attempt) = committed_attempt(history, n) else {
+        return Ok(None);
+    };
+    if attempt.offset() != place {
+        return Ok(None);
+    }
+    let due = token_after(alloc, trace, history, settled, n, &attempt)?;
+    let found = attempt.token();
+    if found == due.as_slice() {
+        return Ok(None);
+    }
+    Ok(Some(Evidence::Token {
+        attempt: told_attempt(&attempt),
+        found,
+        due,
+    }))
+}
+
+/// The evidence of a committed attempt whose token isn't due, by the byte of its frame: the attempt, its token, and the
+/// one that is due of the balances after its batch and of its replies.
+///
+/// docs/MODEL.md, "Due tokens" and "Evidence". The history and what it settled are those of the replica. It takes the
+/// balances of all rows once, and in version 2 hashes them all once.
+pub fn token_evidence<'a>(
+    alloc: Global,
+    trace: &Trace<'a>,
+    history: &History<'a>,
+    settled: &Settled<'_>,
+    place: u64,
+) -> Result<Evidence<'a>, AllocError>
+    requires history { history.now ≡ section_history trace.now history.now.replica }
+    requires settled { settled.now ≡ settling trace.now history.now.replica }
+    requires stands { StandsInTokens code.Token trace.now history.now.replica place }
+    ensures told { IfOk result (TellsToken trace.now history.now.replica place) }
+{
+    for n in 0..settled.committed() {
+        if let Some(found) = at_number(alloc, trace, history, settled, n + 1, place)? {
+            return Ok(found);
+        }
+    }
+    unreachable!()
+}

@@ -1,0 +1,132 @@
+//! Evidence of tokens, of majorities, of what replicas come to together, and of replies that were sent.
+
+ghost use Rattle.std.specs.Prelude.{◌≡◌, ℕ, List, IfOk, IsTrue, Some};
+ghost use Rattle.eve_grammar.specs.Following.{Spells};
+ghost use Rattle.eve_views.specs.declared.fault.Code.TheVariants as code;
+ghost use Rattle.eve_audit.specs.Verdict.{IsFirst};
+ghost use Rattle.eve_evidence_outcomes.specs.Majority.{TellsMajority};
+ghost use Rattle.eve_evidence_outcomes.specs.Outcome.{TellsOutcome};
+ghost use Rattle.eve_evidence_outcomes.specs.Outcomes.{TellsState};
+ghost use Rattle.eve_evidence_outcomes.specs.Sent.{TellsReply};
+ghost use Rattle.eve_evidence_outcomes.specs.Token.{TellsToken};
+ghost use Rattle.eve_explain.specs.Explained.{is_of_majority};
+
+use crate::replicas::{histories_of, history_of, settled_of};
+use eve_audit::AuditFault;
+use eve_chains::Settled;
+use eve_evidence::Evidence;
+use eve_evidence_outcomes::{
+    majority_evidence, outcome_evidence, reply_evidence, state_evidence, token_evidence,
+};
+use eve_grammar::laws::bytes_spell_one_trace;
+use eve_views::{Fault, Trace};
+use std::alloc::{AllocError, Global};
+
+/// The evidence of a step that no majority voted for.
+pub(crate) fn evidence_of_majority<'a>(
+    alloc: Global,
+    trace: &Trace<'a>,
+    fault: &Fault,
+) -> Result<Evidence<'a>, AuditFault>
+    requires first { (bytes : List ℕ) × Spells bytes trace.now × IsFirst bytes fault.now }
+    requires majority { IsTrue (is_of_majority fault.now.code) }
+    ensures { IfOk result (λ x. (e : ℕ) → fault.now.replica ≡ Some e
+        → TellsMajority fault.now.code trace.now e fault.now.offset x) }
+{
+    bytes_spell_one_trace();
+    let Some(e) = fault.replica else {
+        return Ok(Evidence::Untold);
+    };
+    let _history = history_of(alloc, trace, fault, e)?;
+    match majority_evidence(alloc, trace, e, fault.code, fault.offset) {
+        Ok(evidence) => Ok(evidence),
+        Err(AllocError) => Err(AuditFault::Memory),
+    }
+}
+
+/// The evidence of a token that isn't due.
+pub(crate) fn evidence_of_token<'a>(
+    alloc: Global,
+    trace: &Trace<'a>,
+    fault: &Fault,
+) -> Result<Evidence<'a>, AuditFault>
+    requires first { (bytes : List ℕ) × Spells bytes trace.now × IsFirst bytes fault.now }
+    requires token { fault.now.code ≡ code.Token }
+    ensures { IfOk result (λ x. (e : ℕ) → fault.now.replica ≡ Some e → TellsToken trace.now e fault.now.offset x) }
+{
+    bytes_spell_one_trace();
+    let Some(e) = fault.replica else {
+        return Ok(Evidence::Untold);
+    };
+    let history = history_of(alloc, trace, fault, e)?;
+    let Ok(settled) = Settled::of(alloc, &history, trace) else {
+        return Err(AuditFault::Memory);
+    };
+    match token_evidence(alloc, trace, &history, &settled, fault.offset) {
+        Ok(evidence) => Ok(evidence),
+        Err(AllocError) => Err(AuditFault::Memory),
+    }
+}
+
+/// The evidence of a reply that was sent and not committed.
+pub(crate) fn evidence_of_reply<'a>(
+    alloc: Global,
+    trace: &Trace<'a>,
+    fault: &Fault,
+) -> Result<Evidence<'a>, AuditFault>
+    requires first { (bytes : List ℕ) × Spells bytes trace.now × IsFirst bytes fault.now }
+    requires reply { fault.now.code ≡ code.Reply }
+    ensures { IfOk result (TellsReply trace.now fault.now.offset) }
+{
+    bytes_spell_one_trace();
+    let histories = histories_of(alloc, trace, fault)?;
+    Ok(reply_evidence(trace, &histories, fault.offset))
+}
+
+/// The evidence of an outcome that isn't that of the first replica that committed the batch.
+pub(crate) fn evidence_of_outcome<'a>(
+    alloc: Global,
+    trace: &Trace<'a>,
+    fault: &Fault,
+) -> Result<Evidence<'a>, AuditFault>
+    requires first { (bytes : List ℕ) × Spells bytes trace.now × IsFirst bytes fault.now }
+    requires outcome { fault.now.code ≡ code.Outcome }
+    ensures { IfOk result (λ x. (e : ℕ) → fault.now.replica ≡ Some e → TellsOutcome trace.now e fault.now.offset x) }
+{
+    bytes_spell_one_trace();
+    let Some(e) = fault.replica else {
+        return Ok(Evidence::Untold);
+    };
+    let histories = histories_of(alloc, trace, fault)?;
+    let Ok(settled) = settled_of(alloc, trace, &histories) else {
+        return Err(AuditFault::Memory);
+    };
+    match outcome_evidence(alloc, trace, &histories, &settled, e, fault.offset) {
+        Ok(evidence) => Ok(evidence),
+        Err(AllocError) => Err(AuditFault::Memory),
+    }
+}
+
+/// The evidence of a state that was taken over and isn't the one that was committed.
+pub(crate) fn evidence_of_state<'a>(
+    alloc: Global,
+    trace: &Trace<'a>,
+    fault: &Fault,
+) -> Result<Evidence<'a>, AuditFault>
+    requires first { (bytes : List ℕ) × Spells bytes trace.now × IsFirst bytes fault.now }
+    requires state { fault.now.code ≡ code.TransferBalances }
+    ensures { IfOk result (λ x. (e : ℕ) → fault.now.replica ≡ Some e → TellsState trace.now e fault.now.offset x) }
+{
+    bytes_spell_one_trace();
+    let Some(e) = fault.replica else {
+        return Ok(Evidence::Untold);
+    };
+    let histories = histories_of(alloc, trace, fault)?;
+    let Ok(settled) = settled_of(alloc, trace, &histories) else {
+        return Err(AuditFault::Memory);
+    };
+    match state_evidence(alloc, trace, &histories, &settled, e, fault.offset) {
+        Ok(evidence) => Ok(evidence),
+        Err(AllocError) => Err(AuditFault::Memory),
+    }
+}

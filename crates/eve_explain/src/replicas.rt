@@ -1,0 +1,76 @@
+//! What the replicas' sections tell, read again.
+
+ghost use Rattle.std.specs.Prelude.{◌≡◌, ◌<◌, ℕ, List, IfOk, length};
+ghost use Rattle.eve_grammar.specs.Following.{Spells};
+ghost use Rattle.eve_views.specs.Code.{phase_of};
+ghost use Rattle.eve_history.specs.SectionHistory.{section_history, section_histories, IsRightSection};
+ghost use Rattle.eve_chains.specs.Settling.{settlings};
+ghost use Rattle.eve_audit.specs.Verdict.{IsFirst};
+ghost use Rattle.eve_explain.specs.Behind.{IsBehindSection};
+
+use eve_audit::AuditFault;
+use eve_chains::Settled;
+use eve_history::History;
+use eve_views::{CheckFault, Fault, Trace};
+use std::alloc::{AllocError, Global};
+
+/// What a replica's section tells, where the first fault of the trace is one that stands only behind a right section of
+/// this replica.
+pub(crate) fn history_of<'a>(
+    alloc: Global,
+    trace: &Trace<'a>,
+    fault: &Fault,
+    e: u8,
+) -> Result<History<'a>, AuditFault>
+    requires first { (bytes : List ℕ) × Spells bytes trace.now × IsFirst bytes fault.now }
+    requires behind { IsBehindSection fault.now e }
+    requires there { e < length trace.now.sections }
+    ensures history { IfOk result (λ h. h ≡ section_history trace.now e) }
+    ensures replica { IfOk result (λ h. h.replica ≡ e) }
+    ensures right { IfOk result (λ _. IsRightSection trace.now e) }
+{
+    match History::of(alloc, trace, e) {
+        Ok(history) => Ok(history),
+        Err(CheckFault::Found(_)) => unreachable!(),
+        Err(CheckFault::Memory) => Err(AuditFault::Memory),
+    }
+}
+
+/// What all replicas' sections tell, where the first fault of the trace is one of replicas together.
+pub(crate) fn histories_of<'a>(
+    alloc: Global,
+    trace: &Trace<'a>,
+    fault: &Fault,
+) -> Result<Vec<History<'a>>, AuditFault>
+    requires first { (bytes : List ℕ) × Spells bytes trace.now × IsFirst bytes fault.now }
+    requires together { 7 < phase_of fault.now.code }
+    ensures { IfOk result (λ hs. hs.items ≡ section_histories trace.now) }
+{
+    trace.recall_limits();
+    let mut histories = Vec::new(alloc);
+    for e in 0..trace.section_count() {
+        let history = history_of(alloc, trace, fault, e)?;
+        match histories.push(history) {
+            Ok(()) => {}
+            Err(_) => return Err(AuditFault::Memory),
+        }
+    }
+    Ok(histories)
+}
+
+/// What all replicas settled.
+pub(crate) fn settled_of<'a>(
+    alloc: Global,
+    trace: &Trace<'_>,
+    histories: &[History<'a>],
+) -> Result<Vec<Settled<'a>>, AllocError>
+    requires { histories.now ≡ section_histories trace.now }
+    ensures { IfOk result (λ ss. ss.items ≡ settlings trace.now) }
+{
+    let mut settled = Vec::new(alloc);
+    for e in 0..histories.len() {
+        let one = Settled::of(alloc, &histories[e], trace)?;
+        settled.push(one)?;
+    }
+    Ok(settled)
+}

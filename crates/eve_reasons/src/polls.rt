@@ -1,0 +1,201 @@
+//! Who voted, and for what.
+
+ghost use Rattle.std.specs.Prelude.{◌+◌, ◌≤◌, length};
+ghost use Rattle.arrayvec.specs.ArrayVec.{array_vec_len};
+
+use crate::found::put_count_line;
+use crate::words::{LONGEST_REASON, put_frame};
+use eve_evidence::{Poll, ToldDecision, TransferPoll, VerifierChoice, VerifierVote};
+use eve_grammar::{Choice, FrameKind};
+use eve_lines::{LINE_ROOM, Line, put, put_number, put_token};
+
+/// Appends line `i` of a verifier's earlier vote, whose frame begins at byte `first`.
+pub(crate) fn put_two_votes(line: &mut Line, i: usize, first: u64) -> bool
+    requires { array_vec_len line.old + LONGEST_REASON ≤ LINE_ROOM }
+    ensures { array_vec_len line.new ≤ array_vec_len line.old + LONGEST_REASON }
+{
+    if i > 0 {
+        return false;
+    }
+    put(line, "first: ");
+    put_frame(line, FrameKind::Vote, first);
+    true
+}
+
+/// Appends how many verifiers there are, of all: `2 of 4 verifiers`.
+fn put_of_verifiers(line: &mut Line, votes: u64, verifiers: u64)
+    requires { array_vec_len line.old + 54 ≤ LINE_ROOM }
+    ensures { array_vec_len line.new ≤ array_vec_len line.old + 54 }
+{
+    put_number(line, votes);
+    put(line, " of ");
+    put_number(line, verifiers);
+    put(line, " verifiers");
+}
+
+/// Appends a view in which a batch is decided as commit.
+fn put_decision(line: &mut Line, decision: &ToldDecision, verifiers: u8)
+    requires { array_vec_len line.old + LONGEST_REASON ≤ LINE_ROOM }
+    ensures { array_vec_len line.new ≤ array_vec_len line.old + LONGEST_REASON }
+{
+    put(line, "decided: view ");
+    put_number(line, u64::from(decision.view));
+    put(line, ", token ");
+    put_token(line, &decision.token);
+    put(line, ", by ");
+    put_of_verifiers(line, u64::from(decision.votes), u64::from(verifiers));
+}
+
+/// Appends line `i` of two views in which a batch is decided as commit.
+pub(crate) fn put_two_decisions(
+    line: &mut Line,
+    i: usize,
+    first: &ToldDecision,
+    second: &ToldDecision,
+    verifiers: u8,
+) -> bool
+    requires { array_vec_len line.old + LONGEST_REASON ≤ LINE_ROOM }
+    ensures { array_vec_len line.new ≤ array_vec_len line.old + LONGEST_REASON }
+{
+    match i {
+        0 => put_decision(line, first, verifiers),
+        1 => put_decision(line, second, verifiers),
+        _ => return false,
+    }
+    true
+}
+
+/// Appends a batch and a view: `batch 1, view 0`.
+fn put_batch_and_view(line: &mut Line, batch: u32, view: u32)
+    requires { array_vec_len line.old + 53 ≤ LINE_ROOM }
+    ensures { array_vec_len line.new ≤ array_vec_len line.old + 53 }
+{
+    put(line, "batch ");
+    put_number(line, u64::from(batch));
+    put(line, ", view ");
+    put_number(line, u64::from(view));
+}
+
+/// Appends what votes are asked for: `for: rollback of batch 2, view 0`.
+fn put_asked_for(line: &mut Line, poll: &Poll)
+    requires { array_vec_len line.old + LONGEST_REASON ≤ LINE_ROOM }
+    ensures { array_vec_len line.new ≤ array_vec_len line.old + LONGEST_REASON }
+{
+    match &poll.choice {
+        Choice::ForRollback => {
+            put(line, "for: rollback of ");
+            put_batch_and_view(line, poll.batch, poll.view);
+        }
+        Choice::ForCommit(token) => {
+            put(line, "for: commit of ");
+            put_batch_and_view(line, poll.batch, poll.view);
+            put(line, ", token ");
+            put_token(line, token);
+        }
+    }
+}
+
+/// Appends how many verifiers voted for it.
+fn put_votes_found(line: &mut Line, votes: u8, verifiers: usize)
+    requires { array_vec_len line.old + LONGEST_REASON ≤ LINE_ROOM }
+    ensures { array_vec_len line.new ≤ array_vec_len line.old + LONGEST_REASON }
+{
+    put(line, "found: ");
+    put_of_verifiers(line, u64::from(votes), verifiers as u64);
+}
+
+/// Appends a vote behind what it says: `for it, Vote at byte 251`.
+fn put_vote(line: &mut Line, word: &str, at: u64)
+    requires room { array_vec_len line.old + 69 ≤ LINE_ROOM }
+    requires word { length word.now ≤ 32 }
+    ensures { array_vec_len line.new ≤ array_vec_len line.old + 69 }
+{
+    put(line, word);
+    put_frame(line, FrameKind::Vote, at);
+}
+
+/// Appends `verifier 0: `.
+fn put_verifier(line: &mut Line, verifier: usize)
+    requires { array_vec_len line.old + 31 ≤ LINE_ROOM }
+    ensures { array_vec_len line.new ≤ array_vec_len line.old + 31 }
+{
+    put(line, "verifier ");
+    put_number(line, verifier as u64);
+    put(line, ": ");
+}
+
+/// Appends what this verifier did; no, where it isn't there.
+fn put_verifier_vote(line: &mut Line, votes: &[VerifierVote], verifier: usize) -> bool
+    requires { array_vec_len line.old + LONGEST_REASON ≤ LINE_ROOM }
+    ensures { array_vec_len line.new ≤ array_vec_len line.old + LONGEST_REASON }
+{
+    if verifier >= votes.len() {
+        return false;
+    }
+    put_verifier(line, verifier);
+    match &votes[verifier] {
+        VerifierVote::For(at) => put_vote(line, "for it, ", *at),
+        VerifierVote::Otherwise(at) => put_vote(line, "otherwise, ", *at),
+        VerifierVote::NoVote => put(line, "no vote"),
+    }
+    true
+}
+
+/// Appends line `i` of who voted for a commit or a rollback that has no majority.
+pub(crate) fn put_poll(line: &mut Line, i: usize, poll: &Poll) -> bool
+    requires { array_vec_len line.old + LONGEST_REASON ≤ LINE_ROOM }
+    ensures { array_vec_len line.new ≤ array_vec_len line.old + LONGEST_REASON }
+{
+    match i {
+        0 => put_asked_for(line, poll),
+        1 => put_votes_found(line, poll.found, poll.votes.len()),
+        2 => put_count_line(line, "due: ", u64::from(poll.due)),
+        _ => return put_verifier_vote(line, poll.votes.as_slice(), i - 3),
+    }
+    true
+}
+
+/// Appends which commit it is: `for: commit of batch 2, view 1, any token`.
+fn put_any_token(line: &mut Line, poll: &TransferPoll)
+    requires { array_vec_len line.old + LONGEST_REASON ≤ LINE_ROOM }
+    ensures { array_vec_len line.new ≤ array_vec_len line.old + LONGEST_REASON }
+{
+    put(line, "for: commit of ");
+    put_batch_and_view(line, poll.batch, poll.view);
+    put(line, ", any token");
+}
+
+/// Appends what this verifier said; no, where it isn't there.
+fn put_verifier_choice(line: &mut Line, votes: &[VerifierChoice], verifier: usize) -> bool
+    requires { array_vec_len line.old + LONGEST_REASON ≤ LINE_ROOM }
+    ensures { array_vec_len line.new ≤ array_vec_len line.old + LONGEST_REASON }
+{
+    if verifier >= votes.len() {
+        return false;
+    }
+    put_verifier(line, verifier);
+    match &votes[verifier] {
+        VerifierChoice::Commit { token, at } => {
+            put(line, "commit ");
+            put_token(line, token);
+            put_vote(line, ", ", *at);
+        }
+        VerifierChoice::Rollback(at) => put_vote(line, "rollback, ", *at),
+        VerifierChoice::NoVote => put(line, "no vote"),
+    }
+    true
+}
+
+/// Appends line `i` of who voted for the commit of a batch whose state was taken over, where no token has a majority.
+pub(crate) fn put_transfer_poll(line: &mut Line, i: usize, poll: &TransferPoll) -> bool
+    requires { array_vec_len line.old + LONGEST_REASON ≤ LINE_ROOM }
+    ensures { array_vec_len line.new ≤ array_vec_len line.old + LONGEST_REASON }
+{
+    match i {
+        0 => put_any_token(line, poll),
+        1 => put_votes_found(line, poll.found, poll.votes.len()),
+        2 => put_count_line(line, "due: ", u64::from(poll.due)),
+        _ => return put_verifier_choice(line, poll.votes.as_slice(), i - 3),
+    }
+    true
+}

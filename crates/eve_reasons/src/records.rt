@@ -1,0 +1,191 @@
+//! In what a record differs from what its request must note, and which entry doesn't see what it must.
+
+ghost use Rattle.std.specs.Prelude.{◌+◌, ◌≤◌, length};
+ghost use Rattle.arrayvec.specs.ArrayVec.{array_vec_len};
+
+use crate::found::{put_amounts, put_count_line, put_replies, put_said, put_words};
+use crate::words::{
+    LONGEST_REASON, put_attempt_line, put_frame, put_frame_line, put_has, put_index,
+    put_request_line, put_row,
+};
+use eve_evidence::{RecordFault, Source, ToldAttempt, ToldRequest, ToldRow, WrongEntry};
+use eve_grammar::FrameKind;
+use eve_lines::{LINE_ROOM, Line, kind_word, put, put_number};
+use eve_smallbank::Versioned;
+
+/// An attempt, a request of it, and the byte at which its Access frame begins.
+#[derive(Clone, Copy)]
+pub(crate) struct RecordAt<'e, 'a> {
+    pub(crate) attempt: &'e ToldAttempt,
+    pub(crate) request: &'e ToldRequest<'a>,
+    pub(crate) at: u64,
+}
+
+/// Appends line `i` of the first three, which say which record it is.
+fn put_record_at(line: &mut Line, i: usize, record: RecordAt<'_, '_>)
+    requires { array_vec_len line.old + LONGEST_REASON ≤ LINE_ROOM }
+    ensures { array_vec_len line.new ≤ array_vec_len line.old + LONGEST_REASON }
+{
+    match i {
+        0 => put_attempt_line(line, record.attempt),
+        1 => put_request_line(line, record.request),
+        _ => put_frame_line(line, FrameKind::Access, record.at),
+    }
+}
+
+/// Appends a field of an entry: `field: row of entry 0`.
+fn put_field_of(line: &mut Line, field: &str, entry: u8)
+    requires room { array_vec_len line.old + LONGEST_REASON ≤ LINE_ROOM }
+    requires field { length field.now ≤ 32 }
+    ensures { array_vec_len line.new ≤ array_vec_len line.old + LONGEST_REASON }
+{
+    put(line, "field: ");
+    put(line, field);
+    put(line, " of entry ");
+    put_number(line, u64::from(entry));
+}
+
+/// Appends a line of a row: `found: row 3 (checking of bob)`.
+fn put_row_line(line: &mut Line, label: &str, row: &ToldRow)
+    requires room { array_vec_len line.old + LONGEST_REASON ≤ LINE_ROOM }
+    requires label { length label.now ≤ 32 }
+    ensures { array_vec_len line.new ≤ array_vec_len line.old + LONGEST_REASON }
+{
+    put(line, label);
+    put_row(line, row);
+}
+
+/// Appends line `i` of two rows, from 0.
+fn put_rows(line: &mut Line, i: usize, found: &ToldRow, due: &ToldRow) -> bool
+    requires { array_vec_len line.old + LONGEST_REASON ≤ LINE_ROOM }
+    ensures { array_vec_len line.new ≤ array_vec_len line.old + LONGEST_REASON }
+{
+    match i {
+        0 => put_row_line(line, "found: ", found),
+        1 => put_row_line(line, "due: ", due),
+        _ => return false,
+    }
+    true
+}
+
+/// Appends line `i` of how many entries a record has.
+fn put_entry_counts(line: &mut Line, i: usize, found: u8, due: u8) -> bool
+    requires { array_vec_len line.old + LONGEST_REASON ≤ LINE_ROOM }
+    ensures { array_vec_len line.new ≤ array_vec_len line.old + LONGEST_REASON }
+{
+    match i {
+        0 => put_count_line(line, "found: ", u64::from(found)),
+        1 => put_count_line(line, "due: ", u64::from(due)),
+        _ => return false,
+    }
+    true
+}
+
+/// Appends the field in which a record differs.
+fn put_record_field(line: &mut Line, wrong: &RecordFault)
+    requires { array_vec_len line.old + LONGEST_REASON ≤ LINE_ROOM }
+    ensures { array_vec_len line.new ≤ array_vec_len line.old + LONGEST_REASON }
+{
+    match wrong {
+        RecordFault::Entries { .. } => put_said(line, "field", "entries"),
+        RecordFault::Row { entry, .. } => put_field_of(line, "row", *entry),
+        RecordFault::Kind { entry, .. } => put_field_of(line, "kind", *entry),
+        RecordFault::After { entry, .. } => put_field_of(line, "after", *entry),
+        RecordFault::Reply { .. } => put_said(line, "field", "reply"),
+    }
+}
+
+/// Appends line `i`, from 0, of what was found in that field, and what was due.
+fn put_record_values(line: &mut Line, i: usize, wrong: &RecordFault) -> bool
+    requires { array_vec_len line.old + LONGEST_REASON ≤ LINE_ROOM }
+    ensures { array_vec_len line.new ≤ array_vec_len line.old + LONGEST_REASON }
+{
+    match wrong {
+        RecordFault::Entries { found, due } => put_entry_counts(line, i, *found, *due),
+        RecordFault::Row { found, due, .. } => put_rows(line, i, found, due),
+        RecordFault::Kind { found, due, .. } => {
+            put_words(line, i, kind_word(*found), kind_word(*due))
+        }
+        RecordFault::After { found, due, .. } => put_amounts(line, i, *found, *due),
+        RecordFault::Reply { found, due } => put_replies(line, i, *found, *due),
+    }
+}
+
+/// Appends line `i` of in what a record differs from what its request must note.
+pub(crate) fn put_record_fault(
+    line: &mut Line,
+    i: usize,
+    record: RecordAt<'_, '_>,
+    wrong: &RecordFault,
+) -> bool
+    requires { array_vec_len line.old + LONGEST_REASON ≤ LINE_ROOM }
+    ensures { array_vec_len line.new ≤ array_vec_len line.old + LONGEST_REASON }
+{
+    match i {
+        0 | 1 | 2 => put_record_at(line, i, record),
+        3 => put_record_field(line, wrong),
+        _ => return put_record_values(line, i - 4, wrong),
+    }
+    true
+}
+
+/// Appends which entry it is: `entry: 0, write of row 1 (checking of ann)`.
+fn put_entry_line(line: &mut Line, wrong: &WrongEntry)
+    requires { array_vec_len line.old + LONGEST_REASON ≤ LINE_ROOM }
+    ensures { array_vec_len line.new ≤ array_vec_len line.old + LONGEST_REASON }
+{
+    put(line, "entry: ");
+    put_number(line, u64::from(wrong.entry));
+    put(line, ", ");
+    put(line, kind_word(wrong.kind));
+    put(line, " of ");
+    put_row(line, &wrong.row);
+}
+
+/// Appends a line of a version and a value: `saw: version 0, value 0`.
+fn put_has_line(line: &mut Line, label: &str, has: Versioned)
+    requires room { array_vec_len line.old + LONGEST_REASON ≤ LINE_ROOM }
+    requires label { length label.now ≤ 32 }
+    ensures { array_vec_len line.new ≤ array_vec_len line.old + LONGEST_REASON }
+{
+    put(line, label);
+    put_has(line, has);
+}
+
+/// Appends who left what an entry must see: `left by: #0 of batch 1, Access at byte 236`.
+fn put_source(line: &mut Line, source: &Source)
+    requires { array_vec_len line.old + LONGEST_REASON ≤ LINE_ROOM }
+    ensures { array_vec_len line.new ≤ array_vec_len line.old + LONGEST_REASON }
+{
+    put(line, "left by: ");
+    match source {
+        Source::Opening => put(line, "the opening"),
+        Source::Write { index, batch, at } => {
+            put_index(line, *index, *batch);
+            put(line, ", ");
+            put_frame(line, FrameKind::Access, *at);
+        }
+        Source::Transfer { at } => put_frame(line, FrameKind::Transfer, *at),
+    }
+}
+
+/// Appends line `i` of the first entry of a record that doesn't see what it must.
+pub(crate) fn put_chain(
+    line: &mut Line,
+    i: usize,
+    record: RecordAt<'_, '_>,
+    wrong: &WrongEntry,
+) -> bool
+    requires { array_vec_len line.old + LONGEST_REASON ≤ LINE_ROOM }
+    ensures { array_vec_len line.new ≤ array_vec_len line.old + LONGEST_REASON }
+{
+    match i {
+        0 | 1 | 2 => put_record_at(line, i, record),
+        3 => put_entry_line(line, wrong),
+        4 => put_has_line(line, "saw: ", wrong.saw),
+        5 => put_has_line(line, "due: ", wrong.due),
+        6 => put_source(line, &wrong.left_by),
+        _ => return false,
+    }
+    true
+}
