@@ -13,6 +13,7 @@ use eve_write::{
     RollbackData, SentData, Step, TransactionData, VoteData,
 };
 use std::alloc::{AllocError, Global};
+use std::sync::Arc;
 
 /// A trace that was read has right names alone.
 fn name_of(bytes: &[u8]) -> Result<Name, AllocError> {
@@ -128,7 +129,7 @@ fn step_of(alloc: Global, seen: Seen<'_, '_>) -> Result<Step, AllocError> {
         Seen::Attempt(attempt, accesses) => Step::Attempt(attempt_of(alloc, attempt, &accesses)?),
         Seen::Commit(commit) => Step::Commit(commit_of(commit)),
         Seen::Rollback(rollback) => Step::Rollback(rollback_of(alloc, rollback)?),
-        Seen::Transfer(transfer) => Step::Transfer(copy_of(alloc, &transfer)?),
+        Seen::Transfer(transfer) => { Step::Transfer(Arc::new(alloc, copy_of(alloc, &transfer)?)?) }
     })
 }
 

@@ -18,7 +18,7 @@ next_by s b is =
     ap (λ (c : Bool). if c then option_map (λ o. o.token) (slice_get s.replica.ledger.opened 0) else None) is
 
 -- one that passes
-abbrev Passes : (Server → Bool) → List Server → Type 0
+abbrev pub Passes : (Server → Bool) → List Server → Type 0
 Passes p xs = (k : ℕ) × (x : Server) × (k < length xs) × ((d : Server) → p (get_or xs k d) ≡ true)
 
 passes_at : (p : Server → Bool) (x : Server) (xs : List Server) (b : Bool) → p x ≡ b → 0 < count_by p (x ∷ xs)
@@ -32,7 +32,7 @@ passes_at p x xs false e some rest =
     let r = rest (subst (λ (n : ℕ). 0 < n) (counted ∙ none) some) in
     (suc r.0, r.1, omega arith, λ d. r.3 d)
 
-passes : (p : Server → Bool) (xs : List Server) → 0 < count_by p xs → Passes p xs
+pub passes : (p : Server → Bool) (xs : List Server) → 0 < count_by p xs → Passes p xs
 passes p [] some = absurd (omega arith)
 passes p (x ∷ xs) some = passes_at p x xs (p x) refl some (passes p xs)
 

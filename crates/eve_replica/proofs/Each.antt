@@ -1,9 +1,15 @@
 -- Replicas of a run, one after another.
-use Rattle.std.proofs.Common.{◌≡◌, ℕ, ◌+◌, ◌<◌, ◌≤◌, List, All, length, get_or, set, refl, sym, ◌∙◌, subst}
-use Rattle.std.proofs.Common.{inl, inr, arith}
+use Rattle.std.proofs.Common.{◌≡◌, ℕ, suc, ◌+◌, ◌<◌, ◌≤◌, List, [], ◌∷◌, All, length, map, get_or, set, refl, sym}
+use Rattle.std.proofs.Common.{◌∙◌, subst, inl, inr, arith}
+use Rattle.std.specs.List.{AllZip}
+use Rattle.std.proofs.lemmas.Slice.Zip.{AllZip-long}
+use Rattle.std.proofs.lemmas.List.Elements.{AllZip-get_or}
 use Rattle.std.proofs.lemmas.Bool.{cases_lt}
 use Rattle.std.proofs.lemmas.List.{get_or-set_same, get_or-set_other, get_or_default, length-set}
+use Rattle.eve_grammar.specs.Trace.{Step}
+use Rattle.eve_write.specs.Data.{section}
 use Rattle.eve_replica.specs.declared.server.Server.{Server}
+use Rattle.eve_replica.specs.Serving.{sections_in}
 
 -- Of these replicas each below this number has become what it should, and the others are as they were.
 pub record AreOn (Becomes : Server → Server → Type 0) (was : List Server) (number : ℕ) (servers : List Server) : Type 0
@@ -60,3 +66,37 @@ pub still : (P : Server → Type 0) (Becomes : Server → Server → Type 0) (wa
     → P (get_or servers number d)
 still P Becomes was number servers d all on there =
     subst P (sym (on.left number d (omega arith))) (all number d (omega (arith, on.many)))
+
+-- ---- pair by pair
+
+pub pairs_of : (Becomes : Server → Server → Type 0) (was servers : List Server) → AreAllOn Becomes was servers
+    → AllZip Becomes was servers
+pairs_of Becomes [] [] on = tt
+pairs_of Becomes [] (s ∷ servers) on = absurd (omega (arith, on.many))
+pairs_of Becomes (w ∷ was) [] on = absurd (omega (arith, on.many))
+pairs_of Becomes (w ∷ was) (s ∷ servers) on = (
+  on.each 0 w (omega arith),
+  pairs_of Becomes was servers
+      (record { many = omega (arith, on.many); each = λ k d there. on.each (suc k) d (omega arith) }),
+)
+
+pub all_in_pairs : (Becomes : Server → Server → Type 0) (was servers : List Server) → AllZip Becomes was servers
+    → AreAllOn Becomes was servers
+all_in_pairs Becomes was servers pairs =
+    let many = AllZip-long Becomes was servers pairs in
+    record { many = many; each = λ k d there. AllZip-get_or Becomes was servers k d d pairs (omega arith) }
+
+pairs_mapped : {A B C D : Type 0} (R : C → D → Type 0) (f : A → C) (g : B → D) (xs : List A) (ys : List B)
+    → AllZip (λ x y. R (f x) (g y)) xs ys → AllZip R (map f xs) (map g ys)
+pairs_mapped R f g [] [] pairs = tt
+pairs_mapped R f g [] (y ∷ ys) pairs = absurd pairs
+pairs_mapped R f g (x ∷ xs) [] pairs = absurd pairs
+pairs_mapped R f g (x ∷ xs) (y ∷ ys) pairs = (pairs.0, pairs_mapped R f g xs ys pairs.1)
+
+-- what they did
+pub in_sections : (Grows : List Step → List Step → Type 0) (was servers : List Server)
+    → AreAllOn (λ old new. Grows (section old.steps) (section new.steps)) was servers
+    → AllZip Grows (sections_in was) (sections_in servers)
+in_sections Grows was servers on =
+    pairs_mapped Grows (λ s. section s.steps) (λ s. section s.steps) was servers
+    (pairs_of (λ old new. Grows (section old.steps) (section new.steps)) was servers on)

@@ -47,9 +47,11 @@ view_rises p (Commits x ∷ steps) a b goes =
     let here = ap (λ (s : Ledger). s.view) goes.1.changed in
     let rest = view_rises p steps goes.0 b goes.2 in omega arith
 view_rises p (RollsBack x ∷ steps) a b goes =
-    let here = ap (λ (s : Ledger). s.view) goes.1.1.changed in
+    let here = ap (λ (s : Ledger). s.view) goes.1.rolled_back.changed in
     let rest = view_rises p steps goes.0 b goes.2 in omega arith
-view_rises p (TakesOver x ∷ steps) a b goes = absurd goes.1
+view_rises p (TakesOver x ∷ steps) a b goes =
+    let here = ap (λ (s : Ledger). s.view) goes.1.taken.changed in
+    let rest = view_rises p steps goes.0 b goes.2 in omega (arith, goes.1.view)
 
 -- For a view to which a section doesn't come, what its next steps give up is of what it leaves open.
 pub given_up_along : (p : RunPlan) (view : ℕ) (steps rest : List Step) (a b : Ledger) → GoesThrough p steps a b
@@ -71,7 +73,7 @@ given_up_along p view (Commits x ∷ steps) rest a b goes none =
     ap (λ (ts : List (List ℕ)). token_given_up view ts (steps ++ rest)) (sym tokens)
     ∙ given_up_along p view steps rest goes.0 b goes.2 (λ up. none (omega arith))
 given_up_along p view (RollsBack x ∷ steps) rest a b goes none =
-    let made = goes.1.1 in
+    let made = goes.1.rolled_back in
     let to = made.view in
     let here = ap (λ (s : Ledger). s.view) made.changed in
     let rise = view_rises p steps goes.0 b goes.2 in
@@ -79,7 +81,11 @@ given_up_along p view (RollsBack x ∷ steps) rest a b goes none =
     (ne_eqb x.view view (λ same. let past = none (omega arith) in omega arith))
     ∙ ap (λ (ts : List (List ℕ)). token_given_up view ts (steps ++ rest)) (sym (ap tokens_of made.changed))
     ∙ given_up_along p view steps rest goes.0 b goes.2 (λ up. none (omega arith))
-given_up_along p view (TakesOver x ∷ steps) rest a b goes none = absurd goes.1
+given_up_along p view (TakesOver x ∷ steps) rest a b goes none =
+    let made = goes.1.taken in
+    let stays = ap (λ (s : Ledger). s.view) made.changed ∙ goes.1.view in
+    ap (λ (ts : List (List ℕ)). token_given_up view ts (steps ++ rest)) (sym (ap tokens_of made.changed))
+    ∙ given_up_along p view steps rest goes.0 b goes.2 (λ up. none (omega arith))
 
 -- For such a view nothing was given up,
 pub none_given_up : (p : RunPlan) (view : ℕ) (steps : List Step) (b : Ledger) → p.first.opened ≡ []
@@ -130,8 +136,10 @@ open_along p (Commits x ∷ steps) opened a b goes marked =
     ∙ ap (drop 1) (marked ∙ ap (map open_marked) goes.1.opened)
     ∙ sym (ap (λ (s : Ledger). map open_marked s.opened) goes.1.changed))
 open_along p (RollsBack x ∷ steps) opened a b goes marked =
-    open_along p steps [] goes.0 b goes.2 (sym (ap (λ (s : Ledger). map open_marked s.opened) goes.1.1.changed))
-open_along p (TakesOver x ∷ steps) opened a b goes marked = absurd goes.1
+    open_along p steps [] goes.0 b goes.2
+    (sym (ap (λ (s : Ledger). map open_marked s.opened) goes.1.rolled_back.changed))
+open_along p (TakesOver x ∷ steps) opened a b goes marked =
+    open_along p steps [] goes.0 b goes.2 (sym (ap (λ (s : Ledger). map open_marked s.opened) goes.1.taken.changed))
 
 -- the first of them
 pub first_open : (attempts : List Attempt) (own : Opened) (others : List Opened)

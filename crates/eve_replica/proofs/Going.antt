@@ -13,7 +13,8 @@ use Rattle.std.proofs.lemmas.Bool.{false≢true}
 use Rattle.std.proofs.lemmas.List.Elements.{All-append, All-cons, All-nil}
 use Rattle.std.proofs.lemmas.Option.{slice_get-map, slice_get_within}
 use Rattle.std.specs.List.{count_by}
-use Rattle.eve_grammar.specs.Trace.{Batch, Attempt, Vote}
+use Rattle.eve_grammar.specs.Trace.{Batch, Attempt, Step, Vote}
+use Rattle.eve_grammar.proofs.Lists.{all-append}
 use Rattle.eve_write.specs.Data.{batch, section, vote}
 use Rattle.eve_workload.specs.declared.mixer.MixedBatch.{MixedBatch}
 use Rattle.eve_attempts.specs.declared.front.AttemptFront.{AttemptFront}
@@ -23,20 +24,17 @@ use Rattle.eve_replica.specs.declared.standing.Standing.{Standing}
 use Rattle.eve_replica.specs.declared.server.Server.{Server}
 use Rattle.eve_replica.specs.declared.run_state.RunState.{RunState}
 use Rattle.eve_replica.specs.Replicas.{Replica, AttemptsDue, front_of}
-use Rattle.eve_replica.specs.Sections.{RunPlan, AttemptsNext, place_due, votes_along}
-use Rattle.eve_replica.specs.Serving.{standing_of, after_attempts, AreDue, AreVotesOn, AreOfItsView}
+use Rattle.eve_replica.specs.Sections.{RunPlan, AttemptsNext, AreVotesOf, place_due, reaches_batch}
+use Rattle.eve_replica.specs.Serving.{standing_of, after_attempts, AreDue, AreVotesOn, AreOfItsView, IsLeft}
 use Rattle.eve_replica.specs.Serving.{ComesTo, window_at, IsOutvoted, IsLedBy, Serves}
 use Rattle.eve_replica.specs.Deciding.{AreUndecided}
+use Rattle.eve_replica.specs.Taken.{AreTakenIn, AreCommittedByMost}
 use Rattle.eve_replica.specs.Windows.{WindowState}
 use Rattle.eve_replica.specs.Serving.{Move, attempt_move, rollback_move, AreBatchesFrom, GoesOn, GivesUpNext}
 use Rattle.eve_replica.specs.Serving.{IsUnderWay, live_in, sections_in}
 use Rattle.eve_replica.proofs.Counting.{counted_alike}
 use Rattle.eve_replica.proofs.Each.{AreAllOn}
 use Rattle.eve_replica.proofs.Windows.{same_state}
-
--- the place that is due where a replica stands
-place_at : (s : Ledger) (at : Standing) → standing_of s ≡ at → at.committed + at.opened ≡ place_due s
-place_at s at stands = ap (λ (x : Standing). x.committed + x.opened) (sym stands)
 
 -- who is outvoted stays so, whatever votes come
 more_votes : (s : Ledger) (later more : List Vote) → IsOutvoted s later → IsOutvoted s (later ++ more)
@@ -59,60 +57,76 @@ outvoted_on votes more s false is led stops = more_votes s.replica.ledger led.la
 
 -- a live replica was led by all votes, one that stopped by the first of them
 led_on : (votes more : List Vote) (old new : Server) (b : Bool) → new.is_live ≡ b → IsLedBy votes old
-    → votes_along (section new.steps) ≡ votes_along (section old.steps) ++ (if b then more else [])
+    → ((own : List Vote) → AreVotesOf (section old.steps) own
+    → AreVotesOf (section new.steps) (own ++ (if b then more else [])))
     → (new.is_live ≡ true → old.is_live ≡ true)
     → (new.is_live ≡ false → new.replica.ledger ≡ old.replica.ledger)
     → (new.is_live ≡ false → old.is_live ≡ true → IsOutvoted old.replica.ledger more)
     → IsLedBy (votes ++ more) new
 led_on votes more old new true is led along live stays stops = record {
+  own = led.own ++ more;
   later = [];
+  led = along led.own led.led;
   first = ap (λ (vs : List Vote). vs ++ more) led.first
-      ∙ ap (λ (vs : List Vote). (votes_along (section old.steps) ++ vs) ++ more) (led.none_later (live is))
-      ∙ ap (λ (vs : List Vote). vs ++ more) (append-nil (votes_along (section old.steps)))
-      ∙ sym along ∙ sym (append-nil (votes_along (section new.steps)));
+      ∙ ap (λ (vs : List Vote). (led.own ++ vs) ++ more) (led.none_later (live is))
+      ∙ ap (λ (vs : List Vote). vs ++ more) (append-nil led.own)
+      ∙ sym (append-nil (led.own ++ more));
   none_later = λ h. refl;
   stopped = λ h. absurd (false≢true (sym h ∙ is));
 }
 led_on votes more old new false is led along live stays stops = record {
+  own = led.own;
   later = led.later ++ more;
-  first = ap (λ (vs : List Vote). vs ++ more) led.first
-      ∙ append_assoc (votes_along (section old.steps)) led.later more
-      ∙ ap (λ (vs : List Vote). vs ++ (led.later ++ more))
-      (sym (along ∙ append-nil (votes_along (section old.steps))));
+  led = subst (λ (vs : List Vote). AreVotesOf (section new.steps) vs) (append-nil led.own) (along led.own led.led);
+  first = ap (λ (vs : List Vote). vs ++ more) led.first ∙ append_assoc led.own led.later more;
   none_later = λ h. absurd (false≢true (sym is ∙ h));
   stopped = λ h.
       subst (λ (s : Ledger). IsOutvoted s (led.later ++ more)) (sym (stays is))
       (outvoted_on votes more old old.is_live refl led (stops is));
 }
 
+-- The batches of the move are due where replicas stand: where it has some none is awaited.
+abbrev pub AreNext : RunPlan → Standing → Move → Type 0
+AreNext p at m = (0 < length m.window → at.opened ≡ 0) × AreBatchesFrom p.batches (at.committed + at.opened) m.window
+
 -- a replica that went on serves, further on
-pub goes_on : (p : RunPlan) (at : Standing) (votes : List Vote) (m : Move) (old new : Server)
-    → AreBatchesFrom p.batches (at.committed + at.opened) m.window
+pub goes_on : (p : RunPlan) (at : Standing) (votes : List Vote) (m : Move) (old new : Server) → AreNext p at m
+    → (old.is_live ≡ true → IsLeft p.batches at)
     → (old.is_live ≡ true → m.InWindow p.first.window (window_at p at) (window_at p (m.further at)))
     → GoesOn m old new → Serves p at votes old → Serves p (m.further at) (votes ++ m.votes at) new
-goes_on p at votes m old new next leads goes serves = record {
+goes_on p at votes m old new next left leads goes serves = record {
   names = goes.names ∙ serves.names;
   rows = goes.rows ∙ serves.rows;
   room = goes.room ∙ serves.room;
+  version = goes.version ∙ serves.version;
   whole = goes.whole serves.whole;
   steps = goes.steps serves.steps;
-  through = goes.through p serves.names
-      (λ is. subst (λ (n : ℕ). AreBatchesFrom p.batches n m.window)
-      (place_at old.replica.ledger at (serves.live is)) next)
-      serves.through;
+  through = goes.through p serves.names due_here
+      (λ is. subst (IsLeft p.batches) (sym (serves.live is)) (left is)) serves.through;
   windows = goes.windows p.first.window (length p.batches) (window_of old) (window_of new) in_window
-      (λ is. ap (λ (s : Ledger). window_at p (standing_of s)) (sym (goes.stays is))) serves.windows;
+      (λ is. ap (window_at p) (sym (goes.stands is))) serves.windows;
   of_view = goes.of_view serves.of_view;
   led = led_on votes (m.votes at) old new new.is_live refl serves.led (along new.is_live refl)
       (λ is. (goes.live is).0) goes.stays
       (λ is live. subst (IsOutvoted old.replica.ledger) (ap m.votes (serves.live live)) (goes.stops is live));
   view = goes.view at serves.view;
+  missing = goes.missing serves.missing;
+  stays_live = λ two. goes.stays_live (serves.version ∙ two) (serves.stays_live two);
   live = λ is. (goes.live is).1 ∙ ap m.further (serves.live (goes.live is).0);
   behind = goes.behind at serves.live serves.behind;
 }
   where
     window_of : Server → WindowState
-    window_of s = window_at p (standing_of s.replica.ledger)
+    window_of s = window_at p (standing_of s)
+
+    due_here : old.is_live ≡ true → AreBatchesFrom p.batches (place_due old.replica.ledger) m.window
+    due_here is k below =
+        let committed = ap (λ (x : Standing). x.committed) (serves.live is) in
+        let opened = ap (λ (x : Standing). x.opened) (serves.live is) in
+        let none = next.0 (omega (arith, below)) in
+        let place : place_due old.replica.ledger + k ≡ at.committed + at.opened + k =
+        omega (arith, committed, opened, none) in
+        ap (slice_get p.batches) place ∙ next.1 k below
 
     in_window : new.is_live ≡ true → m.InWindow p.first.window (window_of old) (window_of new)
     in_window is =
@@ -123,16 +137,15 @@ goes_on p at votes m old new next leads goes serves = record {
         (sym (live.1 ∙ ap m.further stood)) (leads live.0))
 
     here : (b : Bool) → new.is_live ≡ b → Path (List Vote)
-        (if b then m.votes (standing_of old.replica.ledger) else []) (if b then m.votes at else [])
+        (if b then m.votes (standing_of old) else []) (if b then m.votes at else [])
     here true is = ap m.votes (serves.live (goes.live is).0)
     here false is = refl
 
-    along : (b : Bool) → new.is_live ≡ b
-        → votes_along (section new.steps) ≡ votes_along (section old.steps) ++ (if b then m.votes at else [])
-    along b is = goes.votes serves.of_view
-        ∙ ap (λ (c : Bool). votes_along (section old.steps)
-        ++ (if c then m.votes (standing_of old.replica.ledger) else [])) is
-        ∙ ap (λ (vs : List Vote). votes_along (section old.steps) ++ vs) (here b is)
+    along : (b : Bool) → new.is_live ≡ b → (own : List Vote) → AreVotesOf (section old.steps) own
+        → AreVotesOf (section new.steps) (own ++ (if b then m.votes at else []))
+    along b is own are = subst (λ (vs : List Vote). AreVotesOf (section new.steps) (own ++ vs))
+        (ap (λ (c : Bool). if c then m.votes (standing_of old) else []) is ∙ here b is)
+        (goes.votes serves.of_view own are)
 
 pub stand : (view committed opened opened' : ℕ) → opened ≡ opened'
     → Path Standing (record { view = view; committed = committed; opened = opened })
@@ -140,13 +153,24 @@ pub stand : (view committed opened opened' : ℕ) → opened ≡ opened'
 stand view committed opened opened' same =
     ap (λ (n : ℕ). record { view = view; committed = committed; opened = n }) same
 
+-- where a replica with this account stands that misses this number
+abbrev pub standing_with : ℕ → Ledger → Standing
+standing_with missing s =
+    record { view = s.view; committed = s.committed; opened = length s.opened + missing }
+
 -- an attempt was made
-pub attempted : (old new : Replica) (b : Batch) (a : Attempt) → AttemptsDue old new b a
-    → standing_of new.ledger ≡ after_attempts 1 (standing_of old.ledger)
-attempted old new b a made =
-    let opens = made.1.1.closed.opens in
-    ap standing_of opens.changed
-    ∙ stand old.ledger.view old.ledger.committed _ (length old.ledger.opened + 1) (length-append old.ledger.opened _)
+pub attempted : (old new : Server) (b : Batch) (a : Attempt) → AttemptsDue old.replica new.replica b a
+    → new.missing ≡ old.missing → standing_of new ≡ after_attempts 1 (standing_of old)
+attempted old new b a made same =
+    let closed = made.1.1.closed in
+    let ledger = old.replica.ledger in
+    let one = opened_as a closed.ordered in
+    let longer : length (ledger.opened ++ one ∷ []) ≡ length ledger.opened + 1 =
+    length-append ledger.opened (one ∷ []) in
+    ap (λ (n : ℕ). standing_with n new.replica.ledger) same
+    ∙ ap (standing_with old.missing) closed.opens.changed
+    ∙ stand ledger.view ledger.committed (length (ledger.opened ++ one ∷ []) + old.missing)
+    (length ledger.opened + old.missing + 1) (omega (arith, longer))
 
 -- the account makes the attempt of the batch that is due
 pub attempts_next : (p : RunPlan) (old new : Replica) (b : Batch) (a : Attempt) → AreDue 1 old.ledger
@@ -179,37 +203,48 @@ pub no_votes : (b : Bool) (vs : List Vote) → vs ++ (if b then [] else []) ≡ 
 no_votes true vs = append-nil vs
 no_votes false vs = append-nil vs
 
--- so many attempts, and one more
+-- this number of attempts, and one more
 pub one_more : (many : ℕ) (window : List Batch) (w : Batch) (a b c : Server) → slice_get window many ≡ Some w
-    → GoesOn (attempt_move many window) a b → GoesOn (attempt_move 1 (w ∷ [])) b c
+    → b.missing ≡ a.missing → GoesOn (attempt_move many window) a b → GoesOn (attempt_move 1 (w ∷ [])) b c
     → GoesOn (attempt_move (many + 1) window) a c
-one_more many window w a b c there first more =
-    let at = standing_of a.replica.ledger in
+one_more many window w a b c there same first more =
+    let at = standing_of a in
     record {
       names = more.names ∙ first.names;
       rows = more.rows ∙ first.rows;
       room = more.room ∙ first.room;
+      version = more.version ∙ first.version;
       whole = λ h. more.whole (first.whole h);
+      added = (
+        first.added.0 ++ more.added.0,
+        more.added.1 ∙ ap (λ (ss : List Step). ss ++ more.added.0) first.added.1
+            ∙ append_assoc (section a.steps) first.added.0 more.added.0,
+        all-append (λ (x : Step). reaches_batch x ≡ false) first.added.0 more.added.0 first.added.2 more.added.2,
+      );
       steps = λ h. more.steps (first.steps h);
-      through = λ p names follow goes. more.through p (first.names ∙ names) (λ live. next_one p follow live)
-          (first.through p names follow goes);
+      through = λ p names follow left goes. more.through p (first.names ∙ names) (λ live. next_one p follow live)
+          (λ live. left_one p follow live) (first.through p names follow left goes);
       windows = λ size batches from to. windows_on size batches from to c.is_live refl;
       of_view = λ h. more.of_view (first.of_view h);
       given_up = λ view stays.
           more.given_up view (λ enters. omega arith) ∙ first.given_up view (λ enters. omega arith);
-      votes = λ h. more.votes (first.of_view h) ∙ no_votes c.is_live _ ∙ first.votes h ∙ no_votes b.is_live _
-          ∙ sym (no_votes c.is_live _);
+      votes = λ h own are. more.votes (first.of_view h) own
+          (subst (λ (vs : List Vote). AreVotesOf (section b.steps) vs) (no_votes b.is_live own)
+          (first.votes h own are));
       view = λ x h. more.view x (first.view x h);
       live = λ is. (
         (first.live (more.live is).0).0,
         (more.live is).1 ∙ ap (after_attempts 1) (first.live (more.live is).0).1
             ∙ stand at.view at.committed (at.opened + many + 1) (at.opened + (many + 1)) (omega arith),
       );
+      missing = λ h. more.missing (first.missing h);
+      stays_live = λ two live. more.stays_live (first.version ∙ two) (first.stays_live two live);
       behind = λ x stands was.
           more.behind (after_attempts many x)
           (λ is. (first.live is).1 ∙ ap (after_attempts many) (stands (first.live is).0))
           (first.behind x stands was);
       stays = λ is. more.stays is ∙ first.stays (stopped_before b.is_live refl is);
+      stands = λ is. more.stands is ∙ first.stands (stopped_before b.is_live refl is);
       stops = λ is live. first.stops (stopped_before b.is_live refl is) live;
     }
   where
@@ -235,15 +270,27 @@ one_more many window w a b c there first more =
         (first.windows size batches from from
         (λ is. absurd (false≢true (sym (stopped_before b.is_live refl stopped) ∙ is))) (λ is. refl) comes)
 
+    -- the batch after those attempted is the next
+    there_next : (p : RunPlan) → (a.is_live ≡ true → AreBatchesFrom p.batches (place_due a.replica.ledger) window)
+        → b.is_live ≡ true → slice_get p.batches (place_due a.replica.ledger + many) ≡ Some w
+    there_next p follow live = follow (first.live live).0 many (slice_get_within window many w there) ∙ there
+
     next_one : (p : RunPlan) → (a.is_live ≡ true → AreBatchesFrom p.batches (place_due a.replica.ledger) window)
         → b.is_live ≡ true → AreBatchesFrom p.batches (place_due b.replica.ledger) (w ∷ [])
     next_one p follow live zero below =
-        let stood = first.live live in
+        let committed = ap (λ (x : Standing). x.committed) (first.live live).1 in
+        let opened = ap (λ (x : Standing). x.opened) (first.live live).1 in
         let place : place_due b.replica.ledger + 0 ≡ place_due a.replica.ledger + many =
-        omega (arith, place_at b.replica.ledger _ stood.1) in
-        ap (slice_get p.batches) place
-        ∙ follow stood.0 many (slice_get_within window many w there) ∙ there
+        omega (arith, committed, opened, same) in
+        ap (slice_get p.batches) place ∙ there_next p follow live
     next_one p follow live (suc k) below = absurd (omega arith)
+
+    left_one : (p : RunPlan) → (a.is_live ≡ true → AreBatchesFrom p.batches (place_due a.replica.ledger) window)
+        → b.is_live ≡ true → IsLeft p.batches (standing_of b)
+    left_one p follow live some =
+        let committed = ap (λ (x : Standing). x.committed) (first.live live).1 in
+        let within = slice_get_within p.batches (place_due a.replica.ledger + many) w (there_next p follow live) in
+        omega (arith, committed, within)
 
 -- where a whole window was attempted
 pub window_open : (many : ℕ) (at : Standing) → at.opened ≡ 0
@@ -288,21 +335,27 @@ due p many at votes s fits last serves live =
     let stands = serves.live live in
     let opened = ap (λ (x : Standing). x.opened) stands in
     let committed = ap (λ (x : Standing). x.committed) stands in
-    record { last = omega arith; room = omega (arith, serves.room) }
+    record { last = omega (arith, opened, committed); room = omega (arith, opened, serves.room) }
+
+-- one that awaits nothing misses nothing
+pub none_missing : (p : RunPlan) (at : Standing) (votes : List Vote) (s : Server) → at.opened ≡ 0
+    → Serves p at votes s → s.is_live ≡ true → s.missing ≡ 0
+none_missing p at votes s none serves live =
+    let opened = ap (λ (x : Standing). x.opened) (serves.live live) in omega (arith, opened, none)
 
 -- ---- all replicas
 
 -- Replicas went on by this move, and serve further on.
 pub serve_on : (p : RunPlan) (at : Standing) (votes : List Vote) (m : Move) (was servers : List Server)
-    → AreBatchesFrom p.batches (at.committed + at.opened) m.window
+    → AreNext p at m → IsLeft p.batches at
     → ((k : ℕ) (d : Server) → k < length was → (get_or was k d).is_live ≡ true
     → m.InWindow p.first.window (window_at p at) (window_at p (m.further at)))
     → AreAllOn (GoesOn m) was servers → All (Serves p at votes) was
     → All (Serves p (m.further at) (votes ++ m.votes at)) servers
-serve_on p at votes m was servers next leads on serve = λ k d there.
+serve_on p at votes m was servers next left leads on serve = λ k d there.
     let before : k < length was = omega (arith, on.many) in
-    goes_on p at votes m (get_or was k d) (get_or servers k d) next (leads k d before) (on.each k d there)
-    (serve k d before)
+    goes_on p at votes m (get_or was k d) (get_or servers k d) next (λ live. left) (leads k d before)
+    (on.each k d there) (serve k d before)
 
 -- wherever a live replica is said to stand, it has as many attempts open
 pub open_there : (p p' : RunPlan) (at at' : Standing) (votes votes' : List Vote) (s : Server) → Serves p at votes s
@@ -340,17 +393,20 @@ pub lent_undecided : (p : RunPlan) (d : RunState) (lent : List Server) → IsUnd
 lent_undecided p d lent was same =
     subst (λ (servers : List Server). AreUndecided (sections_in servers)) (sym same) was.undecided
 
--- a run whose replicas have gone on to stand here is under way
-pub moved : (p : RunPlan) (d : RunState) (given : List Server) (at : Standing) (votes : Vec VoteData Global)
+-- a run whose replicas have gone on to stand here is under way, with whatever room for states
+pub moved : (p : RunPlan) (d : RunState) (given : List Server) (at : Standing) (votes : Vec VoteData Global) (room : ℕ)
     → IsUnderWay p d → length given ≡ vec_len d.servers
     → at.committed + at.opened ≤ length d.batches.now → AreVotesOn (length d.batches.now) votes.items
     → All (Serves p at (map vote votes.items)) given → length given < 2 * live_in given
+    → AreCommittedByMost at.committed (sections_in given) → AreTakenIn p (sections_in given)
     → AreUndecided (sections_in given)
-    → IsUnderWay p (record d { servers = with_items d.servers given; standing = at; votes = votes })
-moved p d given at votes was many due right go majority undecided = record {
+    → IsUnderWay p (record d { servers = with_items d.servers given; standing = at; votes = votes; room = room })
+moved p d given at votes room was many due right go majority committed taken undecided = record {
   begun = was.begun;
   customers = was.customers;
   window = was.window;
+  version = was.version;
+  known = was.known;
   batches = was.batches;
   few = was.few;
   room = was.room;
@@ -361,6 +417,10 @@ moved p d given at votes was many due right go majority undecided = record {
       (sym (with_items_is d.servers given many)) go;
   majority = subst (λ (servers : List Server). length servers < 2 * live_in servers)
       (sym (with_items_is d.servers given many)) majority;
+  committed = subst (λ (servers : List Server). AreCommittedByMost at.committed (sections_in servers))
+      (sym (with_items_is d.servers given many)) committed;
+  taken = subst (λ (servers : List Server). AreTakenIn p (sections_in servers))
+      (sym (with_items_is d.servers given many)) taken;
   undecided = subst (λ (servers : List Server). AreUndecided (sections_in servers))
       (sym (with_items_is d.servers given many)) undecided;
   votes = right;

@@ -1,5 +1,9 @@
 pub mod Counting
 mod Each
+mod ByMost
+mod Taking
+mod Committing
+mod UnderWay
 mod GivenUp
 mod Undecided
 mod Going
@@ -12,3 +16,4 @@ mod Answering
 mod WhereWell
 mod Noted
 mod Parts
+mod StatesTaken

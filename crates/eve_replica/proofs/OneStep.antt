@@ -1,33 +1,50 @@
--- Public: other crates cite these lemmas. A replica that attempts, commits or rolls back goes on.
-use Rattle.std.proofs.Common.{◌≡◌, ℕ, suc, ◌+◌, ◌-◌, ◌<◌, ◌≤◌, Bool, true, false, if◌then◌else◌}
+-- Public: other crates cite these lemmas. A replica that attempts, commits, takes over or rolls back goes on.
+use Rattle.std.proofs.Common.{◌≡◌, ℕ, zero, suc, ◌+◌, ◌-◌, ◌<◌, ◌≤◌, Bool, true, false, if◌then◌else◌}
 use Rattle.std.proofs.Common.{List, [], ◌∷◌, ◌++◌, length, slice_get, Option, Some, option_map, All, IsTrue, refl}
 use Rattle.std.proofs.Common.{sym, ap, ◌∙◌, subst, arith, add-zero}
-use Rattle.std.proofs.lemmas.List.{append-nil}
+use Rattle.std.proofs.lemmas.List.{append-nil, length-map}
 use Rattle.std.proofs.lemmas.List.Elements.{All-head, All-tail, All-nil}
 use Rattle.std.proofs.lemmas.Bool.{false≢true}
 use Rattle.std.proofs.lemmas.Slice.Eq.{bytes_eq-Decides}
 use Rattle.std.specs.List.{list_all}
+use Rattle.eve_smallbank.specs.declared.versioned.Versioned.{Versioned}
 use Rattle.eve_grammar.specs.Limits.{is_step}
-use Rattle.eve_grammar.specs.Trace.{Batch, Step, Attempt, Attempts, Commit, Rollback, Commits, RollsBack, Vote}
-use Rattle.eve_grammar.specs.Trace.{ForCommit, ForRollback}
+use Rattle.eve_grammar.specs.Trace.{Batch, Step, Attempt, Attempts, Commit, Rollback, Transfer, Commits, RollsBack}
+use Rattle.eve_grammar.specs.Trace.{TakesOver, Vote}
 use Rattle.eve_write.specs.Data.{section}
 use Rattle.eve_attempts.specs.Ledgers.{Ledger, Opened, ledger_rows}
 use Rattle.eve_attempts.specs.Discarding as account
+use Rattle.eve_attempts.specs.TakingOver as state
 use Rattle.eve_replica.specs.declared.server.Server.{Server}
 use Rattle.eve_replica.specs.declared.standing.Standing.{Standing}
 use Rattle.eve_replica.specs.Replicas.{Replica}
 use Rattle.eve_replica.specs.Replicas as replica
-use Rattle.eve_replica.specs.Sections.{RunPlan, GoesThrough, place_due, votes_on, votes_along}
+use Rattle.eve_replica.specs.Sections.{RunPlan, GoesThrough, AreVotesOf, commit_vote, rollback_vote, place_due}
 use Rattle.eve_replica.specs.Serving.{standing_of, after_commit, AreDue, AreRightSteps, AreOfItsView}
-use Rattle.eve_replica.specs.Serving.{GoesOn, IsOutvoted, ComesTo, Move, attempt_move}
+use Rattle.eve_replica.specs.Serving.{GoesOn, IsOutvoted, ComesTo, Move, attempt_move, MissesRightly, MayTakeOver}
 use Rattle.eve_replica.specs.Windows.{WindowState, GoByWindows}
 use Rattle.eve_replica.specs.Deciding.{is_some_of, token_given_up}
-use Rattle.eve_replica.specs.Serving.{commit_move, rollback_move, next_token, GivesUpNext}
+use Rattle.eve_replica.specs.Serving.{commit_move, rollback_move, next_token, CommitsNext, GivesUpNext, server_with}
 use Rattle.eve_replica.proofs.Counting.{is_that, next_by}
 use Rattle.eve_replica.proofs.GivenUp.{GivesNone, none_more, other_view, none_given_up, first_given_up}
 use Rattle.eve_replica.proofs.Through.{through_more, votes_more}
 use Rattle.eve_replica.proofs.Windows.{same_state, comes_more}
-use Rattle.eve_replica.proofs.Going.{stand, attempted, attempts_next, attempted_in_view, no_votes}
+use Rattle.eve_replica.proofs.Going.{stand, standing_with, attempted, attempts_next, attempted_in_view, no_votes}
+
+-- ---- votes
+
+-- the votes on one step more, by other words
+votes_by : (old new : Server) (x : Step) (own given more : List Vote)
+    → section new.steps ≡ section old.steps ++ x ∷ [] → AreVotesOf (section old.steps) own → AreVotesOf (x ∷ []) more
+    → given ≡ more → AreVotesOf (section new.steps) (own ++ given)
+votes_by old new x own given more added are led same =
+    subst (λ (vs : List Vote). AreVotesOf (section new.steps) (own ++ vs)) (sym same)
+    (subst (λ (ss : List Step). AreVotesOf ss (own ++ more)) (sym added)
+    (votes_more (section old.steps) x own more are led))
+
+-- whatever a live replica is given
+given_live : (votes : List Vote) (b : Bool) → b ≡ true → Path (List Vote) (if b then votes else []) votes
+given_live votes b is = ap (λ (c : Bool). if c then votes else []) is
 
 -- ---- what is given up
 
@@ -40,10 +57,10 @@ same_given_up view x old new added none =
 -- ---- attempts
 
 pub attempt_goes : (b : Batch) (a : Attempt) (old new : Server) → AreDue 1 old.replica.ledger → old.is_live ≡ true
-    → new.is_live ≡ true → replica.AttemptsDue old.replica new.replica b a
+    → new.is_live ≡ true → old.missing ≡ 0 → new.missing ≡ 0 → replica.AttemptsDue old.replica new.replica b a
     → section new.steps ≡ section old.steps ++ Attempts a ∷ [] → (AreRightSteps old → AreRightSteps new)
     → GoesOn (attempt_move 1 (b ∷ [])) old new
-attempt_goes b a old new due live lives made added right =
+attempt_goes b a old new due live lives none still made added right =
     let closed = made.1.1 in
     let changed = closed.closed.opens.changed in
     let steps = section old.steps in
@@ -51,9 +68,11 @@ attempt_goes b a old new due live lives made added right =
       names = ap (λ (r : Replica). r.names) closed.rest;
       rows = closed.closed.opens.as_many;
       room = ap (λ (s : Ledger). s.window) changed;
+      version = ap (λ (s : Ledger). s.version) changed;
       whole = λ h. ap (λ (r : Replica). r.is_broken) closed.rest ∙ h;
+      added = (Attempts a ∷ [], added, (refl, tt));
       steps = right;
-      through = λ p names next goes.
+      through = λ p names next left goes.
           subst (λ (ss : List Step). GoesThrough p ss p.first new.replica.ledger) (sym added)
           (through_more p steps (Attempts a) p.first old.replica.ledger new.replica.ledger goes
           (attempts_next p old.replica new.replica b a due names
@@ -66,14 +85,36 @@ attempt_goes b a old new due live lives made added right =
           comes);
       given_up = λ v stays. same_given_up v (Attempts a) old new added (λ opened. refl);
       of_view = attempted_in_view old.replica new.replica b a made;
-      votes = λ h. ap votes_along added ∙ votes_more steps (Attempts a) ∙ append-nil (votes_along steps)
-          ∙ sym (no_votes new.is_live (votes_along steps));
+      votes = λ h own are.
+          votes_by old new (Attempts a) own (if new.is_live then [] else []) [] added are refl
+          (no_votes new.is_live []);
       view = λ at le. let same = ap (λ (s : Ledger). s.view) changed in omega (arith, same, le);
-      live = λ h. (live, attempted old.replica new.replica b a made);
+      live = λ h. (live, attempted old new b a made (still ∙ sym none));
+      missing = λ h. record {
+        version = λ some. absurd (omega (arith, still, some));
+        none_open = λ some. absurd (omega (arith, still, some));
+      };
+      stays_live = λ two was. lives;
       behind = λ at stands was stopped. absurd (false≢true (sym stopped ∙ lives));
       stays = λ stopped. absurd (false≢true (sym stopped ∙ lives));
+      stands = λ stopped. absurd (false≢true (sym stopped ∙ lives));
       stops = λ stopped was. absurd (false≢true (sym stopped ∙ lives));
     }
+
+abbrev with_missing : Server → Bool → ℕ → Server
+with_missing s live missing = record s { is_live = live; missing = missing }
+
+-- a live replica that misses nothing
+served : (s : Server) → s.is_live ≡ true → s.missing ≡ 0 → server_with s.replica s.steps ≡ s
+served s live none = sym (ap (λ (b : Bool). with_missing s b s.missing) live ∙ ap (with_missing s true) none)
+
+-- what is said of live replicas that miss nothing
+pub served_goes : (m : Move) (old new : Server) → old.is_live ≡ true → old.missing ≡ 0 → new.is_live ≡ true
+    → new.missing ≡ 0 → GoesOn m (server_with old.replica old.steps) (server_with new.replica new.steps)
+    → GoesOn m old new
+served_goes m old new live none lives still goes =
+    subst (λ (s : Server). GoesOn m old s) (served new lives still)
+    (subst (λ (s : Server). GoesOn m s (server_with new.replica new.steps)) (served old live none) goes)
 
 -- ---- staying
 
@@ -86,24 +127,29 @@ record LeavesAlone (m : Move) (at : Standing) : Type 0 where
 -- A replica that stays as it is goes on by a move that takes nobody back, and leaves it alone if it is live.
 stays_so : (m : Move) (s : Server) → ((at : Standing) → at.view ≤ (m.further at).view)
     → ((at : Standing) → at.committed ≤ (m.further at).committed)
-    → (s.is_live ≡ true → LeavesAlone m (standing_of s.replica.ledger)) → GoesOn m s s
+    → (s.is_live ≡ true → LeavesAlone m (standing_of s)) → GoesOn m s s
 stays_so m s views commits alone = record {
   names = refl;
   rows = refl;
   room = refl;
+  version = refl;
   whole = λ h. h;
+  added = ([], sym (append-nil (section s.steps)), tt);
   steps = λ h. h;
-  through = λ p names next goes. goes;
+  through = λ p names next left goes. goes;
   windows = λ size batches from to leads stays.
       subst (ComesTo size batches (section s.steps)) (same_window size from to leads stays s.is_live refl);
   of_view = λ h. h;
   given_up = λ v stays. refl;
-  votes = λ h. sym (append-nil (votes_along (section s.steps)))
-      ∙ ap (λ (vs : List Vote). votes_along (section s.steps) ++ vs) (sym (no_vote s.is_live refl));
+  votes = λ h own are. subst (λ (vs : List Vote). AreVotesOf (section s.steps) vs)
+      (sym (ap (λ (vs : List Vote). own ++ vs) (no_vote s.is_live refl) ∙ append-nil own)) are;
   view = λ at le. let up = views at in omega arith;
   live = λ h. (h, (alone h).stands);
+  missing = λ h. h;
+  stays_live = λ two live. live;
   behind = λ at stands was h. let before = was h in let up = commits at in omega arith;
   stays = λ h. refl;
+  stands = λ h. refl;
   stops = λ h live. absurd (false≢true (sym h ∙ live));
 }
   where
@@ -113,7 +159,7 @@ stays_so m s views commits alone = record {
     same_window size from to leads stays false is = stays is
 
     no_vote : (b : Bool) → s.is_live ≡ b
-        → Path (List Vote) (if b then m.votes (standing_of s.replica.ledger) else []) []
+        → Path (List Vote) (if b then m.votes (standing_of s) else []) []
     no_vote true is = (alone is).votes
     no_vote false is = refl
 
@@ -121,7 +167,7 @@ stays_so m s views commits alone = record {
 pub none_made : (window : List Batch) (s : Server) → GoesOn (attempt_move 0 window) s s
 none_made window s = stays_so (attempt_move 0 window) s (λ at. omega arith) (λ at. omega arith)
     (λ live.
-    let at = standing_of s.replica.ledger in
+    let at = standing_of s in
     record {
       stands = stand at.view at.committed at.opened (at.opened + 0) (omega arith);
       windows = λ size from to made.
@@ -162,17 +208,33 @@ token_with token s first others opened has =
     some_is : {x y : List ℕ} → Path (Option (List ℕ)) (Some x) (Some y) → x ≡ y
     some_is same = cc
 
+-- what is committed was of the account's view
+first_in_view : (old new : Ledger) (c : Commit) (made : account.Commits old new c) → AreOfItsView old
+    → made.first.view ≡ old.view
+first_in_view old new c made of_view =
+    let InView : Opened → Type 0 = λ o. o.view ≡ old.view in
+    All-head InView made.first made.others (subst (λ (os : List Opened). All InView os) made.opened of_view)
+
+-- so it has one open
+pub open_with : (token : List ℕ) (s : Server) → is_some_of token (next_token s) ≡ true
+    → 0 < length s.replica.ledger.opened
+open_with token s has =
+    some_open s.replica.ledger.opened
+    (sym (next_by s true (live_with token s has)) ∙ is_that token (next_token s) has)
+  where
+    some_open : (opened : List Opened)
+        → Path (Option (List ℕ)) (option_map (λ o. o.token) (slice_get opened 0)) (Some token) → 0 < length opened
+    some_open [] same = absurd cc
+    some_open (own ∷ others) same = omega arith
+
 -- the vote on which a replica commits
 pub vote_of_commit : (old new : Ledger) (c : Commit) (token : List ℕ) (made : account.Commits old new c)
-    → AreOfItsView old → made.first.token ≡ token → Path (List Vote) (votes_on (Commits c))
-    (record { seq = old.committed + 1; view = old.view; choice = ForCommit token } ∷ [])
+    → AreOfItsView old → made.first.token ≡ token
+    → commit_vote c.seq c.view c.token ≡ commit_vote (old.committed + 1) old.view token
 vote_of_commit old new c token made of_view has =
-    let InView : Opened → Type 0 = λ o. o.view ≡ old.view in
-    let view : made.first.view ≡ old.view =
-    All-head InView made.first made.others (subst (λ (os : List Opened). All InView os) made.opened of_view) in
-    ap (λ (d : Commit). votes_on (Commits d)) made.commit
-    ∙ ap (λ (v : ℕ). record { seq = old.committed + 1; view = v; choice = ForCommit made.first.token } ∷ []) view
-    ∙ ap (λ (t : List ℕ). record { seq = old.committed + 1; view = old.view; choice = ForCommit t } ∷ []) has
+    ap (λ (d : Commit). commit_vote d.seq d.view d.token) made.commit
+    ∙ ap (λ (v : ℕ). commit_vote (old.committed + 1) v made.first.token) (first_in_view old new c made of_view)
+    ∙ ap (commit_vote (old.committed + 1) old.view) has
 
 pub committed_in_view : (old new : Ledger) (c : Commit) → account.Commits old new c → AreOfItsView old
     → AreOfItsView new
@@ -181,18 +243,21 @@ committed_in_view old new c made of_view =
     subst AreOfItsView (sym made.changed)
     (All-tail InView made.first made.others (subst (λ (os : List Opened). All InView os) made.opened of_view))
 
-pub committed : (old new : Ledger) (c : Commit) → account.Commits old new c
-    → standing_of new ≡ after_commit (standing_of old)
-committed old new c made =
-    let many : length old.opened ≡ suc (length made.others) = ap length made.opened in
-    ap standing_of made.changed
-    ∙ stand old.view (old.committed + 1) (length made.others) (length old.opened - 1) (omega arith)
+pub committed : (old new : Server) (c : Commit) → account.Commits old.replica.ledger new.replica.ledger c
+    → new.missing ≡ old.missing → standing_of new ≡ after_commit (standing_of old)
+committed old new c made same =
+    let ledger = old.replica.ledger in
+    let many : length ledger.opened ≡ suc (length made.others) = ap length made.opened in
+    ap (λ (n : ℕ). standing_with n new.replica.ledger) same
+    ∙ ap (standing_with old.missing) made.changed
+    ∙ stand ledger.view (ledger.committed + 1) (length made.others + old.missing)
+    (length ledger.opened + old.missing - 1) (omega (arith, many))
 
 pub commit_goes : (token : List ℕ) (c : Commit) (old new : Server)
-    → is_some_of token (next_token old) ≡ true → new.is_live ≡ old.is_live
+    → is_some_of token (next_token old) ≡ true → new.is_live ≡ old.is_live → new.missing ≡ old.missing
     → replica.CommitsFirst old.replica new.replica c → section new.steps ≡ section old.steps ++ Commits c ∷ []
     → (AreRightSteps old → AreRightSteps new) → GoesOn (commit_move token) old new
-commit_goes token c old new has lives made added right =
+commit_goes token c old new has lives same made added right =
     let steps = section old.steps in
     let ledger = old.replica.ledger in
     let moved = made.1 in
@@ -201,9 +266,11 @@ commit_goes token c old new has lives made added right =
       names = ap (λ (r : Replica). r.names) made.2;
       rows = ap ledger_rows moved.changed;
       room = ap (λ (s : Ledger). s.window) moved.changed;
+      version = ap (λ (s : Ledger). s.version) moved.changed;
       whole = λ h. ap (λ (r : Replica). r.is_broken) made.2 ∙ h;
+      added = (Commits c ∷ [], added, (refl, tt));
       steps = right;
-      through = λ p names next goes.
+      through = λ p names next left goes.
           subst (λ (ss : List Step). GoesThrough p ss p.first new.replica.ledger) (sym added)
           (through_more p steps (Commits c) p.first ledger new.replica.ledger goes moved);
       windows = λ size batches from to leads stays comes.
@@ -213,17 +280,113 @@ commit_goes token c old new has lives made added right =
           (λ rest goes. (turn.0, subst (λ (s : WindowState). GoByWindows size s rest) turn.1 goes)) comes);
       given_up = λ v stays. same_given_up v (Commits c) old new added (λ opened. refl);
       of_view = committed_in_view ledger new.replica.ledger c moved;
-      votes = λ h. ap votes_along added ∙ votes_more steps (Commits c)
-          ∙ ap (λ (vs : List Vote). votes_along steps ++ vs)
-          (vote_of_commit ledger new.replica.ledger c token moved h
-          (token_with token old moved.first moved.others moved.opened has))
-          ∙ ap (λ (b : Bool). votes_along steps ++ (if b then (commit_move token).votes (standing_of ledger) else []))
-          (sym (lives ∙ live));
+      votes = λ h own are.
+          votes_by old new (Commits c) own (if new.is_live then (commit_move token).votes (standing_of old) else [])
+          ((commit_move token).votes (standing_of old)) added are (
+            [],
+            ap (λ (v : Vote). v ∷ []) (sym (vote_of_commit ledger new.replica.ledger c token moved h
+                (token_with token old moved.first moved.others moved.opened has))),
+            refl,
+          )
+          (given_live ((commit_move token).votes (standing_of old)) new.is_live (lives ∙ live));
       view = λ at le. let same = ap (λ (s : Ledger). s.view) moved.changed in omega (arith, same, le);
-      live = λ h. (live, committed ledger new.replica.ledger c moved);
+      live = λ h. (live, committed old new c moved same);
+      missing = λ h. record {
+        version = λ some. absurd (none_missed h (omega (arith, same, some)));
+        none_open = λ some. absurd (none_missed h (omega (arith, same, some)));
+      };
+      stays_live = λ two was. lives ∙ live;
       behind = λ at stands was stopped. absurd (false≢true (sym stopped ∙ lives ∙ live));
       stays = λ stopped. absurd (false≢true (sym stopped ∙ lives ∙ live));
+      stands = λ stopped. absurd (false≢true (sym stopped ∙ lives ∙ live));
       stops = λ stopped was. absurd (false≢true (sym stopped ∙ lives ∙ live));
+    }
+  where
+    none_missed : MissesRightly old → 0 < old.missing → ⊥
+    none_missed rightly some =
+        let none = ap length (rightly.none_open some) in
+        let one = open_with token old has in
+        omega (arith, none, one)
+
+-- by it the batch that is next is committed
+pub commits_next : (c : Commit) (old new : Server) → account.Commits old.replica.ledger new.replica.ledger c
+    → section new.steps ≡ section old.steps ++ Commits c ∷ [] → CommitsNext old new
+commits_next c old new made added = record {
+  commit = c;
+  seq = ap (λ (d : Commit). d.seq) made.commit;
+  view = λ of_view. ap (λ (d : Commit). d.view) made.commit
+      ∙ first_in_view old.replica.ledger new.replica.ledger c made of_view;
+  added = added;
+}
+
+-- ---- taking over
+
+-- standings that are equal in their numbers
+same_standing : {view view' committed committed' opened opened' : ℕ} → view ≡ view' → committed ≡ committed'
+    → opened ≡ opened' → Path Standing (record { view = view; committed = committed; opened = opened })
+    (record { view = view'; committed = committed'; opened = opened' })
+same_standing d e f = cc
+
+-- it takes over what others committed, and awaits one batch less
+pub takes_over_goes : (token : List ℕ) (x : Transfer) (old new : Server) → old.is_live ≡ true → new.is_live ≡ true
+    → MayTakeOver x old → new.missing ≡ (standing_of old).opened - 1
+    → state.TakesOver x old.replica.ledger new.replica.ledger
+    → new.replica ≡ record old.replica { ledger = new.replica.ledger }
+    → section new.steps ≡ section old.steps ++ TakesOver x ∷ [] → (AreRightSteps old → AreRightSteps new)
+    → GoesOn (commit_move token) old new
+takes_over_goes token x old new live lives may awaits made whole added right =
+    let steps = section old.steps in
+    let ledger = old.replica.ledger in
+    let changed = made.changed in
+    record {
+      names = ap (λ (r : Replica). r.names) whole;
+      rows = ap ledger_rows changed ∙ length-map x.rows (λ (r : Versioned). r.value) ∙ made.many;
+      room = ap (λ (s : Ledger). s.window) changed;
+      version = ap (λ (s : Ledger). s.version) changed;
+      whole = λ h. ap (λ (r : Replica). r.is_broken) whole ∙ h;
+      added = (TakesOver x ∷ [], added, (refl, tt));
+      steps = right;
+      through = λ p names next left goes.
+          subst (λ (ss : List Step). GoesThrough p ss p.first new.replica.ledger) (sym added)
+          (through_more p steps (TakesOver x) p.first ledger new.replica.ledger goes
+          (record {
+            version = may.version;
+            left = left live may.awaits;
+            next = may.next;
+            view = may.view;
+            taken = made;
+          }));
+      windows = λ size batches from to leads stays comes.
+          let turn = leads lives in
+          subst (λ (ss : List Step). ComesTo size batches ss to) (sym added)
+          (comes_more size batches steps (TakesOver x) from to
+          (λ rest goes. (turn.0, subst (λ (s : WindowState). GoByWindows size s rest) turn.1 goes)) comes);
+      given_up = λ v stays. same_given_up v (TakesOver x) old new added (λ opened. refl);
+      of_view = λ h. subst AreOfItsView (sym changed) (All-nil (λ (o : Opened). o.view ≡ x.view));
+      votes = λ h own are.
+          votes_by old new (TakesOver x) own (if new.is_live then (commit_move token).votes (standing_of old) else [])
+          ((commit_move token).votes (standing_of old)) added are (
+            token,
+            [],
+            ap (λ (n : ℕ). commit_vote n ledger.view token ∷ []) (sym may.next)
+                ∙ ap (λ (v : ℕ). commit_vote x.seq v token ∷ []) (sym may.view),
+            refl,
+          )
+          (given_live ((commit_move token).votes (standing_of old)) new.is_live lives);
+      view = λ at le. let same = ap (λ (s : Ledger). s.view) changed in omega (arith, same, may.view, le);
+      live = λ h. (
+        live,
+        ap (standing_with new.missing) changed ∙ same_standing may.view may.next (omega (arith, awaits)),
+      );
+      missing = λ h. record {
+        version = λ some. ap (λ (s : Ledger). s.version) changed ∙ may.version;
+        none_open = λ some. ap (λ (s : Ledger). s.opened) changed;
+      };
+      stays_live = λ two was. lives;
+      behind = λ at stands was stopped. absurd (false≢true (sym stopped ∙ lives));
+      stays = λ stopped. absurd (false≢true (sym stopped ∙ lives));
+      stands = λ stopped. absurd (false≢true (sym stopped ∙ lives));
+      stops = λ stopped was. absurd (false≢true (sym stopped ∙ lives));
     }
 
 -- ---- stopping
@@ -231,7 +394,7 @@ commit_goes token c old new has lives made added right =
 -- a live replica without this token for the next batch, which is open, is outvoted by the vote for it
 outvoted : (token : List ℕ) (s : Server) (opened : List Opened) → s.replica.ledger.opened ≡ opened → 0 < length opened
     → s.is_live ≡ true → is_some_of token (next_token s) ≡ false
-    → IsOutvoted s.replica.ledger ((commit_move token).votes (standing_of s.replica.ledger))
+    → IsOutvoted s.replica.ledger ((commit_move token).votes (standing_of s))
 outvoted token s [] is some live other = absurd (omega arith)
 outvoted token s (own ∷ others) is some live other = record {
   own = own;
@@ -244,11 +407,12 @@ outvoted token s (own ∷ others) is some live other = record {
       ∙ (bytes_eq-Decides own.token token).1 same);
 }
 
--- The replica goes on no more, if it did.
-pub stop_goes : (token : List ℕ) (old new : Server) → (old.is_live ≡ true → 0 < length old.replica.ledger.opened)
+-- In version 1 the replica goes on no more, if it did.
+pub stop_goes : (token : List ℕ) (old new : Server) → old.replica.ledger.version ≡ 1
+    → (old.is_live ≡ true → 0 < length old.replica.ledger.opened)
     → is_some_of token (next_token old) ≡ false → new.is_live ≡ false → new.replica ≡ old.replica
-    → section new.steps ≡ section old.steps → GoesOn (commit_move token) old new
-stop_goes token old new some other stopped same steps =
+    → new.missing ≡ old.missing → section new.steps ≡ section old.steps → GoesOn (commit_move token) old new
+stop_goes token old new one some other stopped same missed steps =
     let ledger : new.replica.ledger ≡ old.replica.ledger = ap (λ (r : Replica). r.ledger) same in
     let view = ap (λ (s : Ledger). s.view) ledger in
     let committed = ap (λ (s : Ledger). s.committed) ledger in
@@ -256,11 +420,13 @@ stop_goes token old new some other stopped same steps =
       names = ap (λ (r : Replica). r.names) same;
       rows = ap ledger_rows ledger;
       room = ap (λ (s : Ledger). s.window) ledger;
+      version = ap (λ (s : Ledger). s.version) ledger;
       whole = λ h. ap (λ (r : Replica). r.is_broken) same ∙ h;
+      added = ([], steps ∙ sym (append-nil (section old.steps)), tt);
       steps = λ h.
           subst (λ (ss : List Step). IsTrue (list_all (is_step (ledger_rows new.replica.ledger)) ss)) (sym steps)
           (subst (λ (n : ℕ). IsTrue (list_all (is_step n) (section old.steps))) (sym (ap ledger_rows ledger)) h);
-      through = λ p names next goes.
+      through = λ p names next left goes.
           subst (λ (ss : List Step). GoesThrough p ss p.first new.replica.ledger) (sym steps)
           (subst (GoesThrough p (section old.steps) p.first) (sym ledger) goes);
       windows = λ size batches from to leads stays comes.
@@ -268,17 +434,25 @@ stop_goes token old new some other stopped same steps =
           (subst (ComesTo size batches (section old.steps)) (stays stopped) comes);
       given_up = λ v stays. ap (token_given_up v []) steps;
       of_view = λ h. subst AreOfItsView (sym ledger) h;
-      votes = λ h. ap votes_along steps ∙ sym (append-nil (votes_along (section old.steps)))
-          ∙ ap (λ (b : Bool). votes_along (section old.steps)
-          ++ (if b then (commit_move token).votes (standing_of old.replica.ledger) else [])) (sym stopped);
+      votes = λ h own are.
+          subst (λ (b : Bool). AreVotesOf (section new.steps)
+          (own ++ (if b then (commit_move token).votes (standing_of old) else []))) (sym stopped)
+          (subst (λ (vs : List Vote). AreVotesOf (section new.steps) vs) (sym (append-nil own))
+          (subst (λ (ss : List Step). AreVotesOf ss own) (sym steps) are));
       view = λ at le. omega (arith, view, le);
       live = λ h. absurd (false≢true (sym stopped ∙ h));
+      missing = λ h. record {
+        version = λ more. ap (λ (s : Ledger). s.version) ledger ∙ h.version (omega (arith, missed, more));
+        none_open = λ more. ap (λ (s : Ledger). s.opened) ledger ∙ h.none_open (omega (arith, missed, more));
+      };
+      stays_live = λ two was. absurd (omega (arith, one, two));
       behind = λ at stands was h. behind_now at stands was old.is_live refl committed;
       stays = λ h. ledger;
+      stands = λ h. ap (λ (n : ℕ). standing_with n new.replica.ledger) missed ∙ ap (standing_with old.missing) ledger;
       stops = λ h live. outvoted token old old.replica.ledger.opened refl (some live) live other;
     }
   where
-    behind_now : (at : Standing) → (old.is_live ≡ true → standing_of old.replica.ledger ≡ at)
+    behind_now : (at : Standing) → (old.is_live ≡ true → standing_of old ≡ at)
         → (old.is_live ≡ false → old.replica.ledger.committed < at.committed) → (b : Bool) → old.is_live ≡ b
         → new.replica.ledger.committed ≡ old.replica.ledger.committed
         → new.replica.ledger.committed < at.committed + 1
@@ -290,34 +464,45 @@ stop_goes token old new some other stopped same steps =
 
 -- the vote on which a replica rolls back
 pub vote_of_rollback : (old new : Ledger) (r : Rollback) → account.RollsBack old new r
-    → Path (List Vote) (votes_on (RollsBack r))
-    (record { seq = old.committed + 1; view = old.view; choice = ForRollback } ∷ [])
+    → rollback_vote (r.to + 1) (r.view - 1) ≡ rollback_vote (old.committed + 1) old.view
 vote_of_rollback old new r made =
     let view : r.view - 1 ≡ old.view = omega (arith, made.view) in
-    ap (λ (n : ℕ). record { seq = n + 1; view = r.view - 1; choice = ForRollback } ∷ []) made.to
-    ∙ ap (λ (v : ℕ). record { seq = old.committed + 1; view = v; choice = ForRollback } ∷ []) view
+    ap (λ (n : ℕ). rollback_vote (n + 1) (r.view - 1)) made.to ∙ ap (rollback_vote (old.committed + 1)) view
 
 pub rolled_back_in_view : (old new : Ledger) (r : Rollback) → account.RollsBack old new r → AreOfItsView new
 rolled_back_in_view old new r made =
     subst AreOfItsView (sym made.changed) (All-nil (λ (o : Opened). o.view ≡ old.view + 1))
 
+-- who awaits a decision in version 1 has an attempt open
+pub some_open : (missing opened version : ℕ) → (0 < missing → version ≡ 2) → 0 < opened + missing → version ≡ 1 → 0 < opened
+some_open zero opened version two awaits one = omega arith
+some_open (suc n) opened version two awaits one = absurd (let is = two (omega arith) in omega arith)
+
 pub rollback_goes : (r : Rollback) (old new : Server) → old.is_live ≡ true → new.is_live ≡ true
-    → 0 < length old.replica.ledger.opened → account.RollsBack old.replica.ledger new.replica.ledger r
+    → 0 < (standing_of old).opened → MissesRightly old → new.missing ≡ 0
+    → account.RollsBack old.replica.ledger new.replica.ledger r
     → new.replica ≡ record old.replica { ledger = new.replica.ledger; is_broken = false }
     → section new.steps ≡ section old.steps ++ RollsBack r ∷ [] → (AreRightSteps old → AreRightSteps new)
     → GoesOn rollback_move old new
-rollback_goes r old new live lives some made whole added right =
+rollback_goes r old new live lives awaits rightly none made whole added right =
     let steps = section old.steps in
     let ledger = old.replica.ledger in
     record {
       names = ap (λ (x : Replica). x.names) whole;
       rows = made.as_many;
       room = ap (λ (s : Ledger). s.window) made.changed;
+      version = ap (λ (s : Ledger). s.version) made.changed;
       whole = λ h. ap (λ (x : Replica). x.is_broken) whole;
+      added = (RollsBack r ∷ [], added, (refl, tt));
       steps = right;
-      through = λ p names next goes.
+      through = λ p names next left goes.
           subst (λ (ss : List Step). GoesThrough p ss p.first new.replica.ledger) (sym added)
-          (through_more p steps (RollsBack r) p.first ledger new.replica.ledger goes (some, made));
+          (through_more p steps (RollsBack r) p.first ledger new.replica.ledger goes
+          (record {
+            left = left live awaits;
+            discards = some_open old.missing (length ledger.opened) ledger.version rightly.version awaits;
+            rolled_back = made;
+          }));
       windows = λ size batches from to leads stays comes.
           let turn = leads lives in
           subst (λ (ss : List Step). ComesTo size batches ss to) (sym added)
@@ -326,14 +511,25 @@ rollback_goes r old new live lives some made whole added right =
       given_up = λ v stays.
           same_given_up v (RollsBack r) old new added (other_view v r (λ same. stays (omega (arith, made.view))));
       of_view = λ h. rolled_back_in_view ledger new.replica.ledger r made;
-      votes = λ h. ap votes_along added ∙ votes_more steps (RollsBack r)
-          ∙ ap (λ (vs : List Vote). votes_along steps ++ vs) (vote_of_rollback ledger new.replica.ledger r made)
-          ∙ ap (λ (b : Bool). votes_along steps ++ (if b then rollback_move.votes (standing_of ledger) else []))
-          (sym lives);
+      votes = λ h own are.
+          votes_by old new (RollsBack r) own (if new.is_live then rollback_move.votes (standing_of old) else [])
+          (rollback_move.votes (standing_of old)) added are
+          ([], ap (λ (v : Vote). v ∷ []) (sym (vote_of_rollback ledger new.replica.ledger r made)), refl)
+          (given_live (rollback_move.votes (standing_of old)) new.is_live lives);
       view = λ at le. let same = ap (λ (s : Ledger). s.view) made.changed in omega (arith, same, le);
-      live = λ h. (live, ap standing_of made.changed);
+      live = λ h. (
+        live,
+        ap (standing_with new.missing) made.changed
+            ∙ stand (ledger.view + 1) ledger.committed (0 + new.missing) 0 (omega (arith, none)),
+      );
+      missing = λ h. record {
+        version = λ some. absurd (omega (arith, none, some));
+        none_open = λ some. absurd (omega (arith, none, some));
+      };
+      stays_live = λ two was. lives;
       behind = λ at stands was stopped. absurd (false≢true (sym stopped ∙ lives));
       stays = λ stopped. absurd (false≢true (sym stopped ∙ lives));
+      stands = λ stopped. absurd (false≢true (sym stopped ∙ lives));
       stops = λ stopped was. absurd (false≢true (sym stopped ∙ lives));
     }
 

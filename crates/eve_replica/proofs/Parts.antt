@@ -1,6 +1,6 @@
 -- What a run did lies within the limits of the format.
 use Rattle.std.proofs.Common.{◌≡◌, ℕ, ◌*◌, true, List, [], ◌∷◌, Vec, All, IsTrue, length, map, ap, refl, sym, ◌∙◌}
-use Rattle.std.proofs.Common.{subst}
+use Rattle.std.proofs.Common.{subst, eq-eqb}
 use Rattle.std.proofs.lemmas.Bool.{and_from}
 use Rattle.std.proofs.lemmas.List.{length-map}
 use Rattle.std.proofs.lemmas.List.Elements.{All-head, All-tail}
@@ -8,6 +8,7 @@ use Rattle.std.specs.List.{list_all}
 use Rattle.std.specs.declared.alloc.Global.{Global}
 use Rattle.eve_grammar.specs.Trace.{Step, Attempts, Commits, RollsBack, TakesOver, Vote, head_of}
 use Rattle.eve_grammar.specs.Limits.{is_head, is_customer, is_batch, is_step, is_of_version, is_vote, is_sent}
+use Rattle.eve_grammar.specs.Frames.{has_transfers}
 use Rattle.eve_grammar.specs.declared.head.Head.{Head}
 use Rattle.eve_write.specs.declared.vote.VoteData.{VoteData}
 use Rattle.eve_write.specs.declared.parts.Parts.{Parts}
@@ -30,24 +31,30 @@ sections_fit p at votes (s ∷ servers) serve =
     and_from (list_all (is_step (2 * length p.names)) (section s.steps)) _ (subst P first.rows first.steps)
     (sections_fit p at votes servers (All-tail (Serves p at votes) s servers serve))
 
--- no state is taken over, so each step is one of any version
-kinds_through : (version : ℕ) (p : RunPlan) (steps : List Step) (a b : Ledger) → GoesThrough p steps a b
-    → list_all (is_of_version version) steps ≡ true
-kinds_through version p [] a b goes = refl
-kinds_through version p (Attempts x ∷ steps) a b goes = kinds_through version p steps goes.0 b goes.2
-kinds_through version p (Commits x ∷ steps) a b goes = kinds_through version p steps goes.0 b goes.2
-kinds_through version p (RollsBack x ∷ steps) a b goes = kinds_through version p steps goes.0 b goes.2
-kinds_through version p (TakesOver x ∷ steps) a b goes = absurd goes.1
+-- only an account of version 2 takes a state over
+kinds_through : (version : ℕ) (p : RunPlan) (steps : List Step) (a b : Ledger) → a.version ≡ version
+    → GoesThrough p steps a b → list_all (is_of_version version) steps ≡ true
+kinds_through version p [] a b is goes = refl
+kinds_through version p (Attempts x ∷ steps) a b is goes =
+    kinds_through version p steps goes.0 b (ap (λ (s : Ledger). s.version) goes.1.closed.opens.changed ∙ is) goes.2
+kinds_through version p (Commits x ∷ steps) a b is goes =
+    kinds_through version p steps goes.0 b (ap (λ (s : Ledger). s.version) goes.1.changed ∙ is) goes.2
+kinds_through version p (RollsBack x ∷ steps) a b is goes =
+    kinds_through version p steps goes.0 b (ap (λ (s : Ledger). s.version) goes.1.rolled_back.changed ∙ is) goes.2
+kinds_through version p (TakesOver x ∷ steps) a b is goes =
+    and_from (has_transfers version) (list_all (is_of_version version) steps)
+    (eq-eqb version 2 (sym is ∙ goes.1.version))
+    (kinds_through version p steps goes.0 b (ap (λ (s : Ledger). s.version) goes.1.taken.changed ∙ is) goes.2)
 
 pub kinds_fit : (version : ℕ) (p : RunPlan) (at : Standing) (votes : List Vote) (servers : List Server)
-    → All (Serves p at votes) servers
+    → p.first.version ≡ version → All (Serves p at votes) servers
     → list_all (list_all (is_of_version version)) (map (λ s. section s.steps) servers) ≡ true
-kinds_fit version p at votes [] serve = refl
-kinds_fit version p at votes (s ∷ servers) serve =
+kinds_fit version p at votes [] is serve = refl
+kinds_fit version p at votes (s ∷ servers) is serve =
     and_from (list_all (is_of_version version) (section s.steps)) _
-    (kinds_through version p (section s.steps) p.first s.replica.ledger
+    (kinds_through version p (section s.steps) p.first s.replica.ledger is
     (All-head (Serves p at votes) s servers serve).through)
-    (kinds_fit version p at votes servers (All-tail (Serves p at votes) s servers serve))
+    (kinds_fit version p at votes servers is (All-tail (Serves p at votes) s servers serve))
 
 -- each verifier has these votes
 abbrev Copies : List VoteData → Vec VoteData Global → Type 0
@@ -105,9 +112,10 @@ pub spelled : (p : Parts) (h : Head) (plan : RunPlan) (mixed : List MixedBatch) 
     → map batch p.batches.items ≡ map (λ m. batch m.batch) mixed → All (IsRightMixed plan.names) mixed
     → map section p.sections.items ≡ map (λ s. section s.steps) servers → All (Serves plan at led) servers
     → AreVotesOn (length mixed) given → All (Copies given) p.verifiers.items
-    → AreReplies (length servers) (length mixed) p.sent.items
+    → AreReplies (length servers) (length mixed) p.sent.items → plan.first.version ≡ p.version
     → HasSpelling p
-spelled p h plan mixed at led servers given head right named customers batches mix sections serve votes each replies =
+spelled p h plan mixed at led servers given head right named customers batches mix sections serve votes each replies
+    version =
     let many : length (trace p).batches ≡ length mixed = ap length batches ∙ length-map mixed (λ m. batch m.batch) in
     let replicas : length (trace p).sections ≡ length servers =
     ap length sections ∙ length-map servers (λ s. section s.steps) in
@@ -123,7 +131,7 @@ spelled p h plan mixed at led servers given head right named customers batches m
         sections = subst (Fit (2 * (head_of (trace p)).customers)) (sym sections)
             (subst (λ n. Fit n (map (λ s. section s.steps) servers)) rows (sections_fit plan at led servers serve));
         kinds = subst (λ (ss : List (List Step)). IsTrue (list_all (list_all (is_of_version p.version)) ss)) (sym sections)
-            (kinds_fit p.version plan at led servers serve);
+            (kinds_fit p.version plan at led servers version serve);
         votes = subst (λ n. IsTrue (list_all (list_all (is_vote n)) (trace p).verifiers)) (sym many)
             (votes_fit (length mixed) given p.verifiers.items votes each);
         sent = subst (λ n. IsTrue (list_all (is_sent n (length (trace p).batches)) (trace p).sent)) (sym replicas)

@@ -1,4 +1,4 @@
--- What the sections of a run say: each is what an account went through, on the votes, and most have all commits.
+-- What the sections of a run say: each is what an account went through, on the votes, and most reach all batches.
 use Rattle.std.proofs.Common.{◌≡◌, ℕ, ◌+◌, ◌*◌, ◌<◌, ◌≤◌, Bool, true, false, cond, List, [], ◌∷◌, All}
 use Rattle.std.proofs.Common.{ℤ, Vec}
 use Rattle.std.proofs.Common.{length, map, refl, sym, ap, ◌∙◌, subst, eq-eqb, arith}
@@ -20,14 +20,15 @@ use Rattle.eve_attempts.specs.Ledgers.{Ledger, Opened, opening}
 use Rattle.eve_replica.specs.declared.server.Server.{Server}
 use Rattle.eve_replica.specs.declared.standing.Standing.{Standing}
 use Rattle.eve_replica.specs.Deciding.{AreUndecided, StopsBefore, open_after}
-use Rattle.eve_replica.specs.Sections.{RunPlan, commits_in}
+use Rattle.eve_replica.specs.Sections.{RunPlan, reached_in}
+use Rattle.eve_replica.specs.Taken.{AreTakenIn, AreCommittedByMost}
 use Rattle.eve_replica.specs.Sending.{sent_from_on}
-use Rattle.eve_replica.specs.Run.{IsSectionOf, IsDecidedBy, IsTraceOf, batches_cut, has_committed, run_plan}
+use Rattle.eve_replica.specs.Run.{IsSectionOf, IsDecidedBy, IsTraceOf, batches_cut, has_reached, run_plan}
 use Rattle.eve_replica.specs.Serving.{Serves, live_in, plan_with, standing_of, window_at}
 use Rattle.eve_replica.specs.Windows.{GoByWindows, window_with}
 use Rattle.eve_replica.proofs.Windows.{window_ends, windows_end}
 use Rattle.eve_replica.proofs.GivenUp.{open_marked, open_along, first_open}
-use Rattle.eve_replica.proofs.Through.{commits_through}
+use Rattle.eve_replica.proofs.Through.{reached_through}
 
 -- what holds of the section of each replica
 pub each_section : (P : Server → Type 0) (Q : List Step → Type 0) → ((s : Server) → P s → Q (section s.steps))
@@ -48,7 +49,7 @@ section_of p at votes done few s serves = record {
 }
   where
     here : Standing
-    here = standing_of s.replica.ledger
+    here = standing_of s
 
     ended : (b : Bool) → s.is_live ≡ b → (window_at p here).due ≡ 0
     ended true is =
@@ -56,11 +57,11 @@ section_of p at votes done few s serves = record {
     ended false is =
         let out = ap length (serves.led.stopped is).opened in window_ends p here (omega arith)
 
--- as many are committed in its section as in its account
-commits_counted : (p : RunPlan) (at : Standing) (votes : List Vote) (s : Server) → p.first.committed ≡ 0
-    → Serves p at votes s → commits_in (section s.steps) ≡ s.replica.ledger.committed
-commits_counted p at votes s none serves =
-    let counted = commits_through p (section s.steps) p.first s.replica.ledger serves.through in
+-- its section reaches as many batches as its account
+reached_counted : (p : RunPlan) (at : Standing) (votes : List Vote) (s : Server) → p.first.committed ≡ 0
+    → Serves p at votes s → reached_in (section s.steps) ≡ s.replica.ledger.committed
+reached_counted p at votes s none serves =
+    let counted = reached_through p (section s.steps) p.first s.replica.ledger serves.through in
     omega arith
 
 -- who stopped was outvoted
@@ -77,7 +78,7 @@ stopped_before p at votes s none begun serves is =
     let InView : Opened → Type 0 = λ o. o.view ≡ ledger.view in
     let own : out.own.view ≡ ledger.view =
     All-head InView out.own out.others (subst (λ (os : List Opened). All InView os) out.opened serves.of_view) in
-    let counted = commits_counted p at votes s none serves in
+    let counted = reached_counted p at votes s none serves in
     record {
       own = first.0;
       first = first.1;
@@ -87,7 +88,7 @@ stopped_before p at votes s none begun serves is =
           ∙ ap (λ (n : ℕ). record { seq = n + 1; view = ledger.view; choice = ForCommit out.token } ∷ out.rest)
           (sym counted)
           ∙ ap (λ (v : ℕ). record {
-            seq = commits_in (section s.steps) + 1;
+            seq = reached_in (section s.steps) + 1;
             view = v;
             choice = ForCommit out.token;
           } ∷ out.rest) (sym (first.2 ∙ own));
@@ -101,19 +102,23 @@ decided_on p at votes batches none begun done s serves = decide s.is_live refl
   where
     decide : (b : Bool) → s.is_live ≡ b → IsDecidedBy batches (section s.steps) votes
     decide true is = record {
+      own = serves.led.own;
       later = serves.led.later;
+      led = serves.led.led;
       first = serves.led.first;
       none_later = λ all. serves.led.none_later is;
       stopped = λ less.
-          let counted = commits_counted p at votes s none serves in
+          let counted = reached_counted p at votes s none serves in
           let stands = ap (λ (x : Standing). x.committed) (serves.live is) in
           absurd (less (omega arith));
     }
     decide false is = record {
+      own = serves.led.own;
       later = serves.led.later;
+      led = serves.led.led;
       first = serves.led.first;
       none_later = λ all.
-          let counted = commits_counted p at votes s none serves in
+          let counted = reached_counted p at votes s none serves in
           let less = serves.behind is in
           absurd (omega arith);
       stopped = λ less. stopped_before p at votes s none begun serves is;
@@ -126,40 +131,49 @@ sections_decided p at votes batches none begun done servers serve =
     each_section (Serves p at votes) (λ steps. IsDecidedBy batches steps votes)
     (decided_on p at votes batches none begun done) servers serve
 
--- a live replica's section has all commits
+-- a live replica's section reaches all batches
 small : (b c : Bool) → (b ≡ true → c ≡ true) → cond b 1 0 ≤ cond c 1 0
 small true true to = omega arith
 small true false to = let e : false ≡ true = to refl in absurd cc
 small false true to = omega arith
 small false false to = omega arith
 
-live_commit : (p : RunPlan) (at : Standing) (votes : List Vote) (batches : ℕ) → p.first.committed ≡ 0
+live_reach : (p : RunPlan) (at : Standing) (votes : List Vote) (batches : ℕ) → p.first.committed ≡ 0
     → at.committed ≡ batches → (servers : List Server) → All (Serves p at votes) servers
-    → live_in servers ≤ count_by (has_committed batches) (map (λ s. section s.steps) servers)
-live_commit p at votes batches none done [] serve = omega arith
-live_commit p at votes batches none done (s ∷ servers) serve =
+    → live_in servers ≤ count_by (has_reached batches) (map (λ s. section s.steps) servers)
+live_reach p at votes batches none done [] serve = omega arith
+live_reach p at votes batches none done (s ∷ servers) serve =
     let here = All-head (Serves p at votes) s servers serve in
-    let rest = live_commit p at votes batches none done servers (All-tail (Serves p at votes) s servers serve) in
-    let one = small s.is_live (has_committed batches (section s.steps))
+    let rest = live_reach p at votes batches none done servers (All-tail (Serves p at votes) s servers serve) in
+    let one = small s.is_live (has_reached batches (section s.steps))
     (λ live.
-    let counted = commits_counted p at votes s none here in
+    let counted = reached_counted p at votes s none here in
     let stands = ap (λ (x : Standing). x.committed) (here.live live) in
-    eq-eqb (commits_in (section s.steps)) batches (omega arith)) in
+    eq-eqb (reached_in (section s.steps)) batches (omega arith)) in
     let left = sum_by-cons (λ (x : Server). cond x.is_live 1 0) s servers in
-    let right = sum_by-cons (λ (steps : List Step). cond (has_committed batches steps) 1 0) (section s.steps)
+    let right = sum_by-cons (λ (steps : List Step). cond (has_reached batches steps) 1 0) (section s.steps)
     (map (λ t. section t.steps) servers) in
     omega arith
 
--- more than half of the sections have all commits
-pub most_commit : (p : RunPlan) (at : Standing) (votes : List Vote) (batches : ℕ) → p.first.committed ≡ 0
+-- more than half of the sections reach all batches
+pub most_reach : (p : RunPlan) (at : Standing) (votes : List Vote) (batches : ℕ) → p.first.committed ≡ 0
     → at.committed ≡ batches → (servers : List Server) → All (Serves p at votes) servers
     → length servers < 2 * live_in servers
     → length (map (λ s. section s.steps) servers)
-    < 2 * count_by (has_committed batches) (map (λ s. section s.steps) servers)
-most_commit p at votes batches none done servers serve more =
-    let few = live_commit p at votes batches none done servers serve in
+    < 2 * count_by (has_reached batches) (map (λ s. section s.steps) servers)
+most_reach p at votes batches none done servers serve more =
+    let few = live_reach p at votes batches none done servers serve in
     let many = length-map servers (λ s. section s.steps) in
     omega arith
+
+-- where replicas stay live their sections reach all batches
+reached_all : (p : RunPlan) (at : Standing) (votes : List Vote) (batches : ℕ) → p.first.committed ≡ 0
+    → at.committed ≡ batches → p.first.version ≡ 2 → (s : Server) → Serves p at votes s
+    → reached_in (section s.steps) ≡ batches
+reached_all p at votes batches none done two s serves =
+    let counted = reached_counted p at votes s none serves in
+    let stands = ap (λ (x : Standing). x.committed) (serves.live (serves.stays_live two)) in
+    omega (arith, counted, stands, done)
 
 -- each verifier gave these votes
 all_gave : (P : List Vote → Type 0) (led : List Vote) → P led → (verifiers : List (List Vote))
@@ -177,12 +191,16 @@ pub run_of : (w : Workload) (mixer : Mixer) (p : Parts) (plan : RunPlan) (at : S
     → map section p.sections.items ≡ map (λ s. section s.steps) servers → All (Serves plan at led) servers
     → at.committed ≡ length plan.batches → at.view ≤ 2 * length plan.batches → length servers < 2 * live_in servers
     → All (λ votes. votes ≡ led) (trace p).verifiers
+    → AreCommittedByMost at.committed (map (λ s. section s.steps) servers)
+    → AreTakenIn plan (map (λ s. section s.steps) servers)
     → AreUndecided (map (λ s. section s.steps) servers)
     → (trace p).sent ≡ sent_from_on plan.batches 0 (map (λ s. section s.steps) servers)
     → IsTraceOf w mixer (trace p)
-run_of w mixer p plan at led servers is head customers batches sections serve done few more gave undecided sent =
+run_of w mixer p plan at led servers is head customers batches sections serve done few more gave most taken undecided
+    sent =
     let none : plan.first.committed ≡ 0 = ap (λ (x : RunPlan). x.first.committed) is in
     let begun : plan.first.opened ≡ [] = ap (λ (x : RunPlan). x.first.opened) is in
+    let version : plan.first.version ≡ w.format = ap (λ (x : RunPlan). x.first.version) is in
     let many : length plan.batches ≡ length w.batches =
     ap (λ (x : RunPlan). length x.batches) is ∙ length-map w.batches _ in
     let done' : at.committed ≡ length w.batches = done ∙ many in
@@ -193,8 +211,16 @@ run_of w mixer p plan at led servers is head customers batches sections serve do
       sections = subst (λ (ss : List (List Step)). All (IsSectionOf (run_plan w mixer)) ss) (sym sections)
           (subst (λ (x : RunPlan). All (IsSectionOf x) (map (λ s. section s.steps) servers)) is
           (each_section (Serves plan at led) (IsSectionOf plan) (section_of plan at led done few) servers serve));
-      committed = subst (λ (ss : List (List Step)). length ss < 2 * count_by (has_committed (length w.batches)) ss)
-          (sym sections) (most_commit plan at led (length w.batches) none done' servers serve more);
+      reached = subst (λ (ss : List (List Step)). length ss < 2 * count_by (has_reached (length w.batches)) ss)
+          (sym sections) (most_reach plan at led (length w.batches) none done' servers serve more);
+      all_reached = λ two.
+          subst (λ (ss : List (List Step)). All (λ steps. reached_in steps ≡ length w.batches) ss) (sym sections)
+          (each_section (Serves plan at led) (λ steps. reached_in steps ≡ length w.batches)
+          (reached_all plan at led (length w.batches) none done' (version ∙ two)) servers serve);
+      committed = subst (λ (ss : List (List Step)). AreCommittedByMost (length w.batches) ss) (sym sections)
+          (subst (λ (n : ℕ). AreCommittedByMost n (map (λ s. section s.steps) servers)) done' most);
+      taken = subst (λ (ss : List (List Step)). AreTakenIn (run_plan w mixer) ss) (sym sections)
+          (subst (λ (x : RunPlan). AreTakenIn x (map (λ s. section s.steps) servers)) is taken);
       undecided = subst AreUndecided (sym sections) undecided;
       sent = sent
           ∙ ap (λ (bs : List Batch). sent_from_on bs 0 (map (λ s. section s.steps) servers))
@@ -220,14 +246,15 @@ copies_gave given (copy ∷ copies) all =
 -- what a run began with is the workload's plan
 pub plan_is : (w : Workload) (mixer : Mixer) (names : List (List ℕ)) (balances : List ℤ) (h : header.Head)
     (batches : List MixedBatch) → names ≡ customer_names w.customers → balances ≡ opening_rows w.customers
-    → h.workers ≡ w.deployment.workers → h.window ≡ w.deployment.window
+    → h.version ≡ w.format → h.workers ≡ w.deployment.workers → h.window ≡ w.deployment.window
     → map (λ m. batch m.batch) batches ≡ batches_cut w mixer → plan_with names balances h batches ≡ run_plan w mixer
-plan_is w mixer names balances h batches named opened workers window cut =
-    let first : opening 1 balances h.workers h.window
-    ≡ opening 1 (opening_rows w.customers) w.deployment.workers w.deployment.window =
-    ap (λ (zs : List ℤ). opening 1 zs h.workers h.window) opened
-    ∙ ap (λ (n : ℕ). opening 1 (opening_rows w.customers) n h.window) workers
-    ∙ ap (opening 1 (opening_rows w.customers) w.deployment.workers) window in
+plan_is w mixer names balances h batches named opened version workers window cut =
+    let first : opening h.version balances h.workers h.window
+    ≡ opening w.format (opening_rows w.customers) w.deployment.workers w.deployment.window =
+    ap (λ (zs : List ℤ). opening h.version zs h.workers h.window) opened
+    ∙ ap (λ (n : ℕ). opening n (opening_rows w.customers) h.workers h.window) version
+    ∙ ap (λ (n : ℕ). opening w.format (opening_rows w.customers) n h.window) workers
+    ∙ ap (opening w.format (opening_rows w.customers) w.deployment.workers) window in
     all names (customer_names w.customers) (map (λ m. batch m.batch) batches) (batches_cut w mixer) _ _ named cut first
   where
     all : (a a' : List (List ℕ)) (b b' : List Batch) (c c' : Ledger) → a ≡ a' → b ≡ b' → c ≡ c'

@@ -4,7 +4,7 @@ use Rattle.std.specs.Prelude.{length, drop, slice_get, Option, Some, None}
 use Rattle.std.specs.Str.{bytes_eq}
 use Rattle.std.specs.List.{count_by}
 use Rattle.eve_grammar.specs.Trace.{Attempt, Step, Attempts, Commits, RollsBack, TakesOver, Vote, ForCommit}
-use Rattle.eve_replica.specs.Sections.{commits_in}
+use Rattle.eve_replica.specs.Sections.{reached_in}
 
 -- ---- why a run rolls back
 
@@ -42,12 +42,12 @@ open_after opened (Commits c ∷ steps) = open_after (drop 1 opened) steps
 open_after opened (RollsBack r ∷ steps) = open_after [] steps
 open_after opened (TakesOver x ∷ steps) = open_after [] steps
 
--- A replica stopped after these steps: the next of the votes is for the commit of its first open attempt's batch, in
--- that attempt's view, with another token.
+-- In version 1 a replica stopped after these steps: the next of the votes is for the commit of its first open attempt's
+-- batch, in that attempt's view, with another token.
 pub record StopsBefore (steps : List Step) (later : List Vote) : Type 0 where
   pub own : Attempt
   pub first : slice_get (open_after [] steps) 0 ≡ Some own
   pub token : List ℕ
   pub rest : List Vote
-  pub next : later ≡ record { seq = commits_in steps + 1; view = own.view; choice = ForCommit token } ∷ rest
+  pub next : later ≡ record { seq = reached_in steps + 1; view = own.view; choice = ForCommit token } ∷ rest
   pub other : own.token ≢ token

@@ -1,8 +1,10 @@
 pub mod Sections
 pub mod Windows
 pub mod Deciding
+pub mod Taken
 pub mod Sending
 pub mod Run
 pub mod RunFaults
 pub mod Replicas
 pub mod Serving
+pub mod Handing

@@ -12,7 +12,8 @@ use Rattle.eve_workload.specs.Workload.{head_asked}
 use Rattle.eve_attempts.specs.Ledgers.{Ledger, opening}
 use Rattle.eve_replica.specs.Deciding.{AreUndecided, StopsBefore}
 use Rattle.eve_replica.specs.Sending.{sent_from_on}
-use Rattle.eve_replica.specs.Sections.{RunPlan, GoesThrough, votes_along, commits_in}
+use Rattle.eve_replica.specs.Sections.{RunPlan, GoesThrough, AreVotesOf, reached_in}
+use Rattle.eve_replica.specs.Taken.{AreTakenIn, AreCommittedByMost}
 use Rattle.eve_replica.specs.Windows.{GoByWindows, window_with}
 
 -- each batch of the workload, cut into parallelBatches
@@ -24,7 +25,7 @@ abbrev pub run_plan : Workload → Mixer → RunPlan
 run_plan w mixer = record {
   names = customer_names w.customers;
   batches = batches_cut w mixer;
-  first = opening 1 (opening_rows w.customers) w.deployment.workers w.deployment.window;
+  first = opening w.format (opening_rows w.customers) w.deployment.workers w.deployment.window;
 }
 
 -- The section of a replica: its steps are what its account went through, which began with the opening balances; they
@@ -35,28 +36,34 @@ pub record IsSectionOf (p : RunPlan) (steps : List Step) : Type 0 where
   pub windows : GoByWindows p.first.window (window_with p.first.window (length p.batches) 0) steps
   pub views : last.view ≤ 2 * length p.batches
 
--- whether this number of batches are committed in a section
-abbrev pub has_committed : ℕ → List Step → Bool
-has_committed batches steps = commits_in steps == batches
+-- whether a section reaches this number of batches
+abbrev pub has_reached : ℕ → List Step → Bool
+has_reached batches steps = reached_in steps == batches
 
--- The first of these votes are those on which the replica took its steps. Where it committed this number of batches
--- they are all, and else the next one says why it stopped.
+-- The first of these votes are those on which the replica took its steps. Where it reached this number of batches they
+-- are all, and else the next one says why it stopped.
 pub record IsDecidedBy (batches : ℕ) (steps : List Step) (votes : List Vote) : Type 0 where
+  pub own : List Vote
   pub later : List Vote
-  pub first : votes ≡ votes_along steps ++ later
-  pub none_later : commits_in steps ≡ batches → later ≡ []
-  pub stopped : commits_in steps ≢ batches → StopsBefore steps later
+  pub led : AreVotesOf steps own
+  pub first : votes ≡ own ++ later
+  pub none_later : reached_in steps ≡ batches → later ≡ []
+  pub stopped : reached_in steps ≢ batches → StopsBefore steps later
 
 -- A trace of a run of the workload. Numbers and customers are the workload's; the batches are, in order, the cut of
--- each of its batches; each section is that of a replica that served them; more than half of the replicas committed all
--- batches; what they rolled back wasn't decided; each verifier gave the votes on which they took their steps; and each
--- replica sent the replies of what it committed.
+-- each of its batches; each section is that of a replica that served them; more than half of the replicas reached all
+-- batches, and in format 2 all of them did; each batch was committed by more than half of all replicas; what was taken
+-- over is what the lowest-numbered of these had committed; what was rolled back wasn't decided; each verifier gave the
+-- votes on which the replicas took their steps; and each replica sent the replies of what it committed.
 pub record IsTraceOf (w : Workload) (mixer : Mixer) (t : Trace) : Type 0 where
   pub head : t.head ≡ head_asked w
   pub customers : t.customers ≡ w.customers
   pub batches : t.batches ≡ batches_cut w mixer
   pub sections : All (IsSectionOf (run_plan w mixer)) t.sections
-  pub committed : length t.sections < 2 * count_by (has_committed (length w.batches)) t.sections
+  pub reached : length t.sections < 2 * count_by (has_reached (length w.batches)) t.sections
+  pub all_reached : w.format ≡ 2 → All (λ steps. reached_in steps ≡ length w.batches) t.sections
+  pub committed : AreCommittedByMost (length w.batches) t.sections
+  pub taken : AreTakenIn (run_plan w mixer) t.sections
   pub undecided : AreUndecided t.sections
   pub sent : t.sent ≡ sent_from_on (batches_cut w mixer) 0 t.sections
   pub voted : All (λ votes. All (λ steps. IsDecidedBy (length w.batches) steps votes) t.sections) t.verifiers

@@ -1,12 +1,12 @@
 -- What the section of a replica says, step by step, of the replica's account of its rows. docs/MODEL.md, "A run".
-use Rattle.std.specs.Prelude.{◌≡◌, ℕ, ◌+◌, ◌-◌, ◌<◌, List, [], ◌∷◌, length, slice_get, Some}
-use Rattle.std.specs.List.{flat_map}
+use Rattle.std.specs.Prelude.{◌≡◌, ℕ, ◌+◌, ◌-◌, ◌<◌, Bool, true, false, List, [], ◌∷◌, length, slice_get, Some}
 use Rattle.eve_stamps.specs.Applied.{Applied}
-use Rattle.eve_grammar.specs.Trace.{Batch, Attempt, Step, Attempts, Commits, RollsBack, TakesOver, Vote, ForCommit}
-use Rattle.eve_grammar.specs.Trace.{ForRollback}
+use Rattle.eve_grammar.specs.Trace.{Batch, Attempt, Rollback, Transfer, Step, Attempts, Commits, RollsBack, TakesOver}
+use Rattle.eve_grammar.specs.Trace.{Vote, ForCommit, ForRollback}
 use Rattle.eve_attempts.specs.Ledgers.{Ledger}
 use Rattle.eve_attempts.specs.Closing.{touched_in_batch, Closes}
 use Rattle.eve_attempts.specs.Discarding as account
+use Rattle.eve_attempts.specs.TakingOver as state
 use Rattle.eve_replica.specs.Replicas.{front_of}
 
 -- What the replicas of a run have in common: the customers' names, the batches, and the account that each begins with.
@@ -29,33 +29,63 @@ pub record AttemptsNext (p : RunPlan) (old new : Ledger) (a : Attempt) : Type 0 
   pub closed : Closes (front_of old old.view old.is_next_serial) old new batch (touched_in_batch p.names batch) records
       a
 
--- what the step of a section makes of the account; a rollback discards an attempt at least, and no state is taken over
+-- A batch is left, and the account rolls back. In version 1 an attempt is open, so that one is discarded at least.
+pub record RollsBackNext (p : RunPlan) (old new : Ledger) (r : Rollback) : Type 0 where
+  pub left : old.committed < length p.batches
+  pub discards : old.version ≡ 1 → 0 < length old.opened
+  pub rolled_back : account.RollsBack old new r
+
+-- The account is of version 2, and takes over the state of the batch that is next, in its own view.
+pub record TakesOverNext (p : RunPlan) (old new : Ledger) (x : Transfer) : Type 0 where
+  pub version : old.version ≡ 2
+  pub left : old.committed < length p.batches
+  pub next : x.seq ≡ old.committed + 1
+  pub view : x.view ≡ old.view
+  pub taken : state.TakesOver x old new
+
+-- what the step of a section makes of the account
 abbrev pub MakesOf : RunPlan → Step → Ledger → Ledger → Type 0
 MakesOf p (Attempts a) old new = AttemptsNext p old new a
 MakesOf p (Commits c) old new = account.Commits old new c
-MakesOf p (RollsBack r) old new = (0 < length old.opened) × account.RollsBack old new r
-MakesOf p (TakesOver x) old new = ⊥
+MakesOf p (RollsBack r) old new = RollsBackNext p old new r
+MakesOf p (TakesOver x) old new = TakesOverNext p old new x
 
 -- the steps of a section make this account of that one
 abbrev pub GoesThrough : RunPlan → List Step → Ledger → Ledger → Type 0
 GoesThrough p [] old new = old ≡ new
 GoesThrough p (x ∷ steps) old new = (next : Ledger) × MakesOf p x old next × GoesThrough p steps next new
 
--- the vote on which a replica took this step
-abbrev pub votes_on : Step → List Vote
-votes_on (Attempts a) = []
-votes_on (Commits c) = record { seq = c.seq; view = c.view; choice = ForCommit c.token } ∷ []
-votes_on (RollsBack r) = record { seq = r.to + 1; view = r.view - 1; choice = ForRollback } ∷ []
-votes_on (TakesOver x) = []
+-- the votes with which all verifiers decided on a batch in a view
+abbrev pub commit_vote : (seq view : ℕ) → List ℕ → Vote
+commit_vote seq view token = record { seq = seq; view = view; choice = ForCommit token }
 
--- the votes on which it took all steps of its section
-abbrev pub votes_along : List Step → List Vote
-votes_along steps = flat_map votes_on steps
+abbrev pub rollback_vote : (seq view : ℕ) → Vote
+rollback_vote seq view = record { seq = seq; view = view; choice = ForRollback }
 
--- the number of batches that are committed in a section
-abbrev pub commits_in : List Step → ℕ
-commits_in [] = 0
-commits_in (Attempts a ∷ steps) = commits_in steps
-commits_in (Commits c ∷ steps) = 1 + commits_in steps
-commits_in (RollsBack r ∷ steps) = commits_in steps
-commits_in (TakesOver x ∷ steps) = commits_in steps
+-- These are the votes on which a replica took its steps, one after another: a commit is of its batch, view and token; a
+-- rollback is of the batch after the one that it goes back to, in the view before its own; a state is taken over where
+-- its batch is committed in its view, with whatever token.
+abbrev pub AreVotesOf : List Step → List Vote → Type 0
+AreVotesOf [] votes = votes ≡ []
+AreVotesOf (Attempts a ∷ steps) votes = AreVotesOf steps votes
+AreVotesOf (Commits c ∷ steps) votes =
+    (rest : List Vote) × (votes ≡ commit_vote c.seq c.view c.token ∷ rest) × AreVotesOf steps rest
+AreVotesOf (RollsBack r ∷ steps) votes =
+    (rest : List Vote) × (votes ≡ rollback_vote (r.to + 1) (r.view - 1) ∷ rest) × AreVotesOf steps rest
+AreVotesOf (TakesOver x ∷ steps) votes =
+    (token : List ℕ) × (rest : List Vote) × (votes ≡ commit_vote x.seq x.view token ∷ rest) × AreVotesOf steps rest
+
+-- whether a step reaches a batch: by a commit, or by a state that is taken over
+abbrev pub reaches_batch : Step → Bool
+reaches_batch (Attempts a) = false
+reaches_batch (Commits c) = true
+reaches_batch (RollsBack r) = false
+reaches_batch (TakesOver x) = true
+
+-- the number of batches that a section reaches
+abbrev pub reached_in : List Step → ℕ
+reached_in [] = 0
+reached_in (Attempts a ∷ steps) = reached_in steps
+reached_in (Commits c ∷ steps) = 1 + reached_in steps
+reached_in (RollsBack r ∷ steps) = reached_in steps
+reached_in (TakesOver x ∷ steps) = 1 + reached_in steps

@@ -1,16 +1,18 @@
 -- What a run of a deployment keeps from window to window. docs/TRACE.md, "The deployment's procedure".
-use Rattle.std.specs.Prelude.{◌≡◌, ◌≢◌, ℕ, ℤ, ◌+◌, ◌-◌, ◌*◌, ◌<◌, ◌≤◌, true, false, if◌then◌else◌}
+use Rattle.std.specs.Prelude.{◌≡◌, ◌≢◌, ℕ, ℤ, ◌+◌, ◌-◌, ◌*◌, ◌<◌, ◌≤◌, ◌⊎◌, Bool, true, false}
+use Rattle.std.specs.Prelude.{if◌then◌else◌}
 use Rattle.std.specs.Prelude.{All, IsTrue, List, [], ◌∷◌, ◌++◌, length, map, slice_get, vec_len, Option, Some, None}
 use Rattle.std.specs.Prelude.{option_map, min}
 use Rattle.std.specs.Prelude.{Vec}
 use Rattle.std.specs.declared.alloc.Global.{Global}
-use Rattle.std.specs.List.{count_by, list_all}
-use Rattle.eve_grammar.specs.Trace.{Batch, Step, Vote, ForCommit, ForRollback}
+use Rattle.std.specs.List.{AllByRecursion, count_by, list_all}
+use Rattle.eve_grammar.specs.Trace.{Batch, Commit, Step, Commits, Transfer, Vote}
 use Rattle.eve_grammar.specs.declared.limits.TheConstants.{MOST_BATCHES}
 use Rattle.eve_grammar.specs.declared.head.Head.{Head}
 use Rattle.eve_grammar.specs.Limits.{is_batch, is_step, is_vote, is_sent}
 use Rattle.eve_attempts.specs.Closing.{touched_in_batch}
 use Rattle.eve_attempts.specs.Ledgers.{Ledger, Opened, ledger_rows, opening}
+use Rattle.eve_attempts.specs.TakingOver.{IsStateOf}
 use Rattle.eve_write.specs.Data.{batch as plain, section, vote, sent}
 use Rattle.eve_write.specs.Writable.{fits_vote}
 use Rattle.eve_write.specs.declared.step.Step as code
@@ -19,7 +21,9 @@ use Rattle.eve_write.specs.declared.sent.SentData.{SentData}
 use Rattle.eve_workload.specs.declared.mixer.MixedBatch.{MixedBatch}
 use Rattle.eve_replica.specs.Replicas.{Replica}
 use Rattle.eve_replica.specs.Deciding.{is_some_of, token_given_up, AreUndecided}
-use Rattle.eve_replica.specs.Sections.{RunPlan, GoesThrough, place_due, votes_along}
+use Rattle.eve_replica.specs.Sections.{RunPlan, GoesThrough, AreVotesOf, place_due, commit_vote, rollback_vote}
+use Rattle.eve_replica.specs.Sections.{reaches_batch}
+use Rattle.eve_replica.specs.Taken.{AreTakenIn, AreCommittedByMost}
 use Rattle.eve_replica.specs.Windows.{WindowState, GoByWindows, window_with}
 use Rattle.eve_replica.specs.declared.standing.Standing.{Standing}
 use Rattle.eve_replica.specs.declared.server.Server.{Server}
@@ -35,18 +39,23 @@ abbrev pub plan_with : List (List ℕ) → List ℤ → Head → List MixedBatch
 plan_with names balances h batches = record {
   names = names;
   batches = map (λ m. plain m.batch) batches;
-  first = opening 1 balances h.workers h.window;
+  first = opening h.version balances h.workers h.window;
 }
 
 -- whatever its batches are, the plan has these names, opening balances and numbers
 abbrev pub IsPlanFor : List (List ℕ) → List ℤ → Head → RunPlan → Type 0
-IsPlanFor names balances h p = (p.names ≡ names) × (p.first ≡ opening 1 balances h.workers h.window)
+IsPlanFor names balances h p = (p.names ≡ names) × (p.first ≡ opening h.version balances h.workers h.window)
 
 -- ---- where live replicas stand
 
--- where a replica stands by its own account
-abbrev pub standing_of : Ledger → Standing
-standing_of s = record { view = s.view; committed = s.committed; opened = length s.opened }
+-- Where a replica stands: its view, the last batch that it reached, and of how many batches of the window it awaits the
+-- decision, be it with an attempt or without one.
+abbrev pub standing_of : Server → Standing
+standing_of s = record {
+  view = s.replica.ledger.view;
+  committed = s.replica.ledger.committed;
+  opened = length s.replica.ledger.opened + s.missing;
+}
 
 -- at first
 abbrev pub first_standing : Standing
@@ -92,7 +101,7 @@ pub record AreWholeWindow (p : RunPlan) (at : Standing) (many : ℕ) : Type 0 wh
 
 -- a live replica, which did these steps
 abbrev pub server_with : Replica → Vec code.Step Global → Server
-server_with r steps = record { replica = r; is_live = true; steps = steps }
+server_with r steps = record { replica = r; is_live = true; missing = 0; steps = steps }
 
 -- all that a replica did lies within the limits
 abbrev pub AreRightSteps : Server → Type 0
@@ -109,40 +118,51 @@ pub record IsOutvoted (s : Ledger) (later : List Vote) : Type 0 where
   pub opened : s.opened ≡ own ∷ others
   pub token : List ℕ
   pub rest : List Vote
-  pub next : later ≡ record { seq = s.committed + 1; view = s.view; choice = ForCommit token } ∷ rest
+  pub next : later ≡ commit_vote (s.committed + 1) s.view token ∷ rest
   pub other : own.token ≢ token
 
 -- The first of the votes so far are those on which the replica took its steps. Where it is live they are all, and else
 -- the next one says why it stopped.
 pub record IsLedBy (votes : List Vote) (s : Server) : Type 0 where
+  pub own : List Vote
   pub later : List Vote
-  pub first : votes ≡ votes_along (section s.steps) ++ later
+  pub led : AreVotesOf (section s.steps) own
+  pub first : votes ≡ own ++ later
   pub none_later : s.is_live ≡ true → later ≡ []
   pub stopped : s.is_live ≡ false → IsOutvoted s.replica.ledger later
 
+-- A replica that took over a state is of version 2, and has no attempt open while it misses some.
+pub record MissesRightly (s : Server) : Type 0 where
+  pub version : 0 < s.missing → s.replica.ledger.version ≡ 2
+  pub none_open : 0 < s.missing → s.replica.ledger.opened ≡ []
+
 -- A replica of a run by this plan. It isn't broken; all that it did lies within the limits, is what its account went
--- through, on these votes, and goes window by window; where it is live it stands here, and where it stopped it has
--- committed less.
+-- through, on these votes, and goes window by window; in version 2 it is live; where it is live it stands here, and
+-- where it stopped it has committed less.
 pub record Serves (p : RunPlan) (at : Standing) (votes : List Vote) (s : Server) : Type 0 where
   pub names : s.replica.names ≡ p.names
   pub rows : ledger_rows s.replica.ledger ≡ 2 * length p.names
   pub room : s.replica.ledger.window ≡ p.first.window
+  pub version : s.replica.ledger.version ≡ p.first.version
   pub whole : s.replica.is_broken ≡ false
   pub steps : AreRightSteps s
   pub through : GoesThrough p (section s.steps) p.first s.replica.ledger
   pub windows : ComesTo p.first.window (length p.batches) (section s.steps)
-      (window_at p (standing_of s.replica.ledger))
+      (window_at p (standing_of s))
   pub of_view : AreOfItsView s.replica.ledger
   pub led : IsLedBy votes s
   pub view : s.replica.ledger.view ≤ at.view
-  pub live : s.is_live ≡ true → standing_of s.replica.ledger ≡ at
+  pub missing : MissesRightly s
+  pub stays_live : p.first.version ≡ 2 → s.is_live ≡ true
+  pub live : s.is_live ≡ true → standing_of s ≡ at
   pub behind : s.is_live ≡ false → s.replica.ledger.committed < at.committed
 
 -- ---- how a replica goes on
 
--- What live replicas do together: how far it takes them, at which state of a window it may come and to which it leads,
--- which batches they attempt, and the votes on which they do it.
+-- What live replicas do together: whether its steps reach a batch, how far it takes them, at which state of a window it
+-- may come and to which it leads, which batches they attempt, and the votes on which they do it.
 pub record Move : Type 1 where
+  pub reaches : Bool
   pub further : Standing → Standing
   pub InWindow : (size : ℕ) → (old new : WindowState) → Type 0
   pub window : List Batch
@@ -151,6 +171,7 @@ pub record Move : Type 1 where
 -- this number of attempts, of the first batches of a window
 abbrev pub attempt_move : ℕ → List Batch → Move
 attempt_move many window = record {
+  reaches = false;
   further = after_attempts many;
   InWindow = λ size old new.
       (many ≤ old.due) × (new ≡ record old { due = old.due - many; opened = old.opened + many });
@@ -158,22 +179,24 @@ attempt_move many window = record {
   votes = λ at. [];
 }
 
--- the commit of the first open batch, with this token
+-- the commit of the first open batch with this token, or the taking over of what others committed
 abbrev pub commit_move : List ℕ → Move
 commit_move token = record {
+  reaches = true;
   further = after_commit;
   InWindow = λ size old new. (old.due ≡ 0) × (new ≡ window_with size (old.left - 1) (old.opened - 1));
   window = [];
-  votes = λ at. record { seq = at.committed + 1; view = at.view; choice = ForCommit token } ∷ [];
+  votes = λ at. commit_vote (at.committed + 1) at.view token ∷ [];
 }
 
 -- the rollback of the first open batch and all others
 abbrev pub rollback_move : Move
 rollback_move = record {
+  reaches = false;
   further = after_rollback;
   InWindow = λ size old new. (old.due ≡ 0) × (new ≡ window_with size old.left 0);
   window = [];
-  votes = λ at. record { seq = at.committed + 1; view = at.view; choice = ForRollback } ∷ [];
+  votes = λ at. rollback_vote (at.committed + 1) at.view ∷ [];
 }
 
 -- they come to this view by it, from where they stand
@@ -185,40 +208,74 @@ abbrev pub AreBatchesFrom : List Batch → ℕ → List Batch → Type 0
 AreBatchesFrom batches place window =
     (k : ℕ) → k < length window → slice_get batches (place + k) ≡ slice_get window k
 
--- A replica went on: its names, its rows and how many attempts it may have open stay; it isn't broken if it wasn't; all
--- that it did lies within the limits if it did before, and is what its account went through where the batches of the
--- window are due, and goes on window by window where this may come now; what it gave up stays, but for the views that
--- it comes to; if it is still live it did so on these votes, and stands this much further, and else on none; where it
--- is live no more its account stays, and the next of these votes says why it stopped, if it did by this move.
+-- some batch is left, where the decision on one is awaited
+abbrev pub IsLeft : List Batch → Standing → Type 0
+IsLeft batches at = 0 < at.opened → at.committed < length batches
+
+-- A replica went on: its names, its rows, its version and how many attempts it may have open stay; it isn't broken if
+-- it wasn't; the steps that it added reach a batch each where the move is to reach one, and else none; all that it did
+-- lies within the limits if it did before, and is what its account went through where the batches of the window are
+-- due, and goes on window by window where this may come now; what it gave up stays, but for the views that it comes to;
+-- if it is still live it did so on these votes, and stands this much further, and else on none; where it is live no
+-- more its account stays, and where it stands, and the next of these votes says why it stopped, if it did by this move.
 pub record GoesOn (m : Move) (old new : Server) : Type 0 where
   pub names : new.replica.names ≡ old.replica.names
   pub rows : ledger_rows new.replica.ledger ≡ ledger_rows old.replica.ledger
   pub room : new.replica.ledger.window ≡ old.replica.ledger.window
+  pub version : new.replica.ledger.version ≡ old.replica.ledger.version
   pub whole : old.replica.is_broken ≡ false → new.replica.is_broken ≡ false
+  pub added : (more : List Step) × (section new.steps ≡ section old.steps ++ more)
+      × AllByRecursion (λ x. reaches_batch x ≡ m.reaches) more
   pub steps : AreRightSteps old → AreRightSteps new
   pub through : (p : RunPlan) → old.replica.names ≡ p.names
       → (old.is_live ≡ true → AreBatchesFrom p.batches (place_due old.replica.ledger) m.window)
+      → (old.is_live ≡ true → IsLeft p.batches (standing_of old))
       → GoesThrough p (section old.steps) p.first old.replica.ledger
       → GoesThrough p (section new.steps) p.first new.replica.ledger
   pub windows : (size batches : ℕ) (from to : WindowState) → (new.is_live ≡ true → m.InWindow size from to)
       → (new.is_live ≡ false → from ≡ to) → ComesTo size batches (section old.steps) from
       → ComesTo size batches (section new.steps) to
   pub of_view : AreOfItsView old.replica.ledger → AreOfItsView new.replica.ledger
-  pub given_up : (view : ℕ) → ¬ Enters m (standing_of old.replica.ledger) view
+  pub given_up : (view : ℕ) → ¬ Enters m (standing_of old) view
       → token_given_up view [] (section new.steps) ≡ token_given_up view [] (section old.steps)
-  pub votes : AreOfItsView old.replica.ledger
-      → votes_along (section new.steps)
-      ≡ votes_along (section old.steps)
-      ++ (if new.is_live then m.votes (standing_of old.replica.ledger) else [])
+  pub votes : AreOfItsView old.replica.ledger → (own : List Vote) → AreVotesOf (section old.steps) own
+      → AreVotesOf (section new.steps) (own ++ (if new.is_live then m.votes (standing_of old) else []))
   pub view : (at : Standing) → old.replica.ledger.view ≤ at.view → new.replica.ledger.view ≤ (m.further at).view
   pub live : new.is_live ≡ true
-      → (old.is_live ≡ true) × (standing_of new.replica.ledger ≡ m.further (standing_of old.replica.ledger))
-  pub behind : (at : Standing) → (old.is_live ≡ true → standing_of old.replica.ledger ≡ at)
+      → (old.is_live ≡ true) × (standing_of new ≡ m.further (standing_of old))
+  pub missing : MissesRightly old → MissesRightly new
+  pub stays_live : old.replica.ledger.version ≡ 2 → old.is_live ≡ true → new.is_live ≡ true
+  pub behind : (at : Standing) → (old.is_live ≡ true → standing_of old ≡ at)
       → (old.is_live ≡ false → old.replica.ledger.committed < at.committed)
       → new.is_live ≡ false → new.replica.ledger.committed < (m.further at).committed
   pub stays : new.is_live ≡ false → new.replica.ledger ≡ old.replica.ledger
+  pub stands : new.is_live ≡ false → standing_of new ≡ standing_of old
   pub stops : new.is_live ≡ false → old.is_live ≡ true
-      → IsOutvoted old.replica.ledger (m.votes (standing_of old.replica.ledger))
+      → IsOutvoted old.replica.ledger (m.votes (standing_of old))
+
+-- ---- states handed on
+
+-- the replica commits the batch that is next, in its view
+pub record CommitsNext (old new : Server) : Type 0 where
+  pub commit : Commit
+  pub seq : commit.seq ≡ old.replica.ledger.committed + 1
+  pub view : AreOfItsView old.replica.ledger → commit.view ≡ old.replica.ledger.view
+  pub added : section new.steps ≡ section old.steps ++ Commits commit ∷ []
+
+-- it is the state that the replica has committed: its last batch, its view, its rows as they are committed
+pub record IsLentBy (s : Server) (x : Transfer) : Type 0 where
+  pub seq : x.seq ≡ s.replica.ledger.committed
+  pub view : x.view ≡ s.replica.ledger.view
+  pub rows : IsStateOf s.replica.ledger x.rows
+
+-- The replica is of version 2 and has nothing open while it misses attempts; it awaits a decision, and the state is of
+-- the next batch, in its view.
+pub record MayTakeOver (x : Transfer) (s : Server) : Type 0 where
+  pub version : s.replica.ledger.version ≡ 2
+  pub missing : MissesRightly s
+  pub awaits : 0 < (standing_of s).opened
+  pub next : x.seq ≡ s.replica.ledger.committed + 1
+  pub view : x.view ≡ s.replica.ledger.view
 
 -- ---- what is decided
 
@@ -235,7 +292,8 @@ abbrev pub IsDecision : Option (List ℕ) → List Server → Type 0
 IsDecision (Some token) servers = length servers < 2 * count_with token servers
 IsDecision None servers = (token : List ℕ) → 2 * count_with token servers ≤ length servers
 
--- By its rollback a replica gave up the token of its first open attempt, and where it is live no more, none.
+-- By its rollback a replica gave up the token of its first open attempt, and where it has none or is live no more,
+-- none.
 abbrev pub GivesUpNext : RunPlan → Server → Server → Type 0
 GivesUpNext p old new =
     p.first.opened ≡ [] → GoesThrough p (section old.steps) p.first old.replica.ledger
@@ -262,13 +320,17 @@ sections_in servers = map (λ s. section s.steps) servers
 abbrev pub live_in : List Server → ℕ
 live_in servers = count_by (λ s. s.is_live) servers
 
--- The state of a run by this plan, which begins with nothing open: its batches are the plan's, and were looked up among
--- its names; each replica is one of this run, and each live one stands where the run does; more than half of them are
--- live; what they rolled back wasn't decided; every vote so far lies within the limits.
+-- The state of a run by this plan, which begins with nothing open, in version 1 or 2: its batches are the plan's, and
+-- were looked up among its names; each replica is one of this run, and each live one stands where the run does; more
+-- than half of them are live; each batch so far was committed by more than half of all; what was taken over is what the
+-- lowest-numbered of these had committed; what was rolled back wasn't decided; every vote so far lies within the
+-- limits.
 pub record IsUnderWay (p : RunPlan) (d : RunState) : Type 0 where
   pub begun : p.first.opened ≡ []
   pub customers : length p.names ≡ d.head.customers
   pub window : p.first.window ≡ d.head.window
+  pub version : p.first.version ≡ d.head.version
+  pub known : (d.head.version ≡ 1) ⊎ (d.head.version ≡ 2)
   pub batches : p.batches ≡ map (λ m. plain m.batch) d.batches.now
   pub few : length d.batches.now ≤ MOST_BATCHES
   pub room : 1 ≤ d.head.window
@@ -277,6 +339,8 @@ pub record IsUnderWay (p : RunPlan) (d : RunState) : Type 0 where
   pub many : vec_len d.servers ≡ d.head.replicas
   pub servers : All (Serves p d.standing (map vote d.votes.items)) d.servers.items
   pub majority : length d.servers.items < 2 * live_in d.servers.items
+  pub committed : AreCommittedByMost d.standing.committed (sections_in d.servers.items)
+  pub taken : AreTakenIn p (sections_in d.servers.items)
   pub undecided : AreUndecided (sections_in d.servers.items)
   pub votes : AreVotesOn (length d.batches.now) d.votes.items
 

@@ -2,23 +2,23 @@
 use Rattle.std.specs.Prelude.{◌≡◌, ℕ, ◌+◌, ◌-◌, ◌<◌, ◌==◌, min, if◌then◌else◌, List, [], ◌∷◌}
 use Rattle.eve_grammar.specs.Trace.{Step, Attempts, Commits, RollsBack, TakesOver}
 
--- How far a section is in a window: the numbers of batches that aren't committed, of attempts of the window that are
--- still due, and of open attempts.
+-- How far a section is in a window: the numbers of batches that aren't reached, of attempts of the window that are
+-- still due, and of batches of the window that were attempted and aren't decided.
 pub record WindowState : Type 0 where
   pub left : ℕ
   pub due : ℕ
   pub opened : ℕ
 
--- The state at first, after a commit, and after a rollback, by the numbers of batches left and of open attempts. Where
--- none is open a window begins: an attempt is due for each batch that is left, but for no more than a window has. Where
--- some are open no more are due.
+-- The state at first, after a batch is reached, and after a rollback, by the numbers of batches that are left and that
+-- are open. Where none is open a window begins: an attempt is due for each batch that is left, but for no more than a
+-- window has. Where some are open no more are due.
 abbrev pub window_with : (window left opened : ℕ) → WindowState
 window_with window left opened =
     record { left = left; due = if opened == 0 then min window left else 0; opened = opened }
 
--- From this state on the steps go window by window: all attempts of a window are made, and then they are committed one
--- after another, or what is left of them is rolled back together; the next window begins where none is open any more.
--- The steps end where no attempt is due: after the last attempt of a window, or later. No state is taken over.
+-- From this state on the steps go window by window: all attempts of a window are made, and then its batches are reached
+-- one after another, or what is left of them is rolled back together; the next window begins where none is open any
+-- more. The steps end where no attempt is due: after the last attempt of a window, or later.
 abbrev pub GoByWindows : (window : ℕ) → WindowState → List Step → Type 0
 GoByWindows window at [] = at.due ≡ 0
 GoByWindows window at (Attempts a ∷ steps) =
@@ -26,4 +26,5 @@ GoByWindows window at (Attempts a ∷ steps) =
 GoByWindows window at (Commits c ∷ steps) =
     (at.due ≡ 0) × GoByWindows window (window_with window (at.left - 1) (at.opened - 1)) steps
 GoByWindows window at (RollsBack r ∷ steps) = (at.due ≡ 0) × GoByWindows window (window_with window at.left 0) steps
-GoByWindows window at (TakesOver x ∷ steps) = ⊥
+GoByWindows window at (TakesOver x ∷ steps) =
+    (at.due ≡ 0) × GoByWindows window (window_with window (at.left - 1) (at.opened - 1)) steps

@@ -68,6 +68,9 @@ pub enum RunFault {
     /// A replica failed otherwise, or some batch wasn't committed after two windows for each batch.
     #[error("the run is broken")]
     Broken,
+    /// In format 2, the states that replicas took over have more bytes than a trace may have.
+    #[error("the trace is too long")]
+    TooLong,
 }
 
 impl From<AllocError> for RunFault {

@@ -9,22 +9,34 @@ ghost use Rattle.eve_replica.specs.Sections.{RunPlan};
 ghost use Rattle.eve_replica.specs.Serving.{IsRightMixed, Serves, AreBatchesFrom, AreWholeWindow};
 ghost use Rattle.eve_replica.specs.Serving.{IsSameRun, IsUnderWay};
 ghost use Rattle.eve_replica.specs.Serving.{after_attempts, after_commit, after_rollback, commit_move, rollback_move};
-ghost use Rattle.eve_replica.specs.Serving.{IsDecision, count_with, live_in, sections_in};
+ghost use Rattle.eve_replica.specs.Serving.{IsDecision, IsLeft, count_with, live_in, sections_in};
+ghost use Rattle.eve_replica.specs.Handing.{CommitsOrWaits, IsLentByFirst, MayTakeOverOrStay, TakesOverOrStays};
+ghost use Rattle.std.specs.List.{AllZip, Any};
+ghost use Rattle.eve_replica.specs.Taken.{AreCommittedByMost, AreTakenIn};
+ghost use Rattle.std.specs.Prelude.{◌*◌, ◌⊎◌, ℕ, true, false, IsTrue, IfOk, IfErr};
+ghost use Rattle.std.specs.Arc.{arc_value};
+ghost use Rattle.eve_grammar.specs.Bodies.{transfer};
+ghost use Rattle.eve_grammar.specs.Limits.{is_transfer};
 
 use crate::fault::RunFault;
 use crate::server::Server;
 use crate::standing::{MOST_VIEWS, Standing};
 use crate::votes::{vote_for_commit, vote_for_rollback};
-use eve_grammar::{Head, MOST_BATCHES};
+use eve_grammar::{Head, MOST_BATCHES, TransferData};
 use eve_recorder::Gate;
 use eve_workload::MixedBatch;
 use eve_write::VoteData;
 use std::alloc::{AllocError, Global};
-use std::sync::Wait;
+use std::sync::{Arc, Wait};
 use std::thread::Threads;
 
-/// How far a run is: its numbers and its batches, its replicas, where the live ones stand, and the votes of each
-/// verifier.
+// of the frame of a state that is taken over: what stands before its rows, and each row
+const TRANSFER_HEAD_LEN: u64 = 13;
+
+const ROW_LEN: u64 = 16;
+
+/// How far a run is: its numbers and its batches, its replicas, where the live ones stand, the votes of each
+/// verifier, and how much room the trace has for states that are taken over.
 #[derive(Drop)]
 pub(crate) struct RunState<'n, 'b> {
     pub head: Head,
@@ -32,6 +44,8 @@ pub(crate) struct RunState<'n, 'b> {
     pub servers: Vec<Server<'n>>,
     pub standing: Standing,
     pub votes: Vec<VoteData>,
+    // how many bytes of Transfer frames a trace still has room for
+    pub room: u64,
 }
 
 impl<'n, 'b> RunState<'n, 'b> {
@@ -87,7 +101,7 @@ impl<'n, 'b> RunState<'n, 'b> {
     }
 
     /// Commits the first open batch where its token is decided, and else rolls back all open batches.
-    fn decide(&mut self, alloc: Global) -> Result<(), AllocError>
+    fn decide(&mut self, alloc: Global) -> Result<(), RunFault>
         requires under_way { (p : RunPlan) × IsUnderWay p self.old }
         requires open { 0 < self.old.standing.opened }
         requires view { self.old.standing.view < MOST_VIEWS }
@@ -99,14 +113,17 @@ impl<'n, 'b> RunState<'n, 'b> {
             → OnOk result (self.new.standing.view ≡ self.old.standing.view) }
     {
         match decided(self.servers.as_slice()) {
-            Some(token) => self.commit(token),
-            None => self.roll_back(alloc),
+            Some(token) => self.commit(alloc, token),
+            None => {
+                self.roll_back(alloc)?;
+                Ok(())
+            }
         }
     }
 
     /// Every verifier votes for the commit of the first open batch. A replica with this token commits it; any other
-    /// stops.
-    fn commit(&mut self, token: [u8; 32]) -> Result<(), AllocError>
+    /// stops in format 1, and takes over in format 2 what was committed.
+    fn commit(&mut self, alloc: Global, token: [u8; 32]) -> Result<(), RunFault>
         requires under_way { (p : RunPlan) × IsUnderWay p self.old }
         requires open { 0 < self.old.standing.opened }
         requires decided { IsDecision (Some token) self.old.servers.items }
@@ -117,7 +134,15 @@ impl<'n, 'b> RunState<'n, 'b> {
         let seq = self.standing.committed + 1;
         let batches = self.batches.len();
         vote_for_commit(&mut self.votes, batches, seq, self.standing.view, token)?;
-        commit_all(self.servers.as_mut_slice(), seq, token)?;
+        let head = self.head;
+        commit_each(
+            alloc,
+            &head,
+            &mut self.room,
+            self.servers.as_mut_slice(),
+            seq,
+            token,
+        )?;
         self.standing.committed = seq;
         self.standing.opened -= 1;
         Ok(())
@@ -153,13 +178,17 @@ fn attempt_all<R: Threads + Wait + Sync, G: Gate>(
 ) -> Result<(), RunFault>
     requires serve { (p : RunPlan) × (at : Standing) × (votes : List Vote) × All (IsRightMixed p.names) window.now
         × AreBatchesFrom p.batches (at.committed + at.opened) (map (λ m. plain m.batch) window.now)
-        × All (Serves p at votes) servers.old × (at.opened + length window.now ≤ p.first.window)
-        × (at.committed + at.opened + length window.now ≤ MOST_BATCHES) }
+        × All (Serves p at votes) servers.old × (at.opened ≡ 0) × (length window.now ≤ p.first.window)
+        × (at.committed + length window.now ≤ MOST_BATCHES) }
     ensures serve { (p : RunPlan) (at : Standing) (votes : List Vote)
         → AreBatchesFrom p.batches (at.committed + at.opened) (map (λ m. plain m.batch) window.now)
         → AreWholeWindow p at (length window.now) → All (Serves p at votes) servers.old
         → OnOk result (All (Serves p (after_attempts (length window.now) at) votes) servers.new) }
     ensures live { OnOk result (live_in servers.new ≡ live_in servers.old) }
+    ensures committed { (n : ℕ) → AreCommittedByMost n (sections_in servers.old)
+        → OnOk result (AreCommittedByMost n (sections_in servers.new)) }
+    ensures taken { (p : RunPlan) (at : Standing) (votes : List Vote) → All (Serves p at votes) servers.old
+        → AreTakenIn p (sections_in servers.old) → OnOk result (AreTakenIn p (sections_in servers.new)) }
     ensures undecided { AreUndecided (sections_in servers.old) → OnOk result (AreUndecided (sections_in servers.new)) }
 {
     for server in servers.iter_mut() {
@@ -168,13 +197,52 @@ fn attempt_all<R: Threads + Wait + Sync, G: Gate>(
     Ok(())
 }
 
-/// Each live replica commits this batch, which is the next, or stops.
+/// Each replica with this token commits the batch, which is the next. Any other stops in format 1, and takes over in
+/// format 2 what was committed, if a trace has room for the states that are taken over.
+fn commit_each(
+    alloc: Global,
+    head: &Head,
+    room: &mut u64,
+    servers: &mut [Server],
+    seq: u32,
+    token: [u8; 32],
+) -> Result<(), RunFault>
+    requires serve { (p : RunPlan) × (at : Standing) × (votes : List Vote) × All (Serves p at votes) servers.old
+        × (p.first.version ≡ head.now.version) × (length p.names ≡ head.now.customers)
+        × (seq ≡ at.committed + 1) × (0 < at.opened) }
+    requires version { (head.now.version ≡ 1) ⊎ (head.now.version ≡ 2) }
+    requires majority { length servers.old < 2 * live_in servers.old }
+    requires decided { IsDecision (Some token) servers.old }
+    ensures serve { (p : RunPlan) (at : Standing) (votes : List Vote) → All (Serves p at votes) servers.old
+        → IsLeft p.batches at
+        → OnOk result (All (Serves p (after_commit at) (votes ++ (commit_move token).votes at)) servers.new) }
+    ensures majority { OnOk result (length servers.new < 2 * live_in servers.new) }
+    ensures committed { AreCommittedByMost (seq - 1) (sections_in servers.old)
+        → OnOk result (AreCommittedByMost seq (sections_in servers.new)) }
+    ensures taken { (p : RunPlan) (at : Standing) (votes : List Vote) → All (Serves p at votes) servers.old
+        → IsLeft p.batches at → AreTakenIn p (sections_in servers.old)
+        → OnOk result (AreTakenIn p (sections_in servers.new)) }
+    ensures undecided { AreUndecided (sections_in servers.old) → OnOk result (AreUndecided (sections_in servers.new)) }
+{
+    if head.version == 1 {
+        commit_all(servers, seq, token)?;
+        return Ok(());
+    }
+    spend(room, head, servers, token)?;
+    commit_or_take_over(alloc, head, servers, seq, token)
+}
+
+/// In format 1, each live replica commits this batch, which is the next, or stops.
 fn commit_all(servers: &mut [Server], seq: u32, token: [u8; 32]) -> Result<(), AllocError>
     requires { (p : RunPlan) × (at : Standing) × (votes : List Vote) × All (Serves p at votes) servers.old
-        × (seq ≡ at.committed + 1) × (0 < at.opened) }
+        × (p.first.version ≡ 1) × (seq ≡ at.committed + 1) × (0 < at.opened) }
     ensures serve { (p : RunPlan) (at : Standing) (votes : List Vote) → All (Serves p at votes) servers.old
-        → OnOk result (All (Serves p (after_commit at) (votes ++ (commit_move token).votes at)) servers.new) }
+        → IsLeft p.batches at → OnOk result (All (Serves p (after_commit at) (votes ++ (commit_move token).votes at)) servers.new) }
     ensures live { OnOk result (live_in servers.new ≡ count_with token servers.old) }
+    ensures committed { IsDecision (Some token) servers.old → AreCommittedByMost (seq - 1) (sections_in servers.old)
+        → OnOk result (AreCommittedByMost seq (sections_in servers.new)) }
+    ensures taken { (p : RunPlan) (at : Standing) (votes : List Vote) → All (Serves p at votes) servers.old
+        → AreTakenIn p (sections_in servers.old) → OnOk result (AreTakenIn p (sections_in servers.new)) }
     ensures undecided { AreUndecided (sections_in servers.old) → OnOk result (AreUndecided (sections_in servers.new)) }
 {
     for server in servers.iter_mut() {
@@ -183,13 +251,118 @@ fn commit_all(servers: &mut [Server], seq: u32, token: [u8; 32]) -> Result<(), A
     Ok(())
 }
 
+/// In format 2, each replica with this token commits the batch, which is the next, and each other takes over what the
+/// lowest-numbered of these then has committed.
+fn commit_or_take_over(
+    alloc: Global,
+    head: &Head,
+    servers: &mut [Server],
+    seq: u32,
+    token: [u8; 32],
+) -> Result<(), RunFault>
+    requires serve { (p : RunPlan) × (at : Standing) × (votes : List Vote) × All (Serves p at votes) servers.old
+        × (p.first.version ≡ 2) × (length p.names ≡ head.now.customers)
+        × (seq ≡ at.committed + 1) × (0 < at.opened) }
+    requires decided { IsDecision (Some token) servers.old }
+    ensures serve { (p : RunPlan) (at : Standing) (votes : List Vote) → All (Serves p at votes) servers.old
+        → IsLeft p.batches at
+        → OnOk result (All (Serves p (after_commit at) (votes ++ (commit_move token).votes at)) servers.new) }
+    ensures live { OnOk result (live_in servers.new ≡ live_in servers.old) }
+    ensures committed { AreCommittedByMost (seq - 1) (sections_in servers.old)
+        → OnOk result (AreCommittedByMost seq (sections_in servers.new)) }
+    ensures taken { (p : RunPlan) (at : Standing) (votes : List Vote) → All (Serves p at votes) servers.old
+        → IsLeft p.batches at → AreTakenIn p (sections_in servers.old)
+        → OnOk result (AreTakenIn p (sections_in servers.new)) }
+    ensures undecided { AreUndecided (sections_in servers.old) → OnOk result (AreUndecided (sections_in servers.new)) }
+{
+    commit_or_wait_all(servers, seq, token)?;
+    if have_all_committed(servers, seq) {
+        return Ok(());
+    }
+    let state = state_committed(alloc, head, servers, seq)?;
+    take_over_all(servers, &state)?;
+    Ok(())
+}
+
+/// Each replica with this token commits the batch, which is the next; the others stay as they are.
+fn commit_or_wait_all(servers: &mut [Server], seq: u32, token: [u8; 32]) -> Result<(), AllocError>
+    requires { All (λ s. (s.replica.is_broken ≡ false) × (seq ≡ s.replica.ledger.committed + 1)) servers.old }
+    ensures { OnOk result (AllZip (CommitsOrWaits token) servers.old servers.new) }
+{
+    for server in servers.iter_mut() {
+        server.commit_or_wait(seq, token)?;
+    }
+    Ok(())
+}
+
+/// Whether each replica has committed the batch with this number last.
+fn have_all_committed(servers: &[Server], seq: u32) -> bool
+    ensures { IsTrue result → All (λ s. s.replica.ledger.committed ≡ seq) servers.now }
+{
+    for server in servers {
+        if server.replica.committed() != seq {
+            return false;
+        }
+    }
+    true
+}
+
+/// What the lowest-numbered replica that committed the batch with this number last has committed.
+fn state_committed(
+    alloc: Global,
+    head: &Head,
+    servers: &[Server],
+    seq: u32,
+) -> Result<Arc<TransferData>, RunFault>
+    requires { Any (λ s. s.replica.ledger.committed ≡ seq) servers.now }
+    ensures lent { IfOk result (λ x. IsLentByFirst seq servers.now (transfer (arc_value x))) }
+    ensures right { IfOk result (λ x. IsTrue (is_transfer (2 * head.now.customers) (transfer (arc_value x)))) }
+{
+    for server in servers {
+        if server.replica.committed() == seq {
+            return server.state(alloc, head);
+        }
+    }
+    unreachable!()
+}
+
+/// Each replica that hasn't committed the state's batch takes it over; the others stay as they are.
+fn take_over_all(servers: &mut [Server], state: &Arc<TransferData>) -> Result<(), AllocError>
+    requires { All (MayTakeOverOrStay (transfer (arc_value state.now))) servers.old }
+    ensures { (token : List ℕ)
+        → OnOk result (AllZip (TakesOverOrStays token (transfer (arc_value state.now))) servers.old servers.new) }
+{
+    for server in servers.iter_mut() {
+        server.take_over_or_stay(state)?;
+    }
+    Ok(())
+}
+
+/// Takes from the room the bytes of a Transfer frame for each replica without this token.
+fn spend(room: &mut u64, head: &Head, servers: &[Server], token: [u8; 32]) -> Result<(), RunFault>
+    ensures { IfErr result (λ why. why ≡ RunFault.TooLong) }
+{
+    let others = servers.len().saturating_sub(count_with(servers, token));
+    let bytes = TRANSFER_HEAD_LEN.saturating_add(ROW_LEN.saturating_mul(2 * head.customers as u64));
+    let bytes = bytes.saturating_mul(others as u64);
+    if *room < bytes {
+        return Err(RunFault::TooLong);
+    }
+    *room -= bytes;
+    Ok(())
+}
+
 /// Each live replica rolls back.
 fn roll_back_all(servers: &mut [Server], alloc: Global) -> Result<(), AllocError>
     requires { (p : RunPlan) × (at : Standing) × (votes : List Vote) × All (Serves p at votes) servers.old
         × (at.view < MOST_VIEWS) × (0 < at.opened) }
     ensures serve { (p : RunPlan) (at : Standing) (votes : List Vote) → All (Serves p at votes) servers.old
-        → OnOk result (All (Serves p (after_rollback at) (votes ++ rollback_move.votes at)) servers.new) }
+        → IsLeft p.batches at → OnOk result (All (Serves p (after_rollback at) (votes ++ rollback_move.votes at)) servers.new) }
     ensures live { OnOk result (live_in servers.new ≡ live_in servers.old) }
+    ensures committed { (n : ℕ) → AreCommittedByMost n (sections_in servers.old)
+        → OnOk result (AreCommittedByMost n (sections_in servers.new)) }
+    ensures taken { (p : RunPlan) (at : Standing) (votes : List Vote) → All (Serves p at votes) servers.old
+        → AreTakenIn p (sections_in servers.old) → OnOk result (AreTakenIn p (sections_in servers.new)) }
     ensures undecided { (p : RunPlan) (at : Standing) (votes : List Vote) → p.first.opened ≡ []
         → All (Serves p at votes) servers.old → IsDecision None servers.old → AreUndecided (sections_in servers.old)
         → OnOk result (AreUndecided (sections_in servers.new)) }

@@ -1,6 +1,6 @@
 //! The run of a whole deployment.
 
-ghost use Rattle.std.specs.Prelude.{◌≡◌, ◌≤◌, ◌*◌, true, [], All, IfOk, OnOk, length, map, vec_len};
+ghost use Rattle.std.specs.Prelude.{◌≡◌, ◌≤◌, ◌<◌, ◌*◌, ◌⊎◌, true, [], All, IfOk, OnOk, length, map, vec_len};
 ghost use Rattle.eve_grammar.specs.Trace.{opening_rows};
 ghost use Rattle.eve_write.specs.Data.{batch as plain, customer, section, sent};
 ghost use Rattle.eve_workload.specs.Workload.{customer_names};
@@ -18,7 +18,10 @@ use crate::sending::replies_of;
 use crate::server::Server;
 use crate::standing::Standing;
 use eve_accounts::{Balances, Names};
-use eve_grammar::{Head, MOST_BATCHES, MOST_CUSTOMERS, MOST_REPLICAS, MOST_WINDOW, MOST_WORKERS};
+use eve_grammar::{
+    Head, MOST_BATCHES, MOST_BYTES, MOST_CUSTOMERS, MOST_REPLICAS, MOST_WINDOW, MOST_WORKERS,
+    NEWEST_VERSION,
+};
 use eve_recorder::Gate;
 use eve_workload::{MixedBatch, Mixer, Workload};
 use eve_write::{BatchData, CustomerData, Parts, SentData, Step, VoteData};
@@ -30,10 +33,11 @@ use std::thread::Threads;
 /// Runs the workload on the replicas of its deployment, each with its workers in threads, and returns all parts of the
 /// trace of that run.
 ///
-/// docs/TRACE.md, "The deployment's procedure". The workload is of format 1, the one that runs have so far. The gate is
-/// entered before each execution, with the request's index. It fails with `Memory` where memory runs out, and with
-/// `Broken` where a replica fails otherwise, or where some batch isn't committed after two windows for each batch. May
-/// wait for other threads.
+/// docs/TRACE.md, "The deployment's procedure". The trace is of the version that is the workload's format, 1 or 2. The
+/// gate is entered before each execution, with the request's index. It fails with `Memory` where memory runs out, with
+/// `Broken` where a replica fails otherwise, or where some batch isn't committed after two windows for each batch. In
+/// format 2 it also fails with `TooLong`, where the states that are taken over would alone fill a trace. May wait for
+/// other threads.
 pub fn run<R: Threads + Wait + Sync, G: Gate>(
     rt: &R,
     alloc: Global,
@@ -42,7 +46,7 @@ pub fn run<R: Threads + Wait + Sync, G: Gate>(
     random: RandomState,
     gate: &G,
 ) -> Result<Parts, RunFault>
-    requires { workload.now.format ≡ 1 }
+    requires { (1 ≤ workload.now.format) × (workload.now.format ≤ NEWEST_VERSION) }
     ensures { IfOk result (IsRunOf workload.now mixer) }
 {
     run_consuming(rt, alloc, workload.copy(alloc)?, mixer, random, gate)
@@ -60,7 +64,7 @@ pub fn run_consuming<R: Threads + Wait + Sync, G: Gate>(
     random: RandomState,
     gate: &G,
 ) -> Result<Parts, RunFault>
-    requires { workload.format ≡ 1 }
+    requires { (1 ≤ workload.format) × (workload.format ≤ NEWEST_VERSION) }
     ensures { IfOk result (IsRunOf workload mixer) }
 {
     let customers = workload.customers().to_vec(alloc)?;
@@ -78,7 +82,7 @@ fn run_named<R: Threads + Wait + Sync, G: Gate>(
     gate: &G,
 ) -> Result<Parts, RunFault>
     requires named { names.now.items ≡ customer_names workload.customers }
-    requires format { workload.format ≡ 1 }
+    requires format { (1 ≤ workload.format) × (workload.format ≤ NEWEST_VERSION) }
     ensures { IfOk result (IsRunOf workload mixer) }
 {
     let head = workload.head();
@@ -116,6 +120,8 @@ fn first_state<'n, 'b>(
     batches: &'b [MixedBatch],
 ) -> Result<RunState<'n, 'b>, AllocError>
     requires named { names.now.items ≡ customer_names (map customer customers.now) }
+    requires version { (head.now.version ≡ 1) ⊎ (head.now.version ≡ 2) }
+    requires some { 1 ≤ length customers.now }
     requires customers { length customers.now ≡ head.now.customers }
     requires known { length customers.now ≤ MOST_CUSTOMERS }
     requires workers { (1 ≤ head.now.workers) × (head.now.workers ≤ MOST_WORKERS) }
@@ -141,6 +147,7 @@ fn first_state<'n, 'b>(
             opened: 0,
         },
         votes: Vec::new(alloc),
+        room: MOST_BYTES as u64,
     })
 }
 
@@ -217,6 +224,8 @@ fn servers_of<'n>(
     names: &'n Names<'n>,
     balances: &Balances,
 ) -> Result<Vec<Server<'n>>, AllocError>
+    requires version { (head.now.version ≡ 1) ⊎ (head.now.version ≡ 2) }
+    requires some { 0 < length balances.now }
     requires rows { length balances.now ≡ 2 * length names.now.items }
     requires workers { (1 ≤ head.now.workers) × (head.now.workers ≤ MOST_WORKERS) }
     requires window { (1 ≤ head.now.window) × (head.now.window ≤ MOST_WINDOW) }
@@ -240,6 +249,8 @@ fn server_of<'n>(
     names: &'n Names<'n>,
     balances: &Balances,
 ) -> Result<Server<'n>, AllocError>
+    requires version { (head.now.version ≡ 1) ⊎ (head.now.version ≡ 2) }
+    requires some { 0 < length balances.now }
     requires rows { length balances.now ≡ 2 * length names.now.items }
     requires workers { (1 ≤ head.now.workers) × (head.now.workers ≤ MOST_WORKERS) }
     requires window { (1 ≤ head.now.window) × (head.now.window ≤ MOST_WINDOW) }
@@ -248,8 +259,16 @@ fn server_of<'n>(
     ensures live { IfOk result (λ s. s.is_live ≡ true) }
 {
     Ok(Server {
-        replica: Replica::new(alloc, 1, names, balances, head.workers, head.window)?,
+        replica: Replica::new(
+            alloc,
+            head.version,
+            names,
+            balances,
+            head.workers,
+            head.window,
+        )?,
         is_live: true,
+        missing: 0,
         steps: Vec::new(alloc),
     })
 }

@@ -2,23 +2,28 @@
 
 ghost use Rattle.std.specs.Prelude.{◌≡◌, true, false, ◌+◌, ◌-◌, ◌<◌, ◌^◌, [], ◌∷◌, ◌++◌, All, IsTrue, IsSome, OnErr};
 ghost use Rattle.std.specs.Prelude.{OnOk, length, map};
-ghost use Rattle.eve_grammar.specs.Limits.{is_step};
+ghost use Rattle.std.specs.Prelude.{◌≢◌, ◌*◌, ℕ, List, IfOk};
+ghost use Rattle.std.specs.Arc.{arc_value};
+ghost use Rattle.eve_grammar.specs.Bodies.{transfer};
+ghost use Rattle.eve_grammar.specs.Limits.{is_step, is_transfer};
+ghost use Rattle.eve_grammar.specs.Trace.{TakesOver};
 ghost use Rattle.eve_attempts.specs.Ledgers.{ledger_rows};
 ghost use Rattle.eve_write.specs.Data.{batch, section, step as plain};
 ghost use Rattle.eve_replica.specs.Deciding.{is_some_of};
 ghost use Rattle.eve_replica.specs.Sections.{RunPlan};
 ghost use Rattle.eve_replica.specs.Serving.{IsRightMixed, AreDue, AreRightSteps, GoesOn, GivesUpNext};
 ghost use Rattle.eve_replica.specs.Serving.{attempt_move, commit_move, rollback_move};
-ghost use Rattle.eve_replica.specs.Serving.{next_token};
+ghost use Rattle.eve_replica.specs.Serving.{next_token, standing_of, CommitsNext, IsLentBy, MayTakeOver, MissesRightly};
 
 use crate::attempting::add_step;
 use crate::fault::RunFault;
 use crate::replica::Replica;
+use eve_grammar::{Head, TransferData};
 use eve_recorder::Gate;
 use eve_workload::MixedBatch;
-use eve_write::{Step, commit_fits};
+use eve_write::{Step, commit_fits, is_right_transfer};
 use std::alloc::{AllocError, Global};
-use std::sync::Wait;
+use std::sync::{Arc, Wait};
 use std::thread::Threads;
 
 /// A replica of a run, with what it did so far, and whether it goes on.
@@ -26,6 +31,8 @@ use std::thread::Threads;
 pub(crate) struct Server<'n> {
     pub replica: Replica<'n>,
     pub is_live: bool,
+    // of how many batches of the window it awaits the decision without an attempt, since it took over a state
+    pub missing: usize,
     pub steps: Vec<Step>,
 }
 
@@ -64,6 +71,7 @@ impl<'n> Server<'n> {
         requires mixed { All (IsRightMixed self.old.replica.names) window.now }
         requires whole { self.old.replica.is_broken ≡ false }
         requires due { self.old.is_live ≡ true → AreDue (length window.now) self.old.replica.ledger }
+        requires none_missing { self.old.is_live ≡ true → self.old.missing ≡ 0 }
         ensures on { OnOk result (GoesOn (attempt_move (length window.now) (map (λ m. batch m.batch) window.now))
             self.old self.new) }
         ensures broken { OnErr result (self.new.replica.is_broken ≡ true) }
@@ -76,19 +84,53 @@ impl<'n> Server<'n> {
             .attempt_window(rt, alloc, &mut self.steps, window, gate)
     }
 
-    /// Commits the batch, which is the next, where the replica is live and its first open attempt has this token. Any
-    /// other replica stops, and keeps its open attempts.
+    /// In format 1, commits the batch, which is the next, where the replica is live and its first open attempt has this
+    /// token. Any other replica stops, and keeps its open attempts.
     pub(crate) fn commit_or_stop(&mut self, seq: u32, token: [u8; 32]) -> Result<(), AllocError>
+        requires version { self.old.replica.ledger.version ≡ 1 }
         requires whole { self.old.replica.is_broken ≡ false }
         requires next { self.old.is_live ≡ true → seq ≡ self.old.replica.ledger.committed + 1 }
         requires open { self.old.is_live ≡ true → 0 < length self.old.replica.ledger.opened }
         ensures on { OnOk result (GoesOn (commit_move token) self.old self.new) }
         ensures live { OnOk result (self.new.is_live ≡ is_some_of token (next_token self.old)) }
+        ensures committed { is_some_of token (next_token self.old) ≡ true
+            → OnOk result (CommitsNext self.old self.new) }
+        ensures stays { is_some_of token (next_token self.old) ≡ false
+            → section self.new.steps ≡ section self.old.steps }
     {
         if !self.has_next(token) {
             self.is_live = false;
             return Ok(());
         }
+        self.commit(seq, token)
+    }
+
+    /// In format 2, commits the batch, which is the next, where the replica's first open attempt has this token. Any
+    /// other replica stays as it is.
+    pub(crate) fn commit_or_wait(&mut self, seq: u32, token: [u8; 32]) -> Result<(), AllocError>
+        requires whole { self.old.replica.is_broken ≡ false }
+        requires next { seq ≡ self.old.replica.ledger.committed + 1 }
+        ensures on { is_some_of token (next_token self.old) ≡ true
+            → OnOk result (GoesOn (commit_move token) self.old self.new) }
+        ensures committed { is_some_of token (next_token self.old) ≡ true
+            → OnOk result (CommitsNext self.old self.new) }
+        ensures waits { is_some_of token (next_token self.old) ≡ false → self.new ≡ self.old }
+    {
+        if !self.has_next(token) {
+            return Ok(());
+        }
+        self.commit(seq, token)
+    }
+
+    /// Commits the batch, which is the next and of which the first open attempt, with this token, is.
+    fn commit(&mut self, seq: u32, token: [u8; 32]) -> Result<(), AllocError>
+        requires whole { self.old.replica.is_broken ≡ false }
+        requires next { seq ≡ self.old.replica.ledger.committed + 1 }
+        requires has { is_some_of token (next_token self.old) ≡ true }
+        ensures on { OnOk result (GoesOn (commit_move token) self.old self.new) }
+        ensures live { self.new.is_live ≡ true }
+        ensures committed { OnOk result (CommitsNext self.old self.new) }
+    {
         let Ok(commit) = self.replica.commit(seq) else {
             unreachable!()
         };
@@ -96,10 +138,58 @@ impl<'n> Server<'n> {
         self.did(Step::Commit(commit))
     }
 
+    /// The state that the replica has committed. That of a replica whose rows lie within the limits may always be taken
+    /// over.
+    pub(crate) fn state(&self, alloc: Global, head: &Head) -> Result<Arc<TransferData>, RunFault>
+        ensures lent { IfOk result (λ x. IsLentBy self.now (transfer (arc_value x))) }
+        ensures right { IfOk result (λ x. IsTrue (is_transfer (2 * head.now.customers) (transfer (arc_value x)))) }
+        ensures version { IfOk result (λ x. head.now.version ≡ 2) }
+    {
+        let state = TransferData {
+            seq: self.replica.committed(),
+            view: self.replica.view(),
+            rows: self.replica.state(alloc)?,
+        };
+        if !is_right_transfer(head, &state) {
+            return Err(RunFault::Broken);
+        }
+        match Arc::new(alloc, state) {
+            Ok(state) => Ok(state),
+            Err(_) => Err(RunFault::Memory),
+        }
+    }
+
+    /// Takes over the state of the batch that is next, which another replica has committed. One that has committed the
+    /// batch too stays as it is.
+    pub(crate) fn take_over_or_stay(&mut self, state: &Arc<TransferData>) -> Result<(), AllocError>
+        requires whole { self.old.replica.is_broken ≡ false }
+        requires right { IsTrue (is_transfer (ledger_rows self.old.replica.ledger) (transfer (arc_value state.now))) }
+        requires live { self.old.is_live ≡ true }
+        requires next { self.old.replica.ledger.committed ≢ (arc_value state.now).seq
+            → MayTakeOver (transfer (arc_value state.now)) self.old }
+        ensures stays { self.old.replica.ledger.committed ≡ (arc_value state.now).seq → self.new ≡ self.old }
+        ensures on { (token : List ℕ) → self.old.replica.ledger.committed ≢ (arc_value state.now).seq
+            → OnOk result (GoesOn (commit_move token) self.old self.new) }
+        ensures taken { self.old.replica.ledger.committed ≢ (arc_value state.now).seq → OnOk result
+            (section self.new.steps ≡ section self.old.steps ++ TakesOver (transfer (arc_value state.now)) ∷ []) }
+    {
+        if self.replica.committed() == state.seq {
+            return Ok(());
+        }
+        let shared = Arc::try_clone(state)?;
+        let awaited = self.replica.opened() + self.missing;
+        let Ok(()) = self.replica.transfer(&shared) else {
+            unreachable!()
+        };
+        self.missing = awaited - 1;
+        self.did(Step::Transfer(shared))
+    }
+
     /// Rolls back, if the replica is live.
     pub(crate) fn roll_back(&mut self, alloc: Global) -> Result<(), AllocError>
         requires view { self.old.is_live ≡ true → self.old.replica.ledger.view < 2 ^ 32 - 1 }
-        requires open { self.old.is_live ≡ true → 0 < length self.old.replica.ledger.opened }
+        requires awaits { self.old.is_live ≡ true → 0 < (standing_of self.old).opened }
+        requires missing { MissesRightly self.old }
         ensures on { OnOk result (GoesOn rollback_move self.old self.new) }
         ensures given_up { (p : RunPlan) → OnOk result (GivesUpNext p self.old self.new) }
         ensures live { OnOk result (self.new.is_live ≡ self.old.is_live) }
@@ -108,6 +198,7 @@ impl<'n> Server<'n> {
             return Ok(());
         }
         let rollback = self.replica.rollback(alloc)?;
+        self.missing = 0;
         self.did(Step::Rollback(rollback))
     }
 
@@ -116,6 +207,7 @@ impl<'n> Server<'n> {
         requires right { IsTrue (is_step (ledger_rows self.old.replica.ledger) (plain step)) }
         ensures replica { self.new.replica ≡ self.old.replica }
         ensures live { self.new.is_live ≡ self.old.is_live }
+        ensures missing { self.new.missing ≡ self.old.missing }
         ensures steps { OnOk result (AreRightSteps self.old → AreRightSteps self.new) }
         ensures added { OnOk result (section self.new.steps ≡ section self.old.steps ++ plain step ∷ []) }
     {

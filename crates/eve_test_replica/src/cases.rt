@@ -12,7 +12,15 @@ pub enum Doing {
     /// Calls of replicas in this setting, each list with a new one.
     Calls(Setting, &'static [&'static [Want]]),
     /// A run, whose attempts are held so.
-    Run([Turn; 7]),
+    Run(Running),
+}
+
+/// A run: its format, how its attempts are held, and whether what each replica did hangs on no schedule.
+#[derive(Clone, Copy)]
+pub struct Running {
+    pub format: u16,
+    pub turns: &'static [Turn],
+    pub has_sections: bool,
 }
 
 /// A case: its name, the file with its workload, and what is done in it.
@@ -588,10 +596,21 @@ const ORDER: Turn = Turn::InOrder;
 
 const FREE: Turn = Turn::Free;
 
-/// A run in which nothing is held.
-pub static FREE_RUN: [Turn; 7] = [FREE; 7];
+/// A run in format 1 in which nothing is held.
+pub const FREE_RUN: Running = Running {
+    format: 1,
+    turns: &[],
+    has_sections: false,
+};
 
-static CASES: [Case; 17] = [
+/// The same in format 2.
+const FREE_RUN_OF_FORMAT_2: Running = Running {
+    format: 2,
+    turns: &[],
+    has_sections: false,
+};
+
+static CASES: [Case; 24] = [
     Case {
         name: "replica-attempt-and-close",
         file: "one-deposit",
@@ -655,31 +674,124 @@ static CASES: [Case; 17] = [
     Case {
         name: "run-of-one-deposit",
         file: "one-deposit",
-        doing: Doing::Run([FREE; 7]),
+        doing: Doing::Run(Running {
+            format: 1,
+            turns: &[],
+            has_sections: true,
+        }),
     },
     Case {
         name: "run-two-deposits-whole",
         file: "two-deposits",
-        doing: Doing::Run([FREE; 7]),
+        doing: Doing::Run(Running {
+            format: 1,
+            turns: &[],
+            has_sections: true,
+        }),
     },
     Case {
         name: "two-replicas-disagree",
         file: "knot-of-two-replicas",
-        doing: Doing::Run([CHECK, FREE, ORDER, FREE, FREE, FREE, FREE]),
+        doing: Doing::Run(Running {
+            format: 1,
+            turns: &[CHECK, FREE, ORDER],
+            has_sections: true,
+        }),
     },
     Case {
         name: "first-of-three-disagrees",
         file: "knot-of-three-replicas",
-        doing: Doing::Run([CHECK, ORDER, ORDER, FREE, FREE, FREE, FREE]),
+        doing: Doing::Run(Running {
+            format: 1,
+            turns: &[CHECK, ORDER, ORDER],
+            has_sections: true,
+        }),
     },
     Case {
         name: "half-of-four-agree",
         file: "knots-of-four-replicas",
-        doing: Doing::Run([CHECK, ORDER, ORDER, ORDER, CHECK, ORDER, ORDER]),
+        doing: Doing::Run(Running {
+            format: 1,
+            turns: &[CHECK, ORDER, ORDER, ORDER, CHECK, ORDER, ORDER],
+            has_sections: true,
+        }),
+    },
+    Case {
+        name: "takes-over",
+        file: "knot-of-three-replicas",
+        doing: Doing::Run(Running {
+            format: 2,
+            turns: &[CHECK, ORDER, ORDER],
+            has_sections: true,
+        }),
+    },
+    Case {
+        name: "takes-three-over",
+        file: "knots-in-one-window",
+        doing: Doing::Run(Running {
+            format: 2,
+            turns: &[
+                CHECK, ORDER, ORDER, ORDER, ORDER, ORDER, ORDER, ORDER, ORDER,
+            ],
+            has_sections: true,
+        }),
+    },
+    Case {
+        name: "takes-over-and-goes-back",
+        file: "knots-in-one-window",
+        doing: Doing::Run(Running {
+            format: 2,
+            turns: &[
+                CHECK, ORDER, ORDER, ORDER, CHECK, ORDER, ORDER, ORDER, ORDER, FREE, ORDER, FREE,
+                ORDER, FREE, ORDER,
+            ],
+            has_sections: true,
+        }),
+    },
+    Case {
+        name: "majorities-change",
+        file: "knots-in-three-windows",
+        doing: Doing::Run(Running {
+            format: 2,
+            turns: &[
+                CHECK, ORDER, ORDER, ORDER, CHECK, ORDER, ORDER, ORDER, CHECK,
+            ],
+            has_sections: true,
+        }),
+    },
+    Case {
+        name: "deposit-in-format-2",
+        file: "one-deposit",
+        doing: Doing::Run(Running {
+            format: 2,
+            turns: &[],
+            has_sections: true,
+        }),
+    },
+    Case {
+        name: "state-transfer",
+        file: "deposits-and-a-check",
+        doing: Doing::Run(FREE_RUN_OF_FORMAT_2),
+    },
+    Case {
+        name: "five-replicas-in-format-2",
+        file: "five-replicas-four-workers",
+        doing: Doing::Run(FREE_RUN_OF_FORMAT_2),
     },
 ];
 
-/// The case with this name, if it isn't the run of the workload with its name alone.
+/// The format of the workload of a case: that of its run, and 1 where only replicas are called.
+pub fn format_of(case: Option<&'static Case>) -> u16 {
+    match case {
+        Some(case) => match case.doing {
+            Doing::Run(running) => running.format,
+            Doing::Calls(_, _) => 1,
+        },
+        None => FREE_RUN.format,
+    }
+}
+
+/// The case with this name, if it isn't a run in format 1 of the workload with its name alone.
 pub fn case_of(name: &str) -> Option<&'static Case> {
     for case in &CASES {
         if case.name == name {

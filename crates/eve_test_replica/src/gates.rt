@@ -78,6 +78,9 @@ pub enum Turn {
     Free,
 }
 
+/// How many attempts may be held.
+const MOST_HELD: usize = 15;
+
 /// How many requests a knot has.
 const KNOT: u64 = 5;
 
@@ -91,11 +94,11 @@ const KNOT: u64 = 5;
 /// could be faster else. In the order of the list both are held until the check has entered, so that one worker runs
 /// all the rest.
 ///
-/// Attempts come one after another, so that they are told apart by counting entries: the first seven have a turn each,
-/// and those after them aren't held.
+/// Attempts come one after another, so that they are told apart by counting entries: the first have a turn each, and
+/// those after the last turn aren't held.
 #[derive(Drop)]
 pub struct KnotGate {
-    turns: [Turn; 7],
+    turns: [Turn; MOST_HELD],
     entries: AtomicU64,
     // how often each request of a knot has entered
     entered: [AtomicU64; 5],
@@ -103,9 +106,13 @@ pub struct KnotGate {
 }
 
 impl KnotGate {
-    pub fn new(turns: [Turn; 7]) -> KnotGate {
+    pub fn new(turns: &[Turn]) -> KnotGate {
+        let mut held = [Turn::Free; MOST_HELD];
+        for attempt in 0..MOST_HELD.min(turns.len()) {
+            held[attempt] = turns[attempt];
+        }
         KnotGate {
-            turns,
+            turns: held,
             entries: AtomicU64::new(0),
             entered: [
                 AtomicU64::new(0),
@@ -127,7 +134,7 @@ impl KnotGate {
     fn awaited(&self, attempt: u64, piece: u32) -> Option<usize>
         ensures { IfSome result (λ other. other < 5) }
     {
-        if attempt >= 7 {
+        if attempt >= MOST_HELD as u64 {
             return None;
         }
         match (self.turns[attempt as usize], piece) {

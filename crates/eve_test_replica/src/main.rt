@@ -3,7 +3,7 @@
 //! or the verdict alone where what they did hangs on the schedule. What is printed hangs on no schedule.
 #![tactic(auto)]
 
-ghost use Rattle.std.specs.Prelude.{◌≡◌, IfOk};
+ghost use Rattle.std.specs.Prelude.{◌≤◌, IfOk};
 
 mod cases;
 mod gates;
@@ -13,12 +13,12 @@ mod runs;
 mod states;
 mod world;
 
-use crate::cases::{Case, Doing, FREE_RUN, case_of};
-use crate::gates::Turn;
+use crate::cases::{Case, Doing, FREE_RUN, Running, case_of, format_of};
 use crate::replicas::{Setting, Want, first_miss};
 use crate::runs::{run_held, tell_sections, verdict_on};
 use crate::world::workload_of;
 use eve_audit::Verdict;
+use eve_grammar::NEWEST_VERSION;
 use eve_replica::eve_workload::Workload;
 use eve_testing::Text;
 use eve_write::Parts;
@@ -29,14 +29,14 @@ use std::sync::Wait;
 use std::thread::Threads;
 use std::{fs, io};
 
-/// The workload of the file with this name.
-fn workload_in<R: AllocGlobal + Files>(rt: &R, file: &str) -> io::Result<Workload>
-    ensures { IfOk result (λ w. w.format ≡ 1) }
+/// The workload of the file with this name, in a format, 1 or 2.
+fn workload_in<R: AllocGlobal + Files>(rt: &R, file: &str, format: u16) -> io::Result<Workload>
+    ensures { IfOk result (λ w. (1 ≤ w.format) × (w.format ≤ NEWEST_VERSION)) }
 {
     let path = format!(in rt.alloc(); "{file}.in")?;
     let text = fs::read(rt, path.as_str());
     drop(path);
-    workload_of(rt.alloc(), text?)
+    workload_of(rt.alloc(), text?, format)
 }
 
 /// Tells what of the calls of replicas isn't as it is due.
@@ -72,17 +72,16 @@ fn tell_miss(miss: io::Result<Option<&'static str>>, line: &mut Text) {
 fn tell_run<R: RandomSource + Threads + Wait + Sync>(
     rt: &R,
     alloc: Global,
-    turns: [Turn; 7],
-    has_sections: bool,
+    running: Running,
     workload: &Workload,
     line: &mut Text,
 )
-    requires { workload.now.format ≡ 1 }
+    requires { (1 ≤ workload.now.format) × (workload.now.format ≤ NEWEST_VERSION) }
 {
-    match run_held(rt, alloc, workload, turns) {
+    match run_held(rt, alloc, workload, running.turns) {
         Ok(parts) => {
             match verdict_on(rt, alloc, &parts) {
-                Ok(verdict) => tell_verdict(&parts, verdict, has_sections, line),
+                Ok(verdict) => tell_verdict(&parts, verdict, running, line),
                 Err(why) => line.fail(why),
             }
             drop(parts);
@@ -91,9 +90,13 @@ fn tell_run<R: RandomSource + Threads + Wait + Sync>(
     }
 }
 
-fn tell_verdict(parts: &Parts, verdict: Verdict, has_sections: bool, line: &mut Text) {
+/// Tells the verdict, of a run in format 2 always with the numbers that a yes has: all replicas reach each batch there.
+fn tell_verdict(parts: &Parts, verdict: Verdict, running: Running, line: &mut Text) {
     match verdict {
-        Verdict::Yes(_) if !has_sections => line.words("accepted"),
+        Verdict::Yes(summary) if !running.has_sections => match running.format {
+            1 => line.words("accepted"),
+            _ => line.answer("accepted, ", summary),
+        },
         _ => {
             tell_sections(parts, line);
             line.answer("", verdict);
@@ -108,13 +111,13 @@ fn tell_case<R: AllocGlobal + Files + RandomSource + Threads + Wait + Sync>(
     workload: &Workload,
     line: &mut Text,
 )
-    requires { workload.now.format ≡ 1 }
+    requires { (1 ≤ workload.now.format) × (workload.now.format ≤ NEWEST_VERSION) }
 {
     match case {
-        None => tell_run(rt, rt.alloc(), FREE_RUN, false, workload, line),
+        None => tell_run(rt, rt.alloc(), FREE_RUN, workload, line),
         Some(case) => match case.doing {
             Doing::Calls(setting, lists) => tell_calls(rt, setting, lists, workload, line),
-            Doing::Run(turns) => tell_run(rt, rt.alloc(), turns, true, workload, line),
+            Doing::Run(running) => tell_run(rt, rt.alloc(), running, workload, line),
         },
     }
 }
@@ -130,7 +133,7 @@ fn tell<R: AllocGlobal + Files + RandomSource + Threads + Wait + Sync>(
         Some(case) => case.file,
         None => name,
     };
-    match workload_in(rt, file) {
+    match workload_in(rt, file, format_of(case)) {
         Ok(workload) => {
             tell_case(rt, case, &workload, line);
             drop(workload);

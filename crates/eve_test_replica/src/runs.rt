@@ -1,10 +1,11 @@
 //! Whole runs, and what their auditor says.
 
-ghost use Rattle.std.specs.Prelude.{◌≡◌};
+ghost use Rattle.std.specs.Prelude.{◌≤◌};
 
 use crate::gates::{KnotGate, Turn};
 use crate::world::{bytes_of, stopped};
 use eve_audit::{Verdict, audit_one};
+use eve_grammar::NEWEST_VERSION;
 use eve_replica::eve_workload::{Mixer, Workload};
 use eve_replica::{RunFault, run};
 use eve_testing::Text;
@@ -22,9 +23,9 @@ pub fn run_held<R: RandomSource + Threads + Wait + Sync>(
     rt: &R,
     alloc: Global,
     workload: &Workload,
-    turns: [Turn; 7],
+    turns: &'static [Turn],
 ) -> io::Result<Parts>
-    requires { workload.now.format ≡ 1 }
+    requires { (1 ≤ workload.now.format) × (workload.now.format ≤ NEWEST_VERSION) }
 {
     let gate = KnotGate::new(turns);
     let random = RandomState::new(rt)?;
@@ -32,6 +33,7 @@ pub fn run_held<R: RandomSource + Threads + Wait + Sync>(
         Ok(parts) => kept_by(&gate, parts),
         Err(RunFault::Memory) => Err(AllocError.into()),
         Err(RunFault::Broken) => Err(io::Error::other("broken")),
+        Err(RunFault::TooLong) => Err(io::Error::other("too long")),
     }
 }
 

@@ -6,7 +6,7 @@ ghost use Rattle.eve_write.specs.Data.{batch as plain};
 
 use crate::misses::Misses;
 use eve_accounts::{Amount, Balances, Cents, Names, Row};
-use eve_grammar::{MOST_BATCHES, MOST_BYTES, MOST_CUSTOMERS};
+use eve_grammar::{MOST_BATCHES, MOST_BYTES, MOST_CUSTOMERS, NEWEST_VERSION};
 use eve_recorder::Gate;
 use eve_replica::eve_workload::{Mixer, Workload, mix};
 use eve_replica::{AttemptFault, CloseFault, Replica};
@@ -27,11 +27,15 @@ pub fn stopped() -> io::Error {
     io::Error::other("the case can't go on")
 }
 
-/// The workload of a text, in format 1.
-pub fn workload_of(alloc: Global, text: Vec<u8>) -> io::Result<Workload>
-    ensures { IfOk result (λ w. w.format ≡ 1) }
+/// The workload of a text in a format, 1 or 2.
+pub fn workload_of(alloc: Global, text: Vec<u8>, format: u16) -> io::Result<Workload>
+    ensures { IfOk result (λ w. (1 ≤ w.format) × (w.format ≤ NEWEST_VERSION)) }
 {
-    let read = Workload::read(alloc, text.as_slice(), 1);
+    if format < 1 || NEWEST_VERSION < format {
+        drop(text);
+        return Err(stopped());
+    }
+    let read = Workload::read(alloc, text.as_slice(), format);
     drop(text);
     match read {
         Ok(workload) => Ok(workload),

@@ -2,6 +2,7 @@
 use Rattle.std.proofs.Common.{◌≡◌, ℕ, ◌≤◌, Bool, true, ◌&&◌, eqb, IsTrue, List, [], ◌∷◌, length}
 use Rattle.std.proofs.Common.{map, Vec, refl, sym, ◌∙◌, ap, arith}
 use Rattle.std.specs.declared.alloc.Global.{Global}
+use Rattle.std.specs.Arc.{arc_value}
 use Rattle.std.specs.List.{list_all}
 use Rattle.std.proofs.lemmas.Bool.{and_parts, and_from, eqb-true, le-leb}
 use Rattle.std.proofs.lemmas.List.{length-map}
@@ -35,10 +36,11 @@ step_fits rows few (Rollback r) right =
     le-leb (length r.restores.items) 131072
     (omega (arith, few_restores rows restores s.0 s.1))
 step_fits rows few (Transfer x) right =
-    let taken = x.rows.items in
+    let state = arc_value x in
+    let taken = state.rows.items in
     let last = eqb (length taken) rows && list_all is_versioned taken in
-    let p = and_parts (is_number 4 x.seq) (is_number 4 x.view && (are_no_debts 0 taken && last)) right in
-    let q = and_parts (is_number 4 x.view) (are_no_debts 0 taken && last) p.1 in
+    let p = and_parts (is_number 4 state.seq) (is_number 4 state.view && (are_no_debts 0 taken && last)) right in
+    let q = and_parts (is_number 4 state.view) (are_no_debts 0 taken && last) p.1 in
     let s = and_parts (are_no_debts 0 taken) last q.1 in
     let many = eqb-true (length taken) rows (and_parts (eqb (length taken) rows) (list_all is_versioned taken) s.1).0 in
     le-leb (length taken) 131072 (omega arith)

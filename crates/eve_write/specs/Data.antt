@@ -1,6 +1,7 @@
 -- The owned parts of a trace as the plain data that they are.
 use Rattle.std.specs.Prelude.{ℕ, ◌==◌, Bool, true, List, Vec, map, length}
 use Rattle.std.specs.List.{list_all}
+use Rattle.std.specs.Arc.{arc_value}
 use Rattle.std.specs.declared.alloc.Global.{Global}
 use Rattle.eve_smallbank.specs.SmallBank.{Request, Balance, DepositChecking, TransactSaving, Amalgamate, WriteCheck}
 use Rattle.eve_grammar.specs.Trace.{Customer, Asked, Batch, Access, Attempt, Commit, Rollback, Step, Attempts, Commits}
@@ -65,7 +66,7 @@ abbrev pub step : code.Step → Step
 step (does.Attempt a) = Attempts (attempt a)
 step (does.Commit c) = Commits (commit c)
 step (does.Rollback r) = RollsBack (rollback r)
-step (does.Transfer x) = TakesOver (transfer x)
+step (does.Transfer x) = TakesOver (transfer (arc_value x))
 
 -- the choice, with the token of a commit
 abbrev pub choice : ChoiceData → List ℕ → Choice

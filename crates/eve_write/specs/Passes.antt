@@ -2,6 +2,7 @@
 -- and the bytes.
 use Rattle.std.specs.Prelude.{ℕ, nat_le, Bool, true, ◌&&◌, List, ◌++◌, length}
 use Rattle.std.specs.List.{list_all, flat_map}
+use Rattle.std.specs.Arc.{arc_value}
 use Rattle.eve_grammar.specs.declared.limits.TheConstants.{MOST_ROWS}
 use Rattle.eve_grammar.specs.Frames.{OfVote, OfSent, End, batches_of, sections_of, verifiers_of}
 use Rattle.eve_grammar.specs.Spelling.{frame_text, step_text, head_text, customer_text, batch_text, section_text}
@@ -21,7 +22,7 @@ abbrev pub fits_step : Step → Bool
 fits_step (Attempt a) = is_attempt (attempt a)
 fits_step (Commit c) = true
 fits_step (Rollback r) = nat_le (length r.restores.items) MOST_ROWS
-fits_step (Transfer x) = nat_le (length x.rows.items) MOST_ROWS
+fits_step (Transfer x) = nat_le (length (arc_value x).rows.items) MOST_ROWS
 
 -- whether a section of a trace with this header may hold the step
 abbrev pub right_step : Head → Step → Bool

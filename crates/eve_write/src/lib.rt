@@ -43,5 +43,5 @@ pub use request::{RequestData, TransactionData};
 pub use rollback::{RollbackData, write_rollback};
 pub use sent::{SentData, write_sent};
 pub use step::Step;
-pub use transfer::write_transfer;
+pub use transfer::{is_right_transfer, write_transfer};
 pub use vote::{ChoiceData, VoteData, write_vote};

@@ -13,6 +13,7 @@ use crate::spell::Spell;
 use crate::transfer::{body_len, write_transfer};
 use eve_grammar::{FRAME_HEAD_LEN, Head, TransferData};
 use eve_streams::{SendFault, Sink};
+use std::sync::Arc;
 
 /// What a replica did. Contracts see it by `step`.
 #[derive(Drop)]
@@ -23,8 +24,8 @@ pub enum Step {
     Commit(CommitData),
     /// It rolled back.
     Rollback(RollbackData),
-    /// It took over a state.
-    Transfer(TransferData),
+    /// It took over a state, which is shared with whoever else took it over.
+    Transfer(Arc<TransferData>),
 }
 
 impl Spell for Step {

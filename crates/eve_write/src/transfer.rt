@@ -75,17 +75,26 @@ fn are_no_debts(rows: &[Versioned]) -> bool
     true
 }
 
+/// Whether the state may be taken over in a trace with this header: the version has transfers, and each row has what it
+/// may have.
+///
+/// docs/TRACE.md, "Version 2". One look at each row.
+pub fn is_right_transfer(head: &Head, transfer: &TransferData) -> bool
+    ensures { result ≡ (has_transfers head.now.version && is_transfer (row_count head.now) (plain transfer.now)) }
+{
+    let _seq = transfer.seq;
+    let _view = transfer.view;
+    let rows = transfer.rows.as_slice();
+    head.version == 2
+        && rows.len() == row_count(head)
+        && are_no_debts(rows)
+        && all_right(rows, head)
+}
+
 impl Judge for TransferData {
     ghost right = { λ h x. has_transfers h.version && is_transfer (row_count h) (plain x) };
 
-    /// The version of the trace has transfers, and each row has what it may have.
     fn is_right(&self, head: &Head) -> bool {
-        let _seq = self.seq;
-        let _view = self.view;
-        let rows = self.rows.as_slice();
-        head.version == 2
-            && rows.len() == row_count(head)
-            && are_no_debts(rows)
-            && all_right(rows, head)
+        is_right_transfer(head, self)
     }
 }

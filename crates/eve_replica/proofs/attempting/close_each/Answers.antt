@@ -1,5 +1,5 @@
-use Rattle.std.proofs.Common.{◌≡◌, ℕ, ◌+◌, ◌<◌, List, ◌∷◌, refl, sym, ◌∙◌, ap, map, length, drop, get_or, option_map, subst}
-use Rattle.std.proofs.Common.{arith}
+use Rattle.std.proofs.Common.{◌≡◌, ℕ, ◌+◌, ◌<◌, List, ◌∷◌, refl, sym, ◌∙◌, ap, map, length, drop, get_or, option_map}
+use Rattle.std.proofs.Common.{subst, arith}
 use Rattle.std.proofs.lemmas.List.{drop_more, get_or-map, length-map}
 use Rattle.std.proofs.lemmas.Option.{slice_get-map, slice_get_read}
 use Rattle.eve_grammar.specs.Trace.{Batch}
@@ -42,7 +42,7 @@ loop-place-preserved g c = record {
       ∙ ap (option_map (λ m. batch m.batch))
       (slice_get_read c.args.window.now (length c.args.window.now) c.loop-place.place c.index-window-place.result refl
       (omega arith) c.index-window-place.is))
-      c.loop-place.invariant.on c.in_ok-close_mixed.ensures.on;
+      refl c.loop-place.invariant.on c.in_ok-close_mixed.ensures.on;
   same = (
     c.close_mixed.ensures.same.0 ∙ c.loop-place.invariant.same.0,
     c.close_mixed.ensures.same.1 ∙ c.loop-place.invariant.same.1,

@@ -13,6 +13,6 @@ returns-in-Ok-add_step-clause-on g c =
     let steps = section c.args.steps.now in
     attempt_goes (batch c.args.mixed.now.batch) (attempt c.in-Ok.attempt)
     (server_with c.args.account.now c.args.steps.now) (server_with c.close_next.new.self c.add_step.new.steps)
-    c.requires.due refl refl made c.in-Ok-add_step.ensures.added
+    c.requires.due refl refl refl refl made c.in-Ok-add_step.ensures.added
     (λ h. c.in-Ok-add_step.ensures.right (ledger_rows c.close_next.new.self.ledger) (search rules)
     (subst (λ n. IsTrue (list_all (is_step n) steps)) (sym made.1.1.closed.opens.as_many) h))

@@ -1,4 +1,4 @@
-use Rattle.std.proofs.Common.{ℕ, List, All, length, map, sym, subst, arith}
+use Rattle.std.proofs.Common.{ℕ, List, All, length, map, refl, sym, subst, arith}
 use Rattle.std.proofs.lemmas.List.{append-nil}
 use Rattle.eve_grammar.specs.Trace.{Vote}
 use Rattle.eve_write.specs.Data.{batch}
@@ -6,7 +6,9 @@ use Rattle.eve_workload.specs.declared.mixer.MixedBatch.{MixedBatch}
 use Rattle.eve_replica.specs.declared.server.Server.{Server}
 use Rattle.eve_replica.specs.Serving.{IsRightMixed, Serves, Move, GoesOn, attempt_move, after_attempts}
 use Rattle.eve_replica.proofs.Each.{none_on, one_on, all_on, all_so, still}
-use Rattle.eve_replica.proofs.Going.{Moves, serve_on, live_on, due}
+use Rattle.eve_replica.proofs.Going.{Moves, serve_on, live_on, due, none_missing}
+use Rattle.eve_replica.proofs.ByMost.{still_by_most}
+use Rattle.eve_replica.proofs.Taking.{still_rightly_taken}
 use Rattle.eve_replica.proofs.Undecided.{still_undecided}
 use Rattle.eve_replica.proofs.Windows.{window_attempted}
 use Rattle.eve_replica.proofs.run_state.attempt_all.Goals as goal
@@ -38,7 +40,14 @@ attempt_window-requires-clause-due g c κs within = λ live.
     let r = c.requires.serve in
     let old = still (Serves r.0 r.1 r.2) (Made c.args.window.now) c.args.servers.now
     c.loop-server.server-index c.loop-server.servers c.server-item.result r.5 c.loop-server.invariant (omega arith) in
-    due r.0 (length c.args.window.now) r.1 r.2 _ r.6 r.7 old live
+    due r.0 (length c.args.window.now) r.1 r.2 _ (omega (arith, r.6, r.7)) (omega (arith, r.6, r.8)) old live
+
+pub attempt_window-requires-clause-none_missing : goal.attempt_window-requires-clause-none_missing
+attempt_window-requires-clause-none_missing g c κs within = λ live.
+    let r = c.requires.serve in
+    let old = still (Serves r.0 r.1 r.2) (Made c.args.window.now) c.args.servers.now
+    c.loop-server.server-index c.loop-server.servers c.server-item.result r.5 c.loop-server.invariant (omega arith) in
+    none_missing r.0 r.1 r.2 _ r.6 old live
 
 pub loop-server-init : goal.loop-server-init
 loop-server-init g c = none_on (Made c.args.window.now) c.args.servers.now
@@ -55,7 +64,8 @@ returns-clause-serve g c = λ p at votes next whole serve.
     (omega arith) c.loop-server.invariant in
     subst (λ (vs : List Vote). All (Serves p (after_attempts (length c.args.window.now) at) vs)
     c.loop-server.servers) (append-nil votes)
-    (serve_on p at votes (attempts_of c.args.window.now) c.args.servers.now c.loop-server.servers next
+    (serve_on p at votes (attempts_of c.args.window.now) c.args.servers.now c.loop-server.servers
+    (λ some. whole.none_open, next) (λ some. absurd (omega (arith, whole.none_open, some)))
     (λ k d there live. window_attempted p at (length c.args.window.now)
     (map (λ m. batch m.batch) c.args.window.now) whole)
     (all_so (Made c.args.window.now) (GoesOn (attempts_of c.args.window.now)) c.args.servers.now c.loop-server.servers
@@ -74,3 +84,19 @@ returns-clause-undecided g c =
     (omega arith) c.loop-server.invariant in
     still_undecided (Made c.args.window.now) c.args.servers.now c.loop-server.servers all
     (λ view old new m. m.0.given_up view (λ enters. omega arith))
+
+pub returns-clause-committed : goal.returns-clause-committed
+returns-clause-committed g c = λ n before.
+    let all = all_on (Made c.args.window.now) c.args.servers.now c.loop-server.server-index c.loop-server.servers
+    (omega arith) c.loop-server.invariant in
+    still_by_most n (attempts_of c.args.window.now) c.args.servers.now c.loop-server.servers
+    (all_so (Made c.args.window.now) (GoesOn (attempts_of c.args.window.now)) c.args.servers.now c.loop-server.servers
+    (λ old new m. m.0) all) before
+
+pub returns-clause-taken : goal.returns-clause-taken
+returns-clause-taken g c = λ p at votes serve right.
+    let all = all_on (Made c.args.window.now) c.args.servers.now c.loop-server.server-index c.loop-server.servers
+    (omega arith) c.loop-server.invariant in
+    still_rightly_taken p at votes (attempts_of c.args.window.now) c.args.servers.now c.loop-server.servers refl
+    (all_so (Made c.args.window.now) (GoesOn (attempts_of c.args.window.now)) c.args.servers.now c.loop-server.servers
+    (λ old new m. m.0) all) serve right

@@ -5,7 +5,7 @@ use Rattle.eve_grammar.proofs.OpeningRows.{length-opening_rows}
 use Rattle.eve_write.specs.Data.{customer}
 use Rattle.eve_attempts.specs.Ledgers.{opening}
 use Rattle.eve_replica.specs.Serving.{plan_with}
-use Rattle.eve_replica.proofs.Beginning.{plan_begun, none_led, none_voted}
+use Rattle.eve_replica.proofs.Beginning.{plan_begun, none_led, none_voted, begun_taken}
 use Rattle.eve_replica.proofs.Counting.{counted_all}
 use Rattle.eve_replica.proofs.Undecided.{begun_undecided}
 use Rattle.eve_replica.proofs.running.first_state.Goals as goal
@@ -16,6 +16,12 @@ servers_of-requires-clause-rows c =
     ap length c.in_ok-balances.ensures ∙ length-opening_rows customers
     ∙ ap (λ (n : ℕ). 2 * n) (sym (ap length c.requires.named ∙ length-map customers (λ x. x.name)))
 
+pub servers_of-requires-clause-some : goal.servers_of-requires-clause-some
+servers_of-requires-clause-some c =
+    let customers = map customer c.args.customers.now in
+    let rows = ap length c.in_ok-balances.ensures ∙ length-opening_rows customers in
+    omega (arith, rows, length-map c.args.customers.now customer, c.requires.some)
+
 pub returns-clause-under_way : goal.returns-clause-under_way
 returns-clause-under_way c =
     let opened = opening_rows (map customer c.args.customers.now) in
@@ -23,13 +29,16 @@ returns-clause-under_way c =
     let servers = c.in_ok-servers.servers in
     let begun : p.first.opened ≡ [] =
     plan_begun c.args.names.now.items opened c.args.head.now c.args.batches.now in
-    let first = ap (λ zs. opening 1 zs c.args.head.now.workers c.args.head.now.window) (sym c.in_ok-balances.ensures) in
+    let h = c.args.head.now in
+    let first = ap (λ zs. opening h.version zs h.workers h.window) (sym c.in_ok-balances.ensures) in
     let serve = c.in_ok-servers.ensures.serve p (refl, first) in
     record {
       begun = begun;
       customers = ap length c.requires.named ∙ length-map (map customer c.args.customers.now) (λ x. x.name)
           ∙ length-map c.args.customers.now customer ∙ c.requires.customers;
       window = refl;
+      known = c.requires.version;
+      version = refl;
       batches = refl;
       few = c.requires.few;
       room = c.requires.window.0;
@@ -44,6 +53,8 @@ returns-clause-under_way c =
         servers.ok.0,
         c.requires.replicas,
       );
+      committed = λ n some few. absurd (omega arith);
+      taken = begun_taken p servers.items refl serve;
       undecided = begun_undecided p servers.items begun serve;
       votes = none_voted (length c.args.batches.now) c.new.result.items c.new.ensures.items;
     }

@@ -1,10 +1,11 @@
-use Rattle.std.proofs.Common.{◌≡◌, ℕ, ◌≤◌, All, IsTrue, List, length, map, sym, ◌∙◌, ap, subst, arith}
+use Rattle.std.proofs.Common.{◌≡◌, ℕ, zero, suc, ◌≤◌, ◌⊎◌, inl, inr, All, IsTrue, List, length, map, refl, sym, ◌∙◌}
+use Rattle.std.proofs.Common.{ap, subst, arith}
 use Rattle.std.proofs.lemmas.List.{length-map}
 use Rattle.std.specs.List.{list_all}
 use Rattle.eve_grammar.specs.Trace.{Customer, Vote, head_of, opening_rows}
 use Rattle.eve_grammar.specs.declared.head.Head as header
 use Rattle.eve_grammar.specs.declared.limits.TheConstants.{NEWEST_VERSION}
-use Rattle.eve_grammar.specs.Limits.{is_customer, is_head}
+use Rattle.eve_grammar.specs.Limits.{is_customer}
 use Rattle.eve_grammar.specs.declared.head.Head.{Head}
 use Rattle.eve_write.specs.declared.parts.Parts.{Parts}
 use Rattle.eve_write.specs.declared.customer.CustomerData.{CustomerData}
@@ -23,10 +24,12 @@ use Rattle.eve_replica.proofs.Parts.{same_head, spelled}
 use Rattle.eve_replica.proofs.Sectioned.{run_of, plan_is, copies_gave}
 use Rattle.eve_replica.proofs.running.run_named.Goals as goal
 
--- what is right of every known format is right of format 1
-known : (format : ℕ) (h : Head) → format ≡ 1 → (1 ≤ format → format ≤ NEWEST_VERSION → IsTrue (is_head h))
-    → IsTrue (is_head h)
-known format h is right = right (omega (arith, is)) (omega (arith, is))
+-- what is the number of a format
+one_or_two : (n : ℕ) → 1 ≤ n → n ≤ NEWEST_VERSION → (n ≡ 1) ⊎ (n ≡ 2)
+one_or_two zero some few = absurd (omega arith)
+one_or_two (suc zero) some few = inl refl
+one_or_two (suc (suc zero)) some few = inr refl
+one_or_two (suc (suc (suc n))) some few = absurd (omega arith)
 
 pub returns : goal.returns
 returns g c =
@@ -97,13 +100,14 @@ returns g c =
     (map (λ s. section s.steps) servers)) (all ∙ sym c.as_slice-2.ensures.value) in
     let is : plan ≡ run_plan w c.args.mixer =
     plan_is w c.args.mixer c.args.names.now.items opened h slice
-    c.requires.named start (ap (λ (x : Head). x.workers) asked) (ap (λ (x : Head). x.window) asked)
+    c.requires.named start (ap (λ (x : Head). x.version) asked) (ap (λ (x : Head). x.workers) asked)
+    (ap (λ (x : Head). x.window) asked)
     (ap (map (λ m. batch m.batch)) c.as_slice-2.ensures.value ∙ cuts) in
     record {
       spelled = spelled p h plan mixed at led servers given
-          head (known c.args.workload.format c.head-head.result c.requires.format c.head-head.ensures.right)
+          head (c.head-head.ensures.right c.requires.format.0 c.requires.format.1)
           counted right c.in_ok-batches-2.ensures mix gave.sections
-          under.servers votes gave.each replies;
+          under.servers votes gave.each replies (under.version ∙ ap (λ (x : header.Head). x.version) same);
       run = run_of w c.args.mixer p plan at led servers is (head ∙ asked) customers batches
           gave.sections under.servers done
           (omega (
@@ -112,7 +116,7 @@ returns g c =
             ap length c.in_ok-state.ensures.batches,
             length-map slice (λ m. batch m.batch),
           )) under.majority
-          (copies_gave given p.verifiers.items gave.each) under.undecided sent_all;
+          (copies_gave given p.verifiers.items gave.each) under.committed under.taken under.undecided sent_all;
     }
 
 pub first_state-requires-clause-named : goal.first_state-requires-clause-named
@@ -126,31 +130,43 @@ first_state-requires-clause-customers g c =
     ∙ ap length (ap (map customer) c.as_slice.ensures.value ∙ c.into_lists-customers.ensures.customers)
     ∙ sym (ap (λ (h : Head). h.customers) c.head-head.ensures.head)
 
+pub first_state-requires-clause-version : goal.first_state-requires-clause-version
+first_state-requires-clause-version g c =
+    let head = head_has_limits c.head-head.result
+    (c.head-head.ensures.right c.requires.format.0 c.requires.format.1) in
+    one_or_two c.head-head.result.version head.some_version head.known_version
+
+pub first_state-requires-clause-some : goal.first_state-requires-clause-some
+first_state-requires-clause-some g c =
+    let head = head_has_limits c.head-head.result
+    (c.head-head.ensures.right c.requires.format.0 c.requires.format.1) in
+    omega (arith, first_state-requires-clause-customers g c, head.some_customers)
+
 pub first_state-requires-clause-known : goal.first_state-requires-clause-known
 first_state-requires-clause-known g c =
     omega (
       arith,
       first_state-requires-clause-customers g c,
       few_customers c.head-head.result
-          (known c.args.workload.format c.head-head.result c.requires.format c.head-head.ensures.right),
+          (c.head-head.ensures.right c.requires.format.0 c.requires.format.1),
     )
 
 pub first_state-requires-clause-workers : goal.first_state-requires-clause-workers
 first_state-requires-clause-workers g c =
     let head = head_has_limits c.head-head.result
-    (known c.args.workload.format c.head-head.result c.requires.format c.head-head.ensures.right) in
+    (c.head-head.ensures.right c.requires.format.0 c.requires.format.1) in
     (head.some_workers, head.few_workers)
 
 pub first_state-requires-clause-window : goal.first_state-requires-clause-window
 first_state-requires-clause-window g c =
     let head = head_has_limits c.head-head.result
-    (known c.args.workload.format c.head-head.result c.requires.format c.head-head.ensures.right) in
+    (c.head-head.ensures.right c.requires.format.0 c.requires.format.1) in
     (head.some_window, head.few_window)
 
 pub first_state-requires-clause-replicas : goal.first_state-requires-clause-replicas
 first_state-requires-clause-replicas g c =
     (head_has_limits c.head-head.result
-    (known c.args.workload.format c.head-head.result c.requires.format c.head-head.ensures.right)).some_replicas
+    (c.head-head.ensures.right c.requires.format.0 c.requires.format.1)).some_replicas
 
 pub first_state-requires-clause-mixed : goal.first_state-requires-clause-mixed
 first_state-requires-clause-mixed g c =
@@ -172,7 +188,7 @@ outcome_of-requires g c =
     omega (
       arith,
       (head_has_limits h
-          (known c.args.workload.format c.head-head.result c.requires.format c.head-head.ensures.right)).few_replicas,
+          (c.head-head.ensures.right c.requires.format.0 c.requires.format.1)).few_replicas,
       under.many,
       ap (λ (x : header.Head). x.replicas) same,
     )

@@ -3,6 +3,7 @@ use Rattle.std.proofs.Common.{refl}
 use Rattle.std.proofs.Common.{sym, ap, ◌∙◌, subst, arith}
 use Rattle.std.proofs.lemmas.List.{map-append, length-map, nil_from_length}
 use Rattle.std.proofs.lemmas.Option.{slice_get-map, slice_get_read, same_Some}
+use Rattle.std.specs.Arc.{arc_value}
 use Rattle.eve_grammar.specs.Bodies.{transfer}
 use Rattle.eve_grammar.specs.Trace.{Batch, Step, Attempts, Commits, RollsBack, TakesOver}
 use Rattle.eve_write.specs.Data.{attempt, batch, commit, rollback, section, sent, step}
@@ -97,13 +98,13 @@ loop-step-preserved c =
                 was.sent);
           }
       | in-Transfer w ↦
-          let x = transfer w.in-Transfer.field-0 in
+          let x = transfer (arc_value w.in-Transfer.field-0) in
+          let none : c.match-step.opened.items ≡ [] = cc in
           record {
             limits = subst (λ v. AreReplies (length c.args.servers.now) (length c.args.batches.now) v.items)
                 (sym w.replies-is) was.limits;
             sent = along_is batches place before _ [] _ rest _ (ap (λ v. map sent v.items) w.replies-is)
-                (ap (λ v. map (λ x. attempt x.now) v.items) w.opened-is
-                ∙ ap (map (λ x. attempt x.now)) w.clear-in-Transfer.ensures.items)
+                (ap (map (λ x. attempt x.now)) none)
                 (transfer_sent batches place (map (λ x. attempt x.now) c.loop-step.opened.items) x (map step steps) i
                 before _ (omega (arith, length-map steps step))
                 (step_at steps i c.step-item.result (TakesOver x) (omega arith) c.step-item.is

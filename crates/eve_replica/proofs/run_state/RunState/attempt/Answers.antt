@@ -1,12 +1,12 @@
-use Rattle.std.proofs.Common.{◌-◌, ◌*◌, ◌<◌, ℕ, All, List, length, map, take, drop, sym, ap, ◌∙◌, subst, arith}
+use Rattle.std.proofs.Common.{◌-◌, ◌<◌, ℕ, All, length, map, take, drop, sym, ap, ◌∙◌, subst, arith}
 use Rattle.std.proofs.lemmas.List.{length-map}
 use Rattle.std.proofs.lemmas.List.Elements.{All-drop, All-take}
 use Rattle.eve_write.specs.Data.{batch, vote}
-use Rattle.eve_replica.specs.declared.server.Server.{Server}
 use Rattle.eve_replica.specs.declared.standing.Standing.{Standing}
 use Rattle.eve_replica.specs.Serving.{IsRightMixed, AreWholeWindow, Serves, live_in}
 use Rattle.eve_replica.proofs.Going.{lent_serve, lent_undecided, moved, window_open, window_len, window_due}
 use Rattle.eve_replica.proofs.Going.{still_majority}
+use Rattle.eve_replica.proofs.UnderWay.{lent_majority, lent_by_most, lent_taken}
 use Rattle.eve_replica.proofs.run_state.RunState.attempt.Goals as goal
 
 pub attempt_all-requires-clause-serve : goal.attempt_all-requires-clause-serve
@@ -24,6 +24,7 @@ attempt_all-requires-clause-serve g c κs within =
           (All-drop (IsRightMixed p.names) from d.batches.now was.mixed),
       window_due p d c.min-end.result was c.requires.none_open,
       lent_serve p d c.as_mut_slice.result.now was c.as_mut_slice.ensures.value,
+      c.requires.none_open,
       omega (arith, was.few, was.window),
       omega (arith, was.few),
     )
@@ -55,11 +56,14 @@ returns-clause-under_way g c = λ p was.
     let as_many = c.attempt_all.auto.servers ∙ c.as_mut_slice.ensures.len in
     let lent = c.as_mut_slice.result.now in
     let same = c.as_mut_slice.ensures.value in
-    moved p d c.attempt_all.new.servers now d.votes was as_many (omega (arith, many)) was.votes
+    moved p d c.attempt_all.new.servers now d.votes d.room was as_many (omega (arith, many)) was.votes
     (subst (λ (x : Standing). All (Serves p x (map vote d.votes.items)) c.attempt_all.new.servers)
     (sym (window_open (length window) d.standing c.requires.none_open))
     (c.in_ok-attempt_all.ensures.serve p d.standing (map vote d.votes.items)
     (window_due p d c.min-end.result was c.requires.none_open) whole (lent_serve p d lent was same)))
     (still_majority d lent c.attempt_all.new.servers (live_in lent) same as_many c.in_ok-attempt_all.ensures.live
-    (subst (λ (ss : List Server). length ss < 2 * live_in ss) (sym same) was.majority))
+    (lent_majority p d lent was same))
+    (c.in_ok-attempt_all.ensures.committed from (lent_by_most p d lent was same))
+    (c.in_ok-attempt_all.ensures.taken p d.standing (map vote d.votes.items) (lent_serve p d lent was same)
+    (lent_taken p d lent was same))
     (c.in_ok-attempt_all.ensures.undecided (lent_undecided p d lent was same))

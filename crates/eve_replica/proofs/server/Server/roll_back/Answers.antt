@@ -21,7 +21,7 @@ returns-clause-on c =
     let live : c.args.self.now.is_live ≡ true = search rules in
     where_well _ _ (GoesOn rollback_move c.args.self.now c.did.new.self) c.did.result
     (λ right added. rollback_goes r c.args.self.now c.did.new.self live (c.did.ensures.live ∙ live)
-    (c.requires.open live)
+    (c.requires.awaits live) c.requires.missing c.did.ensures.missing
     (subst (λ (x : Replica). RollsBack old.ledger x.ledger r) (sym same) made)
     (subst (λ (x : Replica). x ≡ record old { ledger = x.ledger; is_broken = false }) (sym same) whole)
     added

@@ -1,4 +1,5 @@
 use Rattle.std.proofs.Common.{sym, ap, ◌∙◌, subst, append-nil}
+use Rattle.std.specs.Arc.{arc_value}
 use Rattle.eve_grammar.specs.Bodies.{transfer}
 use Rattle.eve_grammar.specs.Frames.{OfCommit, OfRollback, OfTransfer}
 use Rattle.eve_grammar.specs.Spelling.{frame_text, step_text}
@@ -26,5 +27,6 @@ returns-in-Rollback g c =
 pub returns-in-Transfer : goal.returns-in-Transfer
 returns-in-Transfer g c =
     subst (Writes g.W.Sink.written g.W.Sink.failures c.args.out.now c.write_transfer.new.out c.write_transfer.result)
-    (sym (append-nil (frame_text (OfTransfer (transfer c.in-Transfer.transfer))))
+    (ap (λ x. frame_text (OfTransfer (transfer x))) c.deref.ensures
+    ∙ sym (append-nil (frame_text (OfTransfer (transfer (arc_value c.in-Transfer.transfer)))))
     ∙ sym (ap (λ s. step_text (step s)) c.in-Transfer.is)) c.write_transfer.ensures

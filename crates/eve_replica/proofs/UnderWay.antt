@@ -1,0 +1,43 @@
+-- What a run under way has of its replicas, as they are lent.
+use Rattle.std.proofs.Common.{◌≡◌, ℕ, ◌+◌, ◌-◌, ◌*◌, ◌<◌, List, length, sym, ap, subst, arith}
+use Rattle.std.proofs.lemmas.List.{length-map}
+use Rattle.eve_write.specs.Data.{batch}
+use Rattle.eve_replica.specs.declared.server.Server.{Server}
+use Rattle.eve_replica.specs.declared.run_state.RunState.{RunState}
+use Rattle.eve_replica.specs.Sections.{RunPlan}
+use Rattle.eve_replica.specs.Taken.{AreTakenIn, AreCommittedByMost}
+use Rattle.eve_replica.specs.Serving.{IsLeft, IsUnderWay, live_in, sections_in}
+
+-- a batch is left where one is awaited
+pub batch_left : (p : RunPlan) (d : RunState) → IsUnderWay p d → IsLeft p.batches d.standing
+batch_left p d was = λ some.
+    let due = was.due in
+    let many = ap length was.batches in
+    let all = length-map d.batches.now (λ m. batch m.batch) in
+    omega arith
+
+-- more than half are live
+pub lent_majority : (p : RunPlan) (d : RunState) (lent : List Server) → IsUnderWay p d → lent ≡ d.servers.items
+    → length lent < 2 * live_in lent
+lent_majority p d lent was same =
+    subst (λ (servers : List Server). length servers < 2 * live_in servers) (sym same) was.majority
+
+-- each batch so far was committed by most
+pub lent_by_most : (p : RunPlan) (d : RunState) (lent : List Server) → IsUnderWay p d → lent ≡ d.servers.items
+    → AreCommittedByMost d.standing.committed (sections_in lent)
+lent_by_most p d lent was same =
+    subst (λ (servers : List Server). AreCommittedByMost d.standing.committed (sections_in servers)) (sym same)
+    was.committed
+
+-- up to the one before the next
+pub lent_before : (p : RunPlan) (d : RunState) (lent : List Server) → IsUnderWay p d → lent ≡ d.servers.items
+    → AreCommittedByMost (d.standing.committed + 1 - 1) (sections_in lent)
+lent_before p d lent was same =
+    let here : d.standing.committed ≡ d.standing.committed + 1 - 1 = omega arith in
+    subst (λ (n : ℕ). AreCommittedByMost n (sections_in lent)) here (lent_by_most p d lent was same)
+
+-- what was taken over is right
+pub lent_taken : (p : RunPlan) (d : RunState) (lent : List Server) → IsUnderWay p d → lent ≡ d.servers.items
+    → AreTakenIn p (sections_in lent)
+lent_taken p d lent was same =
+    subst (λ (servers : List Server). AreTakenIn p (sections_in servers)) (sym same) was.taken

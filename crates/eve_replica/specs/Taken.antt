@@ -1,0 +1,51 @@
+-- Which states the replicas of a run take over. docs/MODEL.md, "A run".
+use Rattle.std.specs.Prelude.{◌≡◌, ℕ, ◌*◌, ◌<◌, ◌≤◌, ◌==◌, Bool, false, ◌||◌, IsFalse, ⊤, List, [], ◌∷◌, ◌++◌, length}
+use Rattle.std.specs.List.{AllByRecursion, count_by}
+use Rattle.eve_grammar.specs.Trace.{Commit, Transfer, Step, Attempts, Commits, RollsBack, TakesOver}
+use Rattle.eve_attempts.specs.Ledgers.{Ledger}
+use Rattle.eve_attempts.specs.TakingOver.{IsStateOf}
+use Rattle.eve_replica.specs.Sections.{RunPlan, GoesThrough}
+
+-- whether a step commits the batch with this number
+abbrev pub is_commit_of : ℕ → Step → Bool
+is_commit_of n (Attempts a) = false
+is_commit_of n (Commits c) = c.seq == n
+is_commit_of n (RollsBack r) = false
+is_commit_of n (TakesOver x) = false
+
+-- whether that batch is committed in a section, by an attempt
+abbrev pub commits_batch : ℕ → List Step → Bool
+commits_batch n [] = false
+commits_batch n (x ∷ steps) = is_commit_of n x || commits_batch n steps
+
+-- The lowest-numbered replica that commits the state's batch, in the state's view: the state is what its account then
+-- has committed.
+pub record IsTakenFrom (p : RunPlan) (sections : List (List Step)) (x : Transfer) : Type 0 where
+  pub below : List (List Step)
+  pub above : List (List Step)
+  pub front : List Step
+  pub commit : Commit
+  pub rest : List Step
+  pub source : sections ≡ below ++ (front ++ Commits commit ∷ rest) ∷ above
+  pub lowest : AllByRecursion (λ steps. IsFalse (commits_batch x.seq steps)) below
+  pub seq : commit.seq ≡ x.seq
+  pub view : commit.view ≡ x.view
+  pub account : Ledger
+  pub through : GoesThrough p (front ++ Commits commit ∷ []) p.first account
+  pub rows : IsStateOf account x.rows
+
+-- where a step takes over a state, it is such a one
+abbrev pub IsRightlyTaken : RunPlan → List (List Step) → Step → Type 0
+IsRightlyTaken p sections (Attempts a) = ⊤
+IsRightlyTaken p sections (Commits c) = ⊤
+IsRightlyTaken p sections (RollsBack r) = ⊤
+IsRightlyTaken p sections (TakesOver x) = IsTakenFrom p sections x
+
+-- each state that is taken over in these sections
+abbrev pub AreTakenIn : RunPlan → List (List Step) → Type 0
+AreTakenIn p sections = AllByRecursion (AllByRecursion (IsRightlyTaken p sections)) sections
+
+-- each of the first batches is committed by more than half of all replicas, by attempts
+abbrev pub AreCommittedByMost : ℕ → List (List Step) → Type 0
+AreCommittedByMost batches sections =
+    (n : ℕ) → 0 < n → n ≤ batches → length sections < 2 * count_by (commits_batch n) sections
