@@ -85,10 +85,10 @@ module _ (cuts : (names : List (List ℕ)) → (m : Mixer) → (requests : List 
   own_faultless e f (of_tokens is) = no_token_fault t e (due e) f is
 
   votes : AreVotesSound t
-  votes = votes_sound w mixer t run limits
+  votes = votes_sound w mixer t format run limits
 
   backed : AllAreBacked t
-  backed = all_backed w mixer t run limits
+  backed = all_backed w mixer t format run limits
 
   replied : AllReplied t
   replied = all_replied w mixer t run right

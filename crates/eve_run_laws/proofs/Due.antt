@@ -77,7 +77,8 @@ module _ (p : RunPlan) (t : Trace) where
       }
   due_next s old new at (Commits c) before after makes due = due_committing t s s.pending due.pending due
   due_next s old new at (RollsBack r) before after makes due = record { committed = due.committed; pending = tt }
-  due_next s old new at (TakesOver x) before after makes due = absurd makes
+  due_next s old new at (TakesOver x) before after makes due =
+      absurd (omega (arith, before.version, makes.version))
 
 pub due_first : (t : Trace) → AreDueSoFar t start
 due_first t = record { committed = tt; pending = tt }

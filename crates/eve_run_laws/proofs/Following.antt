@@ -300,15 +300,16 @@ module _ (p : RunPlan) (t : Trace) (plan : IsPlanOf p t) where
       → IsTrue (is_right t s x)
   step_right s old new (Attempts a) alike made = right_attempt t s old alike p plan new a made
   step_right s old new (Commits c) alike made = right_commit t s old alike new c made
-  step_right s old new (RollsBack r) alike made = right_rollback t s old alike new r made.0 made.1
-  step_right s old new (TakesOver x) alike made = absurd made
+  step_right s old new (RollsBack r) alike made = right_rollback t s old alike new r (made.discards alike.version)
+      made.rolled_back
+  step_right s old new (TakesOver x) alike made = absurd (omega (arith, alike.version, made.version))
 
   pub step_alike : (s : SectionState) (old new : Ledger) (at : ℕ) (x : Step) → AreAlike t s old → MakesOf p x old new
       → AreAlike t (next s (at, x)) new
   step_alike s old new at (Attempts a) alike made = alike_attempted t s old alike p plan new a made at
   step_alike s old new at (Commits c) alike made = alike_committed t s old alike new c s.pending refl made
-  step_alike s old new at (RollsBack r) alike made = alike_rolled_back t s old alike new at r made.1
-  step_alike s old new at (TakesOver x) alike made = absurd made
+  step_alike s old new at (RollsBack r) alike made = alike_rolled_back t s old alike new at r made.rolled_back
+  step_alike s old new at (TakesOver x) alike made = absurd (omega (arith, alike.version, made.version))
 
   -- what each step keeps holds after all of them
   pub along : (Q : SectionState → Type 0)

@@ -31,23 +31,24 @@ use Rattle.eve_run_laws.proofs.SerialTokens.{serial_token, token_serial}
 module _ (p : RunPlan) (number : ℕ) (rest : List ℕ) where
   -- the first open attempt, where no batch is committed before the rollback
   first_stays : (view : ℕ) (token : List ℕ) (others : List (List ℕ)) (steps : List Step) (old last : Ledger)
-      → GoesThrough p steps old last → view ≡ old.view + 1 → number ≡ old.committed
+      → GoesThrough p steps old last → old.version ≡ 1 → view ≡ old.view + 1 → number ≡ old.committed
       → rolled_back_to steps ≡ number ∷ rest → token_given_up view (token ∷ others) steps ≡ Some token
-  first_stays view token others [] old last way at here back = absurd (no_item [] number rest back)
-  first_stays view token others (Attempts a ∷ steps) old last way at here back =
+  first_stays view token others [] old last way version at here back = absurd (no_item [] number rest back)
+  first_stays view token others (Attempts a ∷ steps) old last way version at here back =
       let changed = way.1.closed.opens.changed in
-      first_stays view token (others ++ a.token ∷ []) steps way.0 last way.2
+      first_stays view token (others ++ a.token ∷ []) steps way.0 last way.2 (ap (λ (l : Ledger). l.version) changed ∙ version)
       (at ∙ ap (λ (l : Ledger). l.view + 1) (sym changed)) (here ∙ ap (λ (l : Ledger). l.committed) (sym changed))
       back
-  first_stays view token others (Commits c ∷ steps) old last way at here back =
+  first_stays view token others (Commits c ∷ steps) old last way version at here back =
       let more = ap (λ (l : Ledger). l.committed) way.1.changed in
-      let above = dont_fall p steps way.0 last way.2 in
+      let above = dont_fall p steps way.0 last (ap (λ (l : Ledger). l.version) way.1.changed ∙ version) way.2 in
       let low : way.0.committed ≤ number = (subst (DontFall way.0.committed) back above).0 in
       absurd (omega (arith, more, low, here))
-  first_stays view token others (RollsBack r ∷ steps) old last way at here back =
+  first_stays view token others (RollsBack r ∷ steps) old last way version at here back =
       ap (λ (b : Bool). if b then Some token else token_given_up view [] steps)
-      (eq-eqb r.view view (way.1.1.view ∙ sym at))
-  first_stays view token others (TakesOver x ∷ steps) old last way at here back = absurd way.1
+      (eq-eqb r.view view (way.1.rolled_back.view ∙ sym at))
+  first_stays view token others (TakesOver x ∷ steps) old last way version at here back =
+      absurd (omega (arith, version, way.1.version))
 
   -- after a rollback the batch that is due next, which is attempted in serial mode
   serial_given_up : (view : ℕ) (steps : List Step) (old last : Ledger) → GoesThrough p steps old last
@@ -57,7 +58,7 @@ module _ (p : RunPlan) (number : ℕ) (rest : List ℕ) where
   serial_given_up view [] old last way at here back serial none version = absurd (no_item [] number rest back)
   serial_given_up view (Attempts a ∷ steps) old last way at here back serial none version =
       let changed = way.1.closed.opens.changed in
-      first_stays view a.token [] steps way.0 last way.2
+      first_stays view a.token [] steps way.0 last way.2 (ap (λ (l : Ledger). l.version) changed ∙ version)
       (at ∙ ap (λ (l : Ledger). l.view + 1) (sym changed)) (here ∙ ap (λ (l : Ledger). l.committed) (sym changed))
       back
       ∙ ap (λ (token : List ℕ). Some token)
@@ -67,8 +68,9 @@ module _ (p : RunPlan) (number : ℕ) (rest : List ℕ) where
       absurd (no_item [] way.1.first way.1.others (sym none ∙ way.1.opened))
   serial_given_up view (RollsBack r ∷ steps) old last way at here back serial none version =
       let many : length old.opened ≡ 0 = ap length none in
-      absurd (omega (arith, many, way.1.0))
-  serial_given_up view (TakesOver x ∷ steps) old last way at here back serial none version = absurd way.1
+      absurd (omega (arith, many, way.1.discards version))
+  serial_given_up view (TakesOver x ∷ steps) old last way at here back serial none version =
+      absurd (omega (arith, version, way.1.version))
 
 -- ---- what is committed stays
 
@@ -168,9 +170,10 @@ module _ (p : RunPlan) (t : Trace) (plan : IsPlanOf p t) (number : ℕ) (rest : 
       (step_alike p t plan s old way.0 o (Commits c) alike way.1) (counted_committing s s.pending counted)
       (omega (arith, at, same)) back in
       record { token = later.token; reached = later.reached }
-  gives_up_along view opened before ((o, TakesOver x) ∷ steps) s old last way alike counted at back = absurd way.1
+  gives_up_along view opened before ((o, TakesOver x) ∷ steps) s old last way alike counted at back =
+      absurd (omega (arith, alike.version, way.1.version))
   gives_up_along view opened [] ((o, RollsBack r) ∷ steps) s old last way alike counted at back =
-      let made = way.1.1 in
+      let made = way.1.rolled_back in
       let up = ap (λ (l : Ledger). l.view) made.changed in
       let to = same_first r.to number (rolled_back_to (map (λ x. x.1) steps)) (number ∷ rest) back in
       let later = second_gives_up view steps (next s (o, RollsBack r)) way.0 last way.2
@@ -183,7 +186,7 @@ module _ (p : RunPlan) (t : Trace) (plan : IsPlanOf p t) (number : ℕ) (rest : 
         reached = later.reached;
       }
   gives_up_along view opened (n ∷ before) ((o, RollsBack r) ∷ steps) s old last way alike counted at back =
-      let made = way.1.1 in
+      let made = way.1.rolled_back in
       let up = ap (λ (l : Ledger). l.view) made.changed in
       let later = gives_up_along view [] before steps (next s (o, RollsBack r)) way.0 last way.2
       (step_alike p t plan s old way.0 o (RollsBack r) alike way.1) counted (omega (arith, at, up))

@@ -9,7 +9,8 @@ use Rattle.std.proofs.lemmas.List.Kept.{AllPairs-cons}
 use Rattle.eve_grammar.specs.Trace.{Step, Attempts, Commits, RollsBack, TakesOver, Choice, ForRollback, ForCommit}
 use Rattle.eve_grammar.specs.Trace.{Vote}
 use Rattle.eve_attempts.specs.Ledgers.{Ledger}
-use Rattle.eve_replica.specs.Sections.{RunPlan, GoesThrough, votes_along}
+use Rattle.eve_replica.specs.Sections.{RunPlan, GoesThrough}
+use Rattle.eve_run_laws.proofs.VotesAlong.{votes_along}
 use Rattle.eve_run_laws.specs.RolledBack.{rolled_back_to}
 
 -- ---- numbers that don't fall
@@ -75,23 +76,25 @@ differ_before ns ms differ i j d before within same =
 
 -- ---- along a section
 
-pub dont_fall : (p : RunPlan) (steps : List Step) (old last : Ledger) → GoesThrough p steps old last
-    → DontFall old.committed (rolled_back_to steps)
-dont_fall p [] old last goes = tt
-dont_fall p (Attempts a ∷ steps) old last goes =
+pub dont_fall : (p : RunPlan) (steps : List Step) (old last : Ledger) → old.version ≡ 1
+    → GoesThrough p steps old last → DontFall old.committed (rolled_back_to steps)
+dont_fall p [] old last version goes = tt
+dont_fall p (Attempts a ∷ steps) old last version goes =
     subst (λ (n : ℕ). DontFall n (rolled_back_to steps))
-    (ap (λ (l : Ledger). l.committed) goes.1.closed.opens.changed) (dont_fall p steps goes.0 last goes.2)
-dont_fall p (Commits c ∷ steps) old last goes =
+    (ap (λ (l : Ledger). l.committed) goes.1.closed.opens.changed)
+    (dont_fall p steps goes.0 last (ap (λ (l : Ledger). l.version) goes.1.closed.opens.changed ∙ version) goes.2)
+dont_fall p (Commits c ∷ steps) old last version goes =
     let number = ap (λ (l : Ledger). l.committed) goes.1.changed in
     dont_fall_from_lower old.committed goes.0.committed (rolled_back_to steps) (omega (arith, number))
-    (dont_fall p steps goes.0 last goes.2)
-dont_fall p (RollsBack r ∷ steps) old last goes =
-    let made = goes.1.1 in
+    (dont_fall p steps goes.0 last (ap (λ (l : Ledger). l.version) goes.1.changed ∙ version) goes.2)
+dont_fall p (RollsBack r ∷ steps) old last version goes =
+    let made = goes.1.rolled_back in
     let number : goes.0.committed ≡ r.to = ap (λ (l : Ledger). l.committed) made.changed ∙ sym made.to in (
       omega (arith, made.to),
-      subst (λ (n : ℕ). DontFall n (rolled_back_to steps)) number (dont_fall p steps goes.0 last goes.2),
+      subst (λ (n : ℕ). DontFall n (rolled_back_to steps)) number
+          (dont_fall p steps goes.0 last (ap (λ (l : Ledger). l.version) made.changed ∙ version) goes.2),
     )
-dont_fall p (TakesOver x ∷ steps) old last goes = absurd goes.1
+dont_fall p (TakesOver x ∷ steps) old last version goes = absurd (omega (arith, version, goes.1.version))
 
 -- ---- what votes tell of them
 

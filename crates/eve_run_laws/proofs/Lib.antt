@@ -7,6 +7,7 @@ pub mod Restored
 pub mod Due
 pub mod RightRuns
 pub mod Ranges
+pub mod VotesAlong
 pub mod VotesApart
 pub mod Voting
 pub mod Replied

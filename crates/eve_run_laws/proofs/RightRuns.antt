@@ -24,7 +24,7 @@ module _ (w : Workload) (mixer : Mixer) (t : Trace) (run : IsTraceOf w mixer t) 
         let workers : w.deployment.workers ≡ t.head.workers = sym (ap (λ (h : Head). h.workers) run.head) in
         let window : w.deployment.window ≡ t.head.window = sym (ap (λ (h : Head). h.window) run.head) in
         let customers : w.customers ≡ t.customers = sym run.customers in
-        λ i. opening 1 (opening_rows (customers i)) (workers i) (window i);
+        λ i. opening (format i) (opening_rows (customers i)) (workers i) (window i);
   }
 
   pub sections_right : (e : ℕ) → IsRightSection t e

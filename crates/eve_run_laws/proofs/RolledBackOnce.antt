@@ -19,12 +19,13 @@ use Rattle.eve_agree.proofs.ByNumber.{reached_item}
 use Rattle.eve_workload.specs.declared.mixer.Mixer.{Mixer}
 use Rattle.eve_workload.specs.Workload.{Workload}
 use Rattle.eve_replica.specs.Deciding.{is_some_of, token_given_up}
-use Rattle.eve_replica.specs.Sections.{RunPlan, commits_in}
-use Rattle.eve_replica.specs.Run.{IsTraceOf, IsDecidedBy, has_committed, run_plan}
+use Rattle.eve_replica.specs.Sections.{RunPlan, reached_in}
+use Rattle.eve_replica.specs.Run.{IsSectionOf, IsTraceOf, IsDecidedBy, has_reached as has_all, run_plan}
 use Rattle.eve_run_laws.specs.Collision.{Collides}
 use Rattle.eve_run_laws.specs.RolledBack.{rolled_back_to, AreRolledBackOnce}
 use Rattle.eve_run_laws.proofs.Agreed.{outcomes_collide}
 use Rattle.eve_run_laws.proofs.RightRuns.{plan_of, sections_right, sections_by_attempts, sections_due}
+use Rattle.eve_run_laws.proofs.VotesAlong.{led_first}
 use Rattle.eve_run_laws.proofs.Voting.{votes_sound, all_backed}
 use Rattle.eve_run_laws.proofs.GoingBack.{DontFall, dont_fall, Differ, Repeats, differ_or_repeat, differ_before}
 use Rattle.eve_run_laws.proofs.GoingBack.{voted_back_to, voted_along}
@@ -81,9 +82,9 @@ module _ (w : Workload) (mixer : Mixer) (t : Trace) (format : w.format ≡ 1) (r
   abbrev p : RunPlan
   p = run_plan w mixer
 
-  -- whether a section has a commit of every batch
+  -- whether a section reaches every batch
   abbrev is_whole : List Step → Bool
-  is_whole = has_committed (length w.batches)
+  is_whole = has_all (length w.batches)
 
   -- what the first verifier voted
   abbrev led : List Vote
@@ -99,21 +100,23 @@ module _ (w : Workload) (mixer : Mixer) (t : Trace) (format : w.format ≡ 1) (r
       run.voted 0 [] (omega (arith, quorum.0, quorum.1)) e d there
 
   -- the votes tell to which numbers a section goes back first
-  told : (steps : List Step) (by : IsLed steps) → voted_back_to led
+  told : (steps : List Step) (by : IsLed steps) → IsSectionOf p steps → voted_back_to led
       ≡ rolled_back_to steps ++ voted_back_to by.later
-  told steps by = ap voted_back_to by.first ∙ voted_along steps by.later
+  told steps by is =
+      ap voted_back_to (led_first p (length w.batches) steps led by format is) ∙ voted_along steps by.later
 
   -- and of one with all commits, to which it goes back at all
-  told_whole : (steps : List Step) → IsLed steps → is_whole steps ≡ true → voted_back_to led ≡ rolled_back_to steps
-  told_whole steps by whole =
-      told steps by
+  told_whole : (steps : List Step) → IsLed steps → IsSectionOf p steps → is_whole steps ≡ true
+      → voted_back_to led ≡ rolled_back_to steps
+  told_whole steps by is whole =
+      told steps by is
       ∙ ap (λ (later : List Vote). rolled_back_to steps ++ voted_back_to later)
-      (by.none_later (eqb-true (commits_in steps) (length w.batches) whole))
+      (by.none_later (eqb-true (reached_in steps) (length w.batches) whole))
       ∙ append-nil (rolled_back_to steps)
 
   -- some section has all commits
   whole_one : Counted is_whole 1 t.sections
-  whole_one = counted is_whole 1 t.sections (omega arith) (omega (arith, run.committed))
+  whole_one = counted is_whole 1 t.sections (omega arith) (omega (arith, run.reached))
 
   abbrev e : ℕ
   e = whole_one.place
@@ -125,7 +128,7 @@ module _ (w : Workload) (mixer : Mixer) (t : Trace) (format : w.format ≡ 1) (r
   all_once differ k d below =
       let steps = get_or t.sections k d in
       let by = all_led k d below in
-      differ_before (rolled_back_to steps) (voted_back_to by.later) (subst Differ (told steps by) differ)
+      differ_before (rolled_back_to steps) (voted_back_to by.later) (subst Differ (told steps by (run.sections k d below)) differ)
 
   -- ---- two rollbacks to one number
 
@@ -133,7 +136,7 @@ module _ (w : Workload) (mixer : Mixer) (t : Trace) (format : w.format ≡ 1) (r
     -- each with all commits goes back twice to it
     goes_back : (f : ℕ) → f < length t.sections → is_whole (steps_of t f) ≡ true
         → rolled_back_to (steps_of t f) ≡ twice.before ++ twice.number ∷ twice.number ∷ twice.rest
-    goes_back f there whole = sym (told_whole (steps_of t f) (all_led f [] there) whole) ∙ twice.is
+    goes_back f there whole = sym (told_whole (steps_of t f) (all_led f [] there) (run.sections f [] there) whole) ∙ twice.is
 
     abbrev view : ℕ
     view = length twice.before + 2
@@ -172,7 +175,7 @@ module _ (w : Workload) (mixer : Mixer) (t : Trace) (format : w.format ≡ 1) (r
         let r = reached_item t f n (only f (suc n)) other in
         outcomes_collide t limits (plan_of w mixer t run format).version only (sections_right w mixer t run format)
         (sections_due w mixer t run format)
-        (votes_sound w mixer t run limits) (all_backed w mixer t run limits) e f (suc n) q.0 r.0 q.1 r.1
+        (votes_sound w mixer t format run limits) (all_backed w mixer t format run limits) e f (suc n) q.0 r.0 q.1 r.1
         (λ same. apart same.balances)
 
     -- not all with all commits give up the token of one of them
@@ -181,7 +184,7 @@ module _ (w : Workload) (mixer : Mixer) (t : Trace) (format : w.format ≡ 1) (r
       where
         by : (count_by is_whole t.sections ≤ count_by gives_up_that t.sections)
             ⊎ IsLeftOut is_whole gives_up_that t.sections → Collides t
-        by (inl few) = let most = run.undecided view (own e) in absurd (omega (arith, few, most, run.committed))
+        by (inl few) = let most = run.undecided view (own e) in absurd (omega (arith, few, most, run.reached))
         by (inr out) =
             apart_collide out.place twice.number (reached e e_there (whole_one.is []))
             (reached out.place out.there (out.passes []))
@@ -193,8 +196,8 @@ module _ (w : Workload) (mixer : Mixer) (t : Trace) (format : w.format ≡ 1) (r
       up : DontFall p.first.committed (voted_back_to led)
       up =
           let one = run.sections e [] e_there in
-          subst (DontFall p.first.committed) (sym (told_whole (steps_of t e) (all_led e [] e_there) (whole_one.is [])))
-          (dont_fall p (steps_of t e) p.first one.last one.through)
+          subst (DontFall p.first.committed) (sym (told_whole (steps_of t e) (all_led e [] e_there) one (whole_one.is [])))
+          (dont_fall p (steps_of t e) p.first one.last format one.through)
 
       by : Differ (voted_back_to led) ⊎ Repeats (voted_back_to led) → AreRolledBackOnce t ⊎ Collides t
       by (inl differ) = inl (all_once differ)

@@ -1,5 +1,5 @@
 -- Each attempt of a run is sound: its records fit, and its rows are chained from what its path left.
-use Rattle.std.proofs.Common.{◌≡◌, ℕ, List, [], ◌∷◌, map, sym, subst, ap}
+use Rattle.std.proofs.Common.{arith, ◌≡◌, ℕ, List, [], ◌∷◌, map, sym, subst, ap}
 use Rattle.std.specs.List.{AllByRecursion}
 use Rattle.std.proofs.lemmas.List.Sorted.{IsPermutation-map}
 use Rattle.eve_smallbank.specs.Access.{Executed, Fits}
@@ -79,4 +79,4 @@ module _ (p : RunPlan) (t : Trace) (plan : IsPlanOf p t) where
   sound_next s old new at (Commits c) alike made sound = sound_committing t s s.pending sound.1 sound
   sound_next s old new at (RollsBack r) alike made sound =
       (sound.0, tt, all-append (IsSoundAlong t) s.discarded s.pending sound.2 sound.1)
-  sound_next s old new at (TakesOver x) alike made sound = absurd made
+  sound_next s old new at (TakesOver x) alike made sound = absurd (omega (arith, alike.version, made.version))

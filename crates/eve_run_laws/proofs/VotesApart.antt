@@ -12,7 +12,8 @@ use Rattle.eve_votes.proofs.Sifting.{voted}
 use Rattle.eve_attempts.specs.Ledgers.{Opened, Ledger}
 use Rattle.eve_attempts.specs.Closing.{opened_as}
 use Rattle.eve_attempts.specs.Discarding as account
-use Rattle.eve_replica.specs.Sections.{RunPlan, AttemptsNext, GoesThrough, votes_along}
+use Rattle.eve_replica.specs.Sections.{RunPlan, AttemptsNext, GoesThrough}
+use Rattle.eve_run_laws.proofs.VotesAlong.{votes_along}
 use Rattle.eve_replica.specs.Serving.{AreOfItsView}
 use Rattle.eve_replica.proofs.OneStep.{committed_in_view}
 
@@ -173,13 +174,14 @@ opened_in_view old new c made of_view =
     subst (λ (os : List Opened). All (λ o. o.view ≡ old.view) os) made.opened of_view
 
 -- the votes rise from where the account stands, if its open attempts are all of its view
-pub votes_rise : (p : RunPlan) (steps : List Step) (a b : Ledger) → AreOfItsView a → GoesThrough p steps a b
+pub votes_rise : (p : RunPlan) (steps : List Step) (a b : Ledger) → a.version ≡ 1 → AreOfItsView a
+    → GoesThrough p steps a b
     → Rise (a.committed + 1) a.view (votes_along steps)
-votes_rise p [] a b of_view goes = tt
-votes_rise p (Attempts x ∷ steps) a b of_view goes =
+votes_rise p [] a b version of_view goes = tt
+votes_rise p (Attempts x ∷ steps) a b version of_view goes =
     subst (λ (s : Ledger). Rise (s.committed + 1) s.view (votes_along steps)) goes.1.closed.opens.changed
-    (votes_rise p steps goes.0 b (attempted_in_view p a goes.0 x goes.1 of_view) goes.2)
-votes_rise p (Commits c ∷ steps) a b of_view goes =
+    (votes_rise p steps goes.0 b (ap (λ (l : Ledger). l.version) goes.1.closed.opens.changed ∙ version) (attempted_in_view p a goes.0 x goes.1 of_view) goes.2)
+votes_rise p (Commits c ∷ steps) a b version of_view goes =
     let made = goes.1 in
     let seq : c.seq ≡ a.committed + 1 = ap (λ (d : Commit). d.seq) made.commit in
     let view : c.view ≡ a.view =
@@ -190,16 +192,16 @@ votes_rise p (Commits c ∷ steps) a b of_view goes =
       (omega (arith, seq), omega (arith, view)),
       rise_from_earlier (c.seq + 1) (goes.0.committed + 1) c.view goes.0.view (votes_along steps)
           (omega (arith, seq, number)) (omega (arith, view, same))
-          (votes_rise p steps goes.0 b (committed_in_view a goes.0 c made of_view) goes.2),
+          (votes_rise p steps goes.0 b (ap (λ (l : Ledger). l.version) made.changed ∙ version) (committed_in_view a goes.0 c made of_view) goes.2),
     )
-votes_rise p (RollsBack r ∷ steps) a b of_view goes =
-    let made = goes.1.1 in
+votes_rise p (RollsBack r ∷ steps) a b version of_view goes =
+    let made = goes.1.rolled_back in
     let number = ap (λ (s : Ledger). s.committed) made.changed in
     let same = ap (λ (s : Ledger). s.view) made.changed in (
       (omega (arith, made.to), omega (arith, made.view)),
       rise_from_earlier (r.to + 1) (goes.0.committed + 1) (r.view - 1 + 1) goes.0.view (votes_along steps)
           (omega (arith, made.to, number)) (omega (arith, made.view, same))
-          (votes_rise p steps goes.0 b
+          (votes_rise p steps goes.0 b (ap (λ (l : Ledger). l.version) made.changed ∙ version)
           (subst AreOfItsView (sym made.changed) (All-nil (λ (o : Opened). o.view ≡ a.view + 1))) goes.2),
     )
-votes_rise p (TakesOver x ∷ steps) a b of_view goes = absurd goes.1
+votes_rise p (TakesOver x ∷ steps) a b version of_view goes = absurd (omega (arith, version, goes.1.version))

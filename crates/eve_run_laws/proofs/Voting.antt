@@ -21,11 +21,12 @@ use Rattle.eve_agree.specs.Majority.{IsBacked, IsBackedSection, AllAreBacked}
 use Rattle.eve_workload.specs.declared.mixer.Mixer.{Mixer}
 use Rattle.eve_workload.specs.Workload.{Workload}
 use Rattle.eve_attempts.specs.Ledgers.{Opened, Ledger}
-use Rattle.eve_replica.specs.Sections.{RunPlan, MakesOf, GoesThrough, votes_on, votes_along, commits_in}
-use Rattle.eve_replica.specs.Run.{IsSectionOf, IsTraceOf, has_committed, run_plan}
+use Rattle.eve_replica.specs.Sections.{RunPlan, MakesOf, GoesThrough, reached_in}
+use Rattle.eve_replica.specs.Run.{IsSectionOf, IsTraceOf, has_reached, run_plan}
 use Rattle.eve_replica.proofs.Counting.{counted_all}
 use Rattle.eve_run_laws.proofs.VotesApart.{Rise, IsAlone, AreOneCommit, votes_rise, all_alone, one_at_most}
 use Rattle.eve_run_laws.proofs.VotesApart.{commits_apart}
+use Rattle.eve_run_laws.proofs.VotesAlong.{votes_on, votes_along, led_first}
 use Rattle.eve_run_laws.proofs.Refuted.{all_located}
 
 -- ---- one list of votes
@@ -36,26 +37,27 @@ record AreLed (t : Trace) : Type 0 where
   rise : Rise 1 0 led
   gave : All (λ votes. votes ≡ led) t.verifiers
 
-section_rises : (w : Workload) (mixer : Mixer) (steps : List Step) → IsSectionOf (run_plan w mixer) steps
+section_rises : (w : Workload) (mixer : Mixer) (steps : List Step) → w.format ≡ 1 → IsSectionOf (run_plan w mixer) steps
     → Rise 1 0 (votes_along steps)
-section_rises w mixer steps is =
+section_rises w mixer steps format is =
     let p = run_plan w mixer in
-    votes_rise p steps p.first is.last (All-nil (λ (o : Opened). o.view ≡ 0)) is.through
+    votes_rise p steps p.first is.last format (All-nil (λ (o : Opened). o.view ≡ 0)) is.through
 
 -- the votes of a section with all commits, and some section has them
-all_led : (w : Workload) (mixer : Mixer) (t : Trace) → IsTraceOf w mixer t → AreLed t
-all_led w mixer t is =
+all_led : (w : Workload) (mixer : Mixer) (t : Trace) → w.format ≡ 1 → IsTraceOf w mixer t → AreLed t
+all_led w mixer t format is =
     let many = length w.batches in
-    let one = counted (has_committed many) 1 t.sections (omega arith) (omega (arith, is.committed)) in
+    let one = counted (has_reached many) 1 t.sections (omega arith) (omega (arith, is.reached)) in
     let there : one.place < length t.sections = omega (arith, one.early) in
     let steps = get_or t.sections one.place [] in
-    let whole = eqb-true (commits_in steps) many (one.is []) in
+    let whole = eqb-true (reached_in steps) many (one.is []) in
     record {
       led = votes_along steps;
-      rise = section_rises w mixer steps (is.sections one.place [] there);
+      rise = section_rises w mixer steps format (is.sections one.place [] there);
       gave = λ v d below.
           let by = is.voted v d below one.place [] there in
-          by.first ∙ ap (λ (vs : List Vote). votes_along steps ++ vs) (by.none_later whole)
+          led_first (run_plan w mixer) many steps (get_or t.verifiers v d) by format (is.sections one.place [] there)
+          ∙ ap (λ (vs : List Vote). votes_along steps ++ vs) (by.none_later whole)
           ∙ append-nil (votes_along steps);
     }
 
@@ -109,8 +111,9 @@ module _ (t : Trace) (limits : HasLimits t) (all : AreLed t) where
         (one_decision n view other token other_token decided also).1;
   }
 
-pub votes_sound : (w : Workload) (mixer : Mixer) (t : Trace) → IsTraceOf w mixer t → HasLimits t → AreVotesSound t
-votes_sound w mixer t is limits = sound t limits (all_led w mixer t is)
+pub votes_sound : (w : Workload) (mixer : Mixer) (t : Trace) → w.format ≡ 1 → IsTraceOf w mixer t → HasLimits t
+    → AreVotesSound t
+votes_sound w mixer t format is limits = sound t limits (all_led w mixer t format is)
 
 -- ---- backed steps
 
@@ -149,23 +152,32 @@ same_self (ForCommit token) = by (pointwise ◌==◌ token token) refl
     by true is = is
     by false is = absurd (other_text token token (sym is) refl)
 
--- a state that is taken over is no step of a run
+-- a state that is taken over is no step of a run of format 1
 abbrev IsNoState : Step → Type 0
 IsNoState (Attempts a) = ⊤
 IsNoState (Commits c) = ⊤
 IsNoState (RollsBack r) = ⊤
 IsNoState (TakesOver x) = ⊥
 
-no_state : (p : RunPlan) (x : Step) (old new : Ledger) → MakesOf p x old new → IsNoState x
-no_state p (Attempts a) old new made = tt
-no_state p (Commits c) old new made = tt
-no_state p (RollsBack r) old new made = tt
-no_state p (TakesOver x) old new made = absurd made
+no_state : (p : RunPlan) (x : Step) (old new : Ledger) → old.version ≡ 1 → MakesOf p x old new → IsNoState x
+no_state p (Attempts a) old new version made = tt
+no_state p (Commits c) old new version made = tt
+no_state p (RollsBack r) old new version made = tt
+no_state p (TakesOver x) old new version made = absurd (omega (arith, version, made.version))
 
-no_states : (p : RunPlan) (steps : List Step) (old new : Ledger) → GoesThrough p steps old new → All IsNoState steps
-no_states p [] old new way = All-nil IsNoState
-no_states p (x ∷ steps) old new way =
-    All-cons IsNoState x steps (no_state p x old way.0 way.1) (no_states p steps way.0 new way.2)
+stays_of_version : (p : RunPlan) (x : Step) (old new : Ledger) → old.version ≡ 1 → MakesOf p x old new
+    → new.version ≡ 1
+stays_of_version p (Attempts a) old new version made = ap (λ (l : Ledger). l.version) made.closed.opens.changed ∙ version
+stays_of_version p (Commits c) old new version made = ap (λ (l : Ledger). l.version) made.changed ∙ version
+stays_of_version p (RollsBack r) old new version made = ap (λ (l : Ledger). l.version) made.rolled_back.changed ∙ version
+stays_of_version p (TakesOver x) old new version made = absurd (omega (arith, version, made.version))
+
+no_states : (p : RunPlan) (steps : List Step) (old new : Ledger) → old.version ≡ 1 → GoesThrough p steps old new
+    → All IsNoState steps
+no_states p [] old new version way = All-nil IsNoState
+no_states p (x ∷ steps) old new version way =
+    All-cons IsNoState x steps (no_state p x old way.0 version way.1)
+    (no_states p steps way.0 new (stays_of_version p x old way.0 version way.1) way.2)
 
 module _ (t : Trace) (limits : HasLimits t) where
   -- what is each verifier's only vote on its batch in its view has all verifiers for it
@@ -187,21 +199,24 @@ module _ (t : Trace) (limits : HasLimits t) where
       all_for w (λ v d below. All-head (IsAlone (get_or t.verifiers v d)) w [] (alone v d below))
   backed (TakesOver x) none alone = absurd none
 
-  module _ (w : Workload) (mixer : Mixer) (is : IsTraceOf w mixer t) where
+  module _ (w : Workload) (mixer : Mixer) (format : w.format ≡ 1) (is : IsTraceOf w mixer t) where
     alone_on : (e v : ℕ) (d : List Vote) → e < length t.sections → v < length t.verifiers
         → All (λ x. All (IsAlone (get_or t.verifiers v d)) (votes_on x)) (steps_of t e)
     alone_on e v d there below =
         let votes = get_or t.verifiers v d in
-        let led = all_led w mixer t is in
+        let led = all_led w mixer t format is in
         let by = is.voted v d below e [] there in
         let rise = subst (Rise 1 0) (sym (led.gave v d below)) led.rise in
         each_on (IsAlone votes) (steps_of t e) by.later
-        (subst (All (IsAlone votes)) by.first (all_alone 1 0 votes rise))
+        (subst (All (IsAlone votes))
+        (led_first (run_plan w mixer) (length w.batches) (steps_of t e) votes by format (is.sections e [] there))
+        (all_alone 1 0 votes rise))
 
     steps_backed : (e : ℕ) → e < length t.sections → All (IsBacked t) (steps_of t e)
     steps_backed e there =
         let own = is.sections e [] there in
-        let none = no_states (run_plan w mixer) (steps_of t e) (run_plan w mixer).first own.last own.through in
+        let none = no_states (run_plan w mixer) (steps_of t e) (run_plan w mixer).first own.last format
+        own.through in
         λ k x below. backed (get_or (steps_of t e) k x) (none k x below)
         (λ v d lt. alone_on e v d there lt k x below)
 
@@ -211,9 +226,10 @@ section_backed t e all =
     all_located (IsBacked t) step_text (section_start t e + length (frame_text (OfReplica e))) (steps_of t e)
     (recursion_from_All (IsBacked t) (steps_of t e) all)
 
-pub all_backed : (w : Workload) (mixer : Mixer) (t : Trace) → IsTraceOf w mixer t → HasLimits t → AllAreBacked t
-all_backed w mixer t is limits e = elim (cases_lt e (length t.sections)) [
-  | inl there ↦ section_backed t e (steps_backed t limits w mixer is e there)
+pub all_backed : (w : Workload) (mixer : Mixer) (t : Trace) → w.format ≡ 1 → IsTraceOf w mixer t → HasLimits t
+    → AllAreBacked t
+all_backed w mixer t format is limits e = elim (cases_lt e (length t.sections)) [
+  | inl there ↦ section_backed t e (steps_backed t limits w mixer format is e there)
   | inr beyond
       ↦ subst (AllByRecursion (λ x. IsBacked t x.1)) (sym (none_at t e beyond)) tt
 ]

@@ -16,6 +16,7 @@ ghost use Rattle.eve_audit.specs.declared.verdict.Verdict.TheVariants.{Yes};
 ghost use Rattle.eve_audit.specs.Verdict.{IsTraceFault, IsVerdict};
 ghost use Rattle.eve_tool.specs.Audit.{Audits};
 ghost use Rattle.eve_tool.specs.Run.{Runs};
+ghost use Rattle.eve_tool_arguments.specs.declared.format.Format.{Format};
 ghost use Rattle.eve_run_laws.specs.Collision.{Collides};
 ghost use Rattle.eve_run_laws.specs.RolledBack.{AreRolledBackOnce};
 ghost use Rattle.eve_agree.specs.Agreement.{StandsInAgreement};
@@ -58,13 +59,13 @@ pub fn runs_are_audited()
     eve_audit::laws::a_yes_is_audited();
 }
 
-/// Of what the program wrote for `run` with status 0: where it says the verdict on that for `audit`, it is yes and the
+/// Of what the program wrote for `run` in format 1 with status 0: where it says the verdict on that for `audit`, it is yes and the
 /// status is 0, or the trace shows two messages that differ and have one SHA-256.
 ///
 /// docs/MODEL.md, "A run is accepted".
 pub fn audits_of_runs_end_well()
     ensures { (limit : ℕ) (mixer : Mixer) (input written line : List ℕ) (status ended : ℕ)
-        → IsBytes written → (run : Runs limit mixer input written status) → Audits written line ended
+        → IsBytes written → (run : Runs limit mixer Format.One input written status) → Audits written line ended
         → (ended ≡ 0) ⊎ Collides run.trace }
 {
     runs_are_accepted();

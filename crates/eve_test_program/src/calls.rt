@@ -5,6 +5,7 @@ use crate::fault::Fault;
 use eve_streams::failing::FailsAt;
 use eve_streams::one_byte::OneByte;
 use eve_streams::{Sink, SinkOf, Source, SourceOf};
+use eve_tool::eve_tool_arguments::Format;
 use eve_tool::{run_within, serve, stop};
 use eve_workload::Mixer;
 use std::alloc::Global;
@@ -128,7 +129,14 @@ fn served<R: AllocGlobal + RandomSource + Threads + Wait + Sync, I: Source, O: S
     let Some(limit) = limit else {
         return serve(rt, arguments, input, out, err);
     };
-    match run_within(rt, Mixer::First, limit.min(MOST_LIMIT), input, out) {
+    match run_within(
+        rt,
+        Mixer::First,
+        Format::One,
+        limit.min(MOST_LIMIT),
+        input,
+        out,
+    ) {
         Ok(status) => status,
         Err(fault) => stop(fault, err),
     }

@@ -19,12 +19,13 @@ use Rattle.eve_views.proofs.WholeTraces.{spells_frames}
 use Rattle.eve_tool.specs.declared.fault.ToolFault.{ToolFault}
 use Rattle.eve_tool.specs.declared.fault.ToolFault.TheVariants as fault
 use Rattle.eve_tool.specs.Audit.{Audits}
-use Rattle.eve_tool.specs.Calls.{Leaves}
+use Rattle.eve_tool.specs.Calls.{AsksForRandom, Leaves}
+use Rattle.eve_tool.specs.Explain.{Explains}
 use Rattle.eve_tool.specs.Lines.{status_of_verdict}
 use Rattle.eve_grammar.specs.declared.limits.TheConstants.{MOST_BYTES}
 use Rattle.eve_tool.specs.Show.{Shows}
 use Rattle.eve_tool.specs.Long.{ShowsLong}
-use Rattle.eve_tool_arguments.specs.Arguments.{Audit, Show, ShowLong}
+use Rattle.eve_tool_arguments.specs.Arguments.{Audit, Show, ShowLong, Subcommand}
 use Rattle.eve_tool.specs.Writes.{WritesAll, WritesAllOf, WritesFront, WritesFrontOf}
 
 number-least : (c : Code) → 1 ≤ code_number c
@@ -235,23 +236,31 @@ WritesFrontOf-cut says limit (Some bytes) lent read old new cuts same cut front 
 }
 
 -- where the status is that of a yes, the bytes spell a trace that is audited
-pub audited_of : (known : Option (List ℕ)) (old new : Option (List ℕ)) (status : ℕ)
-    → WritesAllOf Audits known old new status → status ≡ 0 → IfSome known SpellsAudited
-audited_of None old new status all is = tt
-audited_of (Some bytes) old new status all is = by all.said.verdict (sym all.said.ends ∙ is) all.said.yes
+audited : (bytes text : List ℕ) (status : ℕ) → Audits bytes text status → status ≡ 0 → SpellsAudited bytes
+audited bytes text status audits is = by audits.verdict (sym audits.ends ∙ is) audits.yes
   where
     by : (v : Verdict) → status_of_verdict v ≡ 0 → ((s : Summary) → v ≡ Yes s → SpellsAudited bytes)
         → SpellsAudited bytes
     by (Yes s) e said = said s refl
     by (No f) e said = absurd (omega (arith, e))
 
+pub audited_of : (known : Option (List ℕ)) (old new : Option (List ℕ)) (status : ℕ)
+    → WritesAllOf Audits known old new status → status ≡ 0 → IfSome known SpellsAudited
+audited_of None old new status all is = tt
+audited_of (Some bytes) old new status all is = audited bytes all.text status all.said is
+
+pub explained_of : (known : Option (List ℕ)) (old new : Option (List ℕ)) (status : ℕ)
+    → WritesAllOf Explains known old new status → status ≡ 0 → IfSome known SpellsAudited
+explained_of None old new status all is = tt
+explained_of (Some bytes) old new status all is = audited bytes all.said.verdict status all.said.audits is
+
 -- ---- what is left by a fault
 
 -- where no random words were given, nothing is asked of the bytes
-pub random_left : {O : Type 0} (written : O → Option (List ℕ)) (failures : O → ℕ) (known : Option (List ℕ))
-    (failed : Type 0) (old : O) (why : ToolFault)
-    → why ≡ fault.Random → Leaves MOST_BYTES written failures Audit known failed old old why
-random_left written failures known failed old why is = rw is (tt, refl)
+pub random_left : {O : Type 0} (written : O → Option (List ℕ)) (failures : O → ℕ) (call : Subcommand)
+    (known : Option (List ℕ)) (failed : Type 0) (old : O) (why : ToolFault) → AsksForRandom MOST_BYTES call known
+    → why ≡ fault.Random → Leaves MOST_BYTES written failures call known failed old old why
+random_left written failures call known failed old why asks is = rw is (asks, refl)
 
 -- what a call that reads no further than a limit left of the bytes that were read
 pub audit_left : {O : Type 0} (written : O → Option (List ℕ)) (failures : O → ℕ) (known : Option (List ℕ))

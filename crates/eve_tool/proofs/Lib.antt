@@ -4,3 +4,4 @@ mod WholeInput
 pub mod Leaving
 pub mod Running
 mod LongLines
+mod Explaining

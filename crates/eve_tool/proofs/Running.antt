@@ -3,6 +3,7 @@ use Rattle.std.proofs.Common.{ℕ, ◌≡◌, ◌<◌, ◌≤◌, ◌^◌, ◌�
 use Rattle.eve_grammar.specs.Spelling.{length_of, spelling}
 use Rattle.eve_grammar.proofs.Spelled.{spelled_within}
 use Rattle.eve_workload.specs.declared.mixer.Mixer.{Mixer}
+use Rattle.eve_tool_arguments.specs.declared.format.Format.{Format}
 use Rattle.eve_write.specs.Data.{trace}
 use Rattle.eve_write.specs.declared.parts.Parts.{Parts}
 use Rattle.eve_write.specs.Writing.{Stopped}
@@ -12,9 +13,10 @@ use Rattle.eve_tool.specs.Run.{Runs, IsRunOfText, StopsRun}
 use Rattle.eve_tool.specs.Calls.{Leaves}
 use Rattle.eve_tool_arguments.specs.Arguments.{Run}
 
-pub runs_of : (limit : ℕ) (mixer : Mixer) (bytes : List ℕ) (p : Parts) → length bytes ≤ limit → limit ≤ 2 ^ 30
-    → IsRunOfText mixer bytes p → length_of (trace p) ≤ limit → Runs limit mixer bytes (spelling (trace p)) 0
-runs_of limit mixer bytes p short few run fits = record {
+pub runs_of : (limit : ℕ) (mixer : Mixer) (asked : Format) (bytes : List ℕ) (p : Parts) → length bytes ≤ limit
+    → limit ≤ 2 ^ 30 → IsRunOfText mixer asked bytes p → length_of (trace p) ≤ limit
+    → Runs limit mixer asked bytes (spelling (trace p)) 0
+runs_of limit mixer asked bytes p short few run fits = record {
   short = short;
   workload = run.workload;
   typed = run.typed;
@@ -26,52 +28,52 @@ runs_of limit mixer bytes p short few run fits = record {
 }
 
 pub failed_run : {O : Type 0} (written : O → Option (List ℕ)) (failures : O → ℕ) (limit : ℕ) (mixer : Mixer)
-    (bytes : List ℕ) (p : Parts) (old new : O) → length bytes ≤ limit → limit ≤ 2 ^ 30 → IsRunOfText mixer bytes p
-    → length_of (trace p) ≤ limit → Stopped written failures old new (spelling (trace p))
-    → Leaves limit written failures (Run mixer) (Some bytes) ⊥ old new fault.Write
-failed_run written failures limit mixer bytes p old new short few run fits stopped = (
+    (asked : Format) (bytes : List ℕ) (p : Parts) (old new : O) → length bytes ≤ limit → limit ≤ 2 ^ 30
+    → IsRunOfText mixer asked bytes p → length_of (trace p) ≤ limit → Stopped written failures old new (spelling (trace p))
+    → Leaves limit written failures (Run mixer asked) (Some bytes) ⊥ old new fault.Write
+failed_run written failures limit mixer asked bytes p old new short few run fits stopped = (
   stopped.counted,
   record {
     text = spelling (trace p);
     status = 0;
-    said = runs_of limit mixer bytes p short few run fits;
+    said = runs_of limit mixer asked bytes p short few run fits;
     written = stopped.front;
   },
 )
 
 -- nothing was sent, where the bytes were not run
 pub unrun_left : {O : Type 0} (written : O → Option (List ℕ)) (failures : O → ℕ) (limit : ℕ) (mixer : Mixer)
-    (bytes : List ℕ) (out : O) (why : ToolFault) → length bytes ≤ limit → StopsRun bytes why
-    → Leaves limit written failures (Run mixer) (Some bytes) ⊥ out out why
-unrun_left written failures limit mixer bytes out fault.Read short stopped = absurd stopped
-unrun_left written failures limit mixer bytes out (fault.Line number) short stopped = ((short, stopped), refl)
-unrun_left written failures limit mixer bytes out fault.TooLong short stopped = absurd stopped
-unrun_left written failures limit mixer bytes out fault.Broken short stopped = ((short, stopped), refl)
-unrun_left written failures limit mixer bytes out fault.Write short stopped = absurd stopped
-unrun_left written failures limit mixer bytes out fault.Random short stopped = ((short, stopped), refl)
-unrun_left written failures limit mixer bytes out fault.Memory short stopped = inl refl
+    (asked : Format) (bytes : List ℕ) (out : O) (why : ToolFault) → length bytes ≤ limit → StopsRun asked bytes why
+    → Leaves limit written failures (Run mixer asked) (Some bytes) ⊥ out out why
+unrun_left written failures limit mixer asked bytes out fault.Read short stopped = absurd stopped
+unrun_left written failures limit mixer asked bytes out (fault.Line number) short stopped = ((short, stopped), refl)
+unrun_left written failures limit mixer asked bytes out fault.TooLong short stopped = (inr (inr stopped), refl)
+unrun_left written failures limit mixer asked bytes out fault.Broken short stopped = ((short, stopped), refl)
+unrun_left written failures limit mixer asked bytes out fault.Write short stopped = absurd stopped
+unrun_left written failures limit mixer asked bytes out fault.Random short stopped = ((short, stopped), refl)
+unrun_left written failures limit mixer asked bytes out fault.Memory short stopped = inl refl
 
 -- what was left where the trace of a run is too long, or out failed
 pub unsent_left : {O : Type 0} (written : O → Option (List ℕ)) (failures : O → ℕ) (limit : ℕ) (mixer : Mixer)
-    (bytes : List ℕ) (p : Parts) (old new : O) (why : ToolFault) → length bytes ≤ limit → limit ≤ 2 ^ 30
-    → IsRunOfText mixer bytes p
+    (asked : Format) (bytes : List ℕ) (p : Parts) (old new : O) (why : ToolFault) → length bytes ≤ limit
+    → limit ≤ 2 ^ 30 → IsRunOfText mixer asked bytes p
     → (why ≡ fault.TooLong → (limit < length_of (trace p)) × (new ≡ old))
     → (why ≡ fault.Write → (length_of (trace p) ≤ limit) × Stopped written failures old new (spelling (trace p)))
     → (why ≡ fault.TooLong) ⊎ (why ≡ fault.Write)
-    → Leaves limit written failures (Run mixer) (Some bytes) ⊥ old new why
-unsent_left written failures limit mixer bytes p old new why short few run long stopped (inl is) =
+    → Leaves limit written failures (Run mixer asked) (Some bytes) ⊥ old new why
+unsent_left written failures limit mixer asked bytes p old new why short few run long stopped (inl is) =
     let told = long is in
     rw is (
-      inr (record {
+      inr (inl (record {
         workload = run.workload;
         typed = run.typed;
         trace = trace p;
         limits = run.run.spelled.limits;
         run = run.run.run;
         long = told.0;
-      }),
+      })),
       told.1,
     )
-unsent_left written failures limit mixer bytes p old new why short few run long stopped (inr is) =
+unsent_left written failures limit mixer asked bytes p old new why short few run long stopped (inr is) =
     let told = stopped is in
-    rw is (failed_run written failures limit mixer bytes p old new short few run told.0 told.1)
+    rw is (failed_run written failures limit mixer asked bytes p old new short few run told.0 told.1)

@@ -12,6 +12,8 @@ use Rattle.eve_workload.specs.Steps.{IsBadLine}
 use Rattle.eve_tool.specs.Calls.{WasRead, Leaves}
 use Rattle.eve_tool.specs.Run.{IsRunnable, IsTooLong, Runs}
 use Rattle.eve_tool_arguments.specs.Arguments.{Run}
+use Rattle.eve_tool_arguments.specs.Formats.{version_of}
+use Rattle.eve_tool_arguments.specs.declared.format.Format.{Format}
 use Rattle.eve_tool.specs.Writes.{WritesFront}
 
 -- the bytes that were read are all that was left, where that is known
@@ -53,19 +55,19 @@ too_long limit (Some k) read e long = omega (arith, length-take (limit + 1) k, a
 
 -- what a run left of the bytes that were read, which are all
 pub left_of_all : {O : Type 0} (limit : ℕ) (written : O → Option (List ℕ)) (failures : O → ℕ) (mixer : Mixer)
-    (known : Option (List ℕ)) (failed : Type 0) (bytes : List ℕ) (old new : O) (why : ToolFault) → IsAll known bytes
-    → Leaves limit written failures (Run mixer) (Some bytes) ⊥ old new why
-    → Leaves limit written failures (Run mixer) known failed old new why
-left_of_all limit written failures mixer known failed bytes old new fault.Read all left = absurd left.0
-left_of_all limit written failures mixer known failed bytes old new (fault.Line number) all left =
-    (of_all all (λ b. (length b ≤ limit) × IsBadLine 1 b number) left.0, left.1)
-left_of_all limit written failures mixer known failed bytes old new fault.TooLong all left =
-    (of_all all (IsTooLong limit mixer) left.0, left.1)
-left_of_all limit written failures mixer known failed bytes old new fault.Broken all left =
-    (of_all all (λ b. (length b ≤ limit) × IsRunnable b) left.0, left.1)
-left_of_all limit written failures mixer known failed bytes old new fault.Random all left =
-    (of_all all (λ b. (length b ≤ limit) × IsRunnable b) left.0, left.1)
-left_of_all limit written failures mixer known failed bytes old new fault.Memory all (inl same) = inl same
-left_of_all limit written failures mixer known failed bytes old new fault.Memory all (inr front) = absurd front.0
-left_of_all limit written failures mixer known failed bytes old new fault.Write all left =
-    (left.0, of_all all (λ b. WritesFront (Runs limit mixer) b (written old) (written new)) left.1)
+    (asked : Format) (known : Option (List ℕ)) (failed : Type 0) (bytes : List ℕ) (old new : O) (why : ToolFault) → IsAll known bytes
+    → Leaves limit written failures (Run mixer asked) (Some bytes) ⊥ old new why
+    → Leaves limit written failures (Run mixer asked) known failed old new why
+left_of_all limit written failures mixer asked known failed bytes old new fault.Read all left = absurd left.0
+left_of_all limit written failures mixer asked known failed bytes old new (fault.Line number) all left =
+    (of_all all (λ b. (length b ≤ limit) × IsBadLine (version_of asked) b number) left.0, left.1)
+left_of_all limit written failures mixer asked known failed bytes old new fault.TooLong all left =
+    (of_all all (IsTooLong limit mixer asked) left.0, left.1)
+left_of_all limit written failures mixer asked known failed bytes old new fault.Broken all left =
+    (of_all all (λ b. (length b ≤ limit) × IsRunnable asked b) left.0, left.1)
+left_of_all limit written failures mixer asked known failed bytes old new fault.Random all left =
+    (of_all all (λ b. (length b ≤ limit) × IsRunnable asked b) left.0, left.1)
+left_of_all limit written failures mixer asked known failed bytes old new fault.Memory all (inl same) = inl same
+left_of_all limit written failures mixer asked known failed bytes old new fault.Memory all (inr front) = absurd front.0
+left_of_all limit written failures mixer asked known failed bytes old new fault.Write all left =
+    (left.0, of_all all (λ b. WritesFront (Runs limit mixer asked) b (written old) (written new)) left.1)

@@ -9,11 +9,13 @@ use Rattle.eve_write.specs.Writing.{Wrote, Stopped}
 use Rattle.eve_tool.specs.declared.fault.ToolFault.{ToolFault}
 use Rattle.eve_tool.specs.declared.fault.ToolFault.TheVariants as fault
 use Rattle.eve_tool.specs.Audit.{Audits}
+use Rattle.eve_tool.specs.Explain.{Explains}
 use Rattle.eve_tool.specs.Fault.{error_line, status_of}
 use Rattle.eve_tool.specs.Run.{Runs, IsTooLong, IsRunnable}
 use Rattle.eve_tool.specs.Show.{Shows}
 use Rattle.eve_tool.specs.Long.{ShowsLong, StopsUpTo}
-use Rattle.eve_tool_arguments.specs.Arguments.{Subcommand, Audit, Run, Show, ShowLong, call_of}
+use Rattle.eve_tool_arguments.specs.Formats.{version_of}
+use Rattle.eve_tool_arguments.specs.Arguments.{Subcommand, Audit, Explain, Run, Show, ShowLong, call_of}
 use Rattle.eve_tool.specs.Writes.{WritesFrontOf}
 
 -- the arguments are this call
@@ -23,29 +25,32 @@ Calls call arguments = call_of arguments ≡ Some call
 -- The text is what the call says of the bytes, and the number is the exit status. A run has at most `limit` bytes.
 abbrev pub CallSays : ℕ → Subcommand → List ℕ → List ℕ → ℕ → Type 0
 CallSays limit Audit = Audits
-CallSays limit (Run mixer) = Runs limit mixer
+CallSays limit Explain = Explains
+CallSays limit (Run mixer asked) = Runs limit mixer asked
 CallSays limit Show = Shows
 CallSays limit ShowLong = ShowsLong
 
 -- the number is that of a bad line of the bytes, which `run` alone reads by lines, and only where they are not too long
 abbrev pub HasBadLine : ℕ → Subcommand → Option (List ℕ) → ℕ → Type 0
-HasBadLine limit (Run mixer) known number = IfSome known (λ bytes. (length bytes ≤ limit) × IsBadLine 1 bytes number)
+HasBadLine limit (Run mixer asked) known number =
+    IfSome known (λ bytes. (length bytes ≤ limit) × IsBadLine (version_of asked) bytes number)
 HasBadLine limit _ known number = ⊥
 
--- the bytes are too long for `run`, or the trace of them is
+-- the bytes are too long for `run`, or the trace of them is, or the states that are taken over may be
 abbrev pub IsTooLongFor : ℕ → Subcommand → Option (List ℕ) → Type 0
-IsTooLongFor limit (Run mixer) known = IfSome known (IsTooLong limit mixer)
+IsTooLongFor limit (Run mixer asked) known = IfSome known (IsTooLong limit mixer asked)
 IsTooLongFor limit _ known = ⊥
 
 -- the call runs the bytes, which are not too long
 abbrev pub CallRuns : ℕ → Subcommand → Option (List ℕ) → Type 0
-CallRuns limit (Run mixer) known = IfSome known (λ bytes. (length bytes ≤ limit) × IsRunnable bytes)
+CallRuns limit (Run mixer asked) known = IfSome known (λ bytes. (length bytes ≤ limit) × IsRunnable asked bytes)
 CallRuns limit _ known = ⊥
 
 -- the call asks for random words, once the bytes are read
 abbrev pub AsksForRandom : ℕ → Subcommand → Option (List ℕ) → Type 0
 AsksForRandom limit Audit known = ⊤
-AsksForRandom limit (Run mixer) known = CallRuns limit (Run mixer) known
+AsksForRandom limit Explain known = ⊤
+AsksForRandom limit (Run mixer asked) known = CallRuns limit (Run mixer asked) known
 AsksForRandom limit Show known = ⊥
 AsksForRandom limit ShowLong known = ⊥
 

@@ -33,6 +33,7 @@ fault_of_workload workload.Memory = fault.Memory
 abbrev pub fault_of_run : RunFault → ToolFault
 fault_of_run run.Memory = fault.Memory
 fault_of_run run.Broken = fault.Broken
+fault_of_run run.TooLong = fault.TooLong
 
 -- what is said of a fault on the error stream, with the line feed
 abbrev pub error_line : ToolFault → List ℕ

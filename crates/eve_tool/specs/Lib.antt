@@ -5,5 +5,6 @@ pub mod Sending
 pub mod Show
 pub mod Long
 pub mod Audit
+pub mod Explain
 pub mod Run
 pub mod Calls

@@ -10,31 +10,34 @@ use Rattle.eve_workload.specs.Lines.{workload_text}
 use Rattle.eve_workload.specs.Steps.{IsBadLine}
 use Rattle.eve_write.specs.declared.parts.Parts.{Parts}
 use Rattle.eve_replica.specs.Run.{IsRunOf, IsTraceOf}
+use Rattle.eve_tool_arguments.specs.Formats.{version_of}
+use Rattle.eve_tool_arguments.specs.declared.format.Format.{Format}
+use Rattle.eve_tool_arguments.specs.declared.format.Format.TheVariants as format
 use Rattle.eve_tool.specs.declared.fault.ToolFault.{ToolFault}
 use Rattle.eve_tool.specs.declared.fault.ToolFault.TheVariants as fault
 
--- the bytes are the text of this workload, which is of format 1
-pub record IsText (bytes : List ℕ) (workload : Workload) : Type 0 where
+-- the bytes are the text of this workload, which is of the format that is asked for
+pub record IsText (asked : Format) (bytes : List ℕ) (workload : Workload) : Type 0 where
   pub text : bytes ≡ workload_text workload
   pub right : IsWorkload workload
-  pub format : workload.format ≡ 1
+  pub format : workload.format ≡ version_of asked
 
--- the bytes are the text of a workload
-abbrev pub IsRunnable : List ℕ → Type 0
-IsRunnable bytes = (workload : Workload) × IsText bytes workload
+-- the bytes are the text of a workload of the format
+abbrev pub IsRunnable : Format → List ℕ → Type 0
+IsRunnable asked bytes = (workload : Workload) × IsText asked bytes workload
 
 -- the parts are those of a run of the workload of which the bytes are the text
-pub record IsRunOfText (mixer : Mixer) (bytes : List ℕ) (parts : Parts) : Type 0 where
+pub record IsRunOfText (mixer : Mixer) (asked : Format) (bytes : List ℕ) (parts : Parts) : Type 0 where
   pub workload : Workload
-  pub typed : IsText bytes workload
+  pub typed : IsText asked bytes workload
   pub run : IsRunOf workload mixer parts
 
 -- the bytes are a workload, and the text spells a trace of a run of it, both of `limit` bytes at most; the exit status
 -- is 0
-pub record Runs (limit : ℕ) (mixer : Mixer) (bytes text : List ℕ) (status : ℕ) : Type 0 where
+pub record Runs (limit : ℕ) (mixer : Mixer) (asked : Format) (bytes text : List ℕ) (status : ℕ) : Type 0 where
   pub short : length bytes ≤ limit
   pub workload : Workload
-  pub typed : IsText bytes workload
+  pub typed : IsText asked bytes workload
   pub trace : Trace
   pub spelled : Spells text trace
   pub run : IsTraceOf workload mixer trace
@@ -42,22 +45,29 @@ pub record Runs (limit : ℕ) (mixer : Mixer) (bytes text : List ℕ) (status : 
   pub ends : status ≡ 0
 
 -- the bytes are a workload, and a trace of a run of it has more than `limit` bytes
-pub record RunsTooLong (limit : ℕ) (mixer : Mixer) (bytes : List ℕ) : Type 0 where
+pub record RunsTooLong (limit : ℕ) (mixer : Mixer) (asked : Format) (bytes : List ℕ) : Type 0 where
   pub workload : Workload
-  pub typed : IsText bytes workload
+  pub typed : IsText asked bytes workload
   pub trace : Trace
   pub limits : HasLimits trace
   pub run : IsTraceOf workload mixer trace
   pub long : limit < length_of trace
 
--- the bytes, or a trace of a run of them, are more than `limit`
-abbrev pub IsTooLong : ℕ → Mixer → List ℕ → Type 0
-IsTooLong limit mixer bytes = (limit < length bytes) ⊎ RunsTooLong limit mixer bytes
+-- the bytes are a workload of a format in which states are taken over, which alone may fill a trace
+abbrev pub MayTakeTooMuch : Format → List ℕ → Type 0
+MayTakeTooMuch format.One bytes = ⊥
+MayTakeTooMuch format.Two bytes = IsRunnable format.Two bytes
+
+-- the bytes, or a trace of a run of them, are more than `limit`, or the states that are taken over in one may be
+abbrev pub IsTooLong : ℕ → Mixer → Format → List ℕ → Type 0
+IsTooLong limit mixer asked bytes =
+    (limit < length bytes) ⊎ (RunsTooLong limit mixer asked bytes ⊎ MayTakeTooMuch asked bytes)
 
 -- why the bytes are not run, before anything is sent
-abbrev pub StopsRun : List ℕ → ToolFault → Type 0
-StopsRun bytes (fault.Line number) = IsBadLine 1 bytes number
-StopsRun bytes fault.Random = IsRunnable bytes
-StopsRun bytes fault.Broken = IsRunnable bytes
-StopsRun bytes fault.Memory = ⊤
-StopsRun bytes _ = ⊥
+abbrev pub StopsRun : Format → List ℕ → ToolFault → Type 0
+StopsRun asked bytes (fault.Line number) = IsBadLine (version_of asked) bytes number
+StopsRun asked bytes fault.TooLong = MayTakeTooMuch asked bytes
+StopsRun asked bytes fault.Random = IsRunnable asked bytes
+StopsRun asked bytes fault.Broken = IsRunnable asked bytes
+StopsRun asked bytes fault.Memory = ⊤
+StopsRun asked bytes _ = ⊥

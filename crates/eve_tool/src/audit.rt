@@ -38,7 +38,11 @@ fn send_yes<O: Sink>(alloc: Global, summary: &Summary, out: &mut O) -> Result<()
 }
 
 /// Sends the line of a verdict, and returns the exit status.
-fn send_verdict<O: Sink>(alloc: Global, verdict: &Verdict, out: &mut O) -> Result<u8, ToolFault>
+pub(crate) fn send_verdict<O: Sink>(
+    alloc: Global,
+    verdict: &Verdict,
+    out: &mut O,
+) -> Result<u8, ToolFault>
     ensures sent { OnOk result (Appends (O.written out.old) (O.written out.new)
         (verdict_line verdict.now)) }
     ensures status { IfOk result (λ status. status ≡ status_of_verdict verdict.now) }

@@ -121,6 +121,7 @@ impl From<RunFault> for ToolFault {
         match why {
             RunFault::Memory => ToolFault::Memory,
             RunFault::Broken => ToolFault::Broken,
+            RunFault::TooLong => ToolFault::TooLong,
         }
     }
 }

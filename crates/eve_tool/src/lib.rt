@@ -2,6 +2,7 @@
 #![tactic(auto)]
 
 mod audit;
+mod explain;
 mod fault;
 mod lines;
 mod long;

@@ -1,6 +1,6 @@
 //! The call `run`: a deployment serves a workload, and the trace of the run is written.
 
-ghost use Rattle.std.specs.Prelude.{◌≡◌, ◌≢◌, ◌≤◌, ◌<◌, ◌⊎◌, Some, Err, length};
+ghost use Rattle.std.specs.Prelude.{◌≡◌, ◌≢◌, ◌≤◌, ◌<◌, ◌⊎◌, ℕ, List, Some, Err, length};
 ghost use Rattle.std.specs.Prelude.{IfOk, IfErr, OnOk};
 ghost use Rattle.eve_grammar.specs.Spelling.{length_of, spelling};
 ghost use Rattle.eve_streams.specs.Failures.{after_failure};
@@ -8,7 +8,7 @@ ghost use Rattle.eve_write.specs.Data.{trace};
 ghost use Rattle.eve_write.specs.Writable.{HasSpelling};
 ghost use Rattle.eve_write.specs.Writing.{Wrote, Stopped};
 ghost use Rattle.eve_tool.specs.Calls.{WasRead, Leaves};
-ghost use Rattle.eve_tool.specs.Run.{Runs, IsRunOfText, StopsRun};
+ghost use Rattle.eve_tool.specs.Run.{IsRunnable, Runs, IsRunOfText, StopsRun};
 ghost use Rattle.eve_tool_arguments.specs.Arguments.{Run};
 ghost use Rattle.eve_tool.specs.Writes.{WritesAll, WritesAllOf};
 
@@ -17,8 +17,9 @@ use crate::random::random_words;
 use eve_grammar::MOST_BYTES;
 use eve_recorder::OpenGate;
 use eve_replica::eve_workload::{Mixer, Workload};
-use eve_replica::run_consuming;
+use eve_replica::{RunFault, run_consuming};
 use eve_streams::{Sink, Source, read_all};
+use eve_tool_arguments::Format;
 use eve_write::{GatherFault, Parts, gather_spelled};
 use std::alloc::Global;
 use std::random::RandomSource;
@@ -45,46 +46,62 @@ fn send_trace<O: Sink>(parts: &Parts, limit: u32, out: &mut O) -> Result<(), Too
     }
 }
 
-/// Runs the workload of these bytes, which go once it is read, and returns the parts of its trace.
+/// Runs the workload that these bytes are in this format, and returns the parts of its trace. The bytes go once it is
+/// read.
 fn parts_of<R: RandomSource + Threads + Wait + Sync>(
     rt: &R,
     alloc: Global,
     bytes: Vec<u8>,
     mixer: Mixer,
+    format: Format,
 ) -> Result<Parts, ToolFault>
-    ensures run { IfOk result (IsRunOfText mixer bytes.items) }
-    ensures stopped { IfErr result (StopsRun bytes.items) }
+    ensures run { IfOk result (IsRunOfText mixer format bytes.items) }
+    ensures stopped { IfErr result (StopsRun format bytes.items) }
 {
-    let workload = Workload::read(alloc, bytes.as_slice(), 1)?;
+    let workload = Workload::read(alloc, bytes.as_slice(), format.version())?;
     drop(bytes);
     let random = random_words(rt)?;
-    Ok(run_consuming(rt, alloc, workload, mixer, random, &OpenGate)?)
+    match run_consuming(rt, alloc, workload, mixer, random, &OpenGate) {
+        Ok(parts) => Ok(parts),
+        Err(why) => Err(stop_of(format, why)),
+    }
 }
 
-/// Runs the workload of these bytes, sends the trace, of at most `limit` bytes, and returns the exit status.
+/// Why a run of this format stops. In format 1 no state is taken over, so that none are too long.
+fn stop_of(format: Format, why: RunFault) -> ToolFault
+    ensures { (bytes : List ℕ) → IsRunnable format bytes → StopsRun format bytes result }
+{
+    match (format, why) {
+        (Format::One, RunFault::TooLong) => ToolFault::Broken,
+        _ => ToolFault::from(why),
+    }
+}
+
+/// Runs the workload that these bytes are in this format, sends the trace, of at most `limit` bytes, and returns the exit status.
 fn run_bytes<R: RandomSource + Threads + Wait + Sync, O: Sink>(
     rt: &R,
     alloc: Global,
     bytes: Vec<u8>,
     mixer: Mixer,
+    format: Format,
     limit: u32,
     out: &mut O,
 ) -> Result<u8, ToolFault>
     requires short { length bytes.items ≤ limit }
     requires limit { limit ≤ MOST_BYTES }
-    ensures all { IfOk result (WritesAll (Runs limit mixer) bytes.items (O.written out.old)
+    ensures all { IfOk result (WritesAll (Runs limit mixer format) bytes.items (O.written out.old)
         (O.written out.new)) }
     ensures status { IfOk result (λ status. status ≡ 0) }
     ensures fine { OnOk result (O.failures out.new ≡ O.failures out.old) }
-    ensures left { IfErr result (Leaves limit O.written O.failures (Run mixer) (Some bytes.items) ⊥ out.old out.new) }
+    ensures left { IfErr result (Leaves limit O.written O.failures (Run mixer format) (Some bytes.items) ⊥ out.old out.new) }
     ensures wrote { IfErr result (λ why. why ≢ ToolFault.Write → O.failures out.new ≡ O.failures out.old) }
 {
-    let parts = parts_of(rt, alloc, bytes, mixer)?;
+    let parts = parts_of(rt, alloc, bytes, mixer, format)?;
     send_trace(&parts, limit, out)?;
     Ok(0)
 }
 
-/// Reads a workload, asks for random words once it is accepted, runs it, and sends the trace, with the
+/// Reads a workload in this format, asks for random words once it is accepted, runs it, and sends the trace, with the
 /// answer 0: as `eve run` does, but of a workload and a trace of at most `limit` bytes.
 ///
 /// docs/TRACE.md, "Workload" and "The deployment's procedure". A workload of more bytes is too long, and so is
@@ -93,17 +110,18 @@ fn run_bytes<R: RandomSource + Threads + Wait + Sync, O: Sink>(
 pub fn run_within<R: AllocGlobal + RandomSource + Threads + Wait + Sync, I: Source, O: Sink>(
     rt: &R,
     mixer: Mixer,
+    format: Format,
     limit: u32,
     input: &mut I,
     out: &mut O,
 ) -> Result<u8, ToolFault>
     requires { limit ≤ MOST_BYTES }
-    ensures all { IfOk result (WritesAllOf (Runs limit mixer) (I.remaining input.old) (O.written out.old)
+    ensures all { IfOk result (WritesAllOf (Runs limit mixer format) (I.remaining input.old) (O.written out.old)
         (O.written out.new)) }
     ensures status { IfOk result (λ status. status ≡ 0) }
     ensures fine { OnOk result ((I.failures input.new ≡ I.failures input.old)
         × (O.failures out.new ≡ O.failures out.old)) }
-    ensures left { IfErr result (Leaves limit O.written O.failures (Run mixer) (I.remaining input.old)
+    ensures left { IfErr result (Leaves limit O.written O.failures (Run mixer format) (I.remaining input.old)
         (I.failures input.new ≡ after_failure (I.failures input.old)) out.old out.new) }
     ensures read { IfErr result (λ why. why ≢ ToolFault.Read → I.failures input.new ≡ I.failures input.old) }
     ensures ended { IfErr result (λ why. why ≢ ToolFault.Read → why ≢ ToolFault.Memory
@@ -117,5 +135,5 @@ pub fn run_within<R: AllocGlobal + RandomSource + Threads + Wait + Sync, I: Sour
     if is_long {
         return Err(ToolFault::TooLong);
     }
-    run_bytes(rt, alloc, bytes, mixer, limit, out)
+    run_bytes(rt, alloc, bytes, mixer, format, limit, out)
 }

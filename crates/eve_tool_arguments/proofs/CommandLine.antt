@@ -5,19 +5,19 @@ use Rattle.std.proofs.Common.{option_and_then}
 use Rattle.clap.specs.Words.{IsAmong, Kinds, Row, Shape, Text, built, fault_of, is_simple, is_simple_and_free}
 use Rattle.clap.specs.Words.{subcommand_of}
 use Rattle.clap.specs.Kinds.{check_kinds, or_else}
-use Rattle.clap.specs.Simple.{argument_words, built_leaf, entered, inherited, label_of, names_of, rows_at}
+use Rattle.clap.specs.Simple.{argument_words, built_leaf, entered, help_shape, inherited, label_of, names_of, rows_at}
 use Rattle.clap.specs.Walk.{Held, Names, answers_to, finished, nothing_held, settled, stop_after, walk, walk_from}
 use Rattle.clap.specs.Facts.{explicit_source}
 use Rattle.clap.specs.Faults.{check_fault, defaults_fault, entered_fault, level_fault, settle_fault, walk_fault}
 use Rattle.clap.specs.Takes.{is_given}
 use Rattle.std.specs.List.{list_any}
 use Rattle.clap.proofs.OnLiterals.{clap_on_literals}
-use Rattle.eve_tool_arguments.specs.Arguments.{Answers, SaysOf, Subcommand, Run, NamesNoMixer, mixer_in, audit}
-use Rattle.eve_tool_arguments.specs.Arguments.{run_shape, show}
+use Rattle.eve_tool_arguments.proofs.HelpWord.{first_empty, off_help, stands_off, walk_off}
+use Rattle.eve_tool_arguments.specs.Arguments.{Answers, SaysOf, Subcommand, NamesNoRun, run_in, audit}
+use Rattle.eve_tool_arguments.specs.Arguments.{explain, run_shape, show}
 use Rattle.eve_tool_arguments.specs.Arguments.{call_of, call_unless, eve, faults_of, file_behind, file_of, file_unless}
 use Rattle.eve_tool_arguments.specs.Arguments.{program, subcommand_named}
 use Rattle.clap.specs.declared.error.kind.ErrorKind.{ErrorKind}
-use Rattle.eve_workload.specs.declared.mixer.Mixer.{Mixer}
 use Rattle.clap.specs.declared.error.kind.ErrorKind.TheVariants as kind
 use Rattle.eve_tool_arguments.specs.declared.arguments.Asked.{Asked}
 use Rattle.eve_tool_arguments.specs.declared.arguments.Asked.TheVariants as asked
@@ -76,49 +76,56 @@ subcommand_wanted s names h words has below wants right =
 abbrev built_audit : Shape
 built_audit = built_leaf (inherited program.top audit)
 
+abbrev built_explain : Shape
+built_explain = built_leaf (inherited program.top explain)
+
 abbrev built_show : Shape
 built_show = built_leaf (inherited program.top show)
 
 abbrev built_run : Shape
 built_run = built_leaf (inherited program.top run_shape)
 
-abbrev entered_if : Bool → Bool → Bool → List Text → Option (Text × List Row)
-entered_if is_audit is_run is_show rest =
+-- and the one that answers with help
+abbrev built_help : Shape
+built_help = built_leaf help_shape
+
+abbrev entered_if : Bool → Bool → Bool → Bool → Bool → List Text → Option (Text × List Row)
+entered_if is_audit is_explain is_run is_show is_help rest =
     option_map (λ s. rows_at s rest)
     (if is_audit then Some built_audit else
-    (if is_run then Some built_run else (if is_show then Some built_show else None)))
+    (if is_explain then Some built_explain else
+    (if is_run then Some built_run else
+    (if is_show then Some built_show else (if is_help then Some built_help else None)))))
 
--- what was entered is no call: it is `run`, with a mixer that isn't there
-pub record EntersNoMixer (found : Option (Text × List Row)) : Type 0 where
+-- what was entered is no call: it is `run`, with a mixer or a format that isn't there
+pub record EntersNoRun (found : Option (Text × List Row)) : Type 0 where
   pub rows : List Row
   pub met : found ≡ Some (codes "run", rows)
-  pub unknown : mixer_in rows ≡ None
+  pub unknown : run_in rows ≡ None
 
-no_mixer : (rows : List Row) → option_map Run (mixer_in rows) ≡ None → mixer_in rows ≡ None
-no_mixer rows h = by (mixer_in rows) h
-  where
-    by : (m : Option Mixer) → option_map Run m ≡ None → m ≡ None
-    by None h = refl
-    by (Some m) h = absurd (cc)
-
-call_if : (is_audit is_run is_show : Bool) (rest : List Text) → is_some (entered_if is_audit is_run is_show rest) ≡ true
-    → option_and_then subcommand_named (entered_if is_audit is_run is_show rest) ≡ None
-    → EntersNoMixer (entered_if is_audit is_run is_show rest)
+call_if : (is_audit is_explain is_run is_show is_help : Bool) (rest : List Text) → (is_help ≡ true → false ≡ true)
+    → is_some (entered_if is_audit is_explain is_run is_show is_help rest) ≡ true
+    → option_and_then subcommand_named (entered_if is_audit is_explain is_run is_show is_help rest) ≡ None
+    → EntersNoRun (entered_if is_audit is_explain is_run is_show is_help rest)
 unfolding clap_on_literals
-call_if true is_run is_show rest h none = cc
-call_if false true is_show rest h none =
-    record { rows = (rows_at built_run rest).1; met = refl; unknown = no_mixer (rows_at built_run rest).1 none }
-call_if false false true rest h none = cc
-call_if false false false rest h none = cc
+call_if true is_explain is_run is_show is_help rest off h none = cc
+call_if false true is_run is_show is_help rest off h none = cc
+call_if false false true is_show is_help rest off h none =
+    record { rows = (rows_at built_run rest).1; met = refl; unknown = none }
+call_if false false false true is_help rest off h none = cc
+call_if false false false false true rest off h none = let never = off refl in absurd (cc)
+call_if false false false false false rest off h none = cc
 
--- where the subcommand that was entered is no call, it is `run`, with a mixer that isn't there
-entered_call : (stop : Option (Text × List Text)) → is_some (entered (built eve) stop) ≡ true
-    → option_and_then subcommand_named (entered (built eve) stop) ≡ None → EntersNoMixer (entered (built eve) stop)
+-- where the subcommand that was entered is no call, it is `run`, with a mixer or a format that isn't there
+entered_call : (stop : Option (Text × List Text)) → stands_off stop ≡ true
+    → is_some (entered (built eve) stop) ≡ true
+    → option_and_then subcommand_named (entered (built eve) stop) ≡ None → EntersNoRun (entered (built eve) stop)
 unfolding clap_on_literals
-entered_call None h none = cc
-entered_call (Some p) h none =
-    call_if (answers_to p.0 (label_of built_audit)) (answers_to p.0 (label_of built_run))
-    (answers_to p.0 (label_of built_show)) p.1 h none
+entered_call None off h none = cc
+entered_call (Some p) off h none =
+    call_if (answers_to p.0 (label_of built_audit)) (answers_to p.0 (label_of built_explain))
+    (answers_to p.0 (label_of built_run)) (answers_to p.0 (label_of built_show)) (answers_to p.0 (label_of built_help))
+    p.1 (off_help p off) h none
 
 -- words without a fault name a subcommand
 entered_without_faults : (words : List Text) → fault_of eve words ≡ [] → is_some (subcommand_of eve words) ≡ true
@@ -129,20 +136,35 @@ entered_without_faults words h =
     subcommand_wanted above.top (names_of above) nothing_held rest (is_some (entered above stop))
     (entered_fault above stop) refl h
 
+-- where nothing is wrong with a level, nothing is wrong with its words
+words_right : (s : Shape) (names : Names) (h : Held) (words : List Text) (has : Bool) (below : Kinds)
+    → level_fault s names h words has below ≡ [] → walk_fault s names (walk_from h) words ≡ []
+words_right s names h words has below right = first_empty (walk_fault s names (walk_from h) words) _ right
+
+-- words without a fault don't name the subcommand `help`
+stop_off : (words : List Text) → fault_of eve words ≡ []
+    → stands_off (stop_after (built eve).top.rules (names_of (built eve)) (argument_words eve words)) ≡ true
+stop_off words h =
+    let above = built eve in
+    let rest = argument_words eve words in
+    let stop = (walk above.top.rules (names_of above) nothing_held rest).stopped in
+    walk_off above.top (names_of above) refl (walk_from nothing_held) rest refl
+    (words_right above.top (names_of above) nothing_held rest (is_some (entered above stop)) (entered_fault above stop) h)
+
 -- words without a fault are a call
 pub call_without_faults : (words : List Text) → fault_of eve words ≡ [] → call_of words
     ≡ option_and_then subcommand_named (subcommand_of eve words)
 unfolding call_of faults_of
 call_without_faults words h = rw h refl
 
--- or they name a mixer that isn't there
-pub mixer_without_faults : (words : List Text) → fault_of eve words ≡ []
+-- or they name a mixer or a format that isn't there
+pub run_without_faults : (words : List Text) → fault_of eve words ≡ []
     → option_and_then subcommand_named (subcommand_of eve words) ≡ None
-    → NamesNoMixer words
-mixer_without_faults words h none =
+    → NamesNoRun words
+run_without_faults words h none =
     let above = built eve in
     let found = entered_call (stop_after above.top.rules (names_of above) (argument_words eve words))
-    (entered_without_faults words h) none in
+    (stop_off words h) (entered_without_faults words h) none in
     record { rows = found.rows; met = found.met; unknown = found.unknown }
 
 -- words with a fault are no call

@@ -1,3 +1,4 @@
 mod CommandLine
 mod FoundValues
+mod HelpWord
 pub mod PlainArguments

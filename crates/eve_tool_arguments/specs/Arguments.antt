@@ -11,6 +11,8 @@ use Rattle.clap.specs.declared.error.kind.ErrorKind.TheVariants as kind
 use Rattle.clap.specs.declared.error.kind.ErrorKind.{ErrorKind}
 use Rattle.eve_workload.specs.declared.mixer.Mixer.{Mixer}
 use Rattle.eve_workload.specs.Mixing.{mixer_named}
+use Rattle.eve_tool_arguments.specs.Formats.{format_named}
+use Rattle.eve_tool_arguments.specs.declared.format.Format.{Format}
 use Rattle.eve_tool_arguments.specs.declared.arguments.Call.{Call}
 use Rattle.eve_tool_arguments.specs.declared.arguments.Call.TheVariants as call
 use Rattle.eve_tool_arguments.specs.declared.arguments.Asked.{Asked}
@@ -21,7 +23,7 @@ use Rattle.eve_grammar.specs.declared.limits.TheConstants.{MOST_AUDIT_WORKERS}
 abbrev pub program : App
 program = let new = new_app (codes "eve") in
     record new {
-      top = record new.top { disable_help_subcommand = true; subcommand_required = true; has_version = true };
+      top = record new.top { subcommand_required = true; has_version = true };
     }
 
 -- the argument that says how many workers audit
@@ -40,6 +42,9 @@ file = record (new_rule (codes "file")) { value_names = 1 }
 abbrev pub audit : Shape
 audit = (with_rule (with_rule (new_app (codes "audit")) workers) file).top
 
+abbrev pub explain : Shape
+explain = (with_rule (with_rule (new_app (codes "explain")) workers) file).top
+
 -- the argument that asks for the fields of each frame
 abbrev pub long : Rule
 long = record (new_rule (codes "long")) { long = Some (codes "long"); action = Some SetTrue }
@@ -55,16 +60,29 @@ mixer = record (new_rule (codes "mixer")) {
   defaults = codes "first" ∷ [];
 }
 
+-- the argument that names the format
+abbrev pub format : Rule
+format = record (new_rule (codes "format")) {
+  long = Some (codes "format");
+  value_names = 1;
+  defaults = codes "1" ∷ [];
+}
+
+-- the subcommand `run` but for its file
+abbrev pub run_options : App
+run_options = with_rule (with_rule (new_app (codes "run")) mixer) format
+
 abbrev pub run_shape : Shape
-run_shape = (with_rule (with_rule (new_app (codes "run")) mixer) file).top
+run_shape = (with_rule run_options file).top
 
 -- the program with its subcommands
 abbrev pub eve : App
-eve = with_subcommand (with_subcommand (with_subcommand program audit) run_shape) show
+eve = with_subcommand (with_subcommand (with_subcommand (with_subcommand program audit) explain) run_shape) show
 
 pub data Subcommand : Type 0 where
   Audit : Subcommand
-  Run : Mixer → Subcommand
+  Explain : Subcommand
+  Run : Mixer → Format → Subcommand
   Show : Subcommand
   ShowLong : Subcommand
 
@@ -75,6 +93,14 @@ value_given id rows = option_and_then (λ r. slice_get r.values 0) (find (λ r. 
 -- the mixer that is named among what was found
 abbrev pub mixer_in : List Row → Option Mixer
 mixer_in rows = option_and_then mixer_named (value_given (codes "mixer") rows)
+
+-- the format that is named among what was found
+abbrev pub format_in : List Row → Option Format
+format_in rows = option_and_then format_named (value_given (codes "format") rows)
+
+-- the subcommand `run`, with the mixer and the format that are named among what was found
+abbrev pub run_in : List Row → Option Subcommand
+run_in rows = option_and_then (λ m. option_map (Run m) (format_in rows)) (mixer_in rows)
 
 -- the number that is named by what is a value, 0 where there is none
 abbrev pub number_named : Option Text → ℕ
@@ -96,12 +122,14 @@ listing is_long = if is_long then ShowLong else Show
 abbrev pub subcommand_named : Text × List Row → Option Subcommand
 subcommand_named found =
     if bytes_eq found.0 (codes "audit") then Some Audit
-    else (if bytes_eq found.0 (codes "run") then option_map Run (mixer_in found.1) else
-    (if bytes_eq found.0 (codes "show") then Some (listing (is_long found.1)) else None))
+    else (if bytes_eq found.0 (codes "explain") then Some Explain else
+    (if bytes_eq found.0 (codes "run") then run_in found.1 else
+    (if bytes_eq found.0 (codes "show") then Some (listing (is_long found.1)) else None)))
 
 abbrev pub subcommand_of_call : Call → Subcommand
 subcommand_of_call (call.Audit _) = Audit
-subcommand_of_call (call.Run mixer) = Run mixer
+subcommand_of_call (call.Explain _) = Explain
+subcommand_of_call (call.Run mixer format) = Run mixer format
 subcommand_of_call call.Show = Show
 subcommand_of_call call.ShowLong = ShowLong
 
@@ -141,6 +169,7 @@ file_of arguments = file_unless (faults_of arguments) (file_behind (subcommand_o
 -- the call has this number of workers, if it is one that has any
 abbrev pub HasWorkers : Option ℕ → Call → Type 0
 HasWorkers asked_for (call.Audit found) = asked_for ≡ Some found
+HasWorkers asked_for (call.Explain found) = asked_for ≡ Some found
 HasWorkers _ _ = ⊤
 
 -- what is answered to arguments in which clap finds this wrong
@@ -152,6 +181,14 @@ SaysOf k (asked.Refused text) = (k ≢ kind.DisplayHelp) × (k ≢ kind.DisplayV
 -- the arguments are the call `audit`
 abbrev pub CallsAudit : List Text → Type 0
 CallsAudit arguments = call_of arguments ≡ Some Audit
+
+-- the arguments are the call `explain`
+abbrev pub CallsExplain : List Text → Type 0
+CallsExplain arguments = call_of arguments ≡ Some Explain
+
+-- the arguments ask for a verdict: they are the call `audit` or the call `explain`
+abbrev pub AsksForVerdict : List Text → Type 0
+AsksForVerdict arguments = CallsAudit arguments ⊎ CallsExplain arguments
 
 -- the arguments are a call
 abbrev pub CallsSome : List Text → Type 0
@@ -174,6 +211,10 @@ GetsHelp arguments = CallsNothing arguments × AsksForHelp arguments
 abbrev pub AuditsBy : ℕ → List Text → Type 0
 AuditsBy n arguments = CallsAudit arguments × (workers_of arguments ≡ Some n)
 
+-- the arguments are the call `explain`, by `n` workers
+abbrev pub ExplainsBy : ℕ → List Text → Type 0
+ExplainsBy n arguments = CallsExplain arguments × (workers_of arguments ≡ Some n)
+
 -- something else is wrong with the arguments
 pub record IsWrong (arguments : List Text) : Type 0 where
   pub what : ErrorKind
@@ -181,15 +222,15 @@ pub record IsWrong (arguments : List Text) : Type 0 where
   pub no_help : what ≢ kind.DisplayHelp
   pub no_version : what ≢ kind.DisplayVersion
 
--- the arguments are `run` with a mixer that isn't there
-pub record NamesNoMixer (arguments : List Text) : Type 0 where
+-- the arguments are `run` with a mixer or a format that isn't there
+pub record NamesNoRun (arguments : List Text) : Type 0 where
   pub rows : List Row
   pub met : subcommand_of eve arguments ≡ Some (codes "run", rows)
-  pub unknown : mixer_in rows ≡ None
+  pub unknown : run_in rows ≡ None
 
 -- the arguments are refused
 abbrev pub IsRefused : List Text → Type 0
-IsRefused arguments = IsWrong arguments ⊎ NamesNoMixer arguments
+IsRefused arguments = IsWrong arguments ⊎ NamesNoRun arguments
 
 -- the answer is the call that the arguments are, with the number of workers that they ask for, help where they ask for
 -- it, or a refusal where they are wrong

@@ -4,11 +4,13 @@ ghost use Rattle.std.specs.Prelude.{◌≡◌, ℕ, Option, false, IfOk, IfSome,
 ghost use Rattle.std.specs.String.{string_bytes};
 ghost use Rattle.clap.specs.Words.{app_of, found_of, kind_of, rule_of, shape_of, subcommand_rows_of};
 ghost use Rattle.clap.specs.Walk.{rows_of};
-ghost use Rattle.eve_tool_arguments.specs.Arguments.{Answers, HasWorkers, SaysOf, audit, eve, file, file_behind};
-ghost use Rattle.eve_tool_arguments.specs.Arguments.{file_of, is_long, listing, long, mixer, mixer_in};
-ghost use Rattle.eve_tool_arguments.specs.Arguments.{program, run_shape, show, subcommand_named};
+ghost use Rattle.eve_tool_arguments.specs.Arguments.{Answers, HasWorkers, SaysOf, audit, eve, explain, file, file_behind};
+ghost use Rattle.eve_tool_arguments.specs.Arguments.{file_of, format, format_in, is_long, listing, long, mixer, mixer_in};
+ghost use Rattle.eve_tool_arguments.specs.Arguments.{program, run_in, run_options, run_shape, show};
+ghost use Rattle.eve_tool_arguments.specs.Arguments.{subcommand_named};
 ghost use Rattle.eve_tool_arguments.specs.Arguments.{subcommand_of_call, workers, workers_behind, workers_in};
 
+use crate::format::Format;
 use clap::builder::ValueParser;
 use clap::error::ErrorKind;
 use clap::{Arg, ArgAction, ArgMatches, Command, Error, value_parser};
@@ -22,8 +24,10 @@ use std::convert::AsStr;
 pub enum Call {
     /// Prints the verdict on a trace, found by this many workers.
     Audit(WorkerCount),
-    /// Runs a workload, whose batches this mixer cuts, and prints the trace.
-    Run(Mixer),
+    /// Prints the verdict on a trace, found by this many workers, and why it is so.
+    Explain(WorkerCount),
+    /// Runs a workload of this format, whose batches this mixer cuts, and prints the trace.
+    Run(Mixer, Format),
     /// Prints the frames of a trace.
     Show,
     /// Prints the frames of a trace with their fields.
@@ -46,6 +50,10 @@ const NO_MIXER: &str =
     "error: invalid value for '--mixer <MIXER>': it has to be 'first' or 'whole'\n\n\
     For more information, try '--help'.\n";
 
+/// What is said where another format is named.
+const NO_FORMAT: &str = "error: invalid value for '--format <FORMAT>': it has to be '1' or '2'\n\n\
+    For more information, try '--help'.\n";
+
 /// What is said where no number of workers is named that may be.
 const NO_WORKERS: &str =
     "error: invalid value for '--workers <N>': it has to be a number from 1 to 16\n\n\
@@ -59,6 +67,7 @@ const EXAMPLES: &str = "Statuses:\n\
     Examples:\n\
     \x20 eve audit examples/deposit-committed.trace\n\
     \x20 eve run examples/two-deposits.workload | eve audit\n\
+    \x20 eve explain examples/two-deposits-in-frame-order.trace\n\
     \x20 eve show --long examples/rollback-and-serial-rerun.trace";
 
 const AUDIT_EXAMPLES: &str = "Statuses:\n\
@@ -70,13 +79,22 @@ const AUDIT_EXAMPLES: &str = "Statuses:\n\
     \x20 eve audit examples/deposit-committed.trace\n\
     \x20 eve audit --workers 2 < examples/two-orders-agree.trace";
 
+const EXPLAIN_EXAMPLES: &str = "Statuses:\n\
+    \x20 0  yes\n\
+    \x20 1  no\n\
+    \x20 2  wrong arguments, or the input can't be read\n\
+    \x20 3  no memory, no random words, or the output can't be written\n\n\
+    Examples:\n\
+    \x20 eve explain examples/two-deposits-in-frame-order.trace\n\
+    \x20 eve explain --workers 2 < examples/two-orders-agree.trace";
+
 const RUN_EXAMPLES: &str = "Statuses:\n\
     \x20 0  the trace is written\n\
     \x20 2  wrong arguments, a bad workload, or the input can't be read\n\
     \x20 3  no memory, no random words, a broken run, or the output can't be written\n\n\
     Examples:\n\
     \x20 eve run examples/two-deposits.workload > run.trace\n\
-    \x20 eve run --mixer whole < examples/two-deposits.workload > whole.trace";
+    \x20 eve run --format 2 --mixer whole < examples/two-deposits.workload > whole.trace";
 
 const SHOW_EXAMPLES: &str = "Statuses:\n\
     \x20 0  all frames are listed\n\
@@ -128,6 +146,18 @@ fn mixer_argument<'a>(alloc: Global) -> Arg<'a>
         .default_value("first")
 }
 
+/// Which format the trace has.
+fn format_argument<'a>(alloc: Global) -> Arg<'a>
+    ensures rule { rule_of result ≡ format }
+    ensures local { result.global ≡ false }
+{
+    Arg::new(alloc, "format")
+        .long("format")
+        .value_name("FORMAT")
+        .help("The format of the trace: '1', or '2', in which replicas take over states")
+        .default_value("1")
+}
+
 /// Whether the fields of each frame are listed.
 fn long_argument<'a>(alloc: Global) -> Arg<'a>
     ensures rule { rule_of result ≡ long }
@@ -163,15 +193,39 @@ fn audit_command<'a>(alloc: Global) -> Result<Command<'a>, AllocError>
     command.arg(file_argument(alloc))
 }
 
-/// The subcommand that runs a workload.
-fn run_command<'a>(alloc: Global) -> Result<Command<'a>, AllocError>
-    ensures { IfOk result (λ c. shape_of c ≡ run_shape) }
+/// The subcommand that audits, and says why.
+fn explain_command<'a>(alloc: Global) -> Result<Command<'a>, AllocError>
+    ensures { IfOk result (λ c. shape_of c ≡ explain) }
+{
+    let Ok(command) = Command::new(alloc, "explain")
+        .about("Prints the verdict on a trace, and why it is so")
+        .after_help(EXPLAIN_EXAMPLES)
+        .arg(workers_argument(alloc))
+    else {
+        return Err(AllocError);
+    };
+    command.arg(file_argument(alloc))
+}
+
+/// The subcommand that runs a workload, with no file yet.
+fn run_options<'a>(alloc: Global) -> Result<Command<'a>, AllocError>
+    ensures { IfOk result (λ c. app_of c ≡ run_options) }
 {
     let Ok(command) = Command::new(alloc, "run")
         .about("Runs a workload on replicas, and prints the trace of the run")
         .after_help(RUN_EXAMPLES)
         .arg(mixer_argument(alloc))
     else {
+        return Err(AllocError);
+    };
+    command.arg(format_argument(alloc))
+}
+
+/// The subcommand that runs a workload.
+fn run_command<'a>(alloc: Global) -> Result<Command<'a>, AllocError>
+    ensures { IfOk result (λ c. shape_of c ≡ run_shape) }
+{
+    let Ok(command) = run_options(alloc) else {
         return Err(AllocError);
     };
     command.arg(file_argument(alloc))
@@ -199,7 +253,6 @@ fn program<'a>(alloc: Global) -> Command<'a>
         .version(formats())
         .about("Records runs of replicated SmallBank servers, and audits their traces")
         .after_help(EXAMPLES)
-        .disable_help_subcommand(true)
         .subcommand_required(true)
 }
 
@@ -213,10 +266,16 @@ fn command<'a>(alloc: Global) -> Result<Command<'a>, AllocError>
     let Ok(audits) = program(alloc).subcommand(audit) else {
         return Err(AllocError);
     };
+    let Ok(explain) = explain_command(alloc) else {
+        return Err(AllocError);
+    };
+    let Ok(explains) = audits.subcommand(explain) else {
+        return Err(AllocError);
+    };
     let Ok(run) = run_command(alloc) else {
         return Err(AllocError);
     };
-    let Ok(runs) = audits.subcommand(run) else {
+    let Ok(runs) = explains.subcommand(run) else {
         return Err(AllocError);
     };
     let Ok(show) = show_command(alloc) else {
@@ -246,6 +305,16 @@ fn mixer_of(found: &ArgMatches<'_>) -> Option<Mixer>
     }
 }
 
+/// The format that was named.
+fn format_of(found: &ArgMatches<'_>) -> Option<Format>
+    ensures { result ≡ format_in (rows_of (found_of found.now)) }
+{
+    match found.get_str("format") {
+        Some(name) => Format::named(name),
+        None => None,
+    }
+}
+
 /// Whether the fields of each frame were asked for.
 fn is_long(found: &ArgMatches<'_>) -> bool
     ensures { result ≡ is_long (rows_of (found_of found.now)) }
@@ -266,6 +335,16 @@ fn show_of(found: &ArgMatches<'_>) -> Call
     } else {
         Call::Show
     }
+}
+
+/// The call `run`, with the mixer and the format that were named.
+fn run_of(found: &ArgMatches<'_>) -> Option<Call>
+    ensures call { option_map subcommand_of_call result ≡ run_in (rows_of (found_of found.now)) }
+    ensures workers { (n : Option ℕ) → IfSome result (HasWorkers n) }
+{
+    let mixer = mixer_of(found)?;
+    let format = format_of(found)?;
+    Some(Call::Run(mixer, format))
 }
 
 /// The file that was named.
@@ -297,9 +376,24 @@ fn call_named(name: &str, found: &ArgMatches<'_>) -> Option<Call>
 {
     match name {
         "audit" => Some(Call::Audit(workers_of(found))),
-        "run" => Some(Call::Run(mixer_of(found)?)),
+        "explain" => Some(Call::Explain(workers_of(found))),
+        "run" => run_of(found),
         "show" => Some(show_of(found)),
         _ => None,
+    }
+}
+
+/// What is said where these matches are no call: which argument of `run` names nothing that is there.
+fn unknown_in(matches: &ArgMatches<'_>) -> &'static str {
+    match matches.subcommand() {
+        Some((_, found)) => {
+            if mixer_of(found).is_some() {
+                NO_FORMAT
+            } else {
+                NO_MIXER
+            }
+        }
+        None => NO_MIXER,
     }
 }
 
@@ -325,7 +419,7 @@ pub fn read_arguments<S: AsStr>(alloc: Global, arguments: &[S]) -> Result<Asked,
     match command.try_get_matches_from(arguments) {
         Ok(matches) => match call_in(&matches) {
             Some(call) => Ok(Asked::Call(call)),
-            None => Ok(Asked::Refused(String::from_str(alloc, NO_MIXER)?)),
+            None => Ok(Asked::Refused(String::from_str(alloc, unknown_in(&matches))?)),
         },
         Err(error) => answer_of(alloc, &error),
     }

@@ -2,6 +2,8 @@
 #![tactic(auto)]
 
 mod arguments;
+mod format;
 
 pub use arguments::{Asked, Call, file_named, read_arguments};
 pub use eve_grammar::WorkerCount;
+pub use format::Format;

@@ -1,6 +1,7 @@
 use Rattle.std.proofs.Common.{◌^◌, lit≤}
 use Rattle.std.proofs.lemmas.Result.{IfErr-weaker, IfOk-weaker, on_ok_weaker}
 use Rattle.eve_tool.specs.Audit.{Audits}
+use Rattle.eve_tool_arguments.specs.Arguments.{Audit}
 use Rattle.eve_tool.proofs.Cutting.{Audits-cut, WritesAllOf-cut, WritesFrontOf-cut, audit_left, random_left}
 use Rattle.eve_tool.proofs.Leaving.{at_err}
 use Rattle.eve_tool.proofs.WholeInput.{is_read}
@@ -34,7 +35,7 @@ pub returns-in_err-random-clause-left : goal.returns-in_err-random-clause-left
 returns-in_err-random-clause-left g c =
     let why = c.in_err-random.field-0.0 in
     at_err c.from_residual-in_err-random.result _ why c.from_residual-in_err-random.ensures.1
-    (random_left g.O.Sink.written g.O.Sink.failures (g.I.Source.remaining c.args.input.now) _ c.args.out.now why
+    (random_left g.O.Sink.written g.O.Sink.failures Audit (g.I.Source.remaining c.args.input.now) _ c.args.out.now why tt
     c.in_err-random.ensures)
 
 pub returns-in_err-random-clause-ended : goal.returns-in_err-random-clause-ended

@@ -1,15 +1,19 @@
-use Rattle.std.proofs.Common.{arith}
-use Rattle.eve_tool_arguments.specs.Arguments.{Audit}
-use Rattle.eve_tool_arguments.proofs.PlainArguments.{alone, asks, asks_help, audit_call, run_call, show_call}
-use Rattle.eve_tool_arguments.proofs.PlainArguments.{asks_version, first_call, long_call, no_worker, too_many, whole_call}
-use Rattle.eve_tool.proofs.Cutting.{audited_of}
+use Rattle.std.proofs.Common.{arith, inl, inr}
+use Rattle.eve_tool_arguments.specs.Arguments.{Audit, Explain}
+use Rattle.eve_tool_arguments.proofs.PlainArguments.{alone, asks, asks_help, asks_help_by_word, audit_call}
+use Rattle.eve_tool_arguments.proofs.PlainArguments.{explain_asks, explain_call, run_call, show_call}
+use Rattle.eve_tool_arguments.proofs.PlainArguments.{asks_version, first_call, format_1_call, format_2_call, long_call}
+use Rattle.eve_tool_arguments.proofs.PlainArguments.{no_format, no_worker, too_many, two_formats, whole_call}
+use Rattle.eve_tool.proofs.Cutting.{audited_of, explained_of}
 use Rattle.eve_tool.proofs.program.serve.Goals as goal
 
 pub returns-in-Ok-clause-yes : goal.returns-in-Ok-clause-yes
-returns-in-Ok-clause-yes g c = λ calls zero.
-    audited_of (g.I.Source.remaining c.args.input.now) (g.O.Sink.written c.args.out.now)
-    (g.O.Sink.written c.answer.new.out) c.in-Ok.status
-    (c.in-Ok.ensures.said Audit calls).1 zero
+returns-in-Ok-clause-yes g c = λ asks zero. elim asks [
+  | inl audits ↦ audited_of (g.I.Source.remaining c.args.input.now) (g.O.Sink.written c.args.out.now)
+      (g.O.Sink.written c.answer.new.out) c.in-Ok.status (c.in-Ok.ensures.said Audit audits).1 zero
+  | inr explains ↦ explained_of (g.I.Source.remaining c.args.input.now) (g.O.Sink.written c.args.out.now)
+      (g.O.Sink.written c.answer.new.out) c.in-Ok.status (c.in-Ok.ensures.said Explain explains).1 zero
+]
 
 pub returns-in-Ok-clause-stopped : goal.returns-in-Ok-clause-stopped
 returns-in-Ok-clause-stopped g c = λ call calls two. absurd (omega (arith, (c.in-Ok.ensures.said call calls).0))
@@ -85,3 +89,45 @@ returns-in-Ok-clause-version g c = λ name. asks_version name
 
 pub returns-in-Err-clause-version : goal.returns-in-Err-clause-version
 returns-in-Err-clause-version g c = λ name. asks_version name
+
+pub returns-in-Ok-clause-run_format_1 : goal.returns-in-Ok-clause-run_format_1
+returns-in-Ok-clause-run_format_1 g c = format_1_call
+
+pub returns-in-Ok-clause-run_format_2 : goal.returns-in-Ok-clause-run_format_2
+returns-in-Ok-clause-run_format_2 g c = format_2_call
+
+pub returns-in-Ok-clause-no_format : goal.returns-in-Ok-clause-no_format
+returns-in-Ok-clause-no_format g c = no_format
+
+pub returns-in-Ok-clause-two_formats : goal.returns-in-Ok-clause-two_formats
+returns-in-Ok-clause-two_formats g c = two_formats
+
+pub returns-in-Err-clause-run_format_1 : goal.returns-in-Err-clause-run_format_1
+returns-in-Err-clause-run_format_1 g c = format_1_call
+
+pub returns-in-Err-clause-run_format_2 : goal.returns-in-Err-clause-run_format_2
+returns-in-Err-clause-run_format_2 g c = format_2_call
+
+pub returns-in-Err-clause-no_format : goal.returns-in-Err-clause-no_format
+returns-in-Err-clause-no_format g c = no_format
+
+pub returns-in-Err-clause-two_formats : goal.returns-in-Err-clause-two_formats
+returns-in-Err-clause-two_formats g c = two_formats
+
+pub returns-in-Ok-clause-explain : goal.returns-in-Ok-clause-explain
+returns-in-Ok-clause-explain g c = explain_call
+
+pub returns-in-Ok-clause-explain_workers : goal.returns-in-Ok-clause-explain_workers
+returns-in-Ok-clause-explain_workers g c = λ name n some most. explain_asks name n some most
+
+pub returns-in-Ok-clause-help_word : goal.returns-in-Ok-clause-help_word
+returns-in-Ok-clause-help_word g c = λ name. asks_help_by_word name
+
+pub returns-in-Err-clause-explain : goal.returns-in-Err-clause-explain
+returns-in-Err-clause-explain g c = explain_call
+
+pub returns-in-Err-clause-explain_workers : goal.returns-in-Err-clause-explain_workers
+returns-in-Err-clause-explain_workers g c = λ name n some most. explain_asks name n some most
+
+pub returns-in-Err-clause-help_word : goal.returns-in-Err-clause-help_word
+returns-in-Err-clause-help_word g c = λ name. asks_help_by_word name

@@ -9,7 +9,7 @@ use Rattle.eve_tool_arguments.specs.Arguments.{subcommand_of_call}
 use Rattle.eve_tool_arguments.specs.Arguments.{workers_behind, workers_of}
 use Rattle.eve_tool_arguments.specs.declared.arguments.Call.{Call}
 use Rattle.eve_tool_arguments.proofs.CommandLine.{answers_with_fault, call_without_faults, eve_is_free, eve_is_simple}
-use Rattle.eve_tool_arguments.proofs.CommandLine.{mixer_without_faults}
+use Rattle.eve_tool_arguments.proofs.CommandLine.{run_without_faults}
 use Rattle.eve_tool_arguments.proofs.arguments.read_arguments.Goals as goal
 
 behind : (words : List Text) (found : Option (Text × List Row)) (call : Call) → found ≡ subcommand_of eve words
@@ -42,7 +42,7 @@ returns-in-Ok g c =
     let none : option_and_then subcommand_named (subcommand_of eve words) ≡ None =
     ap (option_and_then subcommand_named) (sym found.1)
     ∙ (sym c.call_in.ensures.call ∙ ap (option_map subcommand_of_call) c.in-None.is) in
-    (call_without_faults words right ∙ none, inr (mixer_without_faults words right none))
+    (call_without_faults words right ∙ none, inr (run_without_faults words right none))
 
 pub returns : goal.returns
 returns g c =
