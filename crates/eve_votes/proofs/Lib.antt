@@ -6,5 +6,6 @@ pub mod Tallying
 pub mod InOrder
 pub mod Backing
 pub mod Leading
+pub mod Undecided
 pub mod Gathered
 pub mod Sifting

@@ -4,4 +4,5 @@ pub mod Least
 pub mod Ballots
 pub mod Majority
 pub mod Decisions
+pub mod NextDecision
 pub mod Held

@@ -1,6 +1,6 @@
 //! The votes of a trace, by batch, view and verifier.
 
-ghost use Rattle.std.specs.Prelude.{◌≡◌, ◌<◌, ◌+◌, Some, length, slice_get, filter};
+ghost use Rattle.std.specs.Prelude.{◌≡◌, ◌<◌, ◌+◌, ◌↔◌, Some, length, slice_get, filter, IsTrue};
 ghost use Rattle.std.specs.Option.{option_map};
 ghost use Rattle.eve_grammar.specs.Trace.{Choice as ChoiceValue};
 ghost use Rattle.eve_grammar.specs.Bodies.{borrowed_choice as choice_of};
@@ -9,7 +9,7 @@ ghost use Rattle.eve_frames.specs.Said.{vote_said};
 ghost use Rattle.eve_votes.specs.Votes.{same_choice, is_vote_on, is_only, backers};
 ghost use Rattle.eve_views.specs.Order.{AreInOrder};
 ghost use Rattle.eve_votes.specs.Ballots.{is_alike, is_fellow, is_at, is_lower, is_for, IsBefore, IsStart};
-ghost use Rattle.eve_votes.specs.Ballots.{HasCast};
+ghost use Rattle.eve_votes.specs.Ballots.{Continues, HasCast};
 
 use eve_frames::VoteView;
 use eve_grammar::Choice;
@@ -32,17 +32,24 @@ pub(crate) fn is_alike(a: &Ballot, b: &Ballot) -> bool
 }
 
 /// Whether two votes are on one batch in one view.
-pub(crate) fn is_fellow(a: &Ballot, b: &Ballot) -> bool
+fn is_fellow(a: &Ballot, b: &Ballot) -> bool
     ensures { result ≡ is_fellow a.now b.now }
 {
     a.seq == b.seq && a.view == b.view
 }
 
+/// Whether the vote at this place is on the batch and in the view of the one before it.
+pub(crate) fn continues(ballots: &[Ballot], i: usize) -> bool
+    ensures { IsTrue result ↔ Continues ballots.now i }
+{
+    i > 0 && i < ballots.len() && is_fellow(&ballots[i - 1], &ballots[i])
+}
+
 /// Whether a vote is on an earlier batch, or on the same in an earlier view.
-fn is_lower(ballot: &Ballot, seq: u32, view: u32) -> bool
+fn is_lower(ballot: &Ballot, seq: u32, view: u64) -> bool
     ensures { result ≡ is_lower seq view ballot.now }
 {
-    ballot.seq < seq || (ballot.seq == seq && ballot.view < view)
+    ballot.seq < seq || (ballot.seq == seq && u64::from(ballot.view) < view)
 }
 
 /// The vote as it stands in the trace.
@@ -55,8 +62,8 @@ pub(crate) fn vote_at<'a>(trace: &Trace<'a>, ballot: Ballot) -> VoteView<'a>
     trace.votes(ballot.verifier).get(ballot.place as usize)
 }
 
-/// Where the votes on the batch in this view begin.
-fn start_of(ballots: &[Ballot], seq: u32, view: u32) -> usize
+/// Where the votes on the batch in this view begin, or those in later views where it has none in this.
+pub(crate) fn start_of(ballots: &[Ballot], seq: u32, view: u64) -> usize
     requires { AreInOrder IsBefore ballots.now }
     ensures { IsStart ballots.now result seq view 0 }
 {
@@ -158,7 +165,7 @@ pub(crate) fn backers(
     backers_from(
         trace,
         ballots,
-        start_of(ballots, seq, view),
+        start_of(ballots, seq, u64::from(view)),
         seq,
         view,
         choice,

@@ -1,16 +1,16 @@
 //! What was decided as commit.
 
-ghost use Rattle.std.specs.Prelude.{◌≡◌, ◌<◌, ◌+◌, ◌↔◌, None, Some, length, IfNone, IsTrue};
+ghost use Rattle.std.specs.Prelude.{◌≡◌, ◌+◌, None, length, IfNone};
 ghost use Rattle.std.specs.List.{All};
 ghost use Rattle.eve_views.specs.declared.fault.Code.TheVariants.{TwoDecisions};
 ghost use Rattle.eve_votes.specs.Votes.{IsDecided};
 ghost use Rattle.eve_votes.specs.Faults.{StandsInVotes};
 ghost use Rattle.eve_views.specs.Least.{Lowers};
 ghost use Rattle.eve_votes.specs.Least.{IsLowest};
-ghost use Rattle.eve_votes.specs.Ballots.{IsStart, Continues, HasCast};
+ghost use Rattle.eve_votes.specs.Ballots.{IsStart, HasCast};
 ghost use Rattle.eve_votes.specs.Decisions.{Judging, IsUnnoted, Notes, IsFound, Agrees, AreDecisions};
 
-use crate::ballots::{Ballot, is_fellow};
+use crate::ballots::{Ballot, continues};
 use crate::majority::decided_in;
 use eve_views::{Trace, lower};
 
@@ -45,13 +45,6 @@ fn note<'a>(
     }
     decisions[place] = Some(decision);
     least
-}
-
-/// Whether the vote at this place is on the batch and in the view of the one before it.
-fn continues(ballots: &[Ballot], i: usize) -> bool
-    ensures { IsTrue result ↔ Continues ballots.now i }
-{
-    i > 0 && i < ballots.len() && is_fellow(&ballots[i - 1], &ballots[i])
 }
 
 /// Judges a batch in a view, whose votes begin at this place.

@@ -2,9 +2,13 @@
 #![tactic(auto)]
 
 mod ballots;
+mod decided;
 mod decisions;
 mod majority;
+mod sorted_votes;
 mod tally;
 mod voting;
 
+pub use decided::Decided;
+pub use sorted_votes::SortedVotes;
 pub use tally::Tally;

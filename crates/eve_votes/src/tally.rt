@@ -9,9 +9,10 @@ ghost use Rattle.eve_votes.specs.Votes.{backers, IsDecided, IsRolledBack};
 ghost use Rattle.eve_votes.specs.Faults.{outside, AreVotesSound, StandsInVotes};
 
 use crate::ballots::{Ballot, backers};
+use crate::decided::array_of;
 use crate::decisions::{Decision, decide};
 use crate::majority::is_quorum;
-use crate::voting::{cast, sift};
+use crate::voting::only_votes;
 use eve_grammar::Choice;
 use eve_views::{CheckFault, Code, Fault, Trace, first_of};
 use std::alloc::{AllocError, Global};
@@ -38,16 +39,6 @@ impl<'t, 'a> Model for Tally<'t, 'a> {
     ghost view = { λ x. x.trace.now };
 
     ghost invariant = { IsTally };
-}
-
-/// A token as an array.
-fn array_of(token: &[u8]) -> [u8; 32]
-    requires { length token.now ≡ 32 }
-    ensures { result ≡ token.now }
-{
-    let mut array = [0; 32];
-    array.copy_from_slice(token);
-    array
 }
 
 /// A place for each batch, by its number, with nothing decided.
@@ -87,10 +78,8 @@ impl<'t, 'a> Tally<'t, 'a> {
         ensures none { IfOk result (λ _. HasNone (IsFaultOutside StandsInVotes trace.now)) }
         ensures least { IfErr result (λ e. IfFound e (IsLeast (IsFaultOutside StandsInVotes trace.now))) }
     {
-        let cast = cast(alloc, trace)?;
-        let mut ballots = Vec::with_capacity(alloc, cast.len())?;
-        let again = sift(trace, &cast, &mut ballots)?;
-        drop(cast);
+        let mut ballots = Vec::new(alloc);
+        let again = only_votes(alloc, trace, &mut ballots)?;
         let mut decisions = none_decided(alloc, trace.head().batches)?;
         let apart = decide(trace, &ballots, &mut decisions);
         match first_of(

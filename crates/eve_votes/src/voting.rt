@@ -44,7 +44,7 @@ fn votes_in(alloc: Global, trace: &Trace<'_>) -> Result<Vec<Ballot>, AllocError>
 }
 
 /// The votes of all verifiers, by batch, then by view, then by verifier, then as they stand.
-pub(crate) fn cast(alloc: Global, trace: &Trace<'_>) -> Result<Vec<Ballot>, AllocError>
+fn cast(alloc: Global, trace: &Trace<'_>) -> Result<Vec<Ballot>, AllocError>
     ensures { IfOk result (λ ballots. HasVotes trace.now ballots.items) }
 {
     let mut ballots = votes_in(alloc, trace)?;
@@ -61,7 +61,7 @@ fn follows(ballots: &[Ballot], i: usize) -> bool
 
 /// Finds the votes that are a verifier's only ones on their batch in their view. Gives the least offset of the others,
 /// the first of each kind left out.
-pub(crate) fn sift(
+fn sift(
     trace: &Trace<'_>,
     ballots: &[Ballot],
     only: &mut Vec<Ballot>,
@@ -81,4 +81,19 @@ pub(crate) fn sift(
         }
     }
     Ok(least)
+}
+
+/// Finds the same of all votes of the trace, and gives the same.
+pub(crate) fn only_votes(
+    alloc: Global,
+    trace: &Trace<'_>,
+    only: &mut Vec<Ballot>,
+) -> Result<Option<u64>, AllocError>
+    requires { only.old.items ≡ [] }
+    ensures only { OnOk result (HasCast trace.now only.new.items) }
+    ensures least { IfOk result (IsLowest (StandsInVotes TwoVotes trace.now)) }
+{
+    let cast = cast(alloc, trace)?;
+    only.reserve(cast.len())?;
+    sift(trace, &cast, only)
 }
