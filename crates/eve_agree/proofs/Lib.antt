@@ -19,3 +19,4 @@ mod Reading
 pub mod Sending
 pub mod Stretched
 pub mod Shown
+mod WrongRestores

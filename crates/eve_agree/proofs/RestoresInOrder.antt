@@ -50,14 +50,18 @@ use Rattle.eve_agree.specs.Marking.{unmarked, marked, noted_between, written_in}
 use Rattle.eve_agree.proofs.Marking.{first_writes}
 use Rattle.eve_agree.proofs.Discarding.{follows_committed, open_noted}
 
--- These steps of replica e's section are still to come, and the rollbacks before them are right. This many attempts
--- came, and the open ones begin at this number.
-pub record HasJudged (t : Trace) (e : ℕ) (rest : List (ℕ × Step)) (first end : ℕ) : Type 0 where
-  pub front : List (ℕ × Step)
+-- After these steps of replica e's section the others are still to come. This many attempts came, and the open ones
+-- begin at this number.
+pub record HasCome (t : Trace) (e : ℕ) (front rest : List (ℕ × Step)) (first end : ℕ) : Type 0 where
   pub split : steps_at t e ≡ front ++ rest
   pub came : length (attempts_among front) ≡ end
   pub fewer : first ≤ end
   pub pending : map placed_at (state_after start front).pending ≡ drop first (attempts_among front)
+
+-- These steps are still to come, and the rollbacks before them are right.
+pub record HasJudged (t : Trace) (e : ℕ) (rest : List (ℕ × Step)) (first end : ℕ) : Type 0 where
+  pub front : List (ℕ × Step)
+  pub come : HasCome t e front rest first end
   pub rightly : SettledAreSound t e → all_restore_rightly t start front ≡ true
 
 rightly-push : (t : Trace) (s : SectionState) (xs : List (ℕ × Step)) (x : ℕ × Step) → all_restore_rightly t s xs ≡ true
@@ -73,71 +77,78 @@ rightly-push t s (y ∷ xs) x all own =
 abbrev pub ComesNext : met.Step → List (ℕ × Step) → List (ℕ × Step) → Type 0
 ComesNext s steps rest = (step : ℕ × Step) × (steps ≡ step ∷ rest) × IsStep s step
 
+pub come_first : (t : Trace) (e : ℕ) → HasCome t e [] (steps_at t e) 0 0
+come_first t e = record { split = refl; came = refl; fewer = omega arith; pending = refl }
+
 pub judged_start : (t : Trace) (e : ℕ) → HasJudged t e (steps_at t e) 0 0
-judged_start t e = record {
-  front = [];
-  split = refl;
-  came = refl;
-  fewer = omega arith;
-  pending = refl;
-  rightly = λ _. refl;
-}
+judged_start t e = record { front = []; come = come_first t e; rightly = λ _. refl }
 
-module _ (t : Trace) (e : ℕ) (step : ℕ × Step) (rest : List (ℕ × Step)) (first end : ℕ)
-    (judged : HasJudged t e (step ∷ rest) first end) where
-  one_more : steps_at t e ≡ (judged.front ++ step ∷ []) ++ rest
-  one_more = judged.split ∙ sym (append_assoc judged.front (step ∷ []) rest)
+module _ (t : Trace) (e : ℕ) (front : List (ℕ × Step)) (step : ℕ × Step) (rest : List (ℕ × Step)) (first end : ℕ)
+    (come : HasCome t e front (step ∷ rest) first end) where
+  one_more : steps_at t e ≡ (front ++ step ∷ []) ++ rest
+  one_more = come.split ∙ sym (append_assoc front (step ∷ []) rest)
 
-  state_next : state_after start (judged.front ++ step ∷ []) ≡ next (state_after start judged.front) step
-  state_next = state_after-append start judged.front (step ∷ [])
+  pub state_next : state_after start (front ++ step ∷ []) ≡ next (state_after start front) step
+  state_next = state_after-append start front (step ∷ [])
 
 -- ---- an attempt
 
-module _ (t : Trace) (e at : ℕ) (a : Attempt) (rest : List (ℕ × Step)) (first end : ℕ)
-    (judged : HasJudged t e ((at, Attempts a) ∷ rest) first end) where
-  judged_attempt : HasJudged t e rest first (end + 1)
-  judged_attempt =
-      let s = state_after start judged.front in
+module _ (t : Trace) (e at : ℕ) (a : Attempt) (front rest : List (ℕ × Step)) (first end : ℕ)
+    (come : HasCome t e front ((at, Attempts a) ∷ rest) first end) where
+  pub come_attempt : HasCome t e (front ++ (at, Attempts a) ∷ []) rest first (end + 1)
+  come_attempt =
+      let s = state_after start front in
       let placed : Placed = record { offset = at; attempt = a; path = path_of s } in
-      let few : first ≤ end = judged.fewer in
-      let came : length (attempts_among judged.front) ≡ end = judged.came in
-      let more = attempts_among-append judged.front ((at, Attempts a) ∷ []) in
+      let few : first ≤ end = come.fewer in
+      let came : length (attempts_among front) ≡ end = come.came in
+      let more = attempts_among-append front ((at, Attempts a) ∷ []) in
       record {
-        front = judged.front ++ (at, Attempts a) ∷ [];
-        split = one_more t e (at, Attempts a) rest first end judged;
-        came = ap length more ∙ length-append (attempts_among judged.front) ((at, a) ∷ []) ∙ ap (λ (n : ℕ). n + 1) came;
+        split = one_more t e front (at, Attempts a) rest first end come;
+        came = ap length more ∙ length-append (attempts_among front) ((at, a) ∷ []) ∙ ap (λ (n : ℕ). n + 1) came;
         fewer = omega arith;
         pending = ap (λ (o : SectionState). map placed_at o.pending)
-            (state_next t e (at, Attempts a) rest first end judged) ∙ map-append placed_at s.pending (placed ∷ [])
-            ∙ ap (λ (xs : List (ℕ × Attempt)). xs ++ (at, a) ∷ []) judged.pending
-            ∙ sym (drop-append-le first (attempts_among judged.front) ((at, a) ∷ []) (omega arith))
+            (state_next t e front (at, Attempts a) rest first end come) ∙ map-append placed_at s.pending (placed ∷ [])
+            ∙ ap (λ (xs : List (ℕ × Attempt)). xs ++ (at, a) ∷ []) come.pending
+            ∙ sym (drop-append-le first (attempts_among front) ((at, a) ∷ []) (omega arith))
             ∙ ap (drop first) (sym more);
-        rightly = λ sound. rightly-push t start judged.front (at, Attempts a) (judged.rightly sound) refl;
       }
 
-  attempt_there : end < length (attempts_among (steps_at t e))
+  pub attempt_there : end < length (attempts_among (steps_at t e))
   attempt_there =
-      let long = ap length (ap attempts_among judged.split
-      ∙ attempts_among-append judged.front ((at, Attempts a) ∷ rest))
-      ∙ length-append (attempts_among judged.front) ((at, a) ∷ attempts_among rest) in
-      let came : length (attempts_among judged.front) ≡ end = judged.came in
+      let long = ap length (ap attempts_among come.split
+      ∙ attempts_among-append front ((at, Attempts a) ∷ rest))
+      ∙ length-append (attempts_among front) ((at, a) ∷ attempts_among rest) in
+      let came : length (attempts_among front) ≡ end = come.came in
       omega arith
+
+-- an attempt that was met
+pub attempt_met : (K : Type 0) (H : List (ℕ × Step) → Type 0) (steps rest : List (ℕ × Step)) (s : met.Step)
+    (v : AttemptView) (xs : List (ℕ × Access)) → ComesNext s steps rest → s ≡ of.Attempt v xs
+    → ((at : ℕ) (a : Attempt) → H ((at, Attempts a) ∷ rest) → K) → H steps → K
+attempt_met K H steps rest s v xs comes is then held =
+    by comes.0 (subst (λ o. IsStep o comes.0) is comes.2) (subst H comes.1 held)
+  where
+    by : (step : ℕ × Step) → IsStep (of.Attempt v xs) step → H (step ∷ rest) → K
+    by (at, Attempts a) own here = then at a here
+    by (at, Commits c) own here = absurd own
+    by (at, RollsBack r) own here = absurd own
+    by (at, TakesOver x) own here = absurd own
 
 pub on_attempt : (t : Trace) (e : ℕ) (steps rest : List (ℕ × Step)) (first end : ℕ) (s : met.Step) (v : AttemptView)
     (xs : List (ℕ × Access)) → ComesNext s steps rest → s ≡ of.Attempt v xs
     → HasJudged t e steps first end → HasJudged t e rest first (end + 1)
     × (end < length (attempts_among (steps_at t e)))
 on_attempt t e steps rest first end s v xs comes is judged =
-    by comes.0 (subst (λ o. IsStep o comes.0) is comes.2)
-    (subst (λ (ys : List (ℕ × Step)). HasJudged t e ys first end) comes.1 judged)
-  where
-    by : (step : ℕ × Step) → IsStep (of.Attempt v xs) step → HasJudged t e (step ∷ rest) first end
-        → HasJudged t e rest first (end + 1) × (end < length (attempts_among (steps_at t e)))
-    by (at, Attempts a) own here =
-        (judged_attempt t e at a rest first end here, attempt_there t e at a rest first end here)
-    by (at, Commits c) own here = absurd own
-    by (at, RollsBack r) own here = absurd own
-    by (at, TakesOver x) own here = absurd own
+    attempt_met (HasJudged t e rest first (end + 1) × (end < length (attempts_among (steps_at t e))))
+    (λ ys. HasJudged t e ys first end) steps rest s v xs comes is
+    (λ at a here. (
+      record {
+        front = here.front ++ (at, Attempts a) ∷ [];
+        come = come_attempt t e at a here.front rest first end here.come;
+        rightly = λ sound. rightly-push t start here.front (at, Attempts a) (here.rightly sound) refl;
+      },
+      attempt_there t e at a here.front rest first end here.come,
+    )) judged
 
 -- ---- a commit
 
@@ -147,109 +158,135 @@ right_there t s [] step rest right = (and_parts (is_right t s step.1) (are_right
 right_there t s (x ∷ front) step rest right = right_there t (next s x) front step rest
     (and_parts (is_right t s x.1) (are_right t (next s x) (front ++ step ∷ rest)) right).1
 
-module _ (t : Trace) (e at : ℕ) (c : Commit) (rest : List (ℕ × Step)) (first end : ℕ) (right : IsRightSection t e)
-    (judged : HasJudged t e ((at, Commits c) ∷ rest) first end) where
-  judged_commit : HasJudged t e rest (first + 1) end × (first < end)
-  judged_commit =
-      let s = state_after start judged.front in
-      let own : IsTrue (is_right_commit s c) = right_there t start judged.front (at, Commits c) rest
-      (subst (λ (xs : List (ℕ × Step)). IsTrue (are_right t start xs)) judged.split right) in
+module _ (t : Trace) (e at : ℕ) (c : Commit) (front rest : List (ℕ × Step)) (first end : ℕ)
+    (right : IsRightSection t e) (come : HasCome t e front ((at, Commits c) ∷ rest) first end) where
+  pub come_commit : HasCome t e (front ++ (at, Commits c) ∷ []) rest (first + 1) end × (first < end)
+  come_commit =
+      let s = state_after start front in
+      let own : IsTrue (is_right_commit s c) = right_there t start front (at, Commits c) rest
+      (subst (λ (xs : List (ℕ × Step)). IsTrue (are_right t start xs)) come.split right) in
       by s.pending refl (and_parts (c.seq == s.last + 1) (commits_first s.pending c) own).1
     where
-      by : (pending : List Placed) → (state_after start judged.front).pending ≡ pending → commits_first pending c ≡ true
-          → HasJudged t e rest (first + 1) end × (first < end)
+      by : (pending : List Placed) → (state_after start front).pending ≡ pending → commits_first pending c ≡ true
+          → HasCome t e (front ++ (at, Commits c) ∷ []) rest (first + 1) end × (first < end)
       by [] is ok = absurd (false≢true ok)
       by (p ∷ ps) is ok =
-          let s = state_after start judged.front in
-          let items = attempts_among judged.front in
+          let s = state_after start front in
+          let items = attempts_among front in
           let open_is : placed_at p ∷ map placed_at ps ≡ drop first items = ap (map placed_at) (sym is)
-          ∙ judged.pending in
+          ∙ come.pending in
           let count : suc (length (map placed_at ps)) ≡ length items - first = ap length open_is
           ∙ length-drop first items in
-          let came : length items ≡ end = judged.came in
-          let more : attempts_among (judged.front ++ (at, Commits c) ∷ []) ≡ items =
-          attempts_among-append judged.front ((at, Commits c) ∷ []) ∙ append-nil items in (
+          let came : length items ≡ end = come.came in
+          let more : attempts_among (front ++ (at, Commits c) ∷ []) ≡ items =
+          attempts_among-append front ((at, Commits c) ∷ []) ∙ append-nil items in (
             record {
-              front = judged.front ++ (at, Commits c) ∷ [];
-              split = one_more t e (at, Commits c) rest first end judged;
+              split = one_more t e front (at, Commits c) rest first end come;
               came = ap length more ∙ came;
               fewer = omega arith;
               pending = ap (λ (o : SectionState). map placed_at o.pending)
-                  (state_next t e (at, Commits c) rest first end judged ∙ ap (committing s) is)
+                  (state_next t e front (at, Commits c) rest first end come ∙ ap (committing s) is)
                   ∙ ap (drop 1) open_is ∙ drop-drop 1 first items ∙ ap (drop (first + 1)) (sym more);
-              rightly = λ sound. rightly-push t start judged.front (at, Commits c) (judged.rightly sound) refl;
             },
             omega arith,
           )
+
+-- a commit that was met
+pub commit_met : (K : Type 0) (H : List (ℕ × Step) → Type 0) (steps rest : List (ℕ × Step)) (s : met.Step)
+    (v : CommitView) → ComesNext s steps rest → s ≡ of.Commit v
+    → ((at : ℕ) (c : Commit) → H ((at, Commits c) ∷ rest) → K) → H steps → K
+commit_met K H steps rest s v comes is then held =
+    by comes.0 (subst (λ o. IsStep o comes.0) is comes.2) (subst H comes.1 held)
+  where
+    by : (step : ℕ × Step) → IsStep (of.Commit v) step → H (step ∷ rest) → K
+    by (at, Attempts a) own here = absurd own
+    by (at, Commits c) own here = then at c here
+    by (at, RollsBack r) own here = absurd own
+    by (at, TakesOver x) own here = absurd own
 
 pub on_commit : (t : Trace) (e : ℕ) (steps rest : List (ℕ × Step)) (first end : ℕ) (s : met.Step) (v : CommitView)
     → IsRightSection t e → ComesNext s steps rest → s ≡ of.Commit v
     → HasJudged t e steps first end → HasJudged t e rest (first + 1) end × (first < end)
 on_commit t e steps rest first end s v right comes is judged =
-    by comes.0 (subst (λ o. IsStep o comes.0) is comes.2)
-    (subst (λ (ys : List (ℕ × Step)). HasJudged t e ys first end) comes.1 judged)
-  where
-    by : (step : ℕ × Step) → IsStep (of.Commit v) step → HasJudged t e (step ∷ rest) first end
-        → HasJudged t e rest (first + 1) end × (first < end)
-    by (at, Attempts a) own here = absurd own
-    by (at, Commits c) own here = judged_commit t e at c rest first end right here
-    by (at, RollsBack r) own here = absurd own
-    by (at, TakesOver x) own here = absurd own
+    commit_met (HasJudged t e rest (first + 1) end × (first < end)) (λ ys. HasJudged t e ys first end) steps rest s v
+    comes is
+    (λ at c here.
+    let come = come_commit t e at c here.front rest first end right here.come in (
+      record {
+        front = here.front ++ (at, Commits c) ∷ [];
+        come = come.0;
+        rightly = λ sound. rightly-push t start here.front (at, Commits c) (here.rightly sound) refl;
+      },
+      come.1,
+    )) judged
 
 -- ---- a state that is taken over
 
 -- it leaves no attempt open
-judged_transfer : (t : Trace) (e at : ℕ) (x : Transfer) (rest : List (ℕ × Step)) (first end : ℕ)
-    → HasJudged t e ((at, TakesOver x) ∷ rest) first end → HasJudged t e rest end end
-judged_transfer t e at x rest first end judged =
-    let more : attempts_among (judged.front ++ (at, TakesOver x) ∷ []) ≡ attempts_among judged.front =
-    attempts_among-append judged.front ((at, TakesOver x) ∷ []) ∙ append-nil (attempts_among judged.front) in
+pub come_transfer : (t : Trace) (e at : ℕ) (x : Transfer) (front rest : List (ℕ × Step)) (first end : ℕ)
+    → HasCome t e front ((at, TakesOver x) ∷ rest) first end
+    → HasCome t e (front ++ (at, TakesOver x) ∷ []) rest end end
+come_transfer t e at x front rest first end come =
+    let more : attempts_among (front ++ (at, TakesOver x) ∷ []) ≡ attempts_among front =
+    attempts_among-append front ((at, TakesOver x) ∷ []) ∙ append-nil (attempts_among front) in
     record {
-      front = judged.front ++ (at, TakesOver x) ∷ [];
-      split = one_more t e (at, TakesOver x) rest first end judged;
-      came = ap length more ∙ judged.came;
+      split = one_more t e front (at, TakesOver x) rest first end come;
+      came = ap length more ∙ come.came;
       fewer = omega arith;
       pending = ap (λ (o : SectionState). map placed_at o.pending)
-          (state_next t e (at, TakesOver x) rest first end judged)
+          (state_next t e front (at, TakesOver x) rest first end come)
           ∙ sym (ap (drop end) more
-          ∙ drop_all end (attempts_among judged.front) (let came : length (attempts_among judged.front)
-          ≡ end = judged.came in omega arith));
-      rightly = λ sound. rightly-push t start judged.front (at, TakesOver x) (judged.rightly sound) refl;
+          ∙ drop_all end (attempts_among front) (let came : length (attempts_among front)
+          ≡ end = come.came in omega arith));
     }
+
+-- a state that was met
+pub transfer_met : (K : Type 0) (H : List (ℕ × Step) → Type 0) (steps rest : List (ℕ × Step)) (s : met.Step)
+    (v : TransferView) → ComesNext s steps rest → s ≡ of.Transfer v
+    → ((at : ℕ) (x : Transfer) → H ((at, TakesOver x) ∷ rest) → K) → H steps → K
+transfer_met K H steps rest s v comes is then held =
+    by comes.0 (subst (λ o. IsStep o comes.0) is comes.2) (subst H comes.1 held)
+  where
+    by : (step : ℕ × Step) → IsStep (of.Transfer v) step → H (step ∷ rest) → K
+    by (at, Attempts a) own here = absurd own
+    by (at, Commits c) own here = absurd own
+    by (at, RollsBack r) own here = absurd own
+    by (at, TakesOver x) own here = then at x here
 
 pub on_transfer : (t : Trace) (e : ℕ) (steps rest : List (ℕ × Step)) (first end : ℕ) (s : met.Step) (v : TransferView)
     → ComesNext s steps rest → s ≡ of.Transfer v → HasJudged t e steps first end → HasJudged t e rest end end
 on_transfer t e steps rest first end s v comes is judged =
-    by comes.0 (subst (λ o. IsStep o comes.0) is comes.2)
-    (subst (λ (ys : List (ℕ × Step)). HasJudged t e ys first end) comes.1 judged)
-  where
-    by : (step : ℕ × Step) → IsStep (of.Transfer v) step → HasJudged t e (step ∷ rest) first end
-        → HasJudged t e rest end end
-    by (at, Attempts a) own here = absurd own
-    by (at, Commits c) own here = absurd own
-    by (at, RollsBack r) own here = absurd own
-    by (at, TakesOver x) own here = judged_transfer t e at x rest first end here
+    transfer_met (HasJudged t e rest end end) (λ ys. HasJudged t e ys first end) steps rest s v comes is
+    (λ at x here. record {
+      front = here.front ++ (at, TakesOver x) ∷ [];
+      come = come_transfer t e at x here.front rest first end here.come;
+      rightly = λ sound. rightly-push t start here.front (at, TakesOver x) (here.rightly sound) refl;
+    }) judged
 
 -- ---- a rollback
 
-abbrev rolled : RollbackView → ℕ × Step
+abbrev pub rolled : RollbackView → ℕ × Step
 rolled v = (v.offset, RollsBack (rollback_in v.bytes.now))
+
+-- a rollback that was met
+pub rollback_met : (H : List (ℕ × Step) → Type 0) (steps rest : List (ℕ × Step)) (s : met.Step) (v : RollbackView)
+    → ComesNext s steps rest → s ≡ of.Rollback v → H steps → H (rolled v ∷ rest)
+rollback_met H steps rest s v comes is held =
+    by comes.0 (subst (λ o. IsStep o comes.0) is comes.2) (subst H comes.1 held)
+  where
+    by : (step : ℕ × Step) → IsStep (of.Rollback v) step → H (step ∷ rest) → H (rolled v ∷ rest)
+    by (at, Attempts a) own here = absurd own
+    by (at, Commits c) own here = absurd own
+    by (at, RollsBack r) own here =
+        subst (λ (o : ℕ). H ((o, RollsBack (rollback_in v.bytes.now)) ∷ rest)) (sym own.0)
+        (subst (λ (q : Rollback). H ((at, RollsBack q) ∷ rest)) (sym own.1) here)
+    by (at, TakesOver x) own here = absurd own
 
 pub on_rollback : (t : Trace) (e : ℕ) (steps rest : List (ℕ × Step)) (first end : ℕ) (s : met.Step) (v : RollbackView)
     → ComesNext s steps rest → s ≡ of.Rollback v
     → HasJudged t e steps first end → HasJudged t e (rolled v ∷ rest) first end
 on_rollback t e steps rest first end s v comes is judged =
-    by comes.0 (subst (λ o. IsStep o comes.0) is comes.2)
-    (subst (λ (ys : List (ℕ × Step)). HasJudged t e ys first end) comes.1 judged)
-  where
-    by : (step : ℕ × Step) → IsStep (of.Rollback v) step → HasJudged t e (step ∷ rest) first end
-        → HasJudged t e (rolled v ∷ rest) first end
-    by (at, Attempts a) own here = absurd own
-    by (at, Commits c) own here = absurd own
-    by (at, RollsBack r) own here =
-        subst (λ (o : ℕ). HasJudged t e ((o, RollsBack (rollback_in v.bytes.now)) ∷ rest) first end) (sym own.0)
-        (subst (λ (q : Rollback). HasJudged t e ((at, RollsBack q) ∷ rest) first end) (sym own.1) here)
-    by (at, TakesOver x) own here = absurd own
+    rollback_met (λ ys. HasJudged t e ys first end) steps rest s v comes is judged
 
 -- the last of a list's front
 part : {A : Type 0} (xs ys : List A) (first n : ℕ) → first ≤ length xs → n ≡ length xs - first
@@ -269,75 +306,73 @@ each_step P [] step rest all = (and_parts (P step) (list_all P rest) all).0
 each_step P (x ∷ front) step rest all =
     each_step P front step rest (and_parts (P x) (list_all P (front ++ step ∷ rest)) all).1
 
-module _ (t : Trace) (e at : ℕ) (r : Rollback) (rest : List (ℕ × Step)) (first end : ℕ)
-    (judged : HasJudged t e ((at, RollsBack r) ∷ rest) first end) where
-  abbrev executed_attempts : List ExecutedAttempt
+module _ (t : Trace) (e at : ℕ) (r : Rollback) (front rest : List (ℕ × Step)) (first end : ℕ)
+    (come : HasCome t e front ((at, RollsBack r) ∷ rest) first end) where
+  abbrev pub executed_attempts : List ExecutedAttempt
   executed_attempts = map executed_attempt (attempts_among (steps_at t e))
 
   -- the open attempts are those from one number up to the other
-  noted_open : HasLimits t → IsRightSection t e → noted_between executed_attempts first end
-      ≡ open_entries t (state_after start judged.front)
+  pub noted_open : HasLimits t → IsRightSection t e → noted_between executed_attempts first end
+      ≡ open_entries t (state_after start front)
   noted_open limits right =
-      let items = attempts_among judged.front in
-      let came : length items ≡ end = judged.came in
-      let few : first ≤ end = judged.fewer in
+      let items = attempts_among front in
+      let came : length items ≡ end = come.came in
+      let few : first ≤ end = come.fewer in
       let along : List ExecutedAttempt → List Entry = flat_map (λ (q : ExecutedAttempt). entries_along q.ordered) in
       let all : executed_attempts ≡ map executed_attempt items ++ map executed_attempt (attempts_among rest) =
       ap (map executed_attempt)
-      (ap attempts_among judged.split ∙ attempts_among-append judged.front ((at, RollsBack r) ∷ rest))
+      (ap attempts_among come.split ∙ attempts_among-append front ((at, RollsBack r) ∷ rest))
       ∙ map-append executed_attempt items (attempts_among rest) in
       let same : length (map executed_attempt items) ≡ length items = length-map items executed_attempt in
       ap (λ (qs : List ExecutedAttempt). along (take (end - first) (drop first qs))) all
       ∙ ap along (part (map executed_attempt items) (map executed_attempt (attempts_among rest)) first (end - first)
       (omega arith) (omega arith))
-      ∙ ap along (drop-map executed_attempt first items ∙ ap (map executed_attempt) (sym judged.pending))
-      ∙ open_noted t e judged.front at r rest judged.split limits right
+      ∙ ap along (drop-map executed_attempt first items ∙ ap (map executed_attempt) (sym come.pending))
+      ∙ open_noted t e front at r rest come.split limits right
 
   pub marked_open : HasLimits t → IsRightSection t e → SettledAreSound t e
       → marked unmarked (noted_between executed_attempts first end)
-      ≡ written_in (committed_rows t (state_after start judged.front)) (noted_between executed_attempts first end)
+      ≡ written_in (committed_rows t (state_after start front)) (noted_between executed_attempts first end)
   marked_open limits right sound =
-      let s = state_after start judged.front in
+      let s = state_after start front in
       subst (λ (es : List Entry). marked unmarked es ≡ written_in (committed_rows t s) es)
       (sym (noted_open limits right))
       (first_writes (committed_rows t s) (executions t (attempts_of s.pending))
-      (follows_committed t e judged.front at r rest judged.split sound))
+      (follows_committed t e front at r rest come.split sound))
 
   -- what was found of it is whether it is right
   pub found_is : (result : Bool) → HasLimits t → IsRightSection t e → SettledAreSound t e
       → ((table : Table) → marked unmarked (noted_between executed_attempts first end)
       ≡ written_in table (noted_between executed_attempts first end)
       → result ≡ are_written_in table (noted_between executed_attempts first end) r.restores)
-      → result ≡ are_right_restores t (state_after start judged.front) r.restores
+      → result ≡ are_right_restores t (state_after start front) r.restores
   found_is result limits right sound found =
-      let s = state_after start judged.front in
+      let s = state_after start front in
       found (committed_rows t s) (marked_open limits right sound)
       ∙ ap (λ (es : List Entry). are_written_in (committed_rows t s) es r.restores) (noted_open limits right)
 
   pub all_there : end ≤ length executed_attempts
   all_there =
-      let long = ap length (ap attempts_among judged.split
-      ∙ attempts_among-append judged.front ((at, RollsBack r) ∷ rest))
-      ∙ length-append (attempts_among judged.front) (attempts_among rest) in
-      let came : length (attempts_among judged.front) ≡ end = judged.came in
+      let long = ap length (ap attempts_among come.split
+      ∙ attempts_among-append front ((at, RollsBack r) ∷ rest))
+      ∙ length-append (attempts_among front) (attempts_among rest) in
+      let came : length (attempts_among front) ≡ end = come.came in
       omega (arith, length-map (attempts_among (steps_at t e)) executed_attempt)
 
-  pub judged_rollback : (SettledAreSound t e → are_right_restores t (state_after start judged.front) r.restores ≡ true)
-      → HasJudged t e rest end end
-  judged_rollback right =
-      let more : attempts_among (judged.front ++ (at, RollsBack r) ∷ []) ≡ attempts_among judged.front =
-      attempts_among-append judged.front ((at, RollsBack r) ∷ []) ∙ append-nil (attempts_among judged.front) in
+  -- it leaves no attempt open
+  pub come_rollback : HasCome t e (front ++ (at, RollsBack r) ∷ []) rest end end
+  come_rollback =
+      let more : attempts_among (front ++ (at, RollsBack r) ∷ []) ≡ attempts_among front =
+      attempts_among-append front ((at, RollsBack r) ∷ []) ∙ append-nil (attempts_among front) in
       record {
-        front = judged.front ++ (at, RollsBack r) ∷ [];
-        split = one_more t e (at, RollsBack r) rest first end judged;
-        came = ap length more ∙ judged.came;
+        split = one_more t e front (at, RollsBack r) rest first end come;
+        came = ap length more ∙ come.came;
         fewer = omega arith;
         pending = ap (λ (o : SectionState). map placed_at o.pending)
-            (state_next t e (at, RollsBack r) rest first end judged)
+            (state_next t e front (at, RollsBack r) rest first end come)
             ∙ sym (ap (drop end) more
-            ∙ drop_all end (attempts_among judged.front) (let came : length (attempts_among judged.front)
-            ≡ end = judged.came in omega arith));
-        rightly = λ sound. rightly-push t start judged.front (at, RollsBack r) (judged.rightly sound) (right sound);
+            ∙ drop_all end (attempts_among front) (let came : length (attempts_among front)
+            ≡ end = come.came in omega arith));
       }
 
   -- its restores are within the limits
@@ -345,14 +380,24 @@ module _ (t : Trace) (e at : ℕ) (r : Rollback) (rest : List (ℕ × Step)) (fi
       × IsTrue (is_rising r.restores)
   restores_fit limits =
       let fits : IsTrue (is_rollback (row_count (head_of t)) r) =
-      each_step (λ x. is_step (row_count (head_of t)) x.1) judged.front (at, RollsBack r) rest
-      (subst (λ (xs : List (ℕ × Step)). IsTrue (list_all (λ x. is_step (row_count (head_of t)) x.1) xs)) judged.split
+      each_step (λ x. is_step (row_count (head_of t)) x.1) front (at, RollsBack r) rest
+      (subst (λ (xs : List (ℕ × Step)). IsTrue (list_all (λ x. is_step (row_count (head_of t)) x.1) xs)) come.split
       (come_start t e limits).fit) in
       let one = and_parts (is_number 4 r.to) _ fits in
       let two = and_parts (is_number 4 r.view)
       (is_rising r.restores && list_all (is_restore (row_count (head_of t))) r.restores) one.1 in
       let three = and_parts (is_rising r.restores) (list_all (is_restore (row_count (head_of t))) r.restores) two.1 in
       (three.1, three.0)
+
+pub judged_rollback : (t : Trace) (e at : ℕ) (r : Rollback) (rest : List (ℕ × Step)) (first end : ℕ)
+    (judged : HasJudged t e ((at, RollsBack r) ∷ rest) first end)
+    → (SettledAreSound t e → are_right_restores t (state_after start judged.front) r.restores ≡ true)
+    → HasJudged t e rest end end
+judged_rollback t e at r rest first end judged right = record {
+  front = judged.front ++ (at, RollsBack r) ∷ [];
+  come = come_rollback t e at r judged.front rest first end judged.come;
+  rightly = λ sound. rightly-push t start judged.front (at, RollsBack r) (judged.rightly sound) (right sound);
+}
 
 -- ---- faults
 
@@ -399,7 +444,7 @@ wrong_is_least t e at r rest first end judged sound wrong = record {
       before = judged.front;
       item = (at, RollsBack r);
       rest = rest;
-      is = judged.split;
+      is = judged.come.split;
       holds = (refl, wrong);
     };
     inside = refl;
@@ -416,9 +461,9 @@ wrong_is_least t e at r rest first end judged sound wrong = record {
         let low = section_start t e + length (frame_text (OfReplica e)) in
         let le : at ≤ g.offset =
         first_place (IsWrong t start) low g.offset judged.front (at, RollsBack r) rest
-        (subst (Rising low) judged.split (steps_rising t e))
+        (subst (Rising low) judged.come.split (steps_rising t e))
         (none_wrong t start judged.front (judged.rightly sound))
-        (subst (λ (xs : List (ℕ × Step)). SomePlace xs (At g.offset (IsWrong t start))) judged.split stands) in
+        (subst (λ (xs : List (ℕ × Step)). SomePlace xs (At g.offset (IsWrong t start))) judged.come.split stands) in
         let same : code_number code.Restore ≤ code_number g.code =
         subst (λ (d : Code). code_number code.Restore ≤ code_number d) (sym is) (omega arith) in
         elim (lesser at g.offset le) [ inl lt ↦ inl lt | inr eq ↦ inr (eq, same) ]
@@ -426,7 +471,7 @@ wrong_is_least t e at r rest first end judged sound wrong = record {
 
 pub judged_end : (t : Trace) (e first end : ℕ) → HasJudged t e [] first end → SettledAreSound t e → RestoresAreRight t e
 judged_end t e first end judged sound = subst (λ (xs : List (ℕ × Step)). all_restore_rightly t start xs ≡ true)
-    (sym (judged.split ∙ append-nil judged.front)) (judged.rightly sound)
+    (sym (judged.come.split ∙ append-nil judged.front)) (judged.rightly sound)
 
 -- ---- where there is no rollback
 
@@ -478,7 +523,7 @@ module _ (t : Trace) (h : SectionHistory) (told : h ≡ section_history t h.repl
   section_told some = section_there t h.replica
       (λ none. some (ap (λ (x : SectionHistory). length x.rollbacks) told ∙ none))
 
-  attempts_told : h.attempts ≡ map executed_attempt (attempts_among (steps_at t h.replica))
+  pub attempts_told : h.attempts ≡ map executed_attempt (attempts_among (steps_at t h.replica))
   attempts_told = ap (λ (x : SectionHistory). x.attempts) told ∙ told_attempts t h.replica
 
   pub within_told : (rows : ℕ) → HasLimits t → rows ≡ 2 * length t.customers
@@ -493,19 +538,19 @@ module _ (t : Trace) (h : SectionHistory) (told : h ≡ section_history t h.repl
       (sym (ap length attempts_told ∙ length-map (attempts_among (steps_at t h.replica)) executed_attempt)) lt
 
   -- a rollback of the section
-  module _ (at : ℕ) (r : Rollback) (rest : List (ℕ × Step)) (first end : ℕ)
-      (judged : HasJudged t h.replica ((at, RollsBack r) ∷ rest) first end) where
+  module _ (at : ℕ) (r : Rollback) (front rest : List (ℕ × Step)) (first end : ℕ)
+      (come : HasCome t h.replica front ((at, RollsBack r) ∷ rest) first end) where
     pub there_told : end ≤ length h.attempts
     there_told = subst (λ (rs : List ExecutedAttempt). end ≤ length rs) (sym attempts_told)
-        (all_there t h.replica at r rest first end judged)
+        (all_there t h.replica at r front rest first end come)
 
     pub found_told : (result : Bool) → HasLimits t → IsRightSection t h.replica → SettledAreSound t h.replica
         → ((table : Table) → marked unmarked (noted_between h.attempts first end)
         ≡ written_in table (noted_between h.attempts first end)
         → result ≡ are_written_in table (noted_between h.attempts first end) r.restores)
-        → result ≡ are_right_restores t (state_after start judged.front) r.restores
+        → result ≡ are_right_restores t (state_after start front) r.restores
     found_told result limits right sound found =
-        found_is t h.replica at r rest first end judged result limits right sound
+        found_is t h.replica at r front rest first end come result limits right sound
         (subst (λ (rs : List ExecutedAttempt). (table : Table) → marked unmarked (noted_between rs first end)
         ≡ written_in table (noted_between rs first end)
         → result ≡ are_written_in table (noted_between rs first end) r.restores) attempts_told found)

@@ -32,6 +32,10 @@ marked_count rows = sum_by (λ m. if is_some m then 1 else 0) rows
 abbrev pub seen_by : Entry → Versioned
 seen_by e = record { version = e.version; value = e.seen }
 
+-- what a restore puts into its row
+abbrev pub restored_to : Restore → Versioned
+restored_to r = record { version = r.version; value = r.value }
+
 -- what is marked already stays
 abbrev pub marked_once : Option Versioned → Versioned → Option Versioned
 marked_once None v = Some v
@@ -41,6 +45,12 @@ marked_once (Some u) v = Some u
 abbrev pub marked : Marking → List Entry → Marking
 marked marks [] = marks
 marked marks (e ∷ es) = marked (λ row. if writes_row row e then marked_once (marks row) (seen_by e) else marks row) es
+
+-- with what restores say of the rows that have no mark
+abbrev pub marked_by : Marking → List Restore → Marking
+marked_by marks [] = marks
+marked_by marks (r ∷ rs) =
+    marked_by (λ row. if r.row == row then marked_once (marks row) (restored_to r) else marks row) rs
 
 -- all that the attempts from one number up to another noted, each in its certificate's order
 abbrev pub noted_between : List ExecutedAttempt → ℕ → ℕ → List Entry

@@ -1,4 +1,4 @@
-//! What the discarded attempts first saw of the rows that they wrote.
+//! What is noted of rows: what the discarded attempts first saw of those that they wrote, or what restores say.
 
 ghost use Rattle.std.specs.Prelude.{◌≡◌, ◌≢◌, ◌<◌, ℕ, IsTrue, IsFalse, IfOk, List, None, if◌then◌else◌, ◌==◌, length};
 ghost use Rattle.std.specs.Prelude.{replicate, [], ◌∷◌};
@@ -6,7 +6,8 @@ ghost use Rattle.std.specs.List.{list_all};
 ghost use Rattle.eve_smallbank.specs.Chain as chain;
 ghost use Rattle.eve_smallbank.specs.declared.entry.Entry as noted;
 ghost use Rattle.eve_grammar.specs.Limits.{is_entry, is_restore, is_rising};
-ghost use Rattle.eve_agree.specs.Marking.{marking_of, unmarked, marked_once, marked, written_in, is_marked, taken};
+ghost use Rattle.eve_agree.specs.Marking.{marking_of, unmarked, marked_once, marked, marked_by, written_in, is_marked};
+ghost use Rattle.eve_agree.specs.Marking.{taken};
 ghost use Rattle.eve_agree.specs.Tables.{are_written_in};
 
 use eve_accounts::Row;
@@ -56,6 +57,14 @@ impl FirstSeen {
         self.count == 0
     }
 
+    /// The mark on a row, if there is one.
+    pub fn get(&self, row: Row) -> Option<Versioned>
+        requires { row < length self.now }
+        ensures { result ≡ marking_of self.now row }
+    {
+        self.rows[row.number() as usize]
+    }
+
     /// Marks a row, where no mark is on it.
     fn mark(&mut self, row: Row, seen: Versioned)
         requires { row < length self.old }
@@ -97,6 +106,32 @@ impl FirstSeen {
         for entry in entries {
             self.note_one(&entry);
         }
+    }
+
+    /// Marks the rows of these restores, where no mark is on them, with what they say.
+    pub fn note_restores(&mut self, restores: Restores<'_>)
+        requires { IsTrue (list_all (is_restore (length self.old)) restores) }
+        ensures as_many { length self.new ≡ length self.old }
+        ensures marks { marking_of self.new ≡ marked_by (marking_of self.old) restores.entry }
+    {
+        for restored in restores {
+            self.note_restore(&restored);
+        }
+    }
+
+    /// Takes one restore.
+    fn note_restore(&mut self, restored: &Restore)
+        requires { restored.now.row < length self.old }
+        ensures as_many { length self.new ≡ length self.old }
+        ensures marks { marking_of self.new ≡ marked_by (marking_of self.old) (restored.now ∷ []) }
+    {
+        self.mark(
+            restored.row,
+            Versioned {
+                version: restored.version,
+                value: restored.value,
+            },
+        );
     }
 
     /// Takes away the mark on a restore's row, where it is of the version and the value that are restored.

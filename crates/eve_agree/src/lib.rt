@@ -11,6 +11,7 @@ mod majority;
 mod restores;
 mod sent_replies;
 mod shown_tokens;
+mod wrong_restore;
 
 pub use agreement::equal_balances;
 pub use due_tokens::tokens;
@@ -18,3 +19,4 @@ pub use majority::majorities;
 pub use restores::rollbacks;
 pub use sent_replies::replies;
 pub use shown_tokens::{Peer, tokens_beside};
+pub use wrong_restore::{WrongRestore, first_wrong_restore};

@@ -37,7 +37,7 @@ fn note_attempt(marks: &mut FirstSeen, history: &History<'_>, i: usize)
 }
 
 /// Marks the rows that the attempts from one number up to another wrote, one after another.
-fn note_attempts(marks: &mut FirstSeen, history: &History<'_>, first: usize, end: usize)
+pub(crate) fn note_attempts(marks: &mut FirstSeen, history: &History<'_>, first: usize, end: usize)
     requires rising { first ≤ end }
     requires there { end ≤ length history.now.attempts }
     requires within { AllByRecursion (λ r. AreWithin (length marks.old) r.ordered) history.now.attempts }

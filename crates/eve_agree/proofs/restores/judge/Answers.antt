@@ -98,7 +98,8 @@ is_right-requires-clause-there c =
     c.loop-step.end c.in-Some.step c.in-Rollback.rollback c.in-Some.ensures.some c.in-Rollback.is
     c.loop-step.invariant.judged in
     there_told t c.args.history.now c.requires.history c.in-Rollback.rollback.offset
-    (rollback_in c.in-Rollback.rollback.bytes.now) c.next.new.self c.loop-step.first c.loop-step.end here
+    (rollback_in c.in-Rollback.rollback.bytes.now) here.front c.next.new.self c.loop-step.first c.loop-step.end
+    here.come
 
 pub is_right-requires-clause-within : goal.is_right-requires-clause-within
 is_right-requires-clause-within c = within_told c.args.trace.now c.args.history.now c.requires.history
@@ -112,8 +113,8 @@ is_right-requires-clause-rows c =
     c.loop-step.end c.in-Some.step c.in-Rollback.rollback c.in-Some.ensures.some c.in-Rollback.is
     c.loop-step.invariant.judged in
     subst (λ (n : ℕ). IsTrue (list_all (is_restore n) r.restores)) (sym c.loop-step.invariant.many)
-    (restores_fit t c.args.history.now.replica c.in-Rollback.rollback.offset r c.next.new.self c.loop-step.first
-    c.loop-step.end here c.recall_limits.ensures).0
+    (restores_fit t c.args.history.now.replica c.in-Rollback.rollback.offset r here.front c.next.new.self
+    c.loop-step.first c.loop-step.end here.come c.recall_limits.ensures).0
 
 pub is_right-requires-clause-restores : goal.is_right-requires-clause-restores
 is_right-requires-clause-restores c =
@@ -122,8 +123,8 @@ is_right-requires-clause-restores c =
     let here = on_rollback t c.args.history.now.replica c.loop-step.steps c.next.new.self c.loop-step.first
     c.loop-step.end c.in-Some.step c.in-Rollback.rollback c.in-Some.ensures.some c.in-Rollback.is
     c.loop-step.invariant.judged in
-    (restores_fit t c.args.history.now.replica c.in-Rollback.rollback.offset r c.next.new.self c.loop-step.first
-    c.loop-step.end here c.recall_limits.ensures).1
+    (restores_fit t c.args.history.now.replica c.in-Rollback.rollback.offset r here.front c.next.new.self
+    c.loop-step.first c.loop-step.end here.come c.recall_limits.ensures).1
 
 pub returns-then-not-is_right-clause-least : goal.returns-then-not-is_right-clause-least
 returns-then-not-is_right-clause-least c = λ sound.
@@ -135,8 +136,8 @@ returns-then-not-is_right-clause-least c = λ sound.
     let here = on_rollback t c.args.history.now.replica c.loop-step.steps c.next.new.self c.loop-step.first
     c.loop-step.end c.in-Some.step c.in-Rollback.rollback c.in-Some.ensures.some c.in-Rollback.is
     c.loop-step.invariant.judged in
-    let found = found_told t h c.requires.history o r c.next.new.self c.loop-step.first c.loop-step.end here
-    c.is_right.result c.recall_limits.ensures c.requires.right sound c.is_right.ensures.right in
+    let found = found_told t h c.requires.history o r here.front c.next.new.self c.loop-step.first c.loop-step.end
+    here.come c.is_right.result c.recall_limits.ensures c.requires.right sound c.is_right.ensures.right in
     let least = wrong_is_least t h.replica o r c.next.new.self c.loop-step.first c.loop-step.end here sound
     (sym found ∙ no) in
     let same : c.wrong.result ≡ Found (record { code = code.Restore; offset = o; replica = Some h.replica }) =
@@ -160,8 +161,8 @@ loop-step-preserved-in-Rollback c =
     c.loop-step.invariant.judged in
     record {
       judged = judged_rollback t h.replica o r c.next.new.self c.loop-step.first c.loop-step.end here (λ sound.
-          sym (found_told t h c.requires.history o r c.next.new.self c.loop-step.first c.loop-step.end here
-          c.is_right.result c.recall_limits.ensures c.requires.right sound c.is_right.ensures.right) ∙ yes);
+          sym (found_told t h c.requires.history o r here.front c.next.new.self c.loop-step.first c.loop-step.end
+          here.come c.is_right.result c.recall_limits.ensures c.requires.right sound c.is_right.ensures.right) ∙ yes);
       many = c.is_right.ensures.as_many ∙ c.loop-step.invariant.many;
       none = c.is_right.ensures.none yes;
     }
