@@ -1,5 +1,5 @@
 -- From what is found in a trace to the answer for its bytes.
-use Rattle.std.proofs.Common.{◌≡◌, ◌≤◌, ℕ, List, length, arith, subst}
+use Rattle.std.proofs.Common.{◌≡◌, ◌≤◌, ℕ, List, length, arith, ap, sym, subst, ◌∙◌}
 use Rattle.eve_grammar.specs.Trace.{Trace}
 use Rattle.eve_grammar.specs.Spelling.{length_of}
 use Rattle.eve_grammar.specs.Following.{Spells}
@@ -12,13 +12,16 @@ use Rattle.eve_audit.specs.declared.verdict.Summary.{Summary}
 use Rattle.eve_audit.specs.declared.verdict.Verdict.TheVariants.{Yes, No}
 use Rattle.eve_audit.specs.Verdict.{IsSummary, IsTraceFault, SpellsAudited}
 use Rattle.eve_audit.specs.Reports.{IsFirstOf}
-use Rattle.eve_audit.specs.Answer.{IsAnswer, IsRead, IsYesOfAudited, IfNo}
+use Rattle.eve_audit.specs.declared.verdict.AcceptedTrace.{AcceptedTrace}
+use Rattle.eve_audit.specs.declared.verdict.WholeVerdict.TheVariants as whole
+use Rattle.eve_audit.specs.Answer.{IsAnswer, IsRead, IsWholeAnswer, IsYesOfAudited, IfNo}
 use Rattle.eve_audit.proofs.Sections.{FatesAreAsItEnds}
 use Rattle.eve_audit.proofs.Verdicts.{faultless, found_in_form, trace_first}
 use Rattle.eve_audit.proofs.Within.{trace_fault_within, long_as}
 use Rattle.eve_audit.proofs.Naming.{named_in, named_in_none}
 use Rattle.eve_audit.specs.declared.verdict.Verdict.{Verdict}
 use Rattle.eve_history.specs.Order.{StandsInOrders}
+use Rattle.eve_history.specs.SectionHistory.{section_histories}
 
 module _ (bytes : List ℕ) (t : Trace) (read : IsRead bytes t) (once : (u : Trace) → Spells bytes u → u ≡ t) where
   pub no_for : ((f : Fault) → IsFaultOutside StandsInOrders t f → f.offset ≤ length_of t)
@@ -51,6 +54,19 @@ form_for bytes (Found f) least none within =
       within = within;
       replica = named_in_none bytes f least.is none;
     }
+
+-- ---- with the trace of a yes
+
+pub whole_yes : (bytes : List ℕ) (t : Trace) (a : AcceptedTrace) → IsRead bytes t → a.trace ≡ t
+    → a.histories.items ≡ section_histories t → IsAnswer bytes (Yes a.summary) → IsWholeAnswer bytes (whole.Yes a)
+whole_yes bytes t a read same told answer = record {
+  answer = answer;
+  trace = subst (Spells bytes) (sym same) read.spells;
+  histories = told ∙ ap section_histories (sym same);
+}
+
+pub whole_no : (bytes : List ℕ) (f : Fault) → IsAnswer bytes (No f) → IsWholeAnswer bytes (whole.No f)
+whole_no bytes f answer = record { answer = answer; trace = tt; histories = tt }
 
 -- ---- of a verdict that is known
 

@@ -1,12 +1,13 @@
 //! The verdict on a trace, from what its phases find.
 
 ghost use Rattle.std.specs.Prelude.{◌≡◌, ◌≤◌, ℕ, List, IfOk, IfErr, All, length};
+ghost use Rattle.eve_grammar.specs.Following.{Spells};
 ghost use Rattle.eve_views.specs.Form.{IfFound, HasNone, IsFaultOutside};
 ghost use Rattle.eve_history.specs.SectionHistory.{names_of, section_histories};
 ghost use Rattle.eve_history.specs.Order.{StandsInOrders};
 ghost use Rattle.eve_chains.specs.Settling.{settlings};
 ghost use Rattle.eve_audit.specs.Accepted.{IsAccepted};
-ghost use Rattle.eve_audit.specs.Answer.{IsAnswer, IsRead};
+ghost use Rattle.eve_audit.specs.Answer.{IfAccepted, IsAnswer, IsRead, IsWholeAnswer, verdict_of};
 ghost use Rattle.eve_audit.specs.Findings.{AreTrue};
 ghost use Rattle.eve_audit.specs.Verdict.{IsSummary, IsVerdict, IsTraceFault, IsCommonFault, SpellsAudited};
 ghost use Rattle.eve_audit.specs.Where.{NamesItsSection};
@@ -16,8 +17,8 @@ ghost use Rattle.eve_audit.specs.declared.verdict.Verdict.TheVariants.{Yes, No};
 ghost use Rattle.eve_views.specs.declared.fault.Fault.{Fault};
 
 use crate::laws::accepted_traces_are_audited;
-use crate::replicas::judge_replicas;
-use crate::verdict::{AuditFault, Summary, Verdict};
+use crate::replicas::{Reports, judge_replicas};
+use crate::verdict::{AcceptedTrace, AuditFault, Summary, Verdict, WholeVerdict};
 use crate::workers::Slot;
 use eve_accounts::Names;
 use eve_agree::{equal_balances, majorities, replies};
@@ -88,37 +89,49 @@ fn judge_together(
     replies(trace, histories)
 }
 
-/// The summary of a trace without a fault, or its first fault, where its orders have none. What workers have found of
-/// the replicas isn't judged again.
+/// A trace whose orders have no fault, with its summary and what each of its sections tells, or its first fault. What
+/// workers have found of the replicas isn't judged again.
 fn judge_trace<'a, R: Threads + Sync>(
     rt: &R,
     alloc: Global,
-    trace: &Trace<'a>,
-    names: &Names<'_>,
+    opened: Opened<'a>,
     slots: &mut [Slot<'a>],
-) -> Result<Summary, CheckFault>
-    requires names { names.now.items ≡ names_of trace.now }
-    requires orders { HasNone (IsFaultOutside StandsInOrders trace.now) }
-    requires slots { All (AreTrue trace.now) slots.old }
-    ensures summary { IfOk result (IsSummary trace.now) }
-    ensures accepted { IfOk result (λ _. IsAccepted trace.now) }
-    ensures none { IfOk result (λ _. HasNone (IsTraceFault trace.now)) }
-    ensures first { IfErr result (λ why. IfFound why (IsFirstOf (IsTraceFault trace.now))) }
+) -> Result<AcceptedTrace<'a>, CheckFault>
+    requires names { opened.names.items ≡ names_of opened.trace }
+    requires orders { HasNone (IsFaultOutside StandsInOrders opened.trace) }
+    requires slots { All (AreTrue opened.trace) slots.old }
+    ensures trace { IfOk result (λ a. a.trace ≡ opened.entry.trace) }
+    ensures histories { IfOk result (λ a. a.histories.items ≡ section_histories opened.entry.trace) }
+    ensures summary { IfOk result (λ a. IsSummary opened.entry.trace a.summary) }
+    ensures accepted { IfOk result (λ _. IsAccepted opened.entry.trace) }
+    ensures none { IfOk result (λ _. HasNone (IsTraceFault opened.entry.trace)) }
+    ensures first { IfErr result (λ why. IfFound why (IsFirstOf (IsTraceFault opened.entry.trace))) }
 {
+    let Opened { trace, names } = opened;
     trace.recall_limits();
     requests_take_effect_once();
-    let found = match judge_replicas(rt, alloc, trace, names, slots) {
+    let found = match judge_replicas(rt, alloc, &trace, &names, slots) {
         Ok(found) => found,
         Err(why) => return Err(why),
     };
-    match judge_together(alloc, trace, &found.histories, &found.settled) {
+    match judge_together(alloc, &trace, &found.histories, &found.settled) {
         Ok(()) => {}
         Err(why) => return Err(why),
     }
-    Ok(Summary {
+    let Reports {
+        histories,
+        settled: _,
+        committed,
+    } = found;
+    let summary = Summary {
         replicas: trace.section_count() as u32,
         batches: trace.batch_count(),
-        committed: found.committed,
+        committed,
+    };
+    Ok(AcceptedTrace {
+        summary,
+        trace,
+        histories,
     })
 }
 
@@ -126,22 +139,21 @@ fn judge_trace<'a, R: Threads + Sync>(
 fn verdict_on<'a, R: Threads + Sync>(
     rt: &R,
     alloc: Global,
-    trace: &Trace<'a>,
-    names: &Names<'_>,
+    opened: Opened<'a>,
     slots: &mut [Slot<'a>],
-) -> Result<Verdict, AuditFault>
-    requires names { names.now.items ≡ names_of trace.now }
-    requires orders { HasNone (IsFaultOutside StandsInOrders trace.now) }
-    requires slots { All (AreTrue trace.now) slots.old }
-    ensures { IfOk result (λ verdict. (bytes : List ℕ) → IsRead bytes trace.now → IsAnswer bytes verdict) }
+) -> Result<WholeVerdict<'a>, AuditFault>
+    requires names { opened.names.items ≡ names_of opened.trace }
+    requires orders { HasNone (IsFaultOutside StandsInOrders opened.trace) }
+    requires slots { All (AreTrue opened.trace) slots.old }
+    ensures { IfOk result (λ w. (bytes : List ℕ) → IsRead bytes opened.entry.trace → IsWholeAnswer bytes w) }
 {
     bytes_spell_one_trace();
     faults_lie_within();
     fates_are_as_the_section_ends();
     accepted_traces_are_audited();
-    match judge_trace(rt, alloc, trace, names, slots) {
-        Ok(summary) => Ok(Verdict::Yes(summary)),
-        Err(CheckFault::Found(fault)) => Ok(Verdict::No(fault)),
+    match judge_trace(rt, alloc, opened, slots) {
+        Ok(accepted) => Ok(WholeVerdict::Yes(accepted)),
+        Err(CheckFault::Found(fault)) => Ok(WholeVerdict::No(fault)),
         Err(CheckFault::Memory) => Err(AuditFault::Memory),
     }
 }
@@ -165,11 +177,13 @@ pub fn audit_one<R: Threads + Sync>(
     ensures within { IfOk result (λ v. (f : Fault) → v ≡ No f → f.offset ≤ length bytes.now) }
     ensures replica { IfOk result (λ v. (f : Fault) → v ≡ No f → NamesItsSection bytes.now f) }
 {
-    match open(rt, alloc, bytes, random, 1) {
-        Ok(opened) => verdict_on(rt, alloc, &opened.trace, &opened.names, &mut []),
-        Err(CheckFault::Found(fault)) => Ok(Verdict::No(fault)),
-        Err(CheckFault::Memory) => Err(AuditFault::Memory),
-    }
+    let opened = match open(rt, alloc, bytes, random, 1) {
+        Ok(opened) => opened,
+        Err(CheckFault::Found(fault)) => return Ok(Verdict::No(fault)),
+        Err(CheckFault::Memory) => return Err(AuditFault::Memory),
+    };
+    let whole = verdict_on(rt, alloc, opened, &mut [])?;
+    Ok(whole.verdict())
 }
 
 /// Audits the bytes of a trace as `audit_one` does, the replicas side by side on up to `MOST_AUDIT_WORKERS` workers:
@@ -201,14 +215,38 @@ pub fn audit<R: Threads + Wait + Sync, G: Gate>(
     ensures within { IfOk result (λ v. (f : Fault) → v ≡ No f → f.offset ≤ length bytes.now) }
     ensures replica { IfOk result (λ v. (f : Fault) → v ≡ No f → NamesItsSection bytes.now f) }
 {
+    Ok(audit_whole(rt, alloc, bytes, workers, random, gate)?.verdict())
+}
+
+/// Audits the bytes of a trace as `audit` does, and keeps of a yes the trace that was read and what each section tells,
+/// so that nothing is read or judged again.
+///
+/// docs/MODEL.md, "Verdict" and "The audit theorem". It takes the time of `audit`. Where the verdict is yes, the offsets
+/// of the trace's frames and each replica's history take memory until they are dropped.
+pub fn audit_whole<'a, R: Threads + Wait + Sync, G: Gate>(
+    rt: &R,
+    alloc: Global,
+    bytes: &'a [u8],
+    workers: u8,
+    random: RandomState,
+    gate: &G,
+) -> Result<WholeVerdict<'a>, AuditFault>
+    requires { (1 ≤ workers) × (workers ≤ MOST_AUDIT_WORKERS) }
+    ensures verdict { IfOk result (λ w. IsVerdict bytes.now (verdict_of w)) }
+    ensures yes { IfOk result (λ w. (s : SummaryValue) → verdict_of w ≡ Yes s → SpellsAudited bytes.now) }
+    ensures within { IfOk result (λ w. (f : Fault) → verdict_of w ≡ No f → f.offset ≤ length bytes.now) }
+    ensures replica { IfOk result (λ w. (f : Fault) → verdict_of w ≡ No f → NamesItsSection bytes.now f) }
+    ensures trace { IfOk result (λ w. IfAccepted w (λ a. Spells bytes.now a.trace)) }
+    ensures histories { IfOk result (λ w. IfAccepted w (λ a. a.histories.items ≡ section_histories a.trace)) }
+{
     let opened = match open(rt, alloc, bytes, random, workers) {
         Ok(opened) => opened,
-        Err(CheckFault::Found(fault)) => return Ok(Verdict::No(fault)),
+        Err(CheckFault::Found(fault)) => return Ok(WholeVerdict::No(fault)),
         Err(CheckFault::Memory) => return Err(AuditFault::Memory),
     };
     let (trace, names) = (&opened.trace, &opened.names);
     match Slot::judge_side_by_side(rt, alloc, trace, names, workers, gate) {
-        Ok(mut slots) => verdict_on(rt, alloc, trace, names, slots.as_mut_slice()),
+        Ok(mut slots) => verdict_on(rt, alloc, opened, slots.as_mut_slice()),
         Err(AllocError) => Err(AuditFault::Memory),
     }
 }

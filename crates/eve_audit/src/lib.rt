@@ -8,5 +8,5 @@ mod replicas;
 mod verdict;
 mod workers;
 
-pub use auditing::{audit, audit_one};
-pub use verdict::{AuditFault, Summary, Verdict};
+pub use auditing::{audit, audit_one, audit_whole};
+pub use verdict::{AcceptedTrace, AuditFault, Summary, Verdict, WholeVerdict};

@@ -1,6 +1,10 @@
 //! What an audit returns.
 
-use eve_views::Fault;
+ghost use Rattle.std.specs.Prelude.{◌≡◌};
+ghost use Rattle.eve_audit.specs.Answer.{verdict_of};
+
+use eve_history::History;
+use eve_views::{Fault, Trace};
 
 /// The counts of a trace without a fault.
 #[derive(Clone, Copy, Debug, PartialEq, Eq)]
@@ -22,6 +26,38 @@ pub enum Verdict {
     Yes(Summary),
     /// The first fault, by phase, then offset, then code.
     No(Fault),
+}
+
+/// A trace without a fault, and what each of its sections tells.
+#[derive(Drop)]
+pub struct AcceptedTrace<'a> {
+    /// The counts that a yes names.
+    pub summary: Summary,
+    /// The trace.
+    pub trace: Trace<'a>,
+    /// What each replica's section tells, in their order.
+    pub histories: Vec<History<'a>>,
+}
+
+/// The verdict on the bytes of a trace, and of a yes the trace that it was found of.
+#[derive(Drop)]
+pub enum WholeVerdict<'a> {
+    /// No fault stands.
+    Yes(AcceptedTrace<'a>),
+    /// The first fault.
+    No(Fault),
+}
+
+impl<'a> WholeVerdict<'a> {
+    /// The verdict alone.
+    pub fn verdict(&self) -> Verdict
+        ensures { result ≡ verdict_of self.now }
+    {
+        match self {
+            WholeVerdict::Yes(accepted) => Verdict::Yes(accepted.summary),
+            WholeVerdict::No(fault) => Verdict::No(*fault),
+        }
+    }
 }
 
 /// Why an audit has no verdict.

@@ -1,31 +1,28 @@
-use Rattle.std.proofs.Common.{◌≡◌, ◌≤◌, length}
-use Rattle.std.proofs.lemmas.Result.{IfOk-weaker}
-use Rattle.eve_views.specs.declared.fault.Fault.{Fault}
-use Rattle.eve_audit.specs.declared.verdict.Summary.{Summary}
-use Rattle.eve_audit.specs.declared.verdict.Verdict.TheVariants.{Yes, No}
-use Rattle.eve_audit.specs.Verdict.{IsVerdict, SpellsAudited}
+use Rattle.std.proofs.Common.{◌≤◌, length, sym, subst, ◌∙◌}
+use Rattle.eve_audit.specs.Verdict.{IsVerdict}
+use Rattle.eve_audit.specs.Answer.{verdict_of}
 use Rattle.eve_audit.specs.Where.{NamesItsSection}
 use Rattle.eve_audit.proofs.Answering.{yes_from, no_from}
 use Rattle.eve_audit.proofs.auditing.audit_one.Goals as goal
 
-pub returns-in-Ok-clause-verdict : goal.returns-in-Ok-clause-verdict
-returns-in-Ok-clause-verdict g c = IfOk-weaker c.verdict_on.result _ (IsVerdict c.args.bytes.now)
-    (λ v answer. (answer c.args.bytes.now c.in-Ok.ensures.read).verdict) c.verdict_on.ensures
+pub returns-clause-verdict : goal.returns-clause-verdict
+returns-clause-verdict g c =
+    let told = c.in_ok-whole.ensures c.args.bytes.now c.in-Ok.ensures.read in
+    subst (IsVerdict c.args.bytes.now) (sym c.verdict.ensures) told.answer.verdict
 
-pub returns-in-Ok-clause-yes : goal.returns-in-Ok-clause-yes
-returns-in-Ok-clause-yes g c =
-    IfOk-weaker c.verdict_on.result _ (λ v. (s : Summary) → v ≡ Yes s → SpellsAudited c.args.bytes.now)
-    (λ v answer s is. yes_from c.args.bytes.now v s (answer c.args.bytes.now c.in-Ok.ensures.read).yes is)
-    c.verdict_on.ensures
+pub returns-clause-yes : goal.returns-clause-yes
+returns-clause-yes g c = λ s is.
+    let told = c.in_ok-whole.ensures c.args.bytes.now c.in-Ok.ensures.read in
+    yes_from c.args.bytes.now (verdict_of c.in_ok-whole.whole) s told.answer.yes (sym c.verdict.ensures ∙ is)
 
-pub returns-in-Ok-clause-within : goal.returns-in-Ok-clause-within
-returns-in-Ok-clause-within g c =
-    IfOk-weaker c.verdict_on.result _ (λ v. (f : Fault) → v ≡ No f → f.offset ≤ length c.args.bytes.now)
-    (λ v answer f is. no_from v (λ f. f.offset ≤ length c.args.bytes.now) f
-    (answer c.args.bytes.now c.in-Ok.ensures.read).within is) c.verdict_on.ensures
+pub returns-clause-within : goal.returns-clause-within
+returns-clause-within g c = λ f is.
+    let told = c.in_ok-whole.ensures c.args.bytes.now c.in-Ok.ensures.read in
+    no_from (verdict_of c.in_ok-whole.whole) (λ h. h.offset ≤ length c.args.bytes.now) f told.answer.within
+    (sym c.verdict.ensures ∙ is)
 
-pub returns-in-Ok-clause-replica : goal.returns-in-Ok-clause-replica
-returns-in-Ok-clause-replica g c =
-    IfOk-weaker c.verdict_on.result _ (λ v. (f : Fault) → v ≡ No f → NamesItsSection c.args.bytes.now f)
-    (λ v answer f is. no_from v (NamesItsSection c.args.bytes.now) f
-    (answer c.args.bytes.now c.in-Ok.ensures.read).replica is) c.verdict_on.ensures
+pub returns-clause-replica : goal.returns-clause-replica
+returns-clause-replica g c = λ f is.
+    let told = c.in_ok-whole.ensures c.args.bytes.now c.in-Ok.ensures.read in
+    no_from (verdict_of c.in_ok-whole.whole) (NamesItsSection c.args.bytes.now) f told.answer.replica
+    (sym c.verdict.ensures ∙ is)

@@ -1,20 +1,23 @@
-use Rattle.eve_audit.proofs.Answering.{no_for, yes_for}
+use Rattle.eve_audit.proofs.Answering.{no_for, yes_for, whole_yes, whole_no}
 use Rattle.eve_audit.proofs.auditing.verdict_on.Goals as goal
 
 pub returns-in-Ok : goal.returns-in-Ok
 returns-in-Ok g c = λ bytes read.
-    let t = c.args.trace.now in
-    yes_for bytes t read (λ u other. c.bytes_spell_one_trace.ensures bytes u t other read.spells) c.in-Ok.summary
-    c.in-Ok.ensures.summary c.in-Ok.ensures.none (c.accepted_traces_are_audited.ensures t c.in-Ok.ensures.accepted)
+    let t = c.args.opened.trace in
+    whole_yes bytes t c.in-Ok.accepted read c.in-Ok.ensures.trace c.in-Ok.ensures.histories
+    (yes_for bytes t read (λ u other. c.bytes_spell_one_trace.ensures bytes u t other read.spells)
+    c.in-Ok.accepted.summary c.in-Ok.ensures.summary c.in-Ok.ensures.none
+    (c.accepted_traces_are_audited.ensures t c.in-Ok.ensures.accepted))
 
 pub returns-in-Err-Found : goal.returns-in-Err-Found
 returns-in-Err-Found g c = λ bytes read.
-    let t = c.args.trace.now in
-    no_for bytes t read (λ u other. c.bytes_spell_one_trace.ensures bytes u t other read.spells)
+    let t = c.args.opened.trace in
+    whole_no bytes c.in-Err-Found.fault
+    (no_for bytes t read (λ u other. c.bytes_spell_one_trace.ensures bytes u t other read.spells)
     (c.faults_lie_within.ensures.orders t)
     (λ e. (
       c.fates_are_as_the_section_ends.ensures.committed t e,
       c.fates_are_as_the_section_ends.ensures.discarded
           t e,
     ))
-    c.in-Err-Found.fault (rw c.in-Err-Found.field-0-is at c.in-Err-Found.ensures.first)
+    c.in-Err-Found.fault (rw c.in-Err-Found.field-0-is at c.in-Err-Found.ensures.first))
