@@ -117,7 +117,8 @@ commit_comes s c (at, TakesOver x) commit is stands some = elim stands [ ]
 
 -- a rollback comes
 pub rollback_comes : (s : SectionState) (c : Course) (step : ℕ × Step) (rollback : RollbackView) (view : ℕ)
-    (path : Vec OnPath Global) → IsCourse s c → IsStep (of.Rollback rollback) step → view ≡ (rollback_said rollback).view
+    (path : Vec OnPath Global) → IsCourse s c → IsStep (of.Rollback rollback) step →
+    view ≡ (rollback_said rollback).view
     → path.items ≡ take c.committed c.path.items
     → IsCourse (next s step)
     (record { view = view; rolled_back = true; taken = c.taken; committed = c.committed; path = path })

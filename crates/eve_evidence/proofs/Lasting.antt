@@ -39,7 +39,8 @@ module _ (row : ℕ) where
   pub left_some : (es : List Entry) → is_some (last_left row es) ≡ list_any (writes_row row) es
   left_some es = some_from es None
 
-  table_from : (es : List Entry) (o : Option Versioned) (table : Table) (base : Versioned) → table row ≡ unwrap_or o base
+  table_from : (es : List Entry) (o : Option Versioned) (table : Table) (base : Versioned) → table row ≡ unwrap_or o
+      base
       → table_after table es row ≡ unwrap_or (fold step o es) base
   table_from [] o table base is = is
   table_from (e ∷ es) o table base is =
@@ -50,7 +51,8 @@ module _ (row : ℕ) where
       by false = is
 
   -- what the row has after entries
-  pub left_table : (es : List Entry) (table : Table) → table_after table es row ≡ unwrap_or (last_left row es) (table row)
+  pub left_table : (es : List Entry) (table : Table) → table_after table es row ≡ unwrap_or (last_left row es)
+      (table row)
   left_table es table = table_from es None table (table row) refl
 
   pub left_more : (es : List Entry) (e : Entry) → last_left row (es ++ e ∷ []) ≡ step (last_left row es) e

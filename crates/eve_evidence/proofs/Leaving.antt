@@ -21,7 +21,8 @@ use Rattle.eve_evidence.proofs.Lasting.{last_inside, last_behind, last_table, le
 use Rattle.eve_evidence.proofs.Ways.{way_table}
 
 module _ (t : Trace) (s : SectionState) (course : Course) (said a : Attempt) (xs : List (ℕ × Access))
-    (at index place row : ℕ) (is : IsCourse s course) (said_is : said ≡ without_accesses a) (xs_are : xs ≡ accesses_at at a)
+    (at index place row : ℕ) (is : IsCourse s course) (said_is : said ≡ without_accesses a)
+    (xs_are : xs ≡ accesses_at at a)
     (before : take place said.certificate ≡ before_index index said.certificate) where
   abbrev pub own : List Passed
   own = passed said.seq xs (take place said.certificate)

@@ -109,7 +109,8 @@ no_place_of_all P (x ∷ xs) all place = elim (place_cases (λ _ y. P y) x xs pl
 pub no_place_more : {A : Type 0} (P : List A → A → Type 0) (xs : List A) (i : ℕ) (x : A) → slice_get xs i ≡ Some x
     → (SomePlace (take i xs) P → ⊥) → (P (take i xs) x → ⊥) → SomePlace (take (i + 1) xs) P → ⊥
 no_place_more {A} P xs i x got none not_here place =
-    let moved : SomePlace (take i xs ++ x ∷ []) P = subst (λ (ys : List A). SomePlace ys P) (take_one_more xs i x got) place
+    let moved : SomePlace (take i xs ++ x ∷ []) P = subst (λ (ys : List A). SomePlace ys P) (take_one_more xs i x got)
+    place
     in
     elim (place_push P (take i xs) x moved) [ inl front ↦ none front | inr here ↦ not_here here ]
 

@@ -48,7 +48,8 @@ seen_by_three (d ∷ es) a b c n at next last =
 
 -- ---- rows
 
-pub other_row : (t : Trace) (names : List (List ℕ)) (x : Executed) (es : List Entry) (rows : RowKinds) (i : ℕ) (e : Entry)
+pub other_row : (t : Trace) (names : List (List ℕ)) (x : Executed) (es : List Entry) (rows : RowKinds) (i : ℕ)
+    (e : Entry)
     (r : ℕ × Kind) (found due : ToldRow) → x.entries ≡ es → touched_rows names x.request ≡ map (λ q. q.0) rows
     → length es ≡ length rows → take i (rows_noted es) ≡ take i (map (λ q. q.0) rows) → slice_get es i ≡ Some e
     → slice_get rows i ≡ Some r → (e.row ≡ r.0 → ⊥) → IsToldRow t e.row found → IsToldRow t r.0 due
@@ -79,7 +80,8 @@ same_kind Write Read e = absurd (false≢true (sym e))
 same_kind Write Write e = refl
 
 module _ (names : List (List ℕ)) (x due : Executed) (es : List Entry) (effects : List Effect) (i : ℕ) (e : Entry)
-    (f : Effect) (is : x.entries ≡ es) (due_is : IsDueRecord names x due) (effects_are : map effect_in due.entries ≡ effects)
+    (f : Effect) (is : x.entries ≡ es) (due_is : IsDueRecord names x due)
+    (effects_are : map effect_in due.entries ≡ effects)
     (before : take i (map effect_in es) ≡ take i effects) (got : slice_get es i ≡ Some e)
     (due_got : slice_get effects i ≡ Some f) where
   abbrev its : (d : Entry) × (slice_get due.entries i ≡ Some d) × (effect_in d ≡ f)

@@ -95,7 +95,8 @@ module _ (row : ℕ) (seq : ℕ) (xs : List (ℕ × Access)) (order : List ℕ) 
       (last_here row (passed seq xs (take k order)) (passed seq xs (drop (k + 1) order))
       (passed_by seq (access_with xs index)) l own none)
 
-  pub none_more : (IsWriter row (passed_by seq (access_with xs index)) → ⊥) → NoneWrites row (passed seq xs (drop k order))
+  pub none_more : (IsWriter row (passed_by seq (access_with xs index)) → ⊥) → NoneWrites row
+      (passed seq xs (drop k order))
   none_more own = subst (λ (ys : List ℕ). NoneWrites row (passed seq xs ys)) (sym (drop_here order k index got))
       (own, none)
 

@@ -223,7 +223,8 @@ module _ (t : Trace) (e at : ℕ) where
   record_along stands =
       let p = stands.item in
       let i = subst (λ (ps : List Placed). In p ps) (sym stands.is) (in_middle stands.before p stands.rest) in
-      weaker_place _ _ (steps_at t e) (λ before step comes. subst (StandsAtStep code.Record t at (state_after start before))
+      weaker_place _ _ (steps_at t e) (λ before step comes. subst
+      (StandsAtStep code.Record t at (state_after start before))
       (sym comes.0) (inr (weaker_place _ _ (accesses_at p.offset p.attempt) (λ own x w. w) stands.holds)))
       (settled_comes t e p i)
 
@@ -231,7 +232,8 @@ module _ (t : Trace) (e at : ℕ) where
   version_along stands =
       let p = stands.item in
       let i = subst (λ (ps : List Placed). In p ps) (sym stands.is) (in_middle stands.before p stands.rest) in
-      weaker_place _ _ (steps_at t e) (λ before step comes. subst (StandsAtStep code.Version t at (state_after start before))
+      weaker_place _ _ (steps_at t e) (λ before step comes. subst
+      (StandsAtStep code.Version t at (state_after start before))
       (sym comes.0) (inr (subst (λ (q : Placed). SomePlace (accesses_at p.offset p.attempt) (λ own x. (x.0 ≡ at)
       × SomePlace x.1.entries (λ _ y. y.version ≡ (visible_to t q x.1.index y.row).version → ⊥))) comes.1
       (weaker_place _ _ (accesses_at p.offset p.attempt) (λ own x w. w) stands.holds))))
@@ -241,7 +243,8 @@ module _ (t : Trace) (e at : ℕ) where
   value_along stands =
       let p = stands.item in
       let i = subst (λ (ps : List Placed). In p ps) (sym stands.is) (in_middle stands.before p stands.rest) in
-      weaker_place _ _ (steps_at t e) (λ before step comes. subst (StandsAtStep code.Value t at (state_after start before))
+      weaker_place _ _ (steps_at t e) (λ before step comes. subst
+      (StandsAtStep code.Value t at (state_after start before))
       (sym comes.0) (inr (subst (λ (q : Placed). SomePlace (accesses_at p.offset p.attempt) (λ own x. (x.0 ≡ at)
       × SomePlace x.1.entries (λ _ y. y.seen ≡ (visible_to t q x.1.index y.row).value → ⊥))) comes.1
       (weaker_place _ _ (accesses_at p.offset p.attempt) (λ own x w. w) stands.holds))))

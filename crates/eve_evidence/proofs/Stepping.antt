@@ -39,7 +39,8 @@ module _ (c : Code) (t : Trace) (place : ℕ) (course : Course) where
 
   -- and at a step
   abbrev pub ToldAtStep : met.Step → Evidence → Type 0
-  ToldAtStep step x = (s : SectionState) (is : ℕ × Step) → IsCourse s course → IsStep step is → TellsStep c t place s is x
+  ToldAtStep step x = (s : SectionState) (is : ℕ × Step) → IsCourse s course → IsStep step is → TellsStep c t place s
+      is x
 
   abbrev pub NoneAtStep : met.Step → Type 0
   NoneAtStep step = (s : SectionState) (is : ℕ × Step) → IsCourse s course → IsStep step is
@@ -50,7 +51,8 @@ module _ (c : Code) (t : Trace) (place : ℕ) (course : Course) where
     told_here x told s (at, Attempts a) course_is stands =
         let here : xs ≡ accesses_at attempt.offset a = stands.2 ∙ ap (λ (n : ℕ). accesses_at n a) (sym stands.0) in
         let found = told s a course_is stands.1 here in
-        inr (subst (λ (n : ℕ). SomePlace (accesses_at n a) (λ own y. (y.0 ≡ place) × TellsAccess c t s n a own y x)) stands.0
+        inr (subst (λ (n : ℕ). SomePlace (accesses_at n a) (λ own y. (y.0 ≡ place) × TellsAccess c t s n a own y x))
+        stands.0
         (subst (λ (ys : List (ℕ × Access)). SomePlace ys (λ own y. (y.0 ≡ place)
         × TellsAccess c t s attempt.offset a own y x)) here found))
     told_here x told s (at, Commits d) course_is stands = elim stands [ ]
@@ -80,6 +82,7 @@ module _ (c : Code) (t : Trace) (place : ℕ) (course : Course) where
     told_at_step step is x told = subst (λ (u : met.Step). ToldAtStep u x) (sym is) (told_here x told)
 
     pub none_at_step : (step : met.Step) → step ≡ of.Attempt attempt xs
-        → ((s : SectionState) → IsCourse s course → attempt.offset ≡ place → ¬ WrongAttempt c t s (attempt_said attempt))
+        → ((s : SectionState) → IsCourse s course → attempt.offset ≡ place → ¬ WrongAttempt c t s
+        (attempt_said attempt))
         → NoneAlong attempt xs → NoneAtStep step
     none_at_step step is own none = subst NoneAtStep (sym is) (none_here own none)

@@ -1,6 +1,7 @@
 -- Batches, requests, names and commits, as they are read.
 use Rattle.std.proofs.Common.{◌≡◌, ℕ, ◌+◌, ◌-◌, ◌/◌, ◌<◌, ◌≤◌, List, [], ◌∷◌, ◌++◌, map, length, slice_get, get_or}
-use Rattle.std.proofs.Common.{Bor, Bool, ◌==◌, add-zero, Option, Some, None, refl, sym, ap, subst, ◌∙◌, arith, true, false, not, nat_le, nat_lt, ◌≢◌, ◌||◌, take}
+use Rattle.std.proofs.Common.{Bor, Bool, ◌==◌, add-zero, Option, Some, None, refl, sym, ap}
+use Rattle.std.proofs.Common.{subst, ◌∙◌, arith, true, false, not, nat_le, nat_lt, ◌≢◌, ◌||◌, take}
 use Rattle.std.specs.Option.{option_map}
 use Rattle.std.proofs.lemmas.List.{length-map, get_or_past, map-append}
 use Rattle.std.proofs.lemmas.Bool.{and_from, and_parts, eq-eqb, ne_eqb, eqb-true, le-leb, lt-ltb, false≢true}
@@ -48,7 +49,8 @@ right_attempt t s a numbered view serial count =
     (and_from (a.seq == s.last + 1 + length s.pending) _ (eq-eqb _ _ numbered.due)
     (and_from (nat_le a.seq (length t.batches)) _ (le-leb _ _ numbered.there)
     (and_from (nat_le a.seq (s.last + t.head.window)) _ (le-leb _ _ numbered.room)
-    (and_from (a.view == s.view) (beq a.serial s.rolled_back) (eq-eqb _ _ view) (same_bool a.serial s.rolled_back serial)))))
+    (and_from (a.view == s.view) (beq a.serial s.rolled_back) (eq-eqb _ _ view)
+    (same_bool a.serial s.rolled_back serial)))))
     (eq-eqb _ _ count)
   where
     itself_bool : (b : Bool) → beq b b ≡ true
@@ -84,7 +86,8 @@ pub read_name : (t : Trace) (row customer : ℕ) (c : ℕ × Customer) (name : L
     → slice_get (customers_at t) customer ≡ Some c → name ≡ c.1.name → name ≡ row_name t row
 unfolding customers_at
 read_name t row customer c name is got own =
-    let there : slice_get t.customers customer ≡ Some c.1 = located_get customer_text HEADER_LEN t.customers customer c got in
+    let there : slice_get t.customers customer ≡ Some c.1 = located_get customer_text HEADER_LEN t.customers customer c
+    got in
     own
     ∙ sym (get_or_from_slice_get (names_of t) customer c.1.name []
     (slice_get-map (λ (d : Customer). d.name) t.customers customer ∙ ap (option_map (λ (d : Customer). d.name)) there))
@@ -162,7 +165,8 @@ pub record FirstOpen (s : SectionState) (o : OnPath) : Type 0 where
   pub is : s.pending ≡ placed ∷ others
   pub said : placed_on o ≡ placed_at placed
 
-pub first_open : (s : SectionState) (c : Course) (o : OnPath) → IsCourse s c → slice_get c.path.items c.committed ≡ Some o
+pub first_open : (s : SectionState) (c : Course) (o : OnPath) → IsCourse s c → slice_get c.path.items
+    c.committed ≡ Some o
     → FirstOpen s o
 first_open s c o is got = by s.pending refl
   where
@@ -175,7 +179,8 @@ first_open s c o is got = by s.pending refl
     behind =
         sym (slice_get-behind (map placed_at (attempts_behind s.landings)) (map placed_at s.pending) 0)
         ∙ ap (slice_get (map placed_at (attempts_behind s.landings) ++ map placed_at s.pending))
-        (add-zero (length (map placed_at (attempts_behind s.landings))) ∙ length-map (attempts_behind s.landings) placed_at)
+        (add-zero (length (map placed_at (attempts_behind s.landings))) ∙ length-map (attempts_behind s.landings)
+        placed_at)
         ∙ ap (λ (xs : List (ℕ × Attempt)). slice_get xs (length (attempts_behind s.landings)))
         (sym (map-append placed_at (attempts_behind s.landings) s.pending))
         ∙ there
@@ -184,7 +189,8 @@ first_open s c o is got = by s.pending refl
     none-some x e = cc
 
     by : (ps : List Placed) → s.pending ≡ ps → FirstOpen s o
-    by [] e = absurd (none-some (placed_on o) (sym (ap (λ (qs : List Placed). slice_get (map placed_at qs) 0) e) ∙ behind))
+    by [] e = absurd (none-some (placed_on o) (sym (ap (λ (qs : List Placed). slice_get (map placed_at qs) 0) e) ∙
+        behind))
     by (p ∷ ps) e = record {
       placed = p;
       others = ps;

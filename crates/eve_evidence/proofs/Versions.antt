@@ -19,7 +19,8 @@ Read = List Entry × List ℕ
 many_fit : (rows n : ℕ) (bytes : List ℕ) (x : Read) → many_at (entry_at rows) n bytes ≡ Some x
     → list_all (is_entry rows) x.0 ≡ true
 unfolding many_at entry_at
-many_fit rows zero bytes x e = subst (λ (y : Read). list_all (is_entry rows) y.0 ≡ true) (same_Some ([], bytes) x e) refl
+many_fit rows zero bytes x e = subst (λ (y : Read). list_all (is_entry rows) y.0 ≡ true) (same_Some ([], bytes) x e)
+    refl
 many_fit rows (suc n) bytes x e =
     let a = bind_some (entry_at rows bytes) _ x e in
     let b = bind_some (many_at (entry_at rows) n a.0.1) _ x a.2 in
@@ -35,7 +36,8 @@ access_fits : (bytes : List ℕ) (x : Access) → access_of MOST_ROWS bytes ≡ 
 unfolding access_of entries_at
 access_fits bytes x e =
     let list_at = entries_at MOST_ROWS in
-    let w = bind_some (made access_from (both (number_at 1) (both (number_at 2) (both (number_at 2) list_at))) bytes) _ x
+    let w = bind_some (made access_from (both (number_at 1) (both (number_at 2) (both (number_at 2) list_at))) bytes) _
+    x
     e in
     let whole = guard_some _ (Some w.0.0) x w.2 in
     let m = bind_some (both (number_at 1) (both (number_at 2) (both (number_at 2) list_at)) bytes) _ w.0 w.1 in
@@ -50,7 +52,8 @@ access_fits bytes x e =
     let one : list_all (is_entry MOST_ROWS) q2.0.0.1 ≡ true =
     subst (λ (y : (ℕ × List Entry) × List ℕ). list_all (is_entry MOST_ROWS) y.0.1 ≡ true) (same_Some _ q2.0 r2.2) fit in
     let two : list_all (is_entry MOST_ROWS) p2.0.0.1.1 ≡ true =
-    subst (λ (y : (ℕ × (ℕ × List Entry)) × List ℕ). list_all (is_entry MOST_ROWS) y.0.1.1 ≡ true) (same_Some _ p2.0 q2.2)
+    subst (λ (y : (ℕ × (ℕ × List Entry)) × List ℕ). list_all (is_entry MOST_ROWS) y.0.1.1 ≡ true)
+    (same_Some _ p2.0 q2.2)
     one in
     let three : list_all (is_entry MOST_ROWS) m.0.0.1.1.1 ≡ true =
     subst (λ (y : (ℕ × (ℕ × (ℕ × List Entry))) × List ℕ). list_all (is_entry MOST_ROWS) y.0.1.1.1 ≡ true)

@@ -27,7 +27,8 @@ same_entries : (at : ℕ) (xs : List Access) (i : ℕ) → (access_with (located
 same_entries at [] i = refl
 same_entries at (x ∷ xs) i = by (x.index == i) (same_entries (at + length (access_text x)) xs i)
   where
-    by : (b : Bool) → (access_with (located access_text (at + length (access_text x)) xs) i).1.entries ≡ entries_with xs i
+    by : (b : Bool) → (access_with (located access_text (at + length (access_text x)) xs) i).1.entries ≡ entries_with
+        xs i
         → (cond b (at, x) (access_with (located access_text (at + length (access_text x)) xs) i)).1.entries
         ≡ cond b x.entries (entries_with xs i)
     by true rest = refl

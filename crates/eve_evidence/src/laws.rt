@@ -7,8 +7,8 @@ ghost use Rattle.eve_history.specs.Structure.{StandsInStructure};
 ghost use Rattle.eve_chains.specs.Faults.{StandsInRecords, StandsInChains};
 ghost use Rattle.eve_evidence.specs.Section.{StandsAlong};
 
-/// A fault of structure, of records or of chains stands at a step of its section: so `section_evidence` shows it. One of
-/// a certificate does so where its attempt is right.
+/// A fault of structure, of records or of chains stands at a step of its section: so `section_evidence` shows it. One
+/// of a certificate does so where its attempt is right.
 ///
 /// docs/MODEL.md, "Evidence".
 pub fn faults_stand_along_the_section()
@@ -23,7 +23,8 @@ pub fn faults_stand_along_the_section()
         → StandsAlong code.Rollback t e at }
     ensures transfer { (t : Trace) (e at : ℕ) → StandsInStructure code.Transfer t e at
         → StandsAlong code.Transfer t e at }
-    ensures record_fault { (t : Trace) (e at : ℕ) → StandsInRecords code.Record t e at → StandsAlong code.Record t e at }
+    ensures record_fault { (t : Trace) (e at : ℕ) → StandsInRecords code.Record t e at
+        → StandsAlong code.Record t e at }
     ensures version { (t : Trace) (e at : ℕ) → StandsInChains code.Version t e at → StandsAlong code.Version t e at }
     ensures value { (t : Trace) (e at : ℕ) → StandsInChains code.Value t e at → StandsAlong code.Value t e at }
 {}

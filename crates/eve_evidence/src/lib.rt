@@ -20,3 +20,4 @@ pub use evidence::{
     WrongEntry,
 };
 pub use section::section_evidence;
+pub use told::{told_attempt, told_request, told_row};

@@ -78,7 +78,8 @@ fn effect_fault<'a>(access: &AccessView<'_>, effects: &UpToThree<Effect>) -> Opt
 
 /// The values that the entries saw, first in an array.
 fn values_seen(access: &AccessView<'_>) -> [Cents; 3]
-    ensures { take (length (access_said access.now).entries) result ≡ map (λ e. e.seen) (access_said access.now).entries }
+    ensures { take (length (access_said access.now).entries) result ≡ map (λ e. e.seen)
+        (access_said access.now).entries }
 {
     match access.len() {
         0 => [Cents::ZERO; 3],

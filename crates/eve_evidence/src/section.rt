@@ -364,7 +364,8 @@ fn at_transfer<'a>(
     }
 }
 
-/// What shows a fault of a replica's section, by the replica's number from 0: one of this code that stands at this byte.
+/// What shows a fault of a replica's section, by the replica's number from 0: one of this code that stands at this
+/// byte.
 ///
 /// docs/MODEL.md, "Faults". One pass over the section's frames, up to the one that is wrong; some fifty bytes for each
 /// attempt on the way.

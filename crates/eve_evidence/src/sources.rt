@@ -14,7 +14,8 @@ ghost use Rattle.eve_history.specs.SectionHistory.{access_with, no_access};
 ghost use Rattle.eve_chains.specs.Visible.{opening_of, before_index, taken_table, visible_to};
 ghost use Rattle.eve_evidence.specs.Course.{IsCourse, IsOnPath, last_state, placed_on, standing, state_said};
 ghost use Rattle.eve_evidence.specs.Told.{placed_in};
-ghost use Rattle.eve_evidence.specs.Sources.{passed, passed_by, passed_in, way_to, last_left, IsWriter, NoneWrites, IsLeftBy};
+ghost use Rattle.eve_evidence.specs.Sources.{passed, passed_by, passed_in, way_to};
+ghost use Rattle.eve_evidence.specs.Sources.{last_left, IsWriter, NoneWrites, IsLeftBy};
 ghost use Rattle.eve_evidence.specs.Sources.{Passed, state_table};
 ghost use Rattle.eve_evidence.specs.Lasts.{IsLast, IsLeftAlone};
 

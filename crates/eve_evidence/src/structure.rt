@@ -3,14 +3,16 @@
 ghost use Rattle.std.specs.Prelude.{◌≡◌, ◌≢◌, ◌<◌, ◌≤◌, ◌+◌, ℕ, IfSome, IfNone, IsTrue, length, take, slice_get, Some};
 ghost use Rattle.std.specs.List.{AllByRecursion};
 ghost use Rattle.eve_frames.specs.Said.{attempt_said, commit_said, rollback_said, transfer_said};
-ghost use Rattle.eve_history.specs.Section.{SectionState, request_count, worker_count, is_right_attempt, is_right_access};
+ghost use Rattle.eve_history.specs.Section.{SectionState, request_count};
+ghost use Rattle.eve_history.specs.Section.{worker_count, is_right_attempt, is_right_access};
 ghost use Rattle.eve_history.specs.Section.{is_right_commit, is_right_rollback, is_right_transfer};
 ghost use Rattle.eve_history.specs.Structure.{accesses_of};
 ghost use Rattle.eve_grammar.specs.Trace.{Access as AccessValue};
 ghost use Rattle.eve_grammar.specs.Accesses.{is_right_place};
 ghost use Rattle.eve_views.specs.Form.{SomePlace};
 ghost use Rattle.eve_evidence.specs.Course.{IsCourse};
-ghost use Rattle.eve_evidence.specs.Structure.{IsNumbered, IsAttemptFault, IsAccessFault, IsCommitFault, IsRollbackFault};
+ghost use Rattle.eve_evidence.specs.Structure.{IsNumbered, IsAttemptFault};
+ghost use Rattle.eve_evidence.specs.Structure.{IsAccessFault, IsCommitFault, IsRollbackFault};
 ghost use Rattle.eve_evidence.specs.Structure.{IsTransferFault, due_number, numbers, place_numbers};
 
 use crate::course::Course;

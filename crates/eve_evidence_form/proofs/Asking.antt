@@ -112,7 +112,8 @@ first_in_batch id bs i n b r at lt got none first =
     let parts : i + 1 + (n - (i + 1)) ≡ n = omega arith in
     let split : flat_map requests_listed (take n bs)
     ≡ flat_map requests_listed (take (i + 1) bs) ++ flat_map requests_listed (take (n - (i + 1)) (drop (i + 1) bs)) =
-    ap (λ (k : ℕ). flat_map requests_listed (take k bs)) (sym parts) ∙ ap (flat_map requests_listed) (take-add (i + 1) (n - (i + 1)) bs)
+    ap (λ (k : ℕ). flat_map requests_listed (take k bs)) (sym parts) ∙ ap (flat_map requests_listed)
+    (take-add (i + 1) (n - (i + 1)) bs)
     ∙ flat_map-append requests_listed (take (i + 1) bs) (take (n - (i + 1)) (drop (i + 1) bs)) in
     subst (λ (xs : List Listed). IsFirstAsked id xs r at) (sym split)
     (first_longer id (flat_map requests_listed (take (i + 1) bs)) _ r at
@@ -129,7 +130,8 @@ ids_listed : (at seq n : ℕ) (own : List Asked)
 ids_listed at seq n [] = refl
 ids_listed at seq n (a ∷ own) = ap (λ (ys : List RequestId). request_id a ∷ ys) (ids_listed at seq (n + 1) own)
 
-ids_in : (b : ℕ × (ℕ × Batch)) → map request_id b.1.1.requests ≡ map (λ (x : Listed). request_id x.asked) (requests_listed b)
+ids_in : (b : ℕ × (ℕ × Batch)) → map request_id b.1.1.requests ≡ map (λ (x : Listed). request_id x.asked)
+    (requests_listed b)
 ids_in b = ids_listed b.0 b.1.0 0 b.1.1.requests
 
 ids_before : (bs : List (ℕ × (ℕ × Batch))) → flat_map (λ d. map request_id d.1.1.requests) bs
@@ -186,7 +188,8 @@ not_none_again before b place none =
     let id : Listed → RequestId = λ x. request_id x.asked in
     let P : List RequestId → RequestId → Type 0 =
     λ earlier own. Contains (flat_map (λ (d : ℕ × (ℕ × Batch)). map request_id d.1.1.requests) before ++ earlier) own in
-    let there = made_place id P (requests_listed b) (subst (λ (ys : List RequestId). SomePlace ys P) (ids_in b) place) in
+    let there = made_place id P (requests_listed b) (subst (λ (ys : List RequestId). SomePlace ys P) (ids_in b)
+    place) in
     none (record {
       before = there.before;
       item = there.item;

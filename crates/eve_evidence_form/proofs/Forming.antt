@@ -1,5 +1,5 @@
 -- A fault of form that is the first: what holds where it stands.
-use Rattle.std.proofs.Common.{◌≡◌, ℕ, ◌^◌, ◌<◌, ◌≤◌, leb, Bool, true}
+use Rattle.std.proofs.Common.{◌≡◌, ◌≢◌, ℕ, ◌^◌, ◌<◌, ◌≤◌, leb, Bool, true}
 use Rattle.std.proofs.Common.{false, List, length, None, refl, subst, inl, inr, arith}
 use Rattle.std.proofs.lemmas.Bool.{and_parts, leb-true}
 use Rattle.eve_views.specs.Code.{code_number}
@@ -25,6 +25,19 @@ sized bytes f first at later = by (is_sized bytes) refl
 pub stands_as : (c : Code) (bytes : List ℕ) (f : Fault) → IsLeast (IsFaultOutside StandsInForm bytes) f → f.code ≡ c
     → StandsInForm c bytes f.offset
 stands_as c bytes f first e = subst (λ (d : Code). StandsInForm d bytes f.offset) e first.is.stands
+
+-- no code but the five of form stands there
+pub other_codes : (c : Code) (bytes : List ℕ) (at : ℕ) → StandsInForm c bytes at → c ≢ code.Length → c ≢ code.Magic
+    → c ≢ code.Head
+    → c ≢ code.Frame
+    → c ≢ code.Body
+    → ⊥
+other_codes code.Length bytes at stands length magic head frame body = length refl
+other_codes code.Magic bytes at stands length magic head frame body = magic refl
+other_codes code.Head bytes at stands length magic head frame body = head refl
+other_codes code.Frame bytes at stands length magic head frame body = frame refl
+other_codes code.Body bytes at stands length magic head frame body = body refl
+other_codes _ bytes at stands length magic head frame body = stands
 
 pub sized_at_magic : (bytes : List ℕ) (f : Fault) → IsLeast (IsFaultOutside StandsInForm bytes) f → f.code ≡ code.Magic
     → 32 ≤ length bytes

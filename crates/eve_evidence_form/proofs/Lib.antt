@@ -3,5 +3,7 @@ pub mod Lists
 pub mod Forming
 pub mod Counting
 pub mod Asking
+pub mod Unasked
 pub mod Fronts
 pub mod Walking
+pub mod FirstWrong

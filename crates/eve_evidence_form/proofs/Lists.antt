@@ -1,8 +1,8 @@
--- Lists: bytes that are the same, places where something stands again, and where nothing can.
+-- Lists: bytes that are the same, places where something stands again, and where nothing can; and options.
 use Rattle.std.proofs.Common.{◌≡◌, ◌≢◌, ℕ, zero, suc, ◌≤◌, true, false}
-use Rattle.std.proofs.Common.{List, [], ◌∷◌, ◌++◌, length, map, take, drop, refl}
+use Rattle.std.proofs.Common.{List, [], ◌∷◌, ◌++◌, Option, Some, None, length, map, take, drop, refl}
 use Rattle.std.proofs.Common.{sym, ap, subst, ◌∙◌, arith}
-use Rattle.std.specs.Prelude.{Contains, nat_eq}
+use Rattle.std.specs.Prelude.{Contains, IfSome, IfNone, nat_eq}
 use Rattle.std.specs.List.{AllByRecursion}
 use Rattle.std.specs.Cmp.Lexicographic.{pointwise}
 use Rattle.std.proofs.lemmas.Bool.{and_parts, and_from, eq-eqb, eqb-true, false≢true}
@@ -68,3 +68,11 @@ all_before_end P xs n i le all = all_front P xs n (subst (AllByRecursion P) (tak
 -- where nothing is left, the end was reached
 pub none_left : {A : Type 0} (xs : List A) (i : ℕ) → drop i xs ≡ [] → length xs ≤ i
 none_left xs i e = omega (arith, ap length e, length-drop i xs)
+
+-- ---- options
+
+pub some_is : {A : Type 0} (o : Option A) (P : A → Type 0) (x : A) → o ≡ Some x → IfSome o P → P x
+some_is {A} o P x is shown = subst (λ (p : Option A). IfSome p P) is shown
+
+pub none_is : {A : Type 0} (o : Option A) (P : Type 0) → o ≡ None → IfNone o P → P
+none_is {A} o P is shown = subst (λ (p : Option A). IfNone p P) is shown

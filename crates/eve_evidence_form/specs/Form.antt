@@ -1,14 +1,14 @@
 -- What shows a fault of form. docs/MODEL.md, "Evidence".
-use Rattle.std.specs.Prelude.{◌≡◌, ◌≢◌, ℕ, List, length, take}
+use Rattle.std.specs.Prelude.{◌≡◌, ℕ, List, length, take}
 use Rattle.eve_views.specs.declared.fault.Code.TheVariants as code
 use Rattle.eve_views.specs.declared.fault.Fault.{Fault}
 use Rattle.eve_evidence.specs.declared.evidence.Evidence.{Evidence}
 use Rattle.eve_evidence.specs.declared.evidence.Evidence.TheVariants as shown
 use Rattle.eve_evidence_form.specs.Due.{TellsFrame}
-use Rattle.eve_evidence_form.specs.Body.{HasUntoldKind, TellsBody}
+use Rattle.eve_evidence_form.specs.Body.{TellsBody}
 use Rattle.eve_evidence_form.specs.Header.{number, IsLengthFault, IsFirstWrongNumber}
 
--- The evidence shows what this fault of form is. That of the body of a kind with lists is not told yet.
+-- the evidence shows what this fault of form is
 abbrev pub TellsForm : List ℕ → Fault → Evidence → Type 0
 TellsForm bytes f (shown.Length found wrong) =
     (f.code ≡ code.Length) × (found ≡ length bytes) × IsLengthFault bytes wrong
@@ -18,7 +18,4 @@ TellsForm bytes f (shown.Head name at found least most) =
 TellsForm bytes f (shown.Frame found due) = (f.code ≡ code.Frame) × TellsFrame bytes f.offset found due.items
 TellsForm bytes f (shown.Body frame at own own_at) =
     (f.code ≡ code.Body) × (at ≡ f.offset) × TellsBody bytes f.offset frame own own_at
-TellsForm bytes f shown.Untold =
-    (f.code ≢ code.Length) × (f.code ≢ code.Magic) × (f.code ≢ code.Head) × (f.code ≢ code.Frame)
-    × (f.code ≡ code.Body → HasUntoldKind bytes f.offset)
 TellsForm bytes f _ = ⊥

@@ -1,6 +1,12 @@
 pub mod Header
 pub mod Walk
 pub mod Due
+pub mod Fields
+pub mod PlainBody
+pub mod BatchBody
+pub mod AttemptBody
+pub mod AccessBody
+pub mod RowsBody
 pub mod Body
 pub mod Form
 pub mod Names

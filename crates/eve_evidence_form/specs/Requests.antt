@@ -1,6 +1,8 @@
 -- What shows that a request stands twice. docs/MODEL.md, "Evidence".
-use Rattle.std.specs.Prelude.{◌≡◌, ◌≢◌, ℕ, ◌++◌, List, map}
+use Rattle.std.specs.Prelude.{◌≡◌, ◌≢◌, ◌↔◌, ℕ, ◌++◌, Bool, IsTrue, List, map}
 use Rattle.std.specs.List.{AllByRecursion, flat_map, enumerate_from}
+use Rattle.std.specs.Ordering.{nat_cmp, ordering_then}
+use Rattle.std.specs.BTreeSet.{BTreeSet, contains}
 use Rattle.eve_grammar.specs.Trace.{Asked, Batch, RequestId, request_id, Trace}
 use Rattle.eve_grammar.specs.Bodies.{borrowed_asked}
 use Rattle.eve_grammar.specs.Spelling.{batches_at}
@@ -16,7 +18,8 @@ pub record Listed : Type 0 where
 
 -- the requests of a batch, in their order
 abbrev pub requests_listed : ℕ × (ℕ × Batch) → List Listed
-requests_listed b = map (λ x. record { batch = b.1.0; at = b.0; index = x.0; asked = x.1 }) (enumerate_from 0 b.1.1.requests)
+requests_listed b = map (λ x. record { batch = b.1.0; at = b.0; index = x.0; asked = x.1 })
+    (enumerate_from 0 b.1.1.requests)
 
 -- the request is told
 abbrev pub IsListed : Listed → ToldRequest → Type 0
@@ -30,6 +33,18 @@ NoneAsked id xs = AllByRecursion (λ x. request_id x.asked ≢ id) xs
 abbrev pub IsFirstAsked : RequestId → List Listed → ToldRequest → ℕ → Type 0
 IsFirstAsked id xs r at =
     SomePlace xs (λ before x. (request_id x.asked ≡ id) × IsListed x r × (at ≡ x.at) × NoneAsked id before)
+
+-- whether the set has the id; ids are in the order of their clients, and of their numbers
+abbrev pub is_in_set : BTreeSet RequestId → RequestId → Bool
+is_in_set ids id = contains (λ p q. ordering_then (nat_cmp p.0 q.0) (nat_cmp p.1 q.1)) ids id
+
+-- the new set has the ids of the old one that none of these requests has
+abbrev pub LeavesUnasked : BTreeSet RequestId → List Listed → BTreeSet RequestId → Type 0
+LeavesUnasked old xs new = (id : RequestId) → IsTrue (is_in_set new id) ↔ (IsTrue (is_in_set old id) × NoneAsked id xs)
+
+-- of the ids that requests have, the set has those that none of the requests before them has
+abbrev pub HasUnasked : List Listed → List Listed → BTreeSet RequestId → Type 0
+HasUnasked before own ids = (id : RequestId) → ¬ NoneAsked id own → IsTrue (is_in_set ids id) ↔ NoneAsked id before
 
 -- none of these requests, which follow others, has the client and the number of an earlier one, of its own or of those
 abbrev pub NoneAgain : List Listed → List Listed → Type 0

@@ -13,7 +13,7 @@ use std::alloc::{AllocError, Global};
 
 /// The evidence of a fault of form, which is the first of these bytes, as `Trace::read` finds it.
 ///
-/// docs/MODEL.md, "Evidence". A code that isn't told yet has `Untold` for its evidence.
+/// docs/MODEL.md, "Evidence". One pass over the frames before it.
 pub fn form_evidence<'a>(
     alloc: Global,
     bytes: &'a [u8],
@@ -47,15 +47,15 @@ pub fn form_evidence<'a>(
             }),
             Err(AllocError) => Err(AllocError),
         },
-        Code::Body => Ok(match wrong_body_at(bytes, fault.offset) {
-            Some(wrong) => Evidence::Body {
+        Code::Body => {
+            let wrong = wrong_body_at(bytes, fault.offset);
+            Ok(Evidence::Body {
                 frame: wrong.frame,
                 at: fault.offset,
                 field: wrong.field,
                 field_at: wrong.at,
-            },
-            None => Evidence::Untold,
-        }),
-        _ => Ok(Evidence::Untold),
+            })
+        }
+        _ => unreachable!(),
     }
 }

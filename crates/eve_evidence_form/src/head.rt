@@ -5,7 +5,8 @@ ghost use Rattle.std.specs.Prelude.{slice_get, Some};
 ghost use Rattle.std.specs.List.{AllByRecursion};
 ghost use Rattle.eve_grammar.specs.declared.head.Head.{Head as HeadValue};
 ghost use Rattle.eve_views.specs.Form.{is_sized, SaysHead};
-ghost use Rattle.eve_evidence_form.specs.Header.{said, number, head_numbers, LiesWithin, IsLengthFault, IsFirstWrongNumber};
+ghost use Rattle.eve_evidence_form.specs.Header.{said, number, head_numbers};
+ghost use Rattle.eve_evidence_form.specs.Header.{LiesWithin, IsLengthFault, IsFirstWrongNumber};
 
 use byteorder::{BigEndian, ByteOrder};
 use eve_evidence::{HeadField, LengthFault};

@@ -1,5 +1,6 @@
 -- Requests and fates, counted one after another.
-use Rattle.std.proofs.Common.{◌≡◌, ℕ, ◌+◌, ◌≤◌, Bool, cond, count_by, List, length, take, slice_get, get_or, Some, sym, ap}
+use Rattle.std.proofs.Common.{◌≡◌, ℕ, ◌+◌, ◌≤◌, Bool, cond, count_by}
+use Rattle.std.proofs.Common.{List, length, take, slice_get, Some, sym, ap}
 use Rattle.std.proofs.Common.{◌∙◌, arith, zero, suc, [], ◌∷◌, ◌++◌, subst}
 use Rattle.eve_chains.proofs.Linked.{none≢some}
 use Rattle.std.specs.List.{sum_by}

@@ -8,6 +8,5 @@ pub mod Replying
 pub mod Tokens
 pub mod Firsts
 pub mod Taking
-pub mod Requesting
 pub mod Comparing
 pub mod Counting

@@ -7,3 +7,4 @@ pub mod Token
 pub mod Outcomes
 pub mod Outcome
 pub mod Counts
+pub mod Restore

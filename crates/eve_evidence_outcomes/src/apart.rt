@@ -1,12 +1,11 @@
 //! The first row in which balances differ.
 
-ghost use Rattle.std.specs.Prelude.{◌≡◌, ◌<◌, ◌*◌, IfSome, IfNone, IsTrue, ◌↔◌, length};
-ghost use Rattle.eve_accounts.specs.declared.limits.TheConstants.{MOST_NAMED_ROWS};
-ghost use Rattle.eve_evidence.specs.Told.{IsToldRow};
+ghost use Rattle.std.specs.Prelude.{◌≡◌, ◌*◌, IfSome, IfNone, IsTrue, ◌↔◌, length};
 ghost use Rattle.eve_evidence_outcomes.specs.Outcomes.{IsRowFoundApart};
 
-use eve_accounts::{Balances, Cents, Row};
-use eve_evidence::ToldRow;
+use eve_accounts::{Balances, Cents};
+use eve_evidence::{ToldRow, told_row};
+use eve_grammar::row_of;
 use eve_views::Trace;
 
 /// A row in which balances differ.
@@ -18,33 +17,6 @@ pub(crate) struct RowApart<'a> {
     pub found: Cents,
     /// What it has in the others.
     pub due: Cents,
-}
-
-/// The row of a number.
-fn row_at(number: u32) -> Row
-    requires { number < MOST_NAMED_ROWS }
-    ensures { result ≡ number }
-{
-    let customer = number / 2;
-    if number % 2 == 0 {
-        Row::saving(customer)
-    } else {
-        Row::checking(customer)
-    }
-}
-
-/// A row with the name of its customer.
-fn told_row<'a>(trace: &Trace<'a>, row: Row) -> ToldRow<'a>
-    ensures { IsToldRow trace.now row result }
-{
-    let customer = row.number() / 2;
-    if customer < trace.customer_count() {
-        return ToldRow {
-            row,
-            name: trace.customer(customer).name(),
-        };
-    }
-    ToldRow { row, name: &[] }
 }
 
 /// Whether two balances are the same.
@@ -67,7 +39,7 @@ pub(crate) fn first_apart<'a>(
 {
     trace.recall_limits();
     for i in 0..2 * trace.customer_count() {
-        let row = row_at(i);
+        let row = row_of(i);
         let found = own.get(row);
         let due = its.get(row);
         if !is_same(found, due) {

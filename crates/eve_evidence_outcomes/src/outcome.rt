@@ -11,12 +11,10 @@ ghost use Rattle.eve_evidence_outcomes.specs.Outcome.{IsFirstApart, IsReplyFault
 ghost use Rattle.eve_evidence_outcomes.specs.Outcome.{HasThatOfFirst};
 
 use crate::committed::committed_attempt;
-use crate::request::told_request;
 use crate::sent::{has_reply, reply_of};
 use crate::state::{first_committed, row_apart};
-use crate::token::told_attempt;
 use eve_chains::Settled;
-use eve_evidence::{Evidence, OutcomeFault};
+use eve_evidence::{Evidence, OutcomeFault, told_attempt, told_request};
 use eve_frames::AttemptView;
 use eve_history::History;
 use eve_views::Trace;

@@ -5,7 +5,7 @@ ghost use Rattle.std.specs.List.{sum_by};
 ghost use Rattle.eve_frames.specs.Said.{batch_said};
 ghost use Rattle.eve_history.specs.SectionHistory.{section_history, section_histories};
 ghost use Rattle.eve_evidence.specs.declared.evidence.ReplicaCounts.{ReplicaCounts as ReplicaCountsValue};
-ghost use Rattle.eve_evidence_outcomes.specs.Counts.{is_fate, counted, fate_count, IsReplicaCounts, AreCounts};
+ghost use Rattle.eve_evidence_outcomes.specs.Counts.{is_fate, counted, fate_count, IsReplicaCounts, AreTraceCounts};
 
 use eve_evidence::{Counts, ReplicaCounts};
 use eve_frames::BatchView;
@@ -125,7 +125,7 @@ pub fn counts(
     histories: &[History<'_>],
 ) -> Result<Counts, AllocError>
     requires histories { histories.now ≡ section_histories trace.now }
-    ensures { IfOk result (AreCounts trace.now) }
+    ensures { IfOk result (AreTraceCounts trace.now) }
 {
     let replicas = counts_of_all(alloc, trace, histories)?;
     Ok(Counts {

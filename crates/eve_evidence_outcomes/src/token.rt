@@ -9,13 +9,12 @@ ghost use Rattle.eve_chains.specs.Committed.{balances_to};
 ghost use Rattle.eve_chains.specs.Settling.{settling};
 ghost use Rattle.eve_agree.specs.DueTokens.{StandsInTokens};
 ghost use Rattle.eve_agree.specs.Stretches.{AreOfSection};
-ghost use Rattle.eve_evidence.specs.Told.{told_attempt};
 ghost use Rattle.eve_evidence_outcomes.specs.Token.{TellsToken, IsDueAt};
 
 use crate::balances::balances_to;
 use crate::committed::committed_attempt;
 use eve_chains::Settled;
-use eve_evidence::{Evidence, ToldAttempt};
+use eve_evidence::{Evidence, told_attempt};
 use eve_frames::AttemptView;
 use eve_history::History;
 use eve_history::laws::numbers_are_reached;
@@ -23,18 +22,6 @@ use eve_smallbank::Reply;
 use eve_token::token;
 use eve_views::Trace;
 use std::alloc::{AllocError, Global};
-
-/// An attempt, by its own frame.
-pub(crate) fn told_attempt(attempt: &AttemptView<'_>) -> ToldAttempt
-    ensures { result ≡ told_attempt attempt.now.offset (attempt_said attempt.now) }
-{
-    ToldAttempt {
-        batch: attempt.seq(),
-        view: attempt.view(),
-        serial: attempt.is_serial(),
-        at: attempt.offset(),
-    }
-}
 
 /// The replies of an attempt, by request index.
 fn replies_of(alloc: Global, attempt: &AttemptView<'_>) -> Result<Vec<Reply>, AllocError>

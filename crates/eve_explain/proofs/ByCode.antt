@@ -1,7 +1,8 @@
 -- The first fault of a trace, by its code: where it stands.
-use Rattle.std.proofs.Common.{◌≡◌, ℕ, ◌+◌, ◌<◌, ◌≤◌, List, [], length, Some, Bool, true, false, sym, ap, subst, ◌∙◌, inl, inr}
+use Rattle.std.proofs.Common.{◌≡◌, ℕ, ◌+◌, ◌<◌, ◌≤◌, List, [], length, Some}
+use Rattle.std.proofs.Common.{Bool, true, false, sym, ap, subst, ◌∙◌, inl, inr}
 use Rattle.std.proofs.Common.{arith, refl}
-use Rattle.std.specs.Prelude.{◌⊎◌, ◌/◌, if◌then◌else◌, nat_lt}
+use Rattle.std.specs.Prelude.{◌/◌, if◌then◌else◌, nat_lt}
 use Rattle.std.proofs.lemmas.Bool.{cases_lt, false≢true}
 use Rattle.std.proofs.lemmas.List.{get_or_past}
 use Rattle.eve_grammar.specs.Frames.{OfReplica}
@@ -17,7 +18,7 @@ use Rattle.eve_history.specs.Section.{ByTransfer}
 use Rattle.eve_history.specs.Order.{StandsInOrders}
 use Rattle.eve_history.proofs.Places.{no_place}
 use Rattle.eve_history.specs.Structure.{StandsInStructure}
-use Rattle.eve_chains.specs.Faults.{StandsInRecords, StandsInChains}
+use Rattle.eve_chains.specs.Faults.{StandsInRecords, StandsInChains, HasNoFault}
 use Rattle.eve_agree.proofs.ByNumber.{landing_there, replica_there}
 use Rattle.eve_agree.specs.Restores.{StandsInRestores}
 use Rattle.eve_agree.specs.DueTokens.{StandsInTokens}
@@ -28,7 +29,7 @@ use Rattle.eve_votes.specs.Faults.{StandsInVotes}
 use Rattle.eve_audit.specs.Verdict.{IsOwnFault, of_structure, of_records, of_chains, of_restores, of_tokens}
 use Rattle.eve_audit.specs.Verdict.{IsCommonFault, of_votes, of_majorities, of_agreement, of_replies}
 use Rattle.eve_audit.specs.Verdict.{IsTraceFault, in_orders, in_section, in_common, Stands, in_form, in_trace}
-use Rattle.eve_audit.specs.Verdict.{Hinders, IsFirst, IsJudged}
+use Rattle.eve_audit.specs.Verdict.{Hinders, IsFirst}
 use Rattle.eve_evidence_form.specs.Orders.{StandsTwice}
 use Rattle.eve_explain.specs.Behind.{IsBehindSection}
 use Rattle.eve_explain.specs.Explained.{is_of_majority, is_of_orders}
@@ -218,6 +219,24 @@ module _ (t : Trace) (f : Fault) (fault : IsTraceFault t f) where
       (λ at s. s)
       (record { votes = λ at s. s; majorities = λ e at s. s; agreement = λ e at s. s; replies = λ at s. s }) fault
 
+  pub restore_there : f.code ≡ code.Restore
+      → (e : ℕ) × (e < length t.sections) × (f.replica ≡ Some e) × StandsInRestores code.Restore t e f.offset
+  restore_there is = by fault
+    where
+      own : (e : ℕ) → IsOwnFault t e f → (f.replica ≡ Some e) × StandsInRestores code.Restore t e f.offset
+      own e (of_structure o) = absurd (subst (λ (c : Code). StandsInStructure c t e f.offset) is o.stands)
+      own e (of_records o) = absurd (subst (λ (c : Code). StandsInRecords c t e f.offset) is o.stands)
+      own e (of_chains o) = absurd (subst (λ (c : Code). StandsInChains c t e f.offset) is o.stands)
+      own e (of_restores o) = (o.inside, subst (λ (c : Code). StandsInRestores c t e f.offset) is o.stands)
+      own e (of_tokens o) = absurd (subst (λ (c : Code). StandsInTokens c t e f.offset) is o.stands)
+
+      by : IsTraceFault t f
+          → (e : ℕ) × (e < length t.sections) × (f.replica ≡ Some e) × StandsInRestores code.Restore t e f.offset
+      by (in_orders o) = absurd (subst (λ (c : Code). StandsInOrders c t f.offset) is o.stands)
+      by (in_section s) = let at = own s.0 s.2 in (s.0, s.1, at.0, at.1)
+      by (in_common c) = absurd (no_common t f code.Restore is
+          (record { votes = λ at s. s; majorities = λ e at s. s; agreement = λ e at s. s; replies = λ at s. s }) c)
+
   name_twice : f.code ≡ code.SameName → StandsTwice code.SameName t f.offset
   name_twice is =
       orders_in t f code.SameName is
@@ -305,6 +324,31 @@ no_structure bytes t f g e spelled first behind there is =
     hinders (inl far) = (omega (arith, three, far), λ low high. absurd (omega (arith, far, high)))
     hinders (inr later) = (omega (arith, three, later.0), λ low high. is.inside ∙ sym later.1)
 
+-- a fault of restores has none of records or chains before it in its section
+pub none_before_restores : (bytes : List ℕ) (t : Trace) (f : Fault) (e : ℕ) → Spells bytes t → IsFirst bytes f
+    → f.code ≡ code.Restore → f.replica ≡ Some e → e < length t.sections → HasNoFault t e
+none_before_restores bytes t f e spelled first is named there = record {
+  records = λ g stands. first.judged.alone g (in_trace t spelled (in_section (e, there, of_records stands)))
+      (earlier g (of_record g.offset g.code stands.stands) stands.inside);
+  chains = λ g stands. first.judged.alone g (in_trace t spelled (in_section (e, there, of_chains stands)))
+      (earlier g (of_chain g.offset g.code stands.stands) stands.inside);
+}
+  where
+    six : phase_of f.code ≡ 6
+    six = ap phase_of is
+
+    of_record : (at : ℕ) (c : Code) → StandsInRecords c t e at → phase_of c < 6
+    of_record at code.Record stands = omega arith
+    of_record at c stands = absurd stands
+
+    of_chain : (at : ℕ) (c : Code) → StandsInChains c t e at → phase_of c < 6
+    of_chain at code.Version stands = omega arith
+    of_chain at code.Value stands = omega arith
+    of_chain at c stands = absurd stands
+
+    earlier : (g : Fault) → phase_of g.code < 6 → g.replica ≡ Some e → Hinders g f
+    earlier g lt inside = (omega (arith, six, lt), λ low high. inside ∙ sym named)
+
 pub orders_behind_form : (c : Code) → is_of_orders c ≡ true → 1 < phase_of c
 orders_behind_form code.SameName told = omega arith
 orders_behind_form code.SameRequest told = omega arith
@@ -340,7 +384,12 @@ first_of_form bytes f none first = record { is = own first.judged.stands; least 
     least : (g : Fault) → IsFaultOutside StandsInForm bytes g → IsUpTo f g
     least g is = after (first.first g (record {
       stands = in_form is;
-      alone = λ h stands hinders. absurd (omega (arith, hinders.0, form_phase bytes g.offset g.code is.stands, some_phase h.code));
+      alone = λ h stands hinders. absurd (omega (
+        arith,
+        hinders.0,
+        form_phase bytes g.offset g.code is.stands,
+        some_phase h.code,
+      ));
     }))
       where
         after : Precedes f g → IsUpTo f g

@@ -145,7 +145,8 @@ module _ (t : Trace) (laws : Laws t) (f : Fault) (told : is_told_along f.code �
   -- the first fault of the bytes
   pub first_there : (bytes : List ℕ) → ((u : Trace) → Spells bytes u → u ≡ t) → Stands bytes f → StandsThere t f
   first_there bytes only (in_form is) = absurd (no_form bytes f.offset f.code told is.stands)
-  first_there bytes only (in_trace u spelled is) = fault_there (subst (λ (v : Trace). IsTraceFault v f) (only u spelled) is)
+  first_there bytes only (in_trace u spelled is) = fault_there
+      (subst (λ (v : Trace). IsTraceFault v f) (only u spelled) is)
 
 -- ---- a certificate
 

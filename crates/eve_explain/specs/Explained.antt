@@ -1,5 +1,5 @@
 -- A verdict, and what shows it. docs/MODEL.md, "Evidence".
-use Rattle.std.specs.Prelude.{◌≡◌, ◌≢◌, ℕ, Bool, true, false, IsTrue, IsFalse, List, Some, ⊤}
+use Rattle.std.specs.Prelude.{◌≡◌, ℕ, Bool, true, false, IsTrue, List, Some}
 use Rattle.eve_grammar.specs.Trace.{Trace}
 use Rattle.eve_grammar.specs.Following.{Spells}
 use Rattle.eve_views.specs.declared.fault.Code.{Code}
@@ -8,14 +8,16 @@ use Rattle.eve_views.specs.declared.fault.Fault.{Fault}
 use Rattle.eve_audit.specs.declared.verdict.Verdict.{Verdict}
 use Rattle.eve_audit.specs.declared.verdict.Verdict.TheVariants as verdict
 use Rattle.eve_evidence.specs.declared.evidence.Evidence.{Evidence}
-use Rattle.eve_evidence.specs.declared.evidence.Evidence.TheVariants.{TwoVotes, Untold}
+use Rattle.eve_evidence.specs.declared.evidence.Evidence.TheVariants.{TwoVotes}
 use Rattle.eve_evidence.specs.Section.{TellsAlong}
 use Rattle.eve_evidence_form.specs.Form.{TellsForm}
 use Rattle.eve_evidence_form.specs.Orders.{TellsTwice}
+use Rattle.eve_evidence_outcomes.specs.Counts.{AreTraceCounts}
 use Rattle.eve_evidence_outcomes.specs.Majority.{TellsMajority}
 use Rattle.eve_evidence_outcomes.specs.Decisions.{TellsTwoDecisions}
 use Rattle.eve_evidence_outcomes.specs.Outcome.{TellsOutcome}
 use Rattle.eve_evidence_outcomes.specs.Outcomes.{TellsState}
+use Rattle.eve_evidence_outcomes.specs.Restore.{TellsRestore}
 use Rattle.eve_evidence_outcomes.specs.Sent.{TellsReply}
 use Rattle.eve_evidence_outcomes.specs.Token.{TellsToken}
 use Rattle.eve_explain.specs.Votes.{IsVotedAgain}
@@ -24,7 +26,7 @@ use Rattle.eve_explain.specs.declared.explained.Explained.TheVariants.{Yes, No}
 
 -- the verdict that is explained
 abbrev pub verdict_in : Explained → Verdict
-verdict_in (Yes s) = verdict.Yes s
+verdict_in (Yes s counts) = verdict.Yes s
 verdict_in (No f evidence) = verdict.No f
 
 -- the codes whose evidence lies in one replica's section
@@ -59,17 +61,13 @@ is_of_orders code.SameName = true
 is_of_orders code.SameRequest = true
 is_of_orders _ = false
 
--- the codes whose evidence isn't told yet
-abbrev pub is_untold : Code → Bool
-is_untold code.Restore = true
-is_untold _ = false
-
--- The evidence of a fault in a trace, by its code: of what stands twice; along the section that the fault names; of a
--- token; of votes, and of a majority that is missing; of an outcome, and of a state that was taken over; of a reply that
--- was sent.
+-- The evidence of a fault in a trace, by its code: of what stands twice; along the section that the fault names; of
+-- restores; of a token; of votes, and of a majority that is missing; of an outcome, and of a state that was taken over;
+-- of a reply that was sent.
 pub record IsEvidence (t : Trace) (f : Fault) (evidence : Evidence) : Type 0 where
   pub twice : IsTrue (is_of_orders f.code) → TellsTwice t f evidence
   pub along : IsTrue (is_told_along f.code) → (e : ℕ) → f.replica ≡ Some e → TellsAlong f.code t e f.offset evidence
+  pub restore : f.code ≡ code.Restore → (e : ℕ) → f.replica ≡ Some e → TellsRestore t e f.offset evidence
   pub token : f.code ≡ code.Token → (e : ℕ) → f.replica ≡ Some e → TellsToken t e f.offset evidence
   pub votes : f.code ≡ code.TwoVotes → TellsVotes t f.offset evidence
   pub decisions : f.code ≡ code.TwoDecisions → TellsTwoDecisions t f.offset evidence
@@ -78,14 +76,13 @@ pub record IsEvidence (t : Trace) (f : Fault) (evidence : Evidence) : Type 0 whe
   pub outcome : f.code ≡ code.Outcome → (e : ℕ) → f.replica ≡ Some e → TellsOutcome t e f.offset evidence
   pub state : f.code ≡ code.TransferBalances → (e : ℕ) → f.replica ≡ Some e → TellsState t e f.offset evidence
   pub reply : f.code ≡ code.Reply → TellsReply t f.offset evidence
-  pub untold : IsTrue (is_untold f.code) → evidence ≡ Untold
 
 -- The evidence of a fault of bytes: in the trace that they spell, or of form where they spell none.
 pub record IsEvidenceOf (bytes : List ℕ) (f : Fault) (evidence : Evidence) : Type 0 where
   pub in_trace : (t : Trace) → Spells bytes t → IsEvidence t f evidence
   pub in_form : ((t : Trace) → ¬ Spells bytes t) → TellsForm bytes f evidence
 
--- a no has the evidence of its fault
-abbrev pub HasEvidence : List ℕ → Explained → Type 0
-HasEvidence bytes (Yes s) = ⊤
-HasEvidence bytes (No f evidence) = IsEvidenceOf bytes f evidence
+-- a yes has the counts of the trace that the bytes spell, and a no the evidence of its fault
+abbrev pub IsExplained : List ℕ → Explained → Type 0
+IsExplained bytes (Yes s counts) = (t : Trace) → Spells bytes t → AreTraceCounts t counts
+IsExplained bytes (No f evidence) = IsEvidenceOf bytes f evidence

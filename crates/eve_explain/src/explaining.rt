@@ -13,21 +13,21 @@ ghost use Rattle.eve_history.specs.SectionHistory.{names_of};
 ghost use Rattle.std.specs.Prelude.{Some, IsTrue};
 ghost use Rattle.eve_evidence.specs.Section.{TellsAlong};
 ghost use Rattle.eve_explain.specs.Explained.{is_told_along, verdict_in};
-ghost use Rattle.eve_explain.specs.Explained.{IsEvidence, IsEvidenceOf, HasEvidence};
+ghost use Rattle.eve_explain.specs.Explained.{IsEvidence, IsEvidenceOf, IsExplained};
 
 use crate::explained::Explained;
 use crate::outcomes::{
-    evidence_of_majority, evidence_of_outcome, evidence_of_reply, evidence_of_state,
-    evidence_of_token,
+    evidence_of_majority, evidence_of_outcome, evidence_of_reply, evidence_of_restore,
+    evidence_of_state, evidence_of_token,
 };
 use crate::phase::{is_of_majority, is_of_orders, is_told_along};
 use crate::votes::voted_again;
 use eve_accounts::Names;
-use eve_audit::{AuditFault, Verdict, audit};
+use eve_audit::{AuditFault, WholeVerdict, audit_whole};
 use eve_evidence::laws::faults_stand_along_the_section;
 use eve_evidence::{Evidence, section_evidence};
 use eve_evidence_form::{form_evidence, trace_evidence};
-use eve_evidence_outcomes::decisions_evidence;
+use eve_evidence_outcomes::{counts, decisions_evidence};
 use eve_grammar::MOST_AUDIT_WORKERS;
 use eve_grammar::laws::bytes_spell_one_trace;
 use eve_recorder::Gate;
@@ -102,13 +102,20 @@ fn evidence_in<'a>(
         return evidence_of_majority(alloc, trace, fault);
     }
     if is_of_orders(fault.code) {
-        return Ok(trace_evidence(trace, fault));
+        return match trace_evidence(alloc, trace, fault) {
+            Ok(evidence) => Ok(evidence),
+            Err(AllocError) => Err(AuditFault::Memory),
+        };
     }
     match fault.code {
         Code::TwoVotes => Ok(Evidence::TwoVotes {
             first: voted_again(trace, fault.offset),
         }),
-        Code::TwoDecisions => Ok(decisions_evidence(trace, fault.offset)),
+        Code::TwoDecisions => match decisions_evidence(alloc, trace, fault.offset) {
+            Ok(evidence) => Ok(evidence),
+            Err(AllocError) => Err(AuditFault::Memory),
+        },
+        Code::Restore => evidence_of_restore(alloc, trace, fault),
         Code::Token => evidence_of_token(alloc, trace, fault),
         Code::Outcome => evidence_of_outcome(alloc, trace, fault),
         Code::TransferBalances => evidence_of_state(alloc, trace, fault),
@@ -138,11 +145,11 @@ fn evidence_of<'a>(
     }
 }
 
-/// The verdict on the bytes of a trace, as `audit` gives it, and for a no what shows it: what is wrong at the frame that
-/// the fault names, what was due there, and what says so.
+/// The verdict on the bytes of a trace, as `audit` gives it. For a yes it has what the trace has, in numbers; for a no
+/// what shows it: what is wrong at the frame that the fault names, what was due there, and what says so.
 ///
 /// docs/MODEL.md, "Verdict" and "Evidence". The trace is audited first. Only where the verdict is no it is read again,
-/// and once more gone through up to the fault. A code that isn't told yet has `Untold` for its evidence.
+/// and once more gone through up to the fault.
 pub fn explain<'a, R: Threads + Wait + Sync, G: Gate>(
     rt: &R,
     alloc: Global,
@@ -156,11 +163,17 @@ pub fn explain<'a, R: Threads + Wait + Sync, G: Gate>(
     ensures yes { IfOk result (λ x. (s : SummaryValue) → verdict_in x ≡ Yes s → SpellsAudited bytes.now) }
     ensures within { IfOk result (λ x. (f : FaultValue) → verdict_in x ≡ No f → f.offset ≤ length bytes.now) }
     ensures replica { IfOk result (λ x. (f : FaultValue) → verdict_in x ≡ No f → NamesItsSection bytes.now f) }
-    ensures evidence { IfOk result (HasEvidence bytes.now) }
+    ensures explained { IfOk result (IsExplained bytes.now) }
 {
-    match audit(rt, alloc, bytes, workers, random, gate) {
-        Ok(Verdict::Yes(summary)) => Ok(Explained::Yes(summary)),
-        Ok(Verdict::No(fault)) => match evidence_of(alloc, bytes, &fault, random) {
+    bytes_spell_one_trace();
+    match audit_whole(rt, alloc, bytes, workers, random, gate) {
+        Ok(WholeVerdict::Yes(accepted)) => {
+            match counts(alloc, &accepted.trace, &accepted.histories) {
+                Ok(counts) => Ok(Explained::Yes(accepted.summary, counts)),
+                Err(AllocError) => Err(AuditFault::Memory),
+            }
+        }
+        Ok(WholeVerdict::No(fault)) => match evidence_of(alloc, bytes, &fault, random) {
             Ok(evidence) => Ok(Explained::No(fault, evidence)),
             Err(why) => Err(why),
         },

@@ -1,4 +1,4 @@
-//! Evidence of tokens, of majorities, of what replicas come to together, and of replies that were sent.
+//! Evidence of restores, of tokens, of majorities, of what replicas come to together, and of replies that were sent.
 
 ghost use Rattle.std.specs.Prelude.{◌≡◌, ℕ, List, IfOk, IsTrue, Some};
 ghost use Rattle.eve_grammar.specs.Following.{Spells};
@@ -7,6 +7,7 @@ ghost use Rattle.eve_audit.specs.Verdict.{IsFirst};
 ghost use Rattle.eve_evidence_outcomes.specs.Majority.{TellsMajority};
 ghost use Rattle.eve_evidence_outcomes.specs.Outcome.{TellsOutcome};
 ghost use Rattle.eve_evidence_outcomes.specs.Outcomes.{TellsState};
+ghost use Rattle.eve_evidence_outcomes.specs.Restore.{TellsRestore};
 ghost use Rattle.eve_evidence_outcomes.specs.Sent.{TellsReply};
 ghost use Rattle.eve_evidence_outcomes.specs.Token.{TellsToken};
 ghost use Rattle.eve_explain.specs.Explained.{is_of_majority};
@@ -16,7 +17,8 @@ use eve_audit::AuditFault;
 use eve_chains::Settled;
 use eve_evidence::Evidence;
 use eve_evidence_outcomes::{
-    majority_evidence, outcome_evidence, reply_evidence, state_evidence, token_evidence,
+    majority_evidence, outcome_evidence, reply_evidence, restore_evidence, state_evidence,
+    token_evidence,
 };
 use eve_grammar::laws::bytes_spell_one_trace;
 use eve_views::{Fault, Trace};
@@ -39,6 +41,27 @@ pub(crate) fn evidence_of_majority<'a>(
     };
     let _history = history_of(alloc, trace, fault, e)?;
     match majority_evidence(alloc, trace, e, fault.code, fault.offset) {
+        Ok(evidence) => Ok(evidence),
+        Err(AllocError) => Err(AuditFault::Memory),
+    }
+}
+
+/// The evidence of a rollback whose restores aren't those that are due.
+pub(crate) fn evidence_of_restore<'a>(
+    alloc: Global,
+    trace: &Trace<'a>,
+    fault: &Fault,
+) -> Result<Evidence<'a>, AuditFault>
+    requires first { (bytes : List ℕ) × Spells bytes trace.now × IsFirst bytes fault.now }
+    requires restore { fault.now.code ≡ code.Restore }
+    ensures { IfOk result (λ x. (e : ℕ) → fault.now.replica ≡ Some e → TellsRestore trace.now e fault.now.offset x) }
+{
+    bytes_spell_one_trace();
+    let Some(e) = fault.replica else {
+        return Ok(Evidence::Untold);
+    };
+    let history = history_of(alloc, trace, fault, e)?;
+    match restore_evidence(alloc, trace, &history, fault.offset) {
         Ok(evidence) => Ok(evidence),
         Err(AllocError) => Err(AuditFault::Memory),
     }

@@ -118,8 +118,8 @@ fn put_range(line: &mut Line, field: HeadField, least: u32, most: u32)
     put_number(line, u64::from(most));
 }
 
-/// Appends line `i` of the first wrong field of the header, which stands at byte `at`, says `found`, and must lie in this
-/// range.
+/// Appends line `i` of the first wrong field of the header, which stands at byte `at`, says `found`, and must lie in
+/// this range.
 pub(crate) fn put_head(
     line: &mut Line,
     i: usize,

@@ -34,8 +34,8 @@ pub(crate) fn put_count_line(line: &mut Line, words: &str, number: u64)
     put_number(line, number);
 }
 
-/// Appends line `i` of a field with numbers, from 0: the field, what was found, and what was due, behind how that bounds
-/// it. No, where there is no such line.
+/// Appends line `i` of a field with numbers, from 0: the field, what was found, and what was due, behind how that
+/// bounds it. No, where there is no such line.
 pub(crate) fn put_numbers(
     line: &mut Line,
     i: usize,

@@ -52,7 +52,8 @@ fn put_first_request(line: &mut Line, first: &ToldRequest, at: u64)
     put_frame(line, FrameKind::Batch, at);
 }
 
-/// Appends line `i` of a request whose client and number stand earlier, first in the Batch frame that begins at byte `at`.
+/// Appends line `i` of a request whose client and number stand earlier, first in the Batch frame that begins at byte
+/// `at`.
 pub(crate) fn put_same_request(
     line: &mut Line,
     i: usize,

@@ -43,7 +43,8 @@ returns-clause-told c =
     if_some c.fault_beside.result
     (IsCertificateFault b.1.1.sizes (length b.1.1.requests) a.serial a.certificate)
     (IsCertificateFault (batch_at t a.seq).sizes (request_count t a) a.serial a.certificate)
-    (λ w told. subst (λ (x : Batch). IsCertificateFault x.sizes (length x.requests) a.serial a.certificate w) (sym batch)
+    (λ w told. subst (λ (x : Batch). IsCertificateFault x.sizes (length x.requests) a.serial a.certificate w)
+    (sym batch)
     told) c.fault_beside.ensures.told
 
 pub returns-clause-right : goal.returns-clause-right

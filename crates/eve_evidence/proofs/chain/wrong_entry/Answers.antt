@@ -20,7 +20,8 @@ returns-then-sees_another-clause-told c = λ s a is said xs.
     let i = c.loop-i.i in
     let has : c.left_to-left.result.has
     ≡ visible_to t (placed_in s at a) (access_said c.args.access.now).index e.row =
-    c.left_to-left.ensures.has s a is said xs ∙ ap (λ (n : ℕ). visible_to t (placed_in s at a) n e.row) c.index.ensures in
+    c.left_to-left.ensures.has s a is said xs ∙ ap (λ (n : ℕ). visible_to t (placed_in s at a) n e.row)
+    c.index.ensures in
     place_at _ es i e c.entry-entry.ensures (record {
       first = c.loop-i.invariant s a is said xs;
       wrong = subst (λ (v : Versioned). SeesAnother c.args.code v e) has (c.if-sees_another.ensures.yes refl);
@@ -41,9 +42,11 @@ loop-i-preserved c = λ s a is said xs.
     let e = c.entry-entry.result in
     let has : c.left_to-left.result.has
     ≡ visible_to t (placed_in s at a) (access_said c.args.access.now).index e.row =
-    c.left_to-left.ensures.has s a is said xs ∙ ap (λ (n : ℕ). visible_to t (placed_in s at a) n e.row) c.index.ensures in
+    c.left_to-left.ensures.has s a is said xs ∙ ap (λ (n : ℕ). visible_to t (placed_in s at a) n e.row)
+    c.index.ensures in
     all_more (λ (y : Entry). ¬ SeesAnother c.args.code
-    (visible_to t (placed_in s at a) (access_said c.args.access.now).index y.row) y) es c.loop-i.i e c.entry-entry.ensures
+    (visible_to t (placed_in s at a) (access_said c.args.access.now).index y.row) y) es c.loop-i.i e
+    c.entry-entry.ensures
     (c.loop-i.invariant s a is said xs)
     (λ sees. c.if-sees_another.ensures.no refl
     (subst (λ (v : Versioned). SeesAnother c.args.code v e) (sym has) sees))

@@ -29,7 +29,8 @@ loop-i-preserved c =
     let es = (access_said c.args.access.now).entries in
     let kind = same_kind c.entry-entry.result.kind c.at-due.result.kind
     (sym c.is_write-writes.ensures
-    ∙ same_beq c.is_write-writes.result c.is_write-wanted.result c.if-writes-wanted.false ∙ c.is_write-wanted.ensures) in
+    ∙ same_beq c.is_write-writes.result c.is_write-wanted.result c.if-writes-wanted.false ∙
+    c.is_write-wanted.ensures) in
     let after = c.is_same_value.ensures.0 c.if-not-is_same_value.false in
     same_more (map effect_in es) c.args.effects.now c.loop-i.i (effect_in c.entry-entry.result) c.at-due.result
     (get_mapped effect_in es c.loop-i.i c.entry-entry.result c.entry-entry.ensures) c.at-due.ensures

@@ -29,7 +29,8 @@ returns-then-is_some-2-clause-told c =
     let values_is : values ≡ map (λ e. e.seen) es =
     ap (λ (n : ℕ). take n c.values_seen-seen.result) c.len-count.ensures.len ∙ c.values_seen-seen.ensures in
     let versions : length (map (λ (e : Entry). e.version) es) ≡ length values =
-    length-map es (λ (e : Entry). e.version) ∙ sym (length-map es (λ (e : Entry). e.seen)) ∙ ap length (sym values_is) in
+    length-map es (λ (e : Entry). e.version) ∙ sym (length-map es (λ (e : Entry). e.seen)) ∙ ap length
+    (sym values_is) in
     let fits = c.decide-decision.ensures.fits names (map (λ e. e.version) es) c.touched-touched.ensures versions in
     let x = recorded request c.args.reply es in
     if_some c.effect_fault-wrong.result
@@ -37,11 +38,14 @@ returns-then-is_some-2-clause-told c =
     → map effect_in due.entries ≡ d.effects → IsRecordFault t ns y w)
     (IsRecordFault c.args.trace.now names x)
     (λ w told. told c.args.trace.now names x
-    (due_record names request c.args.reply es rows c.touched-touched.result values d c.rows-rows.ensures count same_rows values_is
+    (due_record names request c.args.reply es rows c.touched-touched.result values d c.rows-rows.ensures count
+    same_rows values_is
     c.decide-decision.ensures.each fits) refl
-    (is_due names request c.args.reply es rows c.touched-touched.result values d c.rows-rows.ensures count same_rows values_is
+    (is_due names request c.args.reply es rows c.touched-touched.result values d c.rows-rows.ensures count same_rows
+    values_is
     c.decide-decision.ensures.each fits)
-    (due_effects names request c.args.reply es rows c.touched-touched.result values d c.rows-rows.ensures count same_rows values_is
+    (due_effects names request c.args.reply es rows c.touched-touched.result values d c.rows-rows.ensures count
+    same_rows values_is
     c.decide-decision.ensures.each fits))
     c.effect_fault-wrong.ensures.told
 
@@ -60,12 +64,14 @@ returns-then-is_same-clause-fits c =
     let values_is : values ≡ map (λ e. e.seen) es =
     ap (λ (n : ℕ). take n c.values_seen-seen.result) c.len-count.ensures.len ∙ c.values_seen-seen.ensures in
     let versions : length (map (λ (e : Entry). e.version) es) ≡ length values =
-    length-map es (λ (e : Entry). e.version) ∙ sym (length-map es (λ (e : Entry). e.seen)) ∙ ap length (sym values_is) in
+    length-map es (λ (e : Entry). e.version) ∙ sym (length-map es (λ (e : Entry). e.seen)) ∙ ap length
+    (sym values_is) in
     let fits = c.decide-decision.ensures.fits names (map (λ e. e.version) es) c.touched-touched.ensures versions in
     let same : map effect_in es ≡ d.effects =
     if_none c.effect_fault-wrong.result (map effect_in es ≡ d.effects) c.if-is_some-2.ensures
     c.effect_fault-wrong.ensures.same in
-    fits_alike names request c.args.reply es rows c.touched-touched.result values d c.rows-rows.ensures count same_rows values_is
+    fits_alike names request c.args.reply es rows c.touched-touched.result values d c.rows-rows.ensures count same_rows
+    values_is
     c.decide-decision.ensures.each fits same
     (c.is_same.ensures.0 c.if-is_same.true)
 
@@ -84,16 +90,20 @@ returns-clause-told c =
     let values_is : values ≡ map (λ e. e.seen) es =
     ap (λ (n : ℕ). take n c.values_seen-seen.result) c.len-count.ensures.len ∙ c.values_seen-seen.ensures in
     let versions : length (map (λ (e : Entry). e.version) es) ≡ length values =
-    length-map es (λ (e : Entry). e.version) ∙ sym (length-map es (λ (e : Entry). e.seen)) ∙ ap length (sym values_is) in
+    length-map es (λ (e : Entry). e.version) ∙ sym (length-map es (λ (e : Entry). e.seen)) ∙ ap length
+    (sym values_is) in
     let fits = c.decide-decision.ensures.fits names (map (λ e. e.version) es) c.touched-touched.ensures versions in
     let same : map effect_in es ≡ d.effects =
     if_none c.effect_fault-wrong.result (map effect_in es ≡ d.effects) c.if-is_some-2.ensures
     c.effect_fault-wrong.ensures.same in (
-      due_record names request c.args.reply es rows c.touched-touched.result values d c.rows-rows.ensures count same_rows values_is
+      due_record names request c.args.reply es rows c.touched-touched.result values d c.rows-rows.ensures count
+          same_rows values_is
           c.decide-decision.ensures.each fits,
-      is_due names request c.args.reply es rows c.touched-touched.result values d c.rows-rows.ensures count same_rows values_is
+      is_due names request c.args.reply es rows c.touched-touched.result values d c.rows-rows.ensures count same_rows
+          values_is
           c.decide-decision.ensures.each fits,
-      same ∙ sym (due_effects names request c.args.reply es rows c.touched-touched.result values d c.rows-rows.ensures count same_rows values_is
+      same ∙ sym (due_effects names request c.args.reply es rows c.touched-touched.result values d c.rows-rows.ensures
+          count same_rows values_is
           c.decide-decision.ensures.each fits),
       refl,
       refl,

@@ -9,7 +9,8 @@ use Rattle.eve_evidence.proofs.record.row_fault.Goals as goal
 pub returns-then-number-wanted-clause-told : goal.returns-then-number-wanted-clause-told
 returns-then-number-wanted-clause-told c = λ names x is rows.
     other_row c.args.trace.now names x (access_said c.args.access.now).entries c.args.rows.now c.loop-i.i
-    c.entry-entry.result c.at-due.result _ _ is rows c.requires c.loop-i.invariant c.entry-entry.ensures c.at-due.ensures
+    c.entry-entry.result c.at-due.result _ _ is rows c.requires c.loop-i.invariant c.entry-entry.ensures
+    c.at-due.ensures
     (λ e. c.if-number-wanted.true (c.number-number.ensures.number ∙ e ∙ sym c.number-wanted.ensures.number))
     c.told_row.ensures c.told_row-then-number-wanted.ensures
 

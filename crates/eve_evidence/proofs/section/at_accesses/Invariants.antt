@@ -13,4 +13,5 @@ abbrev pub invariant-loop-i : goal.invariant-loop-i
 invariant-loop-i l =
     (s : SectionState) (a : Attempt) → IsCourse s l.course → attempt_said l.attempt ≡ without_accesses a
     → l.accesses ≡ accesses_at l.attempt.offset a
-    → ¬ SomePlace (take l.i l.accesses) (λ own x. (x.0 ≡ l.place) × WrongAccess l.code l.trace s l.attempt.offset a own x.1)
+    → ¬ SomePlace (take l.i l.accesses) (λ own x. (x.0 ≡ l.place) × WrongAccess l.code l.trace s l.attempt.offset a own
+    x.1)

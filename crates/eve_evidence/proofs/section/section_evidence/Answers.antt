@@ -17,7 +17,8 @@ loop-step-preserved c =
     let goes = subst (λ (xs : List (ℕ × Step)). Goes c.args.code t c.args.e c.args.place xs c.loop-step.course) some.1
     c.loop-step.invariant in
     goes_on c.args.code t c.args.e c.args.place some.0 c.next.new.self c.loop-step.course c.take.new.self goes
-    (c.in_default-at_step.ensures.none (now c.args.code t c.args.e c.args.place some.0 c.next.new.self c.loop-step.course
+    (c.in_default-at_step.ensures.none (now c.args.code t c.args.e c.args.place some.0 c.next.new.self
+    c.loop-step.course
     c.take.new.self goes) some.0 goes.is some.2)
     (c.in_ok-take.ensures (now c.args.code t c.args.e c.args.place some.0 c.next.new.self c.loop-step.course
     c.take.new.self goes) some.0 goes.is some.2)

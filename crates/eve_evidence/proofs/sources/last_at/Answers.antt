@@ -21,7 +21,8 @@ returns-then-is_some-clause-last c =
     subst (λ (n : ℕ). NoneWrites c.args.row (passed seq xs (drop n order))) next c.loop-back.invariant in
     if_some c.left_at-found.result (IsLeftAlone c.args.row (passed_by seq (access_with xs c.index_at-index.result)))
     (IsLast c.args.row (passed seq xs order))
-    (λ l own. last_found c.args.row seq xs order k c.index_at-index.result got none l own) c.left_at-found.ensures.written
+    (λ l own. last_found c.args.row seq xs order k c.index_at-index.result got none l own)
+    c.left_at-found.ensures.written
 
 pub loop-back-preserved : goal.loop-back-preserved
 loop-back-preserved c =

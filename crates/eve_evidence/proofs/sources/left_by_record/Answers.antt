@@ -18,4 +18,5 @@ loop-i-preserved c =
 pub returns : goal.returns
 returns c =
     let es = (access_said c.args.access.now).entries in
-    c.loop-i.invariant ∙ ap (last_left c.args.row) (take_all c.loop-i.i es (omega (arith, c.len-i-end.ensures.len, c.loop-i-test.false)))
+    c.loop-i.invariant ∙ ap (last_left c.args.row) (take_all c.loop-i.i es
+    (omega (arith, c.len-i-end.ensures.len, c.loop-i-test.false)))

@@ -19,6 +19,10 @@ loop-place-preserved c =
 pub returns-clause-before : goal.returns-clause-before
 returns-clause-before c =
     let order = (attempt_said c.args.attempt.now).certificate in
-    let whole = take_all c.loop-place.place order (omega (arith, c.len-place-end.ensures.certificate, c.loop-place-test.false)) in
+    let whole = take_all c.loop-place.place order (omega (
+      arith,
+      c.len-place-end.ensures.certificate,
+      c.loop-place-test.false,
+    )) in
     take_all c.len.result order (omega (arith, c.len.ensures.certificate))
     ∙ before_all order c.args.index (subst (AllByRecursion (λ j. j ≢ c.args.index)) whole c.loop-place.invariant)

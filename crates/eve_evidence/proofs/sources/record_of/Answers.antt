@@ -22,4 +22,5 @@ pub returns-clause-none : goal.returns-clause-none
 returns-clause-none c =
     with_none c.args.accesses.now c.args.index
     (subst (λ (xs : List (ℕ × Access)). AllByRecursion (λ z. z.1.index ≢ c.args.index) xs)
-    (take_all c.loop-i.i c.args.accesses.now (omega (arith, c.len-i-end.ensures, c.loop-i-test.false))) c.loop-i.invariant)
+    (take_all c.loop-i.i c.args.accesses.now (omega (arith, c.len-i-end.ensures, c.loop-i-test.false)))
+    c.loop-i.invariant)

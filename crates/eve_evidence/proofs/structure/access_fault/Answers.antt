@@ -9,7 +9,8 @@ pub returns-in-None-clause-right : goal.returns-in-None-clause-right
 returns-in-None-clause-right c = λ x got.
     let y : ℕ × Access = (c.get-access.result.offset, access_said c.get-access.result) in
     let same : y ≡ x = same_Some y x (sym c.get-access.ensures.says ∙ got) in
-    right_access c.args.trace.now (attempt_said c.args.attempt.now) _ y x c.index-index.result same c.index-index.ensures
+    right_access c.args.trace.now (attempt_said c.args.attempt.now) _ y x c.index-index.result same
+    c.index-index.ensures
     (omega (arith, c.worker-worker.ensures, c.worker_count-workers.ensures, c.if-workers-worker.false))
     (omega (arith, c.index-index.ensures, c.request_count-requests.ensures, c.if-requests-index.false))
     c.in-None.ensures.none

@@ -33,7 +33,8 @@ returns-then-ne-clause-told c = λ s is.
     c.in-Some.ensures.lookup.0 c.in-Some.ensures.lookup.1 in
     let next : (commit_said c.args.commit.now).seq ≡ s.last + 1 =
     omega (arith, c.commit_number-next.ensures s is, c.seq.ensures, c.from-seq.ensures, c.if-seq-next.false) in
-    other_token s c.args.course.now o is got (commit_said c.args.commit.now) next c.token-found.result c.token-due.result
+    other_token s c.args.course.now o is got (commit_said c.args.commit.now) next c.token-found.result
+    c.token-due.result
     c.token-found.ensures c.token-due.ensures
     (sym c.view-view.ensures ∙ c.if-view-due.false ∙ c.view-due.ensures)
     (apart_not c.token-found.result.now c.token-due.result.now c.if-ne.ensures)

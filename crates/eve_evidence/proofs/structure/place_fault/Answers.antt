@@ -12,7 +12,8 @@ loop-k-preserved c =
     let k = c.loop-k.k in
     elim c.if-worker.branch [
       | then-worker w ↦
-          let more = count_more c.worker-worker.result xs k x c.get.ensures.says (sym c.worker.ensures ∙ w.if-worker.true) in (
+          let more = count_more c.worker-worker.result xs k x c.get.ensures.says
+          (sym c.worker.ensures ∙ w.if-worker.true) in (
             w.next-is ∙ ap (λ (n : ℕ). n + 1) c.loop-k.invariant.0 ∙ sym more,
             omega (arith, w.next-is, c.loop-k.invariant.1),
           )

@@ -1,10 +1,12 @@
 use Rattle.std.proofs.Common.{◌≡◌, ℕ, ◌+◌, ◌-◌, List, length, take, drop, refl, sym, ap, subst, ◌∙◌, arith}
 use Rattle.std.specs.Prelude.{slice_index}
-use Rattle.std.proofs.lemmas.List.{length-drop, take_all}
+use Rattle.std.proofs.lemmas.List.{length-drop, length-take, take_all}
+use Rattle.byteorder.specs.Endian.{big_number}
 use Rattle.eve_grammar.specs.declared.head.Head.{Head}
 use Rattle.eve_grammar.specs.declared.place.Place.{Place}
+use Rattle.eve_grammar.proofs.HeadLimits.{few_customers}
 use Rattle.eve_views.specs.Form.{HasWrongBody}
-use Rattle.eve_evidence_form.specs.Body.{IsBodyFault, body_in_front}
+use Rattle.eve_evidence_form.specs.Body.{body_fault, body_in_front}
 use Rattle.eve_evidence_form.proofs.body.wrong_body_at.Goals as goal
 
 -- what is sliced off is what stands there
@@ -28,25 +30,40 @@ body_there-requires c =
     (subst (λ (h : Head). HasWrongBody h c.place_reached-place.result (drop at bytes)) (sym head)
     (subst (λ (p : Place). HasWrongBody r.head p (drop at bytes)) (sym place) c.requires.wrong.1))
 
-pub returns-in-Some-clause-told : goal.returns-in-Some-clause-told
-returns-in-Some-clause-told c =
+pub body_fault-own-requires-clause-few : goal.body_fault-own-requires-clause-few
+body_fault-own-requires-clause-few c =
+    let r = c.requires.wrong.0 in
+    let head = c.head_said-head.ensures r.head r.says in
+    omega (arith, few_customers r.head r.says.limits, ap (λ (h : Head). h.customers) head)
+
+pub body_fault-own-requires-clause-short : goal.body_fault-own-requires-clause-short
+body_fault-own-requires-clause-short c =
+    let frame = drop c.args.at c.args.bytes.now in
+    let n = big_number 4 (drop 1 frame) in
+    let is = ap length (c.body_there.ensures ∙ ap body_in_front (sliced_off c.args.at c.args.bytes.now)) in
+    omega (
+      arith,
+      is,
+      length-take n (drop 5 frame),
+      length-drop 5 frame,
+      length-drop c.args.at c.args.bytes.now,
+      c.requires.short,
+    )
+
+pub returns : goal.returns
+returns c =
     let r = c.requires.wrong.0 in
     let bytes = c.args.bytes.now in
     let at = c.args.at in
     let kind = c.kind_there-kind.result in
     let head = c.head_said-head.ensures r.head r.says in
     let place = c.place_reached-place.ensures r (sym head) in
-    let whole = sliced_off at bytes in (
+    let whole = sliced_off at bytes in
+    let body = c.body_there.ensures ∙ ap body_in_front whole in (
       r,
-      c.in-Some.own,
+      c.body_fault-own.result,
       c.kind_there-kind.ensures ∙ ap (λ (ys : List ℕ). slice_index ys 0) whole,
-      subst (λ (p : Place). IsBodyFault r.head p kind (body_in_front (drop at bytes)) c.in-Some.own) place
-          (subst (λ (h : Head). IsBodyFault h c.place_reached-place.result kind (body_in_front
-          (drop at bytes)) c.in-Some.own)
-          head
-          (subst (λ
-          (ys : List ℕ). IsBodyFault c.head_said-head.result c.place_reached-place.result kind ys c.in-Some.own)
-          (c.body_there.ensures ∙ ap body_in_front whole) c.in-Some.ensures.told)),
+      c.body_fault-own.ensures ∙ λ i. body_fault (head i) (place i) kind (body i),
       refl,
       ap (λ (n : ℕ). at + 5 + n) c.from.ensures,
     )

@@ -10,6 +10,7 @@ use Rattle.eve_evidence.proofs.Lists.{place_at, no_place_more}
 use Rattle.eve_evidence_form.specs.Requests.{requests_listed, NoneAsked, NoneAgain}
 use Rattle.eve_evidence_form.proofs.Lists.{no_place, none_left}
 use Rattle.eve_evidence_form.proofs.Asking.{dropped, listed_as, listed_there, length-listed}
+use Rattle.eve_evidence_form.proofs.Unasked.{none_itself}
 use Rattle.eve_evidence_form.proofs.requests.again_in.Goals as goal
 
 pub loop-asked-init : goal.loop-asked-init
@@ -24,6 +25,16 @@ overflow_add-index c =
     let within = slice_get_within own c.loop-asked.index (borrowed_asked c.in-Some.asked)
     (dropped own c.loop-asked.index _ _ (c.loop-asked.invariant.0 ∙ first)).0 in
     omega (arith, within, c.requires.few)
+
+pub earliest-requires-clause-unasked : goal.earliest-requires-clause-unasked
+earliest-requires-clause-unasked c =
+    let b : ℕ × (ℕ × Batch) = (c.args.batch.now.offset, batch_said c.args.batch.now) in
+    let i = c.loop-asked.index in
+    let y = borrowed_asked c.in-Some.asked in
+    let first : c.loop-asked.asked-iterator ≡ y ∷ c.next.new.self = search rules in
+    let got = (dropped b.1.1.requests i _ _ (c.loop-asked.invariant.0 ∙ first)).0 in
+    c.requires.unasked (request_id y)
+    (λ none. none_itself (requests_listed b) i (listed_as b i y) (listed_there b i y got) none)
 
 pub returns-in-Some-earliest-clause-again : goal.returns-in-Some-earliest-clause-again
 returns-in-Some-earliest-clause-again c =
@@ -44,7 +55,8 @@ loop-asked-preserved c =
     let first : c.loop-asked.asked-iterator ≡ y ∷ c.next.new.self = search rules in
     let there = dropped b.1.1.requests i _ _ (c.loop-asked.invariant.0 ∙ first) in (
       there.1,
-      no_place_more (λ earlier x. ¬ NoneAsked (request_id x.asked) (before ++ earlier)) (requests_listed b) i (listed_as b i y)
+      no_place_more (λ earlier x. ¬ NoneAsked (request_id x.asked) (before ++ earlier)) (requests_listed b) i
+          (listed_as b i y)
           (listed_there b i y there.0) c.loop-asked.invariant.1 (λ wrong. wrong c.in_default.ensures.none),
     )
 

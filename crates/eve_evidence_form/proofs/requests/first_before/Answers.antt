@@ -40,7 +40,8 @@ loop-i-preserved c =
     take_all c.len.result (requests_listed own) (omega (arith, length-listed own, c.len.ensures)) in
     subst (NoneAsked id) (sym (one_batch_more (batches_at t) c.loop-i.i own
     (subst (λ (k : ℕ). slice_get (batches_at t) k ≡ Some own) same c.batch-batch.ensures.says)))
-    (none_in_both id (flat_map requests_listed (take c.loop-i.i (batches_at t))) (requests_listed own) c.loop-i.invariant
+    (none_in_both id (flat_map requests_listed (take c.loop-i.i (batches_at t))) (requests_listed own)
+    c.loop-i.invariant
     (subst (NoneAsked id) whole c.in_default.ensures.none))
 
 pub returns-clause-none : goal.returns-clause-none

@@ -46,7 +46,8 @@ loop-asked-preserved c =
     let first : c.loop-asked.asked-iterator ≡ y ∷ c.next.new.self = search rules in
     let there = dropped b.1.1.requests i _ _ (c.loop-asked.invariant.0 ∙ first) in (
       there.1,
-      all_more (λ (x : Listed). request_id x.asked ≢ (c.args.client, c.args.number)) (requests_listed b) i (listed_as b i y)
+      all_more (λ (x : Listed). request_id x.asked ≢ (c.args.client, c.args.number)) (requests_listed b) i
+          (listed_as b i y)
           (listed_there b i y there.0) c.loop-asked.invariant.1 (c.has_id.ensures.no (search rules)),
     )
 
@@ -54,7 +55,8 @@ pub returns-clause-none : goal.returns-clause-none
 returns-clause-none c =
     let b : ℕ × (ℕ × Batch) = (c.args.batch.now.offset, batch_said c.args.batch.now) in
     let none : c.loop-asked.asked-iterator ≡ [] = search rules in
-    all_before_end (λ (x : Listed). request_id x.asked ≢ (c.args.client, c.args.number)) (requests_listed b) c.args.count
+    all_before_end (λ (x : Listed). request_id x.asked ≢ (c.args.client, c.args.number)) (requests_listed b)
+    c.args.count
     c.loop-asked.index
     (omega (arith, length-listed b, none_left b.1.1.requests c.loop-asked.index (c.loop-asked.invariant.0 ∙ none)))
     c.loop-asked.invariant.1

@@ -36,5 +36,6 @@ unreachable-requires c =
     let there : c.args.e < length ss = omega (arith, c.requires.there, many, count) in
     let its = settled_as t ss c.args.e s c.requires.settled c.requires.there
     (slice_get_read ss (length ss) c.args.e s refl there c.index-settled-e.is) in
-    none_differs t c.args.e c.args.place s c.loop-n.n its (omega (arith, c.loop-n-test.false, c.committed-count.ensures))
+    none_differs t c.args.e c.args.place s c.loop-n.n its (omega
+    (arith, c.loop-n-test.false, c.committed-count.ensures))
     c.loop-n.invariant c.requires.stands

@@ -53,5 +53,6 @@ section_evidence-requires-clause-stands c =
     first_there t laws f c.requires.along apart bytes
     (λ u spelled. c.bytes_spell_one_trace.ensures bytes u t spelled c.requires.first.1)
     c.requires.first.2.judged.stands in
-    subst (λ (n : ℕ). StandsAlong f.code t n f.offset) (same_Some there.replica c.in-Some.e (sym there.named ∙ c.in-Some.is))
+    subst (λ (n : ℕ). StandsAlong f.code t n f.offset) (same_Some there.replica c.in-Some.e
+    (sym there.named ∙ c.in-Some.is))
     there.along

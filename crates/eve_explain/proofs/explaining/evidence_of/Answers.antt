@@ -1,9 +1,7 @@
 use Rattle.std.proofs.Common.{subst}
 use Rattle.std.proofs.lemmas.Result.{IfOk-weaker}
 use Rattle.eve_grammar.specs.Trace.{Trace}
-use Rattle.eve_grammar.specs.Following.{Spells}
 use Rattle.eve_explain.specs.Explained.{IsEvidence, IsEvidenceOf}
-use Rattle.eve_explain.proofs.ByCode.{first_of_form}
 use Rattle.eve_explain.proofs.explaining.evidence_of.Goals as goal
 
 pub returns-in-Ok : goal.returns-in-Ok

@@ -19,4 +19,10 @@ returns c =
     let t = c.args.trace.now in
     c.loop-i.invariant
     ∙ take_all c.loop-i.i (names_of t)
-    (omega (arith, c.loop-i-test.false, c.customer_count-i-end.ensures, length-map t.customers (λ (d : Customer). d.name)))
+    (omega (
+      arith,
+      c.loop-i-test.false,
+      c.customer_count-i-end.ensures,
+      length-map t.customers
+          (λ (d : Customer). d.name),
+    ))

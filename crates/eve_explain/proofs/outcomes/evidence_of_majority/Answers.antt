@@ -1,4 +1,4 @@
-use Rattle.std.proofs.Common.{rules, ◌≡◌, ℕ, ◌<◌, length, Some, inl, sym, subst, ◌∙◌, arith}
+use Rattle.std.proofs.Common.{ℕ, ◌<◌, length, inl, sym, subst, ◌∙◌, arith}
 use Rattle.std.proofs.lemmas.Option.{same_Some}
 use Rattle.eve_agree.specs.Majority.{StandsInMajorities}
 use Rattle.eve_explain.proofs.ByCode.{MissesMajority, fault_of, majority_behind, majority_there}

@@ -28,4 +28,5 @@ returns-clause-none c = λ place.
     let ws = c.args.votes.now in
     let whole = take_all c.loop-i.i ws (omega (arith, c.loop-i-test.false, c.len-i-end.ensures)) in
     c.loop-i.invariant
-    (subst (λ (ys : List (ℕ × Vote)). SomePlace ys (λ before w. (w.0 ≡ c.args.at) × IsFurther before w)) (sym whole) place)
+    (subst (λ (ys : List (ℕ × Vote)). SomePlace ys (λ before w. (w.0 ≡ c.args.at) × IsFurther before w)) (sym whole)
+    place)

@@ -10,7 +10,8 @@ use Rattle.eve_explain.proofs.votes.first_on.Goals as goal
 pub returns-then-is_on-clause-first : goal.returns-then-is_on-clause-first
 returns-then-is_on-clause-first c =
     place_in_front (λ earlier u. (u.0 ≡ c.offset.result) × IsTrue (is_vote_on c.args.n c.args.view u.1)
-    × AllByRecursion (λ z. IsFalse (is_vote_on c.args.n c.args.view z.1)) earlier) c.args.votes.now c.args.count c.loop-i.i
+    × AllByRecursion (λ z. IsFalse (is_vote_on c.args.n c.args.view z.1)) earlier) c.args.votes.now c.args.count
+    c.loop-i.i
     (c.get-vote.result.offset, vote_said c.get-vote.result) c.loop-i-test.true c.get-vote.ensures.says
     (sym c.offset.ensures, sym c.is_on.ensures ∙ c.if-is_on.true, c.loop-i.invariant)
 

@@ -1,0 +1,14 @@
+use Rattle.std.proofs.Common.{◌+◌, ◌*◌, arith}
+use Rattle.eve_evidence_form.specs.AccessBody.{entry_fields}
+use Rattle.eve_evidence_form.proofs.FirstWrong.{part_right, part_wrong}
+use Rattle.eve_evidence_form.proofs.access_body.wrong_in_entries.Goals as goal
+
+pub returns-in-Some : goal.returns-in-Some
+returns-in-Some c =
+    part_wrong (λ i. entry_fields c.args.rows (6 + 29 * i) c.args.body.now) c.loop-i.i c.args.count c.in-Some.wrong
+    (omega arith) c.loop-i.invariant c.in-Some.ensures
+
+pub loop-i-preserved : goal.loop-i-preserved
+loop-i-preserved c =
+    part_right (λ i. entry_fields c.args.rows (6 + 29 * i) c.args.body.now) c.loop-i.i c.loop-i.invariant
+    c.in_default.ensures

@@ -1,0 +1,6 @@
+use Rattle.std.proofs.Common.{◌≡◌, ◌+◌, ◌*◌, None}
+use Rattle.eve_evidence_form.specs.Fields.{fields_of, first_wrong_there, reply_fields}
+use Rattle.eve_evidence_form.proofs.attempt_body.wrong_in_replies.Given as goal
+
+abbrev pub invariant-loop-i : goal.invariant-loop-i
+invariant-loop-i l = None ≡ first_wrong_there (fields_of (λ i. reply_fields (l.from + 9 * i) l.body) l.i)
