@@ -1,5 +1,6 @@
 -- What a call left where the text that it was to send was not sent.
-use Rattle.std.proofs.Common.{◌≡◌, ◌++◌, ℕ, List, Option, Some, Result, Ok, Err, IfErr, OnErr, inl, inr, ap, subst, sym, ◌∙◌}
+use Rattle.std.proofs.Common.{◌≡◌, ◌++◌, ℕ, List, Option, Some, Result, Ok}
+use Rattle.std.proofs.Common.{Err, IfErr, OnErr, inl, inr, ap, subst, sym, ◌∙◌}
 use Rattle.std.specs.Prelude.{IsErrAnd}
 use Rattle.eve_streams.specs.Failures.{after_failure}
 use Rattle.eve_streams.specs.Front.{AppendsFront}
@@ -42,7 +43,8 @@ shown_left written failures bytes text status old new said fault.Write stopped =
 -- by lines that end with this one
 pub long_stopped : {O : Type 0} (written : O → Option (List ℕ)) (failures : O → ℕ) (bytes last : List ℕ) (old new : O)
     → ((before : List ℕ) → ShowsLong bytes (before ++ last) 1) → (why : ToolFault)
-    → StopsLong written failures old new last why → Leaves MOST_BYTES written failures ShowLong (Some bytes) ⊥ old new why
+    → StopsLong written failures old new last why → Leaves MOST_BYTES written failures ShowLong (Some bytes) ⊥ old new
+    why
 long_stopped written failures bytes last old new said fault.Read stopped = absurd stopped
 long_stopped written failures bytes last old new said (fault.Line number) stopped = absurd stopped
 long_stopped written failures bytes last old new said fault.TooLong stopped = absurd stopped

@@ -5,3 +5,4 @@ pub mod Leaving
 pub mod Running
 mod LongLines
 mod Explaining
+mod CallWords

@@ -244,6 +244,7 @@ unfolding fault_line
 fault_line-some f =
     omega (
       arith,
-      length-append (codes "no: F") (decimal (code_number f.code) ++ (codes " " ++ (code_name f.code ++ (codes " at byte "
+      length-append (codes "no: F") (decimal (code_number f.code)
+          ++ (codes " " ++ (code_name f.code ++ (codes " at byte "
           ++ (decimal f.offset ++ (replica_text f.replica ++ line_feed)))))),
     )

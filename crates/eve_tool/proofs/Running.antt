@@ -29,7 +29,8 @@ runs_of limit mixer asked bytes p short few run fits = record {
 
 pub failed_run : {O : Type 0} (written : O → Option (List ℕ)) (failures : O → ℕ) (limit : ℕ) (mixer : Mixer)
     (asked : Format) (bytes : List ℕ) (p : Parts) (old new : O) → length bytes ≤ limit → limit ≤ 2 ^ 30
-    → IsRunOfText mixer asked bytes p → length_of (trace p) ≤ limit → Stopped written failures old new (spelling (trace p))
+    → IsRunOfText mixer asked bytes p → length_of (trace p) ≤ limit → Stopped written failures old new
+    (spelling (trace p))
     → Leaves limit written failures (Run mixer asked) (Some bytes) ⊥ old new fault.Write
 failed_run written failures limit mixer asked bytes p old new short few run fits stopped = (
   stopped.counted,

@@ -55,7 +55,8 @@ too_long limit (Some k) read e long = omega (arith, length-take (limit + 1) k, a
 
 -- what a run left of the bytes that were read, which are all
 pub left_of_all : {O : Type 0} (limit : ℕ) (written : O → Option (List ℕ)) (failures : O → ℕ) (mixer : Mixer)
-    (asked : Format) (known : Option (List ℕ)) (failed : Type 0) (bytes : List ℕ) (old new : O) (why : ToolFault) → IsAll known bytes
+    (asked : Format) (known : Option (List ℕ)) (failed : Type 0) (bytes : List ℕ) (old new : O) (why : ToolFault)
+    → IsAll known bytes
     → Leaves limit written failures (Run mixer asked) (Some bytes) ⊥ old new why
     → Leaves limit written failures (Run mixer asked) known failed old new why
 left_of_all limit written failures mixer asked known failed bytes old new fault.Read all left = absurd left.0

@@ -8,3 +8,4 @@ pub mod Audit
 pub mod Explain
 pub mod Run
 pub mod Calls
+pub mod Words

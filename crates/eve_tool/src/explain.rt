@@ -1,6 +1,7 @@
 //! The call `explain`: the verdict on a trace, and why it is so.
 
-ghost use Rattle.std.specs.Prelude.{◌≡◌, ◌≢◌, ◌<◌, Some, IfOk, IfErr, OnOk, OnErr};
+ghost use Rattle.std.specs.Prelude.{◌≡◌, ◌≢◌, ◌+◌, ◌<◌, ◌≤◌, length, Some, IfOk, IfErr, OnOk, OnErr};
+ghost use Rattle.arrayvec.specs.ArrayVec.{array_vec_len};
 ghost use Rattle.eve_streams.specs.Failures.{after_failure};
 ghost use Rattle.eve_tool.specs.Calls.{WasRead, Leaves};
 ghost use Rattle.eve_tool.specs.Explain.{Explains, SendsReasons, StopsInReasons};
@@ -10,10 +11,10 @@ ghost use Rattle.eve_tool_arguments.specs.Arguments.{Explain};
 use crate::audit::send_verdict;
 use crate::fault::ToolFault;
 use crate::random::random_words;
-use eve_explain::{Evidence, Explained};
+use eve_explain::Explained;
 use eve_grammar::MOST_BYTES;
-use eve_lines::{Line, put_line_feed};
-use eve_reasons::put_reason;
+use eve_lines::{LINE_ROOM, Line, put_line_feed};
+use eve_reasons::{LONGEST_REASON, put_count, put_reason};
 use eve_recorder::OpenGate;
 use eve_streams::{SendFault, Sink, Source, read_all, send_all};
 use eve_tool_arguments::WorkerCount;
@@ -23,23 +24,15 @@ use std::random::RandomSource;
 use std::sync::Wait;
 use std::thread::Threads;
 
-/// Sends the lines of what shows that a verdict is no.
-fn send_evidence<O: Sink>(evidence: &Evidence<'_>, out: &mut O) -> Result<(), SendFault>
-    ensures sent { OnOk result (SendsReasons (O.written out.old) (O.written out.new)) }
-    ensures front { OnErr result (StopsInReasons (O.written out.old) (O.written out.new)) }
-    ensures fine { OnOk result (O.failures out.new ≡ O.failures out.old) }
-    ensures counted { OnErr result (O.failures out.new ≡ after_failure (O.failures out.old)) }
+/// Appends line `i`, from 0, of those behind the verdict's, without a line feed; no, where there is no such line.
+fn put_line(line: &mut Line, i: usize, explained: &Explained<'_>) -> bool
+    requires { array_vec_len line.old + LONGEST_REASON ≤ LINE_ROOM }
+    ensures { array_vec_len line.new ≤ array_vec_len line.old + LONGEST_REASON }
 {
-    let mut line = Line::new();
-    'lines: for i in 0..usize::MAX {
-        line.clear();
-        if !put_reason(&mut line, i, evidence) {
-            break;
-        }
-        put_line_feed(&mut line);
-        send_all(out, line.as_slice())?;
+    match explained {
+        Explained::Yes(_, counts) => put_count(line, i, counts),
+        Explained::No(_, evidence) => put_reason(line, i, evidence),
     }
-    Ok(())
 }
 
 /// Sends the lines behind the verdict's.
@@ -49,10 +42,16 @@ fn send_reasons<O: Sink>(explained: &Explained<'_>, out: &mut O) -> Result<(), S
     ensures fine { OnOk result (O.failures out.new ≡ O.failures out.old) }
     ensures counted { OnErr result (O.failures out.new ≡ after_failure (O.failures out.old)) }
 {
-    match explained {
-        Explained::Yes(_) => Ok(()),
-        Explained::No(_, evidence) => send_evidence(evidence, out),
+    let mut line = Line::new();
+    'lines: for i in 0..usize::MAX {
+        line.clear();
+        if !put_line(&mut line, i, explained) {
+            break;
+        }
+        put_line_feed(&mut line);
+        send_all(out, line.as_slice())?;
     }
+    Ok(())
 }
 
 /// Sends the verdict on the bytes and why it is so, and returns the exit status.

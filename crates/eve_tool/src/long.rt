@@ -140,7 +140,8 @@ fn send_header<O: Sink>(line: &mut Line, head: &Head, out: &mut O) -> Result<(),
 
 /// Sends the lines of the header and of all frames.
 fn send_trace<O: Sink>(trace: &Trace<'_>, out: &mut O) -> Result<(), SendFault>
-    ensures sent { OnOk result (SendsLines (O.written out.old) (O.written out.new) (long_fronts (frames_of trace.now))) }
+    ensures sent { OnOk result (SendsLines (O.written out.old) (O.written out.new)
+        (long_fronts (frames_of trace.now))) }
     ensures front { OnErr result (StopsInLines (O.written out.old) (O.written out.new)
         (long_fronts (frames_of trace.now))) }
     ensures fine { OnOk result (O.failures out.new ≡ O.failures out.old) }

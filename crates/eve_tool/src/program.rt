@@ -1,16 +1,13 @@
 //! The program over any streams.
 
-ghost use Rattle.std.specs.Prelude.{◌≡◌, ◌≢◌, ◌≤◌, ◌<◌, ◌+◌, List, ℕ, [], ◌∷◌, codes, map};
-ghost use Rattle.std.specs.Prelude.{IfOk, IfErr, IfSome, OnOk, OnErr, Some, decimal};
+ghost use Rattle.std.specs.Prelude.{◌≡◌, ◌≢◌, ◌≤◌, ◌<◌, map, IfOk, IfErr, IfSome, OnOk, OnErr};
 ghost use Rattle.eve_audit.specs.Verdict.{SpellsAudited};
 ghost use Rattle.eve_streams.specs.Failures.{after_failure};
 ghost use Rattle.eve_tool.specs.Calls.{Calls, WasRead, Leaves, LeavesHelp, Stops, StopsHelp, Tells, CallSays};
 ghost use Rattle.eve_tool.specs.Fault.{status_of};
-ghost use Rattle.eve_tool_arguments.specs.Arguments.{AsksForHelp, AsksForVerdict, Audit, AuditsBy, CallsNothing};
-ghost use Rattle.eve_tool_arguments.specs.Arguments.{CallsSome, Explain, ExplainsBy, GetsHelp, IsRefused, Run};
-ghost use Rattle.eve_tool_arguments.specs.Arguments.{Show, ShowLong, Subcommand, subcommand_of_call, workers_of};
-ghost use Rattle.eve_tool_arguments.specs.declared.format.Format.{Format};
-ghost use Rattle.eve_workload.specs.declared.mixer.Mixer.{Mixer};
+ghost use Rattle.eve_tool_arguments.specs.Arguments.{AsksForHelp, AsksForVerdict, CallsNothing, CallsSome};
+ghost use Rattle.eve_tool_arguments.specs.Arguments.{IsRefused, Subcommand, subcommand_of_call};
+ghost use Rattle.eve_tool.specs.Words.{WordsAreCalls};
 ghost use Rattle.eve_tool.specs.Writes.{WritesAllOf};
 
 use crate::audit::audit;
@@ -19,7 +16,7 @@ use crate::fault::ToolFault;
 use crate::long::show_long;
 use crate::run::run_within;
 use crate::show::show;
-use eve_grammar::{MOST_AUDIT_WORKERS, MOST_BYTES};
+use eve_grammar::MOST_BYTES;
 use eve_streams::{Sink, Source, send_all};
 use eve_tool_arguments::{Asked, Call, read_arguments};
 use std::convert::AsStr;
@@ -118,9 +115,9 @@ fn answer<
 }
 
 /// Runs the program: does what the arguments of the command line ask for, the first of which is the program's name, and
-/// returns the exit status. Memory, the random words and the threads of `audit`, `explain` and `run` come from `rt`; random words
-/// are asked for once the input is read. The number of workers changes nothing of what is said. It returns where the
-/// threads that it started do.
+/// returns the exit status. Memory, the random words and the threads of `audit`, `explain` and `run` come from `rt`;
+/// random words are asked for once the input is read. The number of workers changes nothing of what is said. It returns
+/// where the threads that it started do.
 ///
 /// docs/USING.md, "Lines and statuses", has each line and status.
 pub fn serve<
@@ -130,36 +127,8 @@ pub fn serve<
     O: Sink,
     E: Sink,
 >(rt: &R, arguments: &[S], input: &mut I, out: &mut O, err: &mut E) -> u8
-    // Which arguments, after the program's name, are calls and ask for help; how many workers those of `audit` and
-    // `explain` ask for, and which format those of `run`.
-    ensures audit { (name : List ℕ) → Calls Audit (name ∷ codes "audit" ∷ []) }
-    ensures explain { (name : List ℕ) → Calls Explain (name ∷ codes "explain" ∷ []) }
-    ensures show { (name : List ℕ) → Calls Show (name ∷ codes "show" ∷ []) }
-    ensures show_long { (name : List ℕ) → Calls ShowLong (name ∷ codes "show" ∷ codes "--long" ∷ []) }
-    ensures run { (name : List ℕ) → Calls (Run Mixer.First Format.One) (name ∷ codes "run" ∷ []) }
-    ensures run_whole { (name : List ℕ)
-        → Calls (Run Mixer.Whole Format.One) (name ∷ codes "run" ∷ codes "--mixer" ∷ codes "whole" ∷ []) }
-    ensures run_first { (name : List ℕ)
-        → Calls (Run Mixer.First Format.One) (name ∷ codes "run" ∷ codes "--mixer" ∷ codes "first" ∷ []) }
-    ensures run_format_1 { (name : List ℕ)
-        → Calls (Run Mixer.First Format.One) (name ∷ codes "run" ∷ codes "--format" ∷ codes "1" ∷ []) }
-    ensures run_format_2 { (name : List ℕ)
-        → Calls (Run Mixer.First Format.Two) (name ∷ codes "run" ∷ codes "--format" ∷ codes "2" ∷ []) }
-    ensures no_format { (name : List ℕ)
-        → CallsNothing (name ∷ codes "run" ∷ codes "--format" ∷ codes "3" ∷ []) }
-    ensures two_formats { (name : List ℕ) → CallsNothing
-        (name ∷ codes "run" ∷ codes "--format" ∷ codes "2" ∷ codes "--format" ∷ codes "2" ∷ []) }
-    ensures one_worker { (name : List ℕ) → workers_of (name ∷ codes "audit" ∷ []) ≡ Some 1 }
-    ensures workers { (name : List ℕ) (n : ℕ) → 1 ≤ n → n ≤ MOST_AUDIT_WORKERS
-        → AuditsBy n (name ∷ codes "audit" ∷ codes "--workers" ∷ decimal n ∷ []) }
-    ensures explain_workers { (name : List ℕ) (n : ℕ) → 1 ≤ n → n ≤ MOST_AUDIT_WORKERS
-        → ExplainsBy n (name ∷ codes "explain" ∷ codes "--workers" ∷ decimal n ∷ []) }
-    ensures no_worker { (name : List ℕ) → CallsNothing (name ∷ codes "audit" ∷ codes "--workers" ∷ decimal 0 ∷ []) }
-    ensures too_many { (name : List ℕ)
-        → CallsNothing (name ∷ codes "audit" ∷ codes "--workers" ∷ decimal (MOST_AUDIT_WORKERS + 1) ∷ []) }
-    ensures help { (name : List ℕ) → GetsHelp (name ∷ codes "--help" ∷ []) }
-    ensures help_word { (name : List ℕ) → GetsHelp (name ∷ codes "help" ∷ []) }
-    ensures version { (name : List ℕ) → GetsHelp (name ∷ codes "--version" ∷ []) }
+    // Which words are calls and ask for help, how many workers they ask for, and which format.
+    ensures calls { WordsAreCalls }
 
     // A call that ends well: all is said, on `out`, nothing failed, and the input was read. A yes of `audit` or
     // `explain` is said of bytes alone that spell a trace that is audited.

@@ -77,7 +77,8 @@ fn stop_of(format: Format, why: RunFault) -> ToolFault
     }
 }
 
-/// Runs the workload that these bytes are in this format, sends the trace, of at most `limit` bytes, and returns the exit status.
+/// Runs the workload that these bytes are in this format, sends the trace, of at most `limit` bytes, and returns the
+/// exit status.
 fn run_bytes<R: RandomSource + Threads + Wait + Sync, O: Sink>(
     rt: &R,
     alloc: Global,
@@ -93,7 +94,8 @@ fn run_bytes<R: RandomSource + Threads + Wait + Sync, O: Sink>(
         (O.written out.new)) }
     ensures status { IfOk result (λ status. status ≡ 0) }
     ensures fine { OnOk result (O.failures out.new ≡ O.failures out.old) }
-    ensures left { IfErr result (Leaves limit O.written O.failures (Run mixer format) (Some bytes.items) ⊥ out.old out.new) }
+    ensures left { IfErr result (Leaves limit O.written O.failures (Run mixer format) (Some bytes.items) ⊥
+        out.old out.new) }
     ensures wrote { IfErr result (λ why. why ≢ ToolFault.Write → O.failures out.new ≡ O.failures out.old) }
 {
     let parts = parts_of(rt, alloc, bytes, mixer, format)?;

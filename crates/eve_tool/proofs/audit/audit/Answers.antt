@@ -35,7 +35,8 @@ pub returns-in_err-random-clause-left : goal.returns-in_err-random-clause-left
 returns-in_err-random-clause-left g c =
     let why = c.in_err-random.field-0.0 in
     at_err c.from_residual-in_err-random.result _ why c.from_residual-in_err-random.ensures.1
-    (random_left g.O.Sink.written g.O.Sink.failures Audit (g.I.Source.remaining c.args.input.now) _ c.args.out.now why tt
+    (random_left g.O.Sink.written g.O.Sink.failures Audit (g.I.Source.remaining c.args.input.now) _ c.args.out.now why
+    tt
     c.in_err-random.ensures)
 
 pub returns-in_err-random-clause-ended : goal.returns-in_err-random-clause-ended

@@ -1,4 +1,4 @@
-use Rattle.std.proofs.Common.{◌≡◌, ◌-◌, length, refl, subst, ap}
+use Rattle.std.proofs.Common.{◌≡◌, ◌-◌, refl, subst}
 use Rattle.std.specs.Prelude.{slice_index}
 use Rattle.std.specs.Io.KnownBytes.{Appends}
 use Rattle.std.proofs.lemmas.Result.{on_err_weaker, on_ok_weaker}
@@ -7,7 +7,8 @@ use Rattle.eve_lines.proofs.KindNames.{named_short}
 use Rattle.eve_streams.specs.Front.{AppendsFront}
 use Rattle.eve_tool.specs.Lines.{line_front}
 use Rattle.eve_tool.specs.Long.{front_of_view}
-use Rattle.eve_tool.proofs.LongLines.{at_any_err, line-sent, line-stops_at_end, line-stops_in_front, line-stops_in_words}
+use Rattle.eve_tool.proofs.LongLines.{at_any_err, line-sent}
+use Rattle.eve_tool.proofs.LongLines.{line-stops_at_end, line-stops_in_front, line-stops_in_words}
 use Rattle.eve_tool.proofs.long.send_frame.Goals as goal
 
 pub send_front-requires : goal.send_front-requires

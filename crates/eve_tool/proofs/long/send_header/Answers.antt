@@ -1,5 +1,6 @@
 use Rattle.std.proofs.lemmas.Result.{on_err_weaker, on_ok_weaker}
-use Rattle.eve_tool.proofs.LongLines.{at_any_err, line-sent, line-stops_at_end, line-stops_in_front, line-stops_in_words}
+use Rattle.eve_tool.proofs.LongLines.{at_any_err, line-sent}
+use Rattle.eve_tool.proofs.LongLines.{line-stops_at_end, line-stops_in_front, line-stops_in_words}
 use Rattle.eve_tool.proofs.long.send_header.Goals as goal
 
 pub returns-in_err-send_front-clause-front : goal.returns-in_err-send_front-clause-front

@@ -1,7 +1,8 @@
 use Rattle.std.proofs.Common.{◌<◌, ◌≤◌, ◌+◌, ◌∙◌, length, arith}
 use Rattle.eve_grammar.specs.Frames.{frames_of}
 use Rattle.eve_tool.specs.Long.{header_front, long_fronts}
-use Rattle.eve_tool.proofs.LongLines.{at_any_err, far-all, far-more, far-none, far-stops, front_at-header, front_of_frame}
+use Rattle.eve_tool.proofs.LongLines.{at_any_err, far-all, far-more}
+use Rattle.eve_tool.proofs.LongLines.{far-none, far-stops, front_at-header, front_of_frame}
 use Rattle.eve_tool.proofs.LongLines.{length-long_fronts}
 use Rattle.eve_tool.proofs.long.send_trace.Goals as goal
 

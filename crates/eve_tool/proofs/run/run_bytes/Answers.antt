@@ -10,7 +10,8 @@ returns-in_err-parts-clause-left g c =
     let why = c.in_err-parts.field-0.0 in
     let short : length c.args.bytes.items ≤ c.args.limit = omega arith in
     at_err c.from_residual.result _ why c.from_residual.ensures.1
-    (unrun_left g.O.Sink.written g.O.Sink.failures c.args.limit c.args.mixer c.args.format c.args.bytes.items c.args.out.now why
+    (unrun_left g.O.Sink.written g.O.Sink.failures c.args.limit c.args.mixer c.args.format c.args.bytes.items
+    c.args.out.now why
     short c.in_err-parts.ensures.stopped)
 
 pub returns-in_err-send_trace-clause-left : goal.returns-in_err-send_trace-clause-left
@@ -20,7 +21,8 @@ returns-in_err-send_trace-clause-left g c =
     let short : length c.args.bytes.items ≤ c.args.limit = omega arith in
     let few : c.args.limit ≤ 2 ^ 30 = omega arith in
     at_err c.from_residual-in_err-send_trace.result _ why c.from_residual-in_err-send_trace.ensures.1
-    (unsent_left g.O.Sink.written g.O.Sink.failures c.args.limit c.args.mixer c.args.format c.args.bytes.items c.in_ok-parts.parts
+    (unsent_left g.O.Sink.written g.O.Sink.failures c.args.limit c.args.mixer c.args.format c.args.bytes.items
+    c.in_ok-parts.parts
     c.args.out.now c.send_trace.new.out why short few c.in_ok-parts.ensures.run (λ is. told.long (ap Err is))
     (λ is. told.stopped (ap Err is)) told.why)
 
@@ -32,7 +34,8 @@ returns-clause-all g c =
     let few : c.args.limit ≤ 2 ^ 30 = omega arith in
     record {
       text = spelling (trace parts);
-      said = runs_of c.args.limit c.args.mixer c.args.format c.args.bytes.items parts short few c.in_ok-parts.ensures.run sent.0;
+      said = runs_of c.args.limit c.args.mixer c.args.format c.args.bytes.items parts short few
+          c.in_ok-parts.ensures.run sent.0;
       written = sent.1.sent;
     }
 

@@ -22,7 +22,8 @@ returns-clause-all g c =
     let all : IsAll known c.in_ok-bytes.bytes.items = short_is_all c.args.limit known c.in_ok-bytes.bytes.items _
     refl c.in_ok-bytes.ensures.bytes short in
     IfOk-weaker c.run_bytes.result _ _
-    (λ status. of_all all (λ b. WritesAll (Runs c.args.limit c.args.mixer c.args.format) b (g.O.Sink.written c.args.out.now)
+    (λ status. of_all all (λ b. WritesAll (Runs c.args.limit c.args.mixer c.args.format) b
+    (g.O.Sink.written c.args.out.now)
     (g.O.Sink.written c.run_bytes.new.out) status))
     c.run_bytes.ensures.all
 
@@ -33,7 +34,8 @@ returns-clause-left g c =
     let all : IsAll known c.in_ok-bytes.bytes.items = short_is_all c.args.limit known c.in_ok-bytes.bytes.items _
     refl c.in_ok-bytes.ensures.bytes short in
     IfErr-weaker c.run_bytes.result _ _
-    (λ why. left_of_all c.args.limit g.O.Sink.written g.O.Sink.failures c.args.mixer c.args.format known _ c.in_ok-bytes.bytes.items
+    (λ why. left_of_all c.args.limit g.O.Sink.written g.O.Sink.failures c.args.mixer c.args.format known _
+    c.in_ok-bytes.bytes.items
     c.args.out.now c.run_bytes.new.out why all)
     c.run_bytes.ensures.left
 

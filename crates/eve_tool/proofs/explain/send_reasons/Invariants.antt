@@ -1,7 +1,7 @@
 -- Some lines were sent, and nothing failed.
 use Rattle.std.proofs.Common.{◌≡◌}
 use Rattle.eve_tool.specs.Explain.{SendsReasons}
-use Rattle.eve_tool.proofs.explain.send_evidence.Given as goal
+use Rattle.eve_tool.proofs.explain.send_reasons.Given as goal
 
 abbrev pub invariant-lines : goal.invariant-lines
 invariant-lines g l =

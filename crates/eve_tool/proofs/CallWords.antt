@@ -1,0 +1,29 @@
+-- The words that are calls, each by the grammar of the command line.
+use Rattle.eve_tool_arguments.proofs.PlainArguments.{alone, asks, asks_help, asks_help_by_word, audit_call}
+use Rattle.eve_tool_arguments.proofs.PlainArguments.{explain_asks, explain_call, run_call, show_call}
+use Rattle.eve_tool_arguments.proofs.PlainArguments.{asks_version, first_call, format_1_call, format_2_call, long_call}
+use Rattle.eve_tool_arguments.proofs.PlainArguments.{no_format, no_worker, too_many, two_formats, whole_call}
+use Rattle.eve_tool.specs.Words.{WordsAreCalls}
+
+pub words_are_calls : WordsAreCalls
+words_are_calls = record {
+  audit = audit_call;
+  explain = explain_call;
+  show = show_call;
+  show_long = long_call;
+  run = run_call;
+  run_whole = whole_call;
+  run_first = first_call;
+  run_format_1 = format_1_call;
+  run_format_2 = format_2_call;
+  no_format = no_format;
+  two_formats = two_formats;
+  one_worker = alone;
+  workers = λ name n some most. asks name n some most;
+  explain_workers = λ name n some most. explain_asks name n some most;
+  no_worker = no_worker;
+  too_many = too_many;
+  help = λ name. asks_help name;
+  help_word = λ name. asks_help_by_word name;
+  version = λ name. asks_version name;
+}
