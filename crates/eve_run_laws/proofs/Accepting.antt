@@ -37,10 +37,12 @@ use Rattle.eve_tool.specs.Audit.{Audits}
 use Rattle.eve_tool.specs.Lines.{status_of_verdict}
 use Rattle.eve_run_laws.specs.Collision.{Collides}
 use Rattle.eve_run_laws.proofs.Alike.{IsPlanOf, AreAlike}
-use Rattle.eve_run_laws.proofs.Following.{alike_first, step_alike, goes, kept}
+use Rattle.eve_run_laws.proofs.Following.{alike_first, step_alike}
+use Rattle.eve_run_laws.proofs.Along.{goes, kept}
+use Rattle.eve_run_laws.proofs.StatesTaken.{states_of_first}
 use Rattle.eve_run_laws.proofs.Sounding.{AreSoundSoFar, sound_next, sound_first, settled_sound}
 use Rattle.eve_run_laws.proofs.Restored.{restores_along}
-use Rattle.eve_run_laws.proofs.RightRuns.{plan_of, sections_right, sections_by_attempts, sections_due}
+use Rattle.eve_run_laws.proofs.RightRuns.{plan_of, sections_right, sections_due}
 use Rattle.eve_run_laws.proofs.Voting.{votes_sound, all_backed}
 use Rattle.eve_run_laws.proofs.Replied.{all_replied}
 use Rattle.eve_run_laws.proofs.OrdersRight.{no_order_fault}
@@ -51,20 +53,20 @@ use Rattle.eve_run_laws.proofs.Agreed.{outcome_collides}
 module _ (cuts : (names : List (List ℕ)) → (m : Mixer) → (requests : List Asked)
     → IsPermutation requests (batch_with (cut names m requests)).requests)
     (faultless_where_sound : (t : Trace) (e : ℕ) → IsRightSection t e → SettledAreSound t e → HasNoFault t e)
-    (w : Workload) (mixer : Mixer) (t : Trace) (asked : IsWorkload w) (format : w.format ≡ 1)
-    (run : IsTraceOf w mixer t) (limits : HasLimits t) where
+    (w : Workload) (mixer : Mixer) (t : Trace) (asked : IsWorkload w) (run : IsTraceOf w mixer t)
+    (limits : HasLimits t) where
   abbrev p : RunPlan
   p = run_plan w mixer
 
   plan : IsPlanOf p t
-  plan = plan_of w mixer t run format
+  plan = plan_of w mixer t run
 
   alike : (s : SectionState) (old new : Ledger) (at : ℕ) (x : Step) → AreAlike t s old → MakesOf p x old new
       → AreAlike t (next s (at, x)) new
   alike = step_alike p t plan
 
   right : (e : ℕ) → IsRightSection t e
-  right = sections_right w mixer t run format
+  right = sections_right w mixer t run
 
   sound : (e : ℕ) → SettledAreSound t e
   sound e = settled_sound t e (kept p t plan run.sections (AreSoundSoFar t) (sound_next p t plan) (sound_first t) e)
@@ -75,7 +77,7 @@ module _ (cuts : (names : List (List ℕ)) → (m : Mixer) → (requests : List 
       restores_along p t alike (steps_at t e) start p.first way.0 way.1 (alike_first p t plan)
 
   due : (e : ℕ) → TokensAreDue t e
-  due = sections_due w mixer t run format
+  due = sections_due w mixer t run
 
   own_faultless : (e : ℕ) (f : Fault) → ¬ IsOwnFault t e f
   own_faultless e f (of_structure is) = no_structure_fault t e (right e) f is
@@ -85,10 +87,10 @@ module _ (cuts : (names : List (List ℕ)) → (m : Mixer) → (requests : List 
   own_faultless e f (of_tokens is) = no_token_fault t e (due e) f is
 
   votes : AreVotesSound t
-  votes = votes_sound w mixer t format run limits
+  votes = votes_sound w mixer t run limits
 
   backed : AllAreBacked t
-  backed = all_backed w mixer t format run limits
+  backed = all_backed w mixer t run limits
 
   replied : AllReplied t
   replied = all_replied w mixer t run right
@@ -97,8 +99,7 @@ module _ (cuts : (names : List (List ℕ)) → (m : Mixer) → (requests : List 
   common_collides f (of_votes is) = absurd (no_vote_fault t votes f is)
   common_collides f (of_majorities is) = absurd (no_majority_fault t backed f is)
   common_collides f (of_agreement is) =
-      let only = sections_by_attempts w mixer t run format in
-      (is, outcome_collides t limits plan.version only right due votes backed f is)
+      (is, outcome_collides t limits right due votes backed (states_of_first p t plan run.sections run.taken) f is)
   common_collides f (of_replies is) = absurd (no_fault t replied f is)
 
   pub fault_collides : (f : Fault) → IsTraceFault t f → IsFaultSomewhere StandsInAgreement t f × Collides t

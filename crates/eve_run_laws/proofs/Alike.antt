@@ -12,12 +12,11 @@ use Rattle.eve_agree.specs.Tables.{entries_of}
 use Rattle.eve_attempts.specs.Ledgers.{Opened, Ledger, opening, ledger_rows, table_now, rows_committed}
 use Rattle.eve_replica.specs.Sections.{RunPlan}
 
--- the plan of the run that the trace is of, which is of version 1
+-- the plan of the run that the trace is of
 pub record IsPlanOf (p : RunPlan) (t : Trace) : Type 0 where
-  pub version : t.head.version ≡ 1
   pub names : p.names ≡ names_of t
   pub batches : p.batches ≡ t.batches
-  pub first : p.first ≡ opening 1 (opening_rows t.customers) t.head.workers t.head.window
+  pub first : p.first ≡ opening t.head.version (opening_rows t.customers) t.head.workers t.head.window
 
 -- what an attempt of the trace wrote, in its certificate's order
 abbrev pub written_by : Trace → Attempt → List Entry
@@ -28,9 +27,9 @@ abbrev pub opened_of : Trace → Attempt → Opened
 opened_of t a = record { view = a.view; token = a.token; written = written_by t a }
 
 -- The section has come to where the account has: the same view, last committed number and duty, the same attempts
--- open, and the rows have what came as the section says. The account is of version 1.
+-- open, and the rows have what came as the section says. The account is of the trace's version.
 pub record AreAlike (t : Trace) (s : SectionState) (l : Ledger) : Type 0 where
-  pub version : l.version ≡ 1
+  pub version : l.version ≡ t.head.version
   pub view : s.view ≡ l.view
   pub last : s.last ≡ l.committed
   pub serial : s.rolled_back ≡ l.is_next_serial

@@ -6,20 +6,20 @@ use Rattle.eve_smallbank.specs.Access.{balance_of_row}
 use Rattle.eve_smallbank.specs.Chain.{Table, values_of}
 use Rattle.eve_grammar.specs.Trace.{Step, Attempts, Commits, RollsBack, TakesOver, Trace}
 use Rattle.eve_grammar.proofs.Lists.{all-append, take_one_more}
-use Rattle.eve_token.specs.Token.{flat_token, token_of}
+use Rattle.eve_token.specs.Token.{token_of}
 use Rattle.eve_attempts.specs.Ledgers.{Ledger, ledger_rows, table_now}
 use Rattle.eve_replica.specs.Sections.{RunPlan, MakesOf}
 use Rattle.eve_history.specs.Section.{Came, Ran, Placed, ByAttempt, came_by, attempts_by, SectionState, start, path_of}
 use Rattle.eve_history.specs.Section.{committing, next}
 use Rattle.eve_history.specs.SectionHistory.{history, committed_at, IsRightSection}
-use Rattle.eve_history.proofs.FateLaws.{attempts_by_push}
+use Rattle.eve_history.proofs.FateLaws.{attempts_by_push, attempts_by_taking}
 use Rattle.eve_chains.specs.Visible.{rows_after}
-use Rattle.eve_chains.specs.Committed.{path_to, first_rows, balances_to}
+use Rattle.eve_chains.specs.Committed.{path_to, first_rows}
 use Rattle.eve_chains.proofs.Linked.{landing_by, linked_number, committed_number, none≢some}
 use Rattle.eve_agree.specs.DueTokens.{TokensAreDue}
 use Rattle.eve_agree.proofs.ByNumber.{all_each}
 use Rattle.eve_agree.proofs.SectionPaths.{came_by_push, path_attempted}
-use Rattle.eve_agree.proofs.TokensInOrder.{rows_are, first_version}
+use Rattle.eve_agree.proofs.TokensInOrder.{rows_are}
 use Rattle.eve_run_laws.proofs.Alike.{AreAlike}
 
 -- the balances of all customers after what came
@@ -29,7 +29,7 @@ balances_along t path = first_rows (2 * length t.customers) (values_of (rows_aft
 -- the attempt's token is that of the balances that it left behind its path, and of its replies
 pub record IsDueAlong (t : Trace) (q : Placed) : Type 0 where
   pub token : q.attempt.token
-      ≡ flat_token q.attempt.seq (balances_along t (q.path ++ Ran q.attempt ∷ [])) q.attempt.replies
+      ≡ token_of t.head.version q.attempt.seq (balances_along t (q.path ++ Ran q.attempt ∷ [])) q.attempt.replies
 
 -- so of each committed and each open attempt
 pub record AreDueSoFar (t : Trace) (s : SectionState) : Type 0 where
@@ -69,16 +69,17 @@ module _ (p : RunPlan) (t : Trace) where
           record {
             token = makes.closed.attempt.token
                 ∙ ap (λ (version : ℕ). token_of version a.seq new.rows.balances a.replies) before.version
-                ∙ first_version a.seq new.rows.balances a.replies
-                ∙ ap (λ (balances : List ℤ). flat_token a.seq balances a.replies) left;
+                ∙ ap (λ (balances : List ℤ). token_of t.head.version a.seq balances a.replies) left;
           },
           tt,
         );
       }
   due_next s old new at (Commits c) before after makes due = due_committing t s s.pending due.pending due
   due_next s old new at (RollsBack r) before after makes due = record { committed = due.committed; pending = tt }
-  due_next s old new at (TakesOver x) before after makes due =
-      absurd (omega (arith, before.version, makes.version))
+  due_next s old new at (TakesOver x) before after makes due = record {
+    committed = subst (AllByRecursion (IsDueAlong t)) (sym (attempts_by_taking s at x)) due.committed;
+    pending = tt;
+  }
 
 pub due_first : (t : Trace) → AreDueSoFar t start
 due_first t = record { committed = tt; pending = tt }
@@ -96,12 +97,9 @@ path_to_its_own t e n p right at =
     ∙ ap (flat_map came_by) (sym (take_one_more ls n (ByAttempt p) (landing_by (slice_get ls n) p at)))
     ∙ ap (path_to t e) next
 
-pub tokens_due : (t : Trace) (e : ℕ) → t.head.version ≡ 1 → IsRightSection t e → AreDueSoFar t (history t e)
-    → TokensAreDue t e
-tokens_due t e version right due zero p at = none≢some p at
-tokens_due t e version right due (suc n) p at =
+pub tokens_due : (t : Trace) (e : ℕ) → IsRightSection t e → AreDueSoFar t (history t e) → TokensAreDue t e
+tokens_due t e right due zero p at = none≢some p at
+tokens_due t e right due (suc n) p at =
     (all_each t e (IsDueAlong t) due.committed (suc n) p at).token
-    ∙ ap (λ (path : List Came). flat_token p.attempt.seq (balances_along t path) p.attempt.replies)
+    ∙ ap (λ (path : List Came). token_of t.head.version p.attempt.seq (balances_along t path) p.attempt.replies)
     (path_to_its_own t e n p right at)
-    ∙ sym (first_version p.attempt.seq (balances_to t e p.attempt.seq) p.attempt.replies)
-    ∙ ap (λ (v : ℕ). token_of v p.attempt.seq (balances_to t e p.attempt.seq) p.attempt.replies) (sym version)

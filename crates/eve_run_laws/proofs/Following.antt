@@ -1,48 +1,44 @@
 -- Each step of a replica's section is right where its account stands, and leads to where the account goes.
 use Rattle.std.proofs.Common.{◌≡◌, ℕ, zero, suc, ◌+◌, ◌<◌, ◌≤◌, ◌==◌, nat_le, nat_lt, Bool, true, false, ◌&&◌}
-use Rattle.std.proofs.Common.{IsTrue, All, List, [], ◌∷◌, ◌++◌, map, length, replicate, slice_get, Some, refl, sym}
-use Rattle.std.proofs.Common.{subst, ap, ◌∙◌, inl, inr, append-nil, arith, length-append}
+use Rattle.std.proofs.Common.{IsTrue, List, [], ◌∷◌, ◌++◌, map, length, replicate, slice_get, Some, refl, sym}
+use Rattle.std.proofs.Common.{subst, ap, ◌∙◌, append-nil, arith, length-append, ◌-◌}
 use mathlib.Core.Path.{fun_ext}
 use Rattle.std.specs.Prelude.{if◌then◌else◌, slice_index_or}
 use Rattle.std.specs.List.{flat_map}
 use Rattle.std.specs.Bool.{beq}
 use Rattle.std.specs.Cmp.Lexicographic.{bytes_decides, pointwise}
-use Rattle.std.proofs.lemmas.Bool.{and_from, cases_lt, eq-eqb, le-leb, lt-ltb}
+use Rattle.std.proofs.lemmas.Bool.{and_from, eq-eqb, le-leb, lt-ltb}
 use Rattle.std.proofs.lemmas.List.{length-map, map-append}
-use Rattle.std.proofs.lemmas.List.Elements.{All-get_or}
 use Rattle.std.proofs.lemmas.List.Sorted.{length_permutation}
 use Rattle.std.proofs.lemmas.Option.{slice_get_within}
 use Rattle.eve_smallbank.specs.Access.{Executed}
 use Rattle.eve_smallbank.specs.Chain.{Table, table_after, table_after_all}
+use Rattle.eve_smallbank.specs.declared.versioned.Versioned.{Versioned}
 use Rattle.eve_smallbank.proofs.Chains.{table_after-append}
 use Rattle.eve_grammar.specs.Trace.{Access, Attempt, Batch, Commit, Rollback, Step, Attempts, Commits, RollsBack}
-use Rattle.eve_grammar.specs.Trace.{TakesOver, Trace, opening_rows}
+use Rattle.eve_grammar.specs.Trace.{Transfer, TakesOver, Trace, opening_rows}
 use Rattle.eve_grammar.specs.Accesses.{is_new_access, is_right_place}
 use Rattle.eve_grammar.specs.Certificate.{is_certificate}
-use Rattle.eve_grammar.specs.Frames.{OfReplica}
-use Rattle.eve_grammar.specs.Spelling.{frame_text, step_text, section_start, steps_of, steps_at}
 use Rattle.eve_grammar.proofs.OpeningRows.{length-opening_rows}
 use Rattle.eve_grammar.proofs.Lists.{same_first, same_others, no_item}
-use Rattle.eve_history.specs.Section.{Ran, Placed, came_by, SectionState, start, path_of, committing, next, state_after}
+use Rattle.eve_history.specs.Section.{Ran, Placed, Landing, ByTransfer, Skipped, came_by, SectionState, start}
+use Rattle.eve_history.specs.Section.{path_of, committing, taking_over, next}
 use Rattle.eve_history.specs.Section.{batch_at, request_count, worker_count, is_due, is_right_attempt}
 use Rattle.eve_history.specs.Section.{is_right_certificate, are_right_accesses, commits_first}
-use Rattle.eve_history.specs.Section.{is_right_commit, is_right_rollback, is_right, are_right}
-use Rattle.eve_history.specs.SectionHistory.{history, IsRightSection}
-use Rattle.eve_history.proofs.Rights.{none_at}
-use Rattle.eve_chains.specs.Visible.{opening_of, opening_table, execution, rows_after}
+use Rattle.eve_history.specs.Section.{is_right_commit, is_right_rollback, is_right_transfer, is_right}
+use Rattle.eve_chains.specs.Visible.{opening_of, opening_table, execution, taken_table, rows_after}
 use Rattle.eve_chains.specs.Committed.{attempts_of}
 use Rattle.eve_agree.specs.Tables.{entries_of}
-use Rattle.eve_agree.proofs.SectionPaths.{came_by_push, path_committed, path_attempted}
-use Rattle.eve_chains.proofs.LeftByRecords.{rows_after-push}
-use Rattle.eve_votes.proofs.Places.{located_values}
+use Rattle.eve_agree.proofs.SectionPaths.{came_by_push, path_committed, path_attempted, path_taken}
+use Rattle.eve_chains.proofs.LeftByRecords.{rows_after-push, rows_after-taken}
 use Rattle.eve_attempts.specs.Ledgers.{Opened, Ledger, ledger_rows, opening, rows_at_first, table_of_rows, table_now}
 use Rattle.eve_attempts.specs.Ledgers.{values_before, writes_in}
 use Rattle.eve_attempts.specs.Closing.{are_right_records}
 use Rattle.eve_attempts.specs.Discarding as account
+use Rattle.eve_attempts.specs.TakingOver.{rows_of_state}
 use Rattle.eve_attempts.proofs.TableLaws.{table_after-writes}
-use Rattle.eve_replica.specs.Sections.{RunPlan, AttemptsNext, MakesOf, GoesThrough, place_due}
+use Rattle.eve_replica.specs.Sections.{RunPlan, AttemptsNext, TakesOverNext, MakesOf, place_due}
 use Rattle.eve_replica.specs.Replicas.{front_of}
-use Rattle.eve_replica.specs.Run.{IsSectionOf}
 use Rattle.eve_run_laws.proofs.Alike.{IsPlanOf, written_by, opened_of, AreAlike}
 use Rattle.eve_run_laws.proofs.Executing.{batch_due, executes, opens_as}
 
@@ -63,6 +59,15 @@ writes_leave t table a = table_after-writes table (entries_of (execution t a))
 attempts_of-push : (ps : List Placed) (q : Placed) → attempts_of (ps ++ q ∷ []) ≡ attempts_of ps ++ q.attempt ∷ []
 attempts_of-push ps q = map-append (λ (p : Placed). p.attempt) ps (q ∷ [])
 
+-- rows as a state lists them
+state_now : (rows : List Versioned) → table_of_rows (rows_of_state rows) ≡ taken_table rows
+state_now rows = fun_ext (λ row. each rows row)
+  where
+    each : (rows : List Versioned) (row : ℕ) → table_of_rows (rows_of_state rows) row ≡ taken_table rows row
+    each [] row = refl
+    each (r ∷ rows) zero = refl
+    each (r ∷ rows) (suc row) = each rows row
+
 -- ---- where a section and an account begin
 
 version_first : (n row : ℕ) → ◌≡◌ {A = ℕ} (slice_index_or (replicate n 0) row 0) 0
@@ -74,7 +79,8 @@ opening_now : (t : Trace) → table_of_rows (rows_at_first (opening_rows t.custo
 opening_now t = fun_ext (λ row. ap (λ (n : ℕ). record { version = n; value = opening_of t row })
     (version_first (length (opening_rows t.customers)) row))
 
-alike_opening : (t : Trace) → AreAlike t start (opening 1 (opening_rows t.customers) t.head.workers t.head.window)
+alike_opening : (t : Trace)
+    → AreAlike t start (opening t.head.version (opening_rows t.customers) t.head.workers t.head.window)
 alike_opening t = record {
   version = refl;
   view = refl;
@@ -137,11 +143,10 @@ module _ (t : Trace) (s : SectionState) (old : Ledger) (alike : AreAlike t s old
       (first_committed t s.pending made.first made.others c (sym alike.opened ∙ made.opened)
       (ap (λ (d : Commit). d.view) (sym made.commit)) (ap (λ (d : Commit). d.token) (sym made.commit)))
 
-  right_rollback : (new : Ledger) (r : Rollback) → 0 < length old.opened → account.RollsBack old new r
+  right_rollback : (new : Ledger) (r : Rollback) → old.committed < length t.batches → account.RollsBack old new r
       → is_right_rollback t s r ≡ true
-  right_rollback new r some made =
-      let many = as_many_open in
-      let due = alike.due in
+  right_rollback new r left made =
+      let last = alike.last in
       and_from (r.to == s.last) _ (eq-eqb r.to s.last (made.to ∙ sym alike.last))
       (and_from (nat_lt s.last (length t.batches)) (r.view == s.view + 1)
       (lt-ltb s.last (length t.batches) (omega arith))
@@ -197,6 +202,49 @@ module _ (t : Trace) (s : SectionState) (old : Ledger) (alike : AreAlike t s old
             ∙ sym (rows_after-push t (flat_map came_by s.landings) q.attempt)
             ∙ ap (rows_after t) (sym (came_by_push s.landings q));
       }
+
+  -- ---- a state that is taken over
+
+  module _ (p : RunPlan) (plan : IsPlanOf p t) (new : Ledger) (x : Transfer) (made : TakesOverNext p old new x) where
+    left : old.committed < length t.batches
+    left = subst (λ (n : ℕ). old.committed < n) (ap length plan.batches) made.left
+
+    right_taken : is_right_transfer t s x ≡ true
+    right_taken =
+        let last = alike.last in
+        let next = made.next in
+        let some = left in
+        let view = alike.view in
+        let own = made.view in
+        and_from (nat_lt s.last x.seq) _ (lt-ltb s.last x.seq (omega arith))
+        (and_from (nat_le x.seq (length t.batches)) (nat_le s.view x.view)
+        (le-leb x.seq (length t.batches) (omega arith)) (le-leb s.view x.view (omega arith)))
+
+    alike_taken : (at : ℕ) → AreAlike t (taking_over s at x) new
+    alike_taken at =
+        let changed = made.taken.changed in
+        let skips : List Landing = replicate (x.seq - (s.last + 1)) Skipped in
+        let came = flat_map came_by s.landings in
+        let now : table_now new ≡ rows_after t (flat_map came_by (s.landings ++ (skips ++ ByTransfer at x ∷ []))) =
+        ap table_now changed ∙ state_now x.rows ∙ sym (rows_after-taken t came x.rows [])
+        ∙ ap (rows_after t) (sym (path_taken s.landings (x.seq - (s.last + 1)) at x)) in
+        let next = made.next in
+        let some = left in
+        record {
+          version = ap (λ (l : Ledger). l.version) changed ∙ alike.version;
+          view = sym (ap (λ (l : Ledger). l.view) changed);
+          last = sym (ap (λ (l : Ledger). l.committed) changed);
+          serial = sym (ap (λ (l : Ledger). l.is_next_serial) changed);
+          workers = ap (λ (l : Ledger). l.workers) changed ∙ alike.workers;
+          window = ap (λ (l : Ledger). l.window) changed ∙ alike.window;
+          rows = ap ledger_rows changed ∙ length-map x.rows (λ (r : Versioned). r.value) ∙ made.taken.many ∙ alike.rows;
+          opened = ap (λ (l : Ledger). l.opened) changed;
+          due = omega arith;
+          now = now
+              ∙ ap (rows_after t) (sym (append-nil (flat_map came_by (s.landings ++ (skips ++ ByTransfer at x ∷ [])))));
+          committed = ap (λ (os : List Opened). values_before (table_now new) (writes_in os))
+              (ap (λ (l : Ledger). l.opened) changed) ∙ now;
+        }
 
   -- ---- an attempt
 
@@ -285,12 +333,7 @@ module _ (t : Trace) (s : SectionState) (old : Ledger) (alike : AreAlike t s old
           committed = opens.committed ∙ alike.committed;
         }
 
--- ---- the steps of a section
-
--- the steps of a replica without their offsets
-pub plain_steps : (t : Trace) (e : ℕ) → map (λ x. x.1) (steps_at t e) ≡ steps_of t e
-unfolding steps_at
-plain_steps t e = located_values step_text (section_start t e + length (frame_text (OfReplica e))) (steps_of t e)
+-- ---- a step
 
 module _ (p : RunPlan) (t : Trace) (plan : IsPlanOf p t) where
   pub alike_first : AreAlike t start p.first
@@ -300,60 +343,14 @@ module _ (p : RunPlan) (t : Trace) (plan : IsPlanOf p t) where
       → IsTrue (is_right t s x)
   step_right s old new (Attempts a) alike made = right_attempt t s old alike p plan new a made
   step_right s old new (Commits c) alike made = right_commit t s old alike new c made
-  step_right s old new (RollsBack r) alike made = right_rollback t s old alike new r (made.discards alike.version)
+  step_right s old new (RollsBack r) alike made =
+      right_rollback t s old alike new r (subst (λ (n : ℕ). old.committed < n) (ap length plan.batches) made.left)
       made.rolled_back
-  step_right s old new (TakesOver x) alike made = absurd (omega (arith, alike.version, made.version))
+  step_right s old new (TakesOver x) alike made = right_taken t s old alike p plan new x made
 
   pub step_alike : (s : SectionState) (old new : Ledger) (at : ℕ) (x : Step) → AreAlike t s old → MakesOf p x old new
       → AreAlike t (next s (at, x)) new
   step_alike s old new at (Attempts a) alike made = alike_attempted t s old alike p plan new a made at
   step_alike s old new at (Commits c) alike made = alike_committed t s old alike new c s.pending refl made
   step_alike s old new at (RollsBack r) alike made = alike_rolled_back t s old alike new at r made.rolled_back
-  step_alike s old new at (TakesOver x) alike made = absurd (omega (arith, alike.version, made.version))
-
-  -- what each step keeps holds after all of them
-  pub along : (Q : SectionState → Type 0)
-      → ((s : SectionState) (old new : Ledger) (at : ℕ) (x : Step) → AreAlike t s old → MakesOf p x old new → Q s
-      → Q (next s (at, x)))
-      → (steps : List (ℕ × Step)) (s : SectionState) (old new : Ledger)
-      → GoesThrough p (map (λ x. x.1) steps) old new → AreAlike t s old → Q s → Q (state_after s steps)
-  along Q keeps [] s old new goes alike so = so
-  along Q keeps ((at, x) ∷ steps) s old new goes alike so =
-      along Q keeps steps (next s (at, x)) goes.0 new goes.2 (step_alike s old goes.0 at x alike goes.1)
-      (keeps s old goes.0 at x alike goes.1 so)
-
-  right_along : (steps : List (ℕ × Step)) (s : SectionState) (old new : Ledger)
-      → GoesThrough p (map (λ x. x.1) steps) old new → AreAlike t s old → are_right t s steps ≡ true
-  right_along [] s old new goes alike = refl
-  right_along ((at, x) ∷ steps) s old new goes alike =
-      and_from (is_right t s x) (are_right t (next s (at, x)) steps) (step_right s old goes.0 x alike goes.1)
-      (right_along steps (next s (at, x)) goes.0 new goes.2 (step_alike s old goes.0 at x alike goes.1))
-
-  -- the way of a section's account from the first; past the last replica there are no steps
-  pub goes : All (IsSectionOf p) t.sections → (e : ℕ)
-      → (last : Ledger) × GoesThrough p (map (λ x. x.1) (steps_at t e)) p.first last
-  goes sections e = elim (cases_lt e (length t.sections)) [
-    | inl lt ↦
-        let own = All-get_or (IsSectionOf p) t.sections e [] lt sections in (
-          own.last,
-          subst (λ (steps : List Step). GoesThrough p steps p.first own.last) (sym (plain_steps t e))
-              own.through,
-        )
-    | inr le ↦ (
-      p.first,
-      subst (λ (steps : List (ℕ × Step)). GoesThrough p (map (λ x. x.1) steps) p.first p.first)
-          (sym (none_at t e le)) refl,
-    )
-  ]
-
-  pub right_section : All (IsSectionOf p) t.sections → (e : ℕ) → IsRightSection t e
-  right_section sections e =
-      let way = goes sections e in right_along (steps_at t e) start p.first way.0 way.1 alike_first
-
-  pub kept : All (IsSectionOf p) t.sections → (Q : SectionState → Type 0)
-      → ((s : SectionState) (old new : Ledger) (at : ℕ) (x : Step) → AreAlike t s old → MakesOf p x old new → Q s
-      → Q (next s (at, x)))
-      → Q start → (e : ℕ) → Q (history t e)
-  unfolding history
-  kept sections Q keeps first e =
-      let way = goes sections e in along Q keeps (steps_at t e) start p.first way.0 way.1 alike_first first
+  step_alike s old new at (TakesOver x) alike made = alike_taken t s old alike p plan new x made at

@@ -1,6 +1,6 @@
 -- The numbers to which a section goes back never fall, and the votes tell them; so they differ, or one follows itself.
 use Rattle.std.proofs.Common.{◌≡◌, ◌≢◌, ℕ, ◌+◌, ◌-◌, ◌<◌, ◌≤◌, List, [], ◌∷◌, ◌++◌, All, AllPairs}
-use Rattle.std.proofs.Common.{refl, sym, subst, ap, ◌∙◌, ◌⊎◌, inl, inr, arith, length-append}
+use Rattle.std.proofs.Common.{sym, subst, ap, ◌∙◌, ◌⊎◌, inl, inr, arith, length-append}
 use Rattle.std.specs.Prelude.{⊤}
 use Rattle.std.proofs.lemmas.Bool.{cases_lt}
 use Rattle.std.proofs.lemmas.List.{get_or_append_left}
@@ -9,8 +9,7 @@ use Rattle.std.proofs.lemmas.List.Kept.{AllPairs-cons}
 use Rattle.eve_grammar.specs.Trace.{Step, Attempts, Commits, RollsBack, TakesOver, Choice, ForRollback, ForCommit}
 use Rattle.eve_grammar.specs.Trace.{Vote}
 use Rattle.eve_attempts.specs.Ledgers.{Ledger}
-use Rattle.eve_replica.specs.Sections.{RunPlan, GoesThrough}
-use Rattle.eve_run_laws.proofs.VotesAlong.{votes_along}
+use Rattle.eve_replica.specs.Sections.{RunPlan, GoesThrough, AreVotesOf}
 use Rattle.eve_run_laws.specs.RolledBack.{rolled_back_to}
 
 -- ---- numbers that don't fall
@@ -76,25 +75,26 @@ differ_before ns ms differ i j d before within same =
 
 -- ---- along a section
 
-pub dont_fall : (p : RunPlan) (steps : List Step) (old last : Ledger) → old.version ≡ 1
-    → GoesThrough p steps old last → DontFall old.committed (rolled_back_to steps)
-dont_fall p [] old last version goes = tt
-dont_fall p (Attempts a ∷ steps) old last version goes =
+pub dont_fall : (p : RunPlan) (steps : List Step) (old last : Ledger) → GoesThrough p steps old last
+    → DontFall old.committed (rolled_back_to steps)
+dont_fall p [] old last goes = tt
+dont_fall p (Attempts a ∷ steps) old last goes =
     subst (λ (n : ℕ). DontFall n (rolled_back_to steps))
-    (ap (λ (l : Ledger). l.committed) goes.1.closed.opens.changed)
-    (dont_fall p steps goes.0 last (ap (λ (l : Ledger). l.version) goes.1.closed.opens.changed ∙ version) goes.2)
-dont_fall p (Commits c ∷ steps) old last version goes =
+    (ap (λ (l : Ledger). l.committed) goes.1.closed.opens.changed) (dont_fall p steps goes.0 last goes.2)
+dont_fall p (Commits c ∷ steps) old last goes =
     let number = ap (λ (l : Ledger). l.committed) goes.1.changed in
     dont_fall_from_lower old.committed goes.0.committed (rolled_back_to steps) (omega (arith, number))
-    (dont_fall p steps goes.0 last (ap (λ (l : Ledger). l.version) goes.1.changed ∙ version) goes.2)
-dont_fall p (RollsBack r ∷ steps) old last version goes =
+    (dont_fall p steps goes.0 last goes.2)
+dont_fall p (RollsBack r ∷ steps) old last goes =
     let made = goes.1.rolled_back in
     let number : goes.0.committed ≡ r.to = ap (λ (l : Ledger). l.committed) made.changed ∙ sym made.to in (
       omega (arith, made.to),
-      subst (λ (n : ℕ). DontFall n (rolled_back_to steps)) number
-          (dont_fall p steps goes.0 last (ap (λ (l : Ledger). l.version) made.changed ∙ version) goes.2),
+      subst (λ (n : ℕ). DontFall n (rolled_back_to steps)) number (dont_fall p steps goes.0 last goes.2),
     )
-dont_fall p (TakesOver x ∷ steps) old last version goes = absurd (omega (arith, version, goes.1.version))
+dont_fall p (TakesOver x ∷ steps) old last goes =
+    let number = ap (λ (l : Ledger). l.committed) goes.1.taken.changed in
+    dont_fall_from_lower old.committed goes.0.committed (rolled_back_to steps)
+    (omega (arith, number, goes.1.next)) (dont_fall p steps goes.0 last goes.2)
 
 -- ---- what votes tell of them
 
@@ -108,12 +108,15 @@ abbrev pub voted_back_to : List Vote → List ℕ
 voted_back_to [] = []
 voted_back_to (w ∷ votes) = number_back w.seq w.choice ++ voted_back_to votes
 
-pub voted_along : (steps : List Step) (later : List Vote) → voted_back_to (votes_along steps ++ later)
-    ≡ rolled_back_to steps ++ voted_back_to later
-voted_along [] later = refl
-voted_along (Attempts a ∷ steps) later = voted_along steps later
-voted_along (Commits c ∷ steps) later = voted_along steps later
-voted_along (RollsBack r ∷ steps) later =
+pub voted_along : (steps : List Step) (own later : List Vote) → AreVotesOf steps own
+    → voted_back_to (own ++ later) ≡ rolled_back_to steps ++ voted_back_to later
+voted_along [] own later led = ap (λ (vs : List Vote). voted_back_to (vs ++ later)) led
+voted_along (Attempts a ∷ steps) own later led = voted_along steps own later led
+voted_along (Commits c ∷ steps) own later led =
+    ap (λ (vs : List Vote). voted_back_to (vs ++ later)) led.1 ∙ voted_along steps led.0 later led.2
+voted_along (RollsBack r ∷ steps) own later led =
     let same : r.to + 1 - 1 ≡ r.to = omega arith in
-    λ i. same i ∷ voted_along steps later i
-voted_along (TakesOver x ∷ steps) later = voted_along steps later
+    ap (λ (vs : List Vote). voted_back_to (vs ++ later)) led.1
+    ∙ (λ i. same i ∷ voted_along steps led.0 later led.2 i)
+voted_along (TakesOver x ∷ steps) own later led =
+    ap (λ (vs : List Vote). voted_back_to (vs ++ later)) led.2 ∙ voted_along steps led.1 later led.3

@@ -1,7 +1,6 @@
 -- The balances and the replies of a replica lie within the range of money.
 use Rattle.std.proofs.Common.{◌≡◌, ℕ, ℤ, pos, zero, suc, ◌*◌, ◌==◌, nat_le, nat_lt, Bool, true, false, cond, ◌&&◌}
-use Rattle.std.proofs.Common.{List, [], ◌∷◌, take, fold, length, slice_get, Some, refl, subst, ◌∙◌, IsTrue}
-use Rattle.std.proofs.Common.{arith}
+use Rattle.std.proofs.Common.{List, [], ◌∷◌, take, fold, length, slice_get, Some, refl, sym, subst, ◌∙◌, IsTrue}
 use Rattle.std.specs.Prelude.{slice_index_or}
 use Rattle.std.specs.Int.RustNames.{int_le}
 use Rattle.std.specs.List.{AllByRecursion, list_all, flat_map}
@@ -10,22 +9,25 @@ use Rattle.std.proofs.lemmas.List.Folds.{list_all-append}
 use Rattle.eve_accounts.specs.Money.{is_balance, is_saving}
 use Rattle.eve_accounts.specs.Names.{is_name}
 use Rattle.eve_smallbank.specs.declared.entry.Entry.{Entry}
+use Rattle.eve_smallbank.specs.declared.versioned.Versioned.{Versioned}
 use Rattle.eve_smallbank.specs.Access.{Executed, writes_row}
 use Rattle.eve_smallbank.specs.Chain.{Table, left_by, table_after, table_after_all}
 use Rattle.eve_smallbank.proofs.Members.{In, here, there, all_in}
-use Rattle.eve_grammar.specs.Trace.{Customer, Access, Attempt, Trace, head_of}
-use Rattle.eve_grammar.specs.Trace.{opening_rows}
+use Rattle.eve_grammar.specs.Trace.{Customer, Access, Attempt, Transfer, Step, Attempts, Commits, RollsBack, TakesOver}
+use Rattle.eve_grammar.specs.Trace.{Trace, head_of, opening_rows}
 use Rattle.eve_grammar.specs.Spelling.{steps_at}
 use Rattle.eve_grammar.specs.declared.limits.TheConstants.{MOST_REQUESTS, MOST_VERSIONS}
 use Rattle.eve_grammar.specs.Limits.{is_between, is_number, is_token, is_reply, is_customer, is_entry}
-use Rattle.eve_grammar.specs.Limits.{is_access, is_attempt, is_whole_attempt, row_count, HasLimits}
-use Rattle.eve_history.specs.Section.{Placed, Landing, ByAttempt, ByTransfer, Skipped, IsByAttempt, came_by}
-use Rattle.eve_history.specs.Section.{attempts_by}
+use Rattle.eve_grammar.specs.Limits.{is_access, is_attempt, is_whole_attempt, are_no_debts, is_versioned, is_transfer}
+use Rattle.eve_grammar.specs.Limits.{is_step, row_count, HasLimits}
+use Rattle.eve_history.specs.Section.{Placed, Landing, ByAttempt, ByTransfer, Skipped, came_by, attempts_by}
+use Rattle.eve_history.specs.Section.{transfers_by}
 use Rattle.eve_history.specs.Fates.{fates_from}
 use Rattle.eve_history.specs.SectionHistory.{attempts_among, history, committed_at, is_committed, placed_at}
-use Rattle.eve_history.specs.SectionHistory.{ByAttemptsTo}
+use Rattle.eve_history.proofs.Coming.{steps_fit}
 use Rattle.eve_history.proofs.FateLaws.{committed_are_picked}
-use Rattle.eve_chains.specs.Visible.{opening_table, entries_with, executed_in, execution, with_came}
+use Rattle.eve_history.proofs.Transfers.{transfers_among, transfers_of_steps}
+use Rattle.eve_chains.specs.Visible.{opening_table, entries_with, executed_in, execution, taken_table, with_came}
 use Rattle.eve_chains.specs.Committed.{first_rows, values_to, balances_to}
 use Rattle.eve_chains.proofs.Attempts.{in_picked}
 use Rattle.eve_chains.proofs.Distinct.{in_map}
@@ -35,7 +37,7 @@ use Rattle.eve_audit.proofs.SameBanks.{rows_length}
 
 -- ---- what is committed lies within the limits of the format
 
-committed_whole : (t : Trace) (e : ℕ) → HasLimits t → (q : Placed)
+pub committed_whole : (t : Trace) (e : ℕ) → HasLimits t → (q : Placed)
     → In q (attempts_by (history t e).landings) → IsTrue (is_whole_attempt (row_count (head_of t)) q.attempt)
 committed_whole t e limits q i =
     all_in (λ x. IsTrue (is_whole_attempt (row_count (head_of t)) x.1)) (whole_section t e limits)
@@ -143,26 +145,58 @@ execution_within rows t a (index ∷ order) h = (
   execution_within rows t a order h,
 )
 
--- no number is reached by a state that is taken over, and none is skipped
+-- a state that is taken over lies within the limits
+abbrev IsWithin : ℕ → ℕ × Transfer → Type 0
+IsWithin rows x = IsTrue (is_transfer rows x.1)
+
+states_among : (rows : ℕ) (steps : List (ℕ × Step)) → IsTrue (list_all (λ x. is_step rows x.1) steps)
+    → AllByRecursion (IsWithin rows) (transfers_among steps)
+states_among rows [] fit = tt
+states_among rows ((at, Attempts a) ∷ steps) fit = states_among rows steps
+    (and_parts (is_step rows (Attempts a)) (list_all (λ x. is_step rows x.1) steps) fit).1
+states_among rows ((at, Commits c) ∷ steps) fit = states_among rows steps
+    (and_parts (is_step rows (Commits c)) (list_all (λ x. is_step rows x.1) steps) fit).1
+states_among rows ((at, RollsBack r) ∷ steps) fit = states_among rows steps
+    (and_parts (is_step rows (RollsBack r)) (list_all (λ x. is_step rows x.1) steps) fit).1
+states_among rows ((at, TakesOver x) ∷ steps) fit =
+    let parts = and_parts (is_step rows (TakesOver x)) (list_all (λ x. is_step rows x.1) steps) fit in
+    (parts.0, states_among rows steps parts.1)
+
+states_within : (t : Trace) (e : ℕ) → HasLimits t
+    → AllByRecursion (IsWithin (row_count (head_of t))) (transfers_by (history t e).landings)
+states_within t e limits =
+    let rows = row_count (head_of t) in
+    subst (AllByRecursion (IsWithin rows)) (sym (transfers_of_steps t e))
+    (states_among rows (steps_at t e) (steps_fit t e limits))
+
+state_balances : (rows : ℕ) (x : Transfer) → IsTrue (is_transfer rows x) → AreBalances (taken_table x.rows)
+state_balances rows x fits row =
+    let one = and_parts (is_number 4 x.seq) _ fits in
+    let two = and_parts (is_number 4 x.view) _ one.1 in
+    let three = and_parts (are_no_debts 0 x.rows) _ two.1 in
+    let four = and_parts (length x.rows == rows) (list_all is_versioned x.rows) three.1 in
+    let none : Versioned = record { version = 0; value = pos 0 } in
+    (and_parts (nat_le (taken_table x.rows row).version MOST_VERSIONS) _
+    (passes_at is_versioned x.rows row none refl four.1)).1
+
 values_along : (rows : ℕ) (t : Trace) (ls : List Landing) (n : ℕ)
-    → ((k : ℕ) (l : Landing) → slice_get ls k ≡ Some l → IsByAttempt l)
     → ((q : Placed) → In q (attempts_by ls) → IsTrue (is_whole_attempt rows q.attempt))
-    → (table : Table) → AreBalances table → AreBalances (fold (with_came t) table (flat_map came_by (take n ls)))
-values_along rows t ls zero by whole table all = all
-values_along rows t [] (suc n) by whole table all = all
-values_along rows t (ByAttempt p ∷ ls) (suc n) by whole table all =
-    values_along rows t ls n (λ k. by (suc k)) (λ q i. whole q (there i))
+    → AllByRecursion (IsWithin rows) (transfers_by ls) → (table : Table) → AreBalances table
+    → AreBalances (fold (with_came t) table (flat_map came_by (take n ls)))
+values_along rows t ls zero whole states table all = all
+values_along rows t [] (suc n) whole states table all = all
+values_along rows t (ByAttempt p ∷ ls) (suc n) whole states table all =
+    values_along rows t ls n (λ q i. whole q (there i)) states
     (table_after_all table (execution t p.attempt))
     (balances_after_all rows table (execution t p.attempt) all
     (execution_within rows t p.attempt p.attempt.certificate (whole p here)))
-values_along rows t (ByTransfer at x ∷ ls) (suc n) by whole table all = absurd (by 0 (ByTransfer at x) refl)
-values_along rows t (Skipped ∷ ls) (suc n) by whole table all = absurd (by 0 Skipped refl)
+values_along rows t (ByTransfer at x ∷ ls) (suc n) whole states table all =
+    values_along rows t ls n whole states.1 (taken_table x.rows) (state_balances rows x states.0)
+values_along rows t (Skipped ∷ ls) (suc n) whole states table all = values_along rows t ls n whole states table all
 
-values_within : (t : Trace) (e n : ℕ) → HasLimits t → ((m : ℕ) → ByAttemptsTo t e m) → (row : ℕ)
-    → IsTrue (is_balance (values_to t e n row))
-values_within t e n limits by = values_along (row_count (head_of t)) t (history t e).landings n
-    (λ k l at. by (suc k) (suc k) l (omega arith) at) (committed_whole t e limits) (opening_table t)
-    (opening_balances t limits)
+values_within : (t : Trace) (e n : ℕ) → HasLimits t → (row : ℕ) → IsTrue (is_balance (values_to t e n row))
+values_within t e n limits = values_along (row_count (head_of t)) t (history t e).landings n
+    (committed_whole t e limits) (states_within t e limits) (opening_table t) (opening_balances t limits)
 
 first_within : (values : ℕ → ℤ) → ((row : ℕ) → IsTrue (is_balance (values row))) → (n : ℕ)
     → IsTrue (list_all is_balance (first_rows n values))
@@ -172,10 +206,8 @@ first_within values all (suc n) =
     ∙ and_from (list_all is_balance (first_rows n values)) (is_balance (values n) && true) (first_within values all n)
     (and_from (is_balance (values n)) true (all n) refl)
 
-pub balances_within : (t : Trace) (e n : ℕ) → HasLimits t → ((m : ℕ) → ByAttemptsTo t e m)
-    → IsTrue (list_all is_balance (balances_to t e n))
-balances_within t e n limits by =
-    first_within (values_to t e n) (values_within t e n limits by) (2 * length t.customers)
+pub balances_within : (t : Trace) (e n : ℕ) → HasLimits t → IsTrue (list_all is_balance (balances_to t e n))
+balances_within t e n limits = first_within (values_to t e n) (values_within t e n limits) (2 * length t.customers)
 
 pub balances_count : (t : Trace) (e n : ℕ) → length (balances_to t e n) ≡ 2 * length t.customers
 balances_count t e n = rows_length (2 * length t.customers) (values_to t e n)

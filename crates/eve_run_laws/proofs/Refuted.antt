@@ -8,7 +8,7 @@ use Rattle.std.proofs.lemmas.List.{map-append}
 use Rattle.std.proofs.lemmas.List.Elements.{filter-append}
 use Rattle.eve_grammar.specs.Trace.{Step, Attempts, Commits, RollsBack, TakesOver, Vote, Trace}
 use Rattle.eve_grammar.specs.Frames.{OfVerifier, OfVote}
-use Rattle.eve_grammar.specs.Spelling.{frame_text, located, steps_at, verifier_start, votes_of, votes_at}
+use Rattle.eve_grammar.specs.Spelling.{frame_text, steps_at, verifier_start, votes_of, votes_at}
 use Rattle.eve_views.specs.declared.fault.Code.{Code}
 use Rattle.eve_views.specs.declared.fault.Code.TheVariants as code
 use Rattle.eve_views.specs.declared.fault.Fault.{Fault}
@@ -134,10 +134,3 @@ module _ (t : Trace) where
           (steps_at t fault.0) (backed fault.0)
           (λ b step is wrong. state_backed step.1 is wrong.1) stands
       by c stands = absurd stands
-
--- ---- lists with byte offsets
-
-pub all_located : {A : Type 0} (P : A → Type 0) (text : A → List ℕ) (at : ℕ) (xs : List A) → AllByRecursion P xs
-    → AllByRecursion (λ x. P x.1) (located text at xs)
-all_located P text at [] all = tt
-all_located P text at (x ∷ xs) all = (all.0, all_located P text (at + length (text x)) xs all.1)

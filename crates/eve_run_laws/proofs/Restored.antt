@@ -1,5 +1,5 @@
 -- Each rollback of a run restores what it must: the rows that open attempts wrote, each as it is committed.
-use Rattle.std.proofs.Common.{arith, ◌≡◌, ℕ, Bool, true, false, cond, not, ◌&&◌, ◌||◌, ◌==◌, IsTrue, List, [], ◌∷◌, ◌++◌, map}
+use Rattle.std.proofs.Common.{◌≡◌, ℕ, Bool, true, false, cond, not, ◌&&◌, ◌||◌, ◌==◌, IsTrue, List, [], ◌∷◌, ◌++◌, map}
 use Rattle.std.proofs.Common.{filter, refl, sym, subst, ap, ◌∙◌}
 use Rattle.std.specs.Ordering.{int_eq}
 use Rattle.std.specs.List.{AllByRecursion, list_all, list_any}
@@ -98,7 +98,7 @@ step_restores : (p : RunPlan) (t : Trace) (s : SectionState) (old new : Ledger) 
 step_restores p t s old new (Attempts a) alike made = refl
 step_restores p t s old new (Commits c) alike made = refl
 step_restores p t s old new (RollsBack r) alike made = restores_right t s old r.restores alike made.rolled_back.restores
-step_restores p t s old new (TakesOver x) alike made = absurd (omega (arith, alike.version, made.version))
+step_restores p t s old new (TakesOver x) alike made = refl
 
 -- along all steps, where the section follows the account
 pub restores_along : (p : RunPlan) (t : Trace)

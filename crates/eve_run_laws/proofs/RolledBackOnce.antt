@@ -1,35 +1,38 @@
 -- No section of a run goes back twice to one number, where more than half of all would give up one token the second
 -- time; or the trace shows a collision.
 use Rattle.std.proofs.Common.{◌≡◌, ℕ, zero, suc, ◌+◌, ◌<◌, ◌≤◌, Bool, true, false, cond, List, [], ◌∷◌, ◌++◌}
-use Rattle.std.proofs.Common.{length, get_or, Some, refl, sym, subst, ap, ◌∙◌, ◌⊎◌, inl, inr, arith}
-use Rattle.std.specs.Prelude.{IsTrue}
+use Rattle.std.proofs.Common.{map, length, get_or, Some, refl, sym, subst, ap, ◌∙◌, ◌⊎◌, inl, inr, arith}
 use Rattle.std.specs.List.{count_by}
 use Rattle.std.specs.Cmp.Lexicographic.{bytes_decides}
 use Rattle.std.proofs.lemmas.Bool.{eqb-true, false≢true}
 use Rattle.std.proofs.lemmas.List.{append-nil}
 use Rattle.std.proofs.lemmas.List.Sums.{sum_by-cons}
-use Rattle.eve_grammar.specs.Trace.{Step, Vote, Trace}
+use Rattle.eve_grammar.specs.Trace.{Transfer, Step, Vote, Trace, head_of}
+use Rattle.eve_grammar.specs.declared.head.Head.{Head}
 use Rattle.eve_grammar.specs.Limits.{HasLimits}
 use Rattle.eve_grammar.specs.Spelling.{steps_of}
+use Rattle.eve_grammar.proofs.HeadLimits.{head_has_limits}
 use Rattle.eve_votes.proofs.Counting.{Counted, counted}
 use Rattle.eve_votes.proofs.Deciding.{quorum_limits}
-use Rattle.eve_history.specs.SectionHistory.{is_reached}
+use Rattle.eve_history.specs.Section.{ByTransfer}
+use Rattle.eve_history.specs.SectionHistory.{history, landing_at, IsRightSection}
 use Rattle.eve_chains.specs.Committed.{balances_to}
-use Rattle.eve_agree.proofs.ByNumber.{reached_item}
 use Rattle.eve_workload.specs.declared.mixer.Mixer.{Mixer}
 use Rattle.eve_workload.specs.Workload.{Workload}
+use Rattle.eve_attempts.specs.Ledgers.{Ledger}
 use Rattle.eve_replica.specs.Deciding.{is_some_of, token_given_up}
 use Rattle.eve_replica.specs.Sections.{RunPlan, reached_in}
-use Rattle.eve_replica.specs.Run.{IsSectionOf, IsTraceOf, IsDecidedBy, has_reached as has_all, run_plan}
+use Rattle.eve_replica.specs.Run.{IsTraceOf, IsDecidedBy, has_reached, run_plan}
 use Rattle.eve_run_laws.specs.Collision.{Collides}
 use Rattle.eve_run_laws.specs.RolledBack.{rolled_back_to, AreRolledBackOnce}
+use Rattle.eve_run_laws.proofs.Alike.{IsPlanOf}
 use Rattle.eve_run_laws.proofs.Agreed.{outcomes_collide}
-use Rattle.eve_run_laws.proofs.RightRuns.{plan_of, sections_right, sections_by_attempts, sections_due}
-use Rattle.eve_run_laws.proofs.VotesAlong.{led_first}
+use Rattle.eve_run_laws.proofs.RightRuns.{plan_of, sections_right, sections_due}
+use Rattle.eve_run_laws.proofs.StatesTaken.{IsLike, committed_like}
 use Rattle.eve_run_laws.proofs.Voting.{votes_sound, all_backed}
 use Rattle.eve_run_laws.proofs.GoingBack.{DontFall, dont_fall, Differ, Repeats, differ_or_repeat, differ_before}
 use Rattle.eve_run_laws.proofs.GoingBack.{voted_back_to, voted_along}
-use Rattle.eve_run_laws.proofs.GivingUp.{gives_up_serial, has_reached}
+use Rattle.eve_run_laws.proofs.GivingUp.{gives_up_serial, number_reached}
 use Rattle.eve_run_laws.proofs.SerialTokens.{serial_token}
 
 -- ---- counts
@@ -77,14 +80,27 @@ count_or_one {A = A} p q (x ∷ xs) = by (p x) (q x) refl refl (count_or_one p q
 
 -- ---- one run
 
-module _ (w : Workload) (mixer : Mixer) (t : Trace) (format : w.format ≡ 1) (run : IsTraceOf w mixer t)
-    (limits : HasLimits t) where
+-- with what is known of states that are taken over
+module _ (states : (t : Trace) (e n at : ℕ) (x : Transfer) → HasLimits t → IsRightSection t e
+    → landing_at t e n ≡ Some (ByTransfer at x) → balances_to t e n ≡ map (λ v. v.value) x.rows)
+    (w : Workload) (mixer : Mixer) (t : Trace) (run : IsTraceOf w mixer t) (limits : HasLimits t) where
   abbrev p : RunPlan
   p = run_plan w mixer
 
+  plan : IsPlanOf p t
+  plan = plan_of w mixer t run
+
+  -- a window has an attempt at least
+  some : 0 < p.first.window
+  some =
+      let limit = (head_has_limits (head_of t) limits.head).some_window in
+      let window = ap (λ (l : Ledger). l.window) plan.first in
+      let own = ap (λ (h : Head). h.window) limits.counts in
+      omega (arith, limit, window, own)
+
   -- whether a section reaches every batch
   abbrev is_whole : List Step → Bool
-  is_whole = has_all (length w.batches)
+  is_whole = has_reached (length w.batches)
 
   -- what the first verifier voted
   abbrev led : List Vote
@@ -100,16 +116,13 @@ module _ (w : Workload) (mixer : Mixer) (t : Trace) (format : w.format ≡ 1) (r
       run.voted 0 [] (omega (arith, quorum.0, quorum.1)) e d there
 
   -- the votes tell to which numbers a section goes back first
-  told : (steps : List Step) (by : IsLed steps) → IsSectionOf p steps → voted_back_to led
-      ≡ rolled_back_to steps ++ voted_back_to by.later
-  told steps by is =
-      ap voted_back_to (led_first p (length w.batches) steps led by format is) ∙ voted_along steps by.later
+  told : (steps : List Step) (by : IsLed steps) → voted_back_to led ≡ rolled_back_to steps ++ voted_back_to by.later
+  told steps by = ap voted_back_to by.first ∙ voted_along steps by.own by.later by.led
 
   -- and of one with all commits, to which it goes back at all
-  told_whole : (steps : List Step) → IsLed steps → IsSectionOf p steps → is_whole steps ≡ true
-      → voted_back_to led ≡ rolled_back_to steps
-  told_whole steps by is whole =
-      told steps by is
+  told_whole : (steps : List Step) → IsLed steps → is_whole steps ≡ true → voted_back_to led ≡ rolled_back_to steps
+  told_whole steps by whole =
+      told steps by
       ∙ ap (λ (later : List Vote). rolled_back_to steps ++ voted_back_to later)
       (by.none_later (eqb-true (reached_in steps) (length w.batches) whole))
       ∙ append-nil (rolled_back_to steps)
@@ -128,7 +141,7 @@ module _ (w : Workload) (mixer : Mixer) (t : Trace) (format : w.format ≡ 1) (r
   all_once differ k d below =
       let steps = get_or t.sections k d in
       let by = all_led k d below in
-      differ_before (rolled_back_to steps) (voted_back_to by.later) (subst Differ (told steps by (run.sections k d below)) differ)
+      differ_before (rolled_back_to steps) (voted_back_to by.later) (subst Differ (told steps by) differ)
 
   -- ---- two rollbacks to one number
 
@@ -136,7 +149,7 @@ module _ (w : Workload) (mixer : Mixer) (t : Trace) (format : w.format ≡ 1) (r
     -- each with all commits goes back twice to it
     goes_back : (f : ℕ) → f < length t.sections → is_whole (steps_of t f) ≡ true
         → rolled_back_to (steps_of t f) ≡ twice.before ++ twice.number ∷ twice.number ∷ twice.rest
-    goes_back f there whole = sym (told_whole (steps_of t f) (all_led f [] there) (run.sections f [] there) whole) ∙ twice.is
+    goes_back f there whole = sym (told_whole (steps_of t f) (all_led f [] there) whole) ∙ twice.is
 
     abbrev view : ℕ
     view = length twice.before + 2
@@ -147,13 +160,14 @@ module _ (w : Workload) (mixer : Mixer) (t : Trace) (format : w.format ≡ 1) (r
 
     gives_up : (f : ℕ) → f < length t.sections → is_whole (steps_of t f) ≡ true
         → token_given_up view [] (steps_of t f) ≡ Some (own f)
-    gives_up f there whole = gives_up_serial p t (plan_of w mixer t run format) twice.number twice.rest run.sections f
-        twice.before (goes_back f there whole)
-
-    reached : (f : ℕ) → f < length t.sections → is_whole (steps_of t f) ≡ true → IsTrue (is_reached t f twice.number)
-    reached f there whole = has_reached p t (plan_of w mixer t run format) twice.number twice.rest run.sections f
-        twice.before
+    gives_up f there whole =
+        gives_up_serial p t plan some twice.number twice.rest run.sections f there twice.before
         (goes_back f there whole)
+
+    reached : (f : ℕ) → f < length t.sections → is_whole (steps_of t f) ≡ true
+        → twice.number ≤ length (history t f).landings
+    reached f there whole =
+        number_reached p t plan some twice.number twice.rest run.sections f there twice.before (goes_back f there whole)
 
     abbrev gives_up_that : List Step → Bool
     gives_up_that steps = is_some_of (own e) (token_given_up view [] steps)
@@ -165,18 +179,22 @@ module _ (w : Workload) (mixer : Mixer) (t : Trace) (format : w.format ≡ 1) (r
         false≢true (sym other ∙ ap (is_some_of (own e)) (gives_up f there whole)
         ∙ (bytes_decides (own f) (own e)).1 (ap (serial_token p twice.number) (sym same)))
 
+    -- each number that a replica reached some replica committed, with the same balances after it
+    like : (f n : ℕ) → suc n ≤ length (history t f).landings → IsLike t f (suc n)
+    like = committed_like p t plan run.sections run.taken
+        (λ f n at x is. states t f n at x limits (sections_right w mixer t run f) is)
+
     -- and two replicas that have committed other balances show a collision
-    apart_collide : (f n : ℕ) → IsTrue (is_reached t e n) → IsTrue (is_reached t f n)
+    apart_collide : (f n : ℕ) → n ≤ length (history t e).landings → n ≤ length (history t f).landings
         → ¬ (balances_to t e n ≡ balances_to t f n) → Collides t
     apart_collide f zero one other apart = absurd (apart refl)
     apart_collide f (suc n) one other apart =
-        let only = sections_by_attempts w mixer t run format in
-        let q = reached_item t e n (only e (suc n)) one in
-        let r = reached_item t f n (only f (suc n)) other in
-        outcomes_collide t limits (plan_of w mixer t run format).version only (sections_right w mixer t run format)
-        (sections_due w mixer t run format)
-        (votes_sound w mixer t format run limits) (all_backed w mixer t format run limits) e f (suc n) q.0 r.0 q.1 r.1
-        (λ same. apart same.balances)
+        let mine = like e n one in
+        let its = like f n other in
+        outcomes_collide t limits (sections_right w mixer t run) (sections_due w mixer t run)
+        (votes_sound w mixer t run limits) (all_backed w mixer t run limits) mine.replica its.replica (suc n)
+        mine.attempt its.attempt mine.committed its.committed
+        (λ same. apart (mine.balances ∙ same.balances ∙ sym its.balances))
 
     -- not all with all commits give up the token of one of them
     twice_collides : Collides t
@@ -196,8 +214,8 @@ module _ (w : Workload) (mixer : Mixer) (t : Trace) (format : w.format ≡ 1) (r
       up : DontFall p.first.committed (voted_back_to led)
       up =
           let one = run.sections e [] e_there in
-          subst (DontFall p.first.committed) (sym (told_whole (steps_of t e) (all_led e [] e_there) one (whole_one.is [])))
-          (dont_fall p (steps_of t e) p.first one.last format one.through)
+          subst (DontFall p.first.committed) (sym (told_whole (steps_of t e) (all_led e [] e_there) (whole_one.is [])))
+          (dont_fall p (steps_of t e) p.first one.last one.through)
 
       by : Differ (voted_back_to led) ⊎ Repeats (voted_back_to led) → AreRolledBackOnce t ⊎ Collides t
       by (inl differ) = inl (all_once differ)

@@ -151,12 +151,13 @@ replies_listed b n before (x ∷ rest) (r ∷ rs) at many counts replies =
 abbrev pub serial_token : RunPlan → ℕ → List ℤ → List ℕ
 serial_token p committed balances =
     let requests = listed (slice_index_or p.batches committed no_batch) in
-    token_of 1 (committed + 1)
+    token_of p.first.version (committed + 1)
     (first_rows (length balances) (values_along p.names (balance_of_row balances) requests))
     (replies_along p.names (balance_of_row balances) requests)
 
 module _ (p : RunPlan) (old new : Ledger) (a : Attempt) (made : AttemptsNext p old new a)
-    (serial : old.is_next_serial ≡ true) (none : ◌≡◌ {A = List Opened} old.opened []) (version : old.version ≡ 1) where
+    (serial : old.is_next_serial ≡ true) (none : ◌≡◌ {A = List Opened} old.opened [])
+    (version : old.version ≡ p.first.version) where
   abbrev b : Batch
   b = made.batch
 
@@ -230,7 +231,7 @@ module _ (p : RunPlan) (old new : Ledger) (a : Attempt) (made : AttemptsNext p o
   token_serial =
       made.closed.attempt.token
       ∙ (λ i. token_of (version i) (number i) (balances_left i) (replies_left i))
-      ∙ ap (λ (batch : Batch). token_of 1 (old.committed + 1)
+      ∙ ap (λ (batch : Batch). token_of p.first.version (old.committed + 1)
       (first_rows (length old.rows.balances)
       (values_along p.names (balance_of_row old.rows.balances) (listed batch)))
       (replies_along p.names (balance_of_row old.rows.balances) (listed batch))) (sym its_batch)

@@ -1,5 +1,5 @@
 -- Each attempt of a run is sound: its records fit, and its rows are chained from what its path left.
-use Rattle.std.proofs.Common.{arith, ◌≡◌, ℕ, List, [], ◌∷◌, map, sym, subst, ap}
+use Rattle.std.proofs.Common.{◌≡◌, ℕ, List, [], ◌∷◌, map, sym, subst, ap}
 use Rattle.std.specs.List.{AllByRecursion}
 use Rattle.std.proofs.lemmas.List.Sorted.{IsPermutation-map}
 use Rattle.eve_smallbank.specs.Access.{Executed, Fits}
@@ -10,7 +10,7 @@ use Rattle.eve_grammar.specs.Trace.{Attempt, Step, Attempts, Commits, RollsBack,
 use Rattle.eve_grammar.proofs.Lists.{all-append}
 use Rattle.eve_stamps.specs.Applied.{Applied}
 use Rattle.eve_history.specs.Section.{Placed, attempts_by, SectionState, start, path_of, committing, next}
-use Rattle.eve_history.proofs.FateLaws.{attempts_by_push}
+use Rattle.eve_history.proofs.FateLaws.{attempts_by_push, attempts_by_taking}
 use Rattle.eve_history.specs.SectionHistory.{history, names_of}
 use Rattle.eve_chains.specs.Visible.{execution}
 use Rattle.eve_chains.specs.Sound.{IsSoundAlong, SettledAreSound}
@@ -79,4 +79,8 @@ module _ (p : RunPlan) (t : Trace) (plan : IsPlanOf p t) where
   sound_next s old new at (Commits c) alike made sound = sound_committing t s s.pending sound.1 sound
   sound_next s old new at (RollsBack r) alike made sound =
       (sound.0, tt, all-append (IsSoundAlong t) s.discarded s.pending sound.2 sound.1)
-  sound_next s old new at (TakesOver x) alike made sound = absurd (omega (arith, alike.version, made.version))
+  sound_next s old new at (TakesOver x) alike made sound = (
+    subst (AllByRecursion (IsSoundAlong t)) (sym (attempts_by_taking s at x)) sound.0,
+    tt,
+    all-append (IsSoundAlong t) s.discarded s.pending sound.2 sound.1,
+  )

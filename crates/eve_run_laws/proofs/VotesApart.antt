@@ -1,21 +1,13 @@
--- Along a section the votes rise: no two of them are on one batch in one view, and no two commits are of one batch.
-use Rattle.std.proofs.Common.{◌≡◌, ℕ, ◌+◌, ◌-◌, ◌<◌, ◌≤◌, ◌==◌, Bool, true, false, List, [], ◌∷◌, length, filter}
-use Rattle.std.proofs.Common.{All, get_or, refl, sym, ap, ◌∙◌, subst, arith}
+-- Votes that rise: no two of them are on one batch in one view, and no two commits are of one batch.
+use Rattle.std.proofs.Common.{◌≡◌, ℕ, ◌+◌, ◌<◌, ◌≤◌, ◌==◌, Bool, true, false, List, [], ◌∷◌, length, filter}
+use Rattle.std.proofs.Common.{All, get_or, refl, ap, ◌∙◌, arith}
 use Rattle.std.specs.Bool.{⊤}
 use Rattle.std.proofs.lemmas.Bool.{and_from, eq-eqb}
-use Rattle.std.proofs.lemmas.List.Elements.{All-nil, All-cons, All-head, All-weaker, All-append}
-use Rattle.eve_grammar.specs.Trace.{Step, Attempts, Commits, RollsBack, TakesOver, Attempt, Commit, Choice}
-use Rattle.eve_grammar.specs.Trace.{ForRollback, ForCommit, Vote}
+use Rattle.std.proofs.lemmas.List.Elements.{All-nil, All-cons, All-weaker}
+use Rattle.eve_grammar.specs.Trace.{Choice, ForRollback, ForCommit, Vote}
 use Rattle.eve_grammar.proofs.Lists.{filter_kept, filter_dropped}
 use Rattle.eve_votes.specs.Votes.{is_vote_on}
 use Rattle.eve_votes.proofs.Sifting.{voted}
-use Rattle.eve_attempts.specs.Ledgers.{Opened, Ledger}
-use Rattle.eve_attempts.specs.Closing.{opened_as}
-use Rattle.eve_attempts.specs.Discarding as account
-use Rattle.eve_replica.specs.Sections.{RunPlan, AttemptsNext, GoesThrough}
-use Rattle.eve_run_laws.proofs.VotesAlong.{votes_along}
-use Rattle.eve_replica.specs.Serving.{AreOfItsView}
-use Rattle.eve_replica.proofs.OneStep.{committed_in_view}
 
 -- ---- votes that rise
 
@@ -44,7 +36,7 @@ goes_up : (n view : ℕ) (c : Choice)
 goes_up n view ForRollback = (omega arith, omega arith, omega arith)
 goes_up n view (ForCommit token) = (omega arith, omega arith, omega arith)
 
-rise_from_earlier : (m n u view : ℕ) (ws : List Vote) → m ≤ n → u ≤ view → Rise n view ws → Rise m u ws
+pub rise_from_earlier : (m n u view : ℕ) (ws : List Vote) → m ≤ n → u ≤ view → Rise n view ws → Rise m u ws
 rise_from_earlier m n u view [] low early rise = tt
 rise_from_earlier m n u view (w ∷ ws) low early rise = ((omega (arith, rise.0.0), omega (arith, rise.0.1)), rise.1)
 
@@ -154,54 +146,3 @@ commits_apart n view (w ∷ ws) rise =
     All-cons (AreOneCommit v) w ws
     (λ a b is also same. absurd (omega (arith, later.0, commit_goes_up w b also, same)))
     (rest k d below))
-
--- ---- the votes along a section
-
--- all open attempts stay of the account's view
-attempted_in_view : (p : RunPlan) (old new : Ledger) (a : Attempt) → AttemptsNext p old new a → AreOfItsView old
-    → AreOfItsView new
-attempted_in_view p old new a made of_view =
-    let closed = made.closed in
-    let one = opened_as a closed.ordered in
-    let InView : Opened → Type 0 = λ o. o.view ≡ old.view in
-    subst AreOfItsView (sym closed.opens.changed)
-    (All-append InView old.opened (one ∷ []) of_view (All-cons InView one [] closed.attempt.view (All-nil InView)))
-
--- so are the first open attempt and the others
-opened_in_view : (old new : Ledger) (c : Commit) (made : account.Commits old new c) → AreOfItsView old
-    → All (λ o. o.view ≡ old.view) (made.first ∷ made.others)
-opened_in_view old new c made of_view =
-    subst (λ (os : List Opened). All (λ o. o.view ≡ old.view) os) made.opened of_view
-
--- the votes rise from where the account stands, if its open attempts are all of its view
-pub votes_rise : (p : RunPlan) (steps : List Step) (a b : Ledger) → a.version ≡ 1 → AreOfItsView a
-    → GoesThrough p steps a b
-    → Rise (a.committed + 1) a.view (votes_along steps)
-votes_rise p [] a b version of_view goes = tt
-votes_rise p (Attempts x ∷ steps) a b version of_view goes =
-    subst (λ (s : Ledger). Rise (s.committed + 1) s.view (votes_along steps)) goes.1.closed.opens.changed
-    (votes_rise p steps goes.0 b (ap (λ (l : Ledger). l.version) goes.1.closed.opens.changed ∙ version) (attempted_in_view p a goes.0 x goes.1 of_view) goes.2)
-votes_rise p (Commits c ∷ steps) a b version of_view goes =
-    let made = goes.1 in
-    let seq : c.seq ≡ a.committed + 1 = ap (λ (d : Commit). d.seq) made.commit in
-    let view : c.view ≡ a.view =
-    ap (λ (d : Commit). d.view) made.commit
-    ∙ All-head (λ o. o.view ≡ a.view) made.first made.others (opened_in_view a goes.0 c made of_view) in
-    let number = ap (λ (s : Ledger). s.committed) made.changed in
-    let same = ap (λ (s : Ledger). s.view) made.changed in (
-      (omega (arith, seq), omega (arith, view)),
-      rise_from_earlier (c.seq + 1) (goes.0.committed + 1) c.view goes.0.view (votes_along steps)
-          (omega (arith, seq, number)) (omega (arith, view, same))
-          (votes_rise p steps goes.0 b (ap (λ (l : Ledger). l.version) made.changed ∙ version) (committed_in_view a goes.0 c made of_view) goes.2),
-    )
-votes_rise p (RollsBack r ∷ steps) a b version of_view goes =
-    let made = goes.1.rolled_back in
-    let number = ap (λ (s : Ledger). s.committed) made.changed in
-    let same = ap (λ (s : Ledger). s.view) made.changed in (
-      (omega (arith, made.to), omega (arith, made.view)),
-      rise_from_earlier (r.to + 1) (goes.0.committed + 1) (r.view - 1 + 1) goes.0.view (votes_along steps)
-          (omega (arith, made.to, number)) (omega (arith, made.view, same))
-          (votes_rise p steps goes.0 b (ap (λ (l : Ledger). l.version) made.changed ∙ version)
-          (subst AreOfItsView (sym made.changed) (All-nil (λ (o : Opened). o.view ≡ a.view + 1))) goes.2),
-    )
-votes_rise p (TakesOver x ∷ steps) a b version of_view goes = absurd (omega (arith, version, goes.1.version))

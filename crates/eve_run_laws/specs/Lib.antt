@@ -1,2 +1,3 @@
+pub mod Hashed
 pub mod Collision
 pub mod RolledBack

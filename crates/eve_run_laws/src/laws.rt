@@ -21,25 +21,25 @@ ghost use Rattle.eve_run_laws.specs.Collision.{Collides};
 ghost use Rattle.eve_run_laws.specs.RolledBack.{AreRolledBackOnce};
 ghost use Rattle.eve_agree.specs.Agreement.{StandsInAgreement};
 
-/// No fault stands in the trace of a run of format 1 but one of agreement, and where one does the trace shows a
-/// collision of SHA-256: two replicas committed a batch by one token, the hash of two messages that differ.
+/// No fault stands in the trace of a run but one of agreement, and where one does the trace shows a collision of
+/// SHA-256: two replicas committed a batch by one token, though it came to something else in each.
 ///
 /// docs/MODEL.md, "A run is accepted".
 pub fn faults_of_runs_are_collisions()
-    ensures { (w : Workload) (mixer : Mixer) (t : Trace) (f : Fault) → IsWorkload w → w.format ≡ 1 → IsTraceOf w mixer t
-        → HasLimits t → IsTraceFault t f → IsFaultSomewhere StandsInAgreement t f × Collides t }
+    ensures { (w : Workload) (mixer : Mixer) (t : Trace) (f : Fault) → IsWorkload w → IsTraceOf w mixer t → HasLimits t
+        → IsTraceFault t f → IsFaultSomewhere StandsInAgreement t f × Collides t }
 {
     eve_workload::laws::cuts_keep_requests();
     eve_chains::laws::sound_sections_have_no_fault();
 }
 
-/// The verdict on bytes that spell the trace of a run of format 1 is yes, or the trace shows two messages that differ
-/// and have one SHA-256.
+/// The verdict on bytes that spell the trace of a run is yes, or the trace shows two messages that differ and have one
+/// SHA-256.
 ///
 /// docs/MODEL.md, "A run is accepted".
 pub fn runs_are_accepted()
     ensures { (w : Workload) (mixer : Mixer) (t : Trace) (bytes : List ℕ) → IsBytes bytes → IsWorkload w
-        → w.format ≡ 1 → IsTraceOf w mixer t → Spells bytes t → ((s : Summary) × IsVerdict bytes (Yes s)) ⊎ Collides t }
+        → IsTraceOf w mixer t → Spells bytes t → ((s : Summary) × IsVerdict bytes (Yes s)) ⊎ Collides t }
 {
     faults_of_runs_are_collisions();
     eve_grammar::laws::bytes_spell_one_trace();
@@ -47,36 +47,38 @@ pub fn runs_are_accepted()
     eve_audit::laws::bytes_have_a_verdict();
 }
 
-/// A run of format 1 is SmallBank on one thread, batch by batch in each replica, and all else that a yes says, whether
-/// it is audited or not; or its trace shows two messages that differ and have one SHA-256.
+/// A run is SmallBank on one thread, batch by batch in each replica, and all else that a yes says, whether it is
+/// audited or not; or its trace shows two messages that differ and have one SHA-256.
 ///
 /// docs/MODEL.md, "A run is accepted".
 pub fn runs_are_audited()
     ensures { (w : Workload) (mixer : Mixer) (t : Trace) (bytes : List ℕ) → IsBytes bytes → IsWorkload w
-        → w.format ≡ 1 → IsTraceOf w mixer t → Spells bytes t → IsAudited t ⊎ Collides t }
+        → IsTraceOf w mixer t → Spells bytes t → IsAudited t ⊎ Collides t }
 {
     runs_are_accepted();
     eve_audit::laws::a_yes_is_audited();
 }
 
-/// Of what the program wrote for `run` in format 1 with status 0: where it says the verdict on that for `audit`, it is yes and the
+/// Of what the program wrote for `run` with status 0: where it says the verdict on that for `audit`, it is yes and the
 /// status is 0, or the trace shows two messages that differ and have one SHA-256.
 ///
 /// docs/MODEL.md, "A run is accepted".
 pub fn audits_of_runs_end_well()
-    ensures { (limit : ℕ) (mixer : Mixer) (input written line : List ℕ) (status ended : ℕ)
-        → IsBytes written → (run : Runs limit mixer Format.One input written status) → Audits written line ended
+    ensures { (limit : ℕ) (mixer : Mixer) (format : Format) (input written line : List ℕ) (status ended : ℕ)
+        → IsBytes written → (run : Runs limit mixer format input written status) → Audits written line ended
         → (ended ≡ 0) ⊎ Collides run.trace }
 {
     runs_are_accepted();
     eve_audit::laws::verdicts_are_unique();
 }
 
-/// In a run of format 1 each batch is at most once the first of those that are rolled back: in no section two rollbacks
-/// go back to the same number. Or the trace shows two messages that differ and have one SHA-256.
+/// In a run each batch is at most once the first of those that are rolled back: in no section two rollbacks go back to
+/// the same number. Or the trace shows two messages that differ and have one SHA-256.
 ///
 /// docs/MODEL.md, "A run is accepted".
 pub fn runs_roll_back_a_batch_once()
-    ensures { (w : Workload) (mixer : Mixer) (t : Trace) → w.format ≡ 1 → IsTraceOf w mixer t → HasLimits t
+    ensures { (w : Workload) (mixer : Mixer) (t : Trace) → IsTraceOf w mixer t → HasLimits t
         → AreRolledBackOnce t ⊎ Collides t }
-{}
+{
+    eve_chains::laws::states_are_the_balances();
+}

@@ -1,0 +1,113 @@
+-- In a run no number is skipped: each is reached by a step of its own, and what was reached stays.
+use Rattle.std.proofs.Common.{◌≡◌, ℕ, zero, suc, ◌+◌, ◌-◌, List, [], ◌∷◌, ◌++◌, All, length, replicate, slice_get}
+use Rattle.std.proofs.Common.{Some, refl, sym, ap, subst, ◌∙◌, ◌⊎◌, inl, inr, append_assoc, append-nil, length-append}
+use Rattle.std.proofs.Common.{arith}
+use Rattle.std.specs.List.{AllByRecursion}
+use Rattle.std.proofs.lemmas.Option.{same_Some}
+use Rattle.eve_grammar.specs.Trace.{Commit, Transfer, Step, Attempts, Commits, RollsBack, TakesOver, Trace}
+use Rattle.eve_grammar.specs.Spelling.{steps_of}
+use Rattle.eve_history.specs.Section.{Placed, Landing, ByAttempt, ByTransfer, Skipped, SectionState, start, committing}
+use Rattle.eve_history.specs.Section.{taking_over, next, state_after}
+use Rattle.eve_history.specs.SectionHistory.{history}
+use Rattle.eve_attempts.specs.Ledgers.{Ledger}
+use Rattle.eve_replica.specs.Sections.{RunPlan, MakesOf}
+use Rattle.eve_replica.specs.Run.{IsSectionOf}
+use Rattle.eve_chains.proofs.Linked.{none≢some}
+use Rattle.eve_run_laws.proofs.Alike.{IsPlanOf, AreAlike}
+use Rattle.eve_run_laws.proofs.Along.{kept_where}
+
+-- ---- what was reached stays
+
+-- the first numbers after steps were reached as before them
+pub record KeepsReached (s end : SectionState) : Type 0 where
+  pub more : List Landing
+  pub is : end.landings ≡ s.landings ++ more
+
+committing_keeps : (s : SectionState) (pending : List Placed) (end : SectionState)
+    → KeepsReached (committing s pending) end → KeepsReached s end
+committing_keeps s [] end keeps = keeps
+committing_keeps s (q ∷ pending) end keeps =
+    record { more = ByAttempt q ∷ keeps.more; is = keeps.is ∙ append_assoc s.landings (ByAttempt q ∷ []) keeps.more }
+
+pub reached_stays : (steps : List (ℕ × Step)) (s : SectionState) → KeepsReached s (state_after s steps)
+reached_stays [] s = record { more = []; is = sym (append-nil s.landings) }
+reached_stays ((at, Attempts a) ∷ steps) s =
+    let rest = reached_stays steps (next s (at, Attempts a)) in record { more = rest.more; is = rest.is }
+reached_stays ((at, Commits c) ∷ steps) s =
+    committing_keeps s s.pending (state_after (next s (at, Commits c)) steps)
+    (reached_stays steps (next s (at, Commits c)))
+reached_stays ((at, RollsBack r) ∷ steps) s =
+    let rest = reached_stays steps (next s (at, RollsBack r)) in record { more = rest.more; is = rest.is }
+reached_stays ((at, TakesOver x) ∷ steps) s =
+    let rest = reached_stays steps (next s (at, TakesOver x)) in
+    let taken : List Landing = replicate (x.seq - (s.last + 1)) Skipped ++ ByTransfer at x ∷ [] in
+    record { more = taken ++ rest.more; is = rest.is ∙ append_assoc s.landings taken rest.more }
+
+-- ---- by which steps
+
+-- a number was reached so by a step of its own, of which this holds
+abbrev pub IsReachedBy : (Step → Type 0) → ℕ → Landing → Type 0
+IsReachedBy H n (ByAttempt q) = (c : Commit) × (c.seq ≡ n) × H (Commits c)
+IsReachedBy H n (ByTransfer at x) = (x.seq ≡ n) × H (TakesOver x)
+IsReachedBy H n Skipped = ⊥
+
+-- each number up to the last was
+pub record AreReachedBy (H : Step → Type 0) (s : SectionState) : Type 0 where
+  pub counted : s.last ≡ length s.landings
+  pub each : (k : ℕ) (l : Landing) → slice_get s.landings k ≡ Some l → IsReachedBy H (suc k) l
+
+pub reached_first : (H : Step → Type 0) → AreReachedBy H start
+reached_first H = record { counted = refl; each = λ k l at. none≢some l at }
+
+pushed : (ls : List Landing) (last : Landing) (k : ℕ) (l : Landing) → slice_get (ls ++ last ∷ []) k ≡ Some l
+    → (slice_get ls k ≡ Some l) ⊎ ((length ls ≡ k) × (last ≡ l))
+pushed [] last zero l at = inr (refl, same_Some last l at)
+pushed [] last (suc k) l at = none≢some l at
+pushed (m ∷ ls) last zero l at = inl at
+pushed (m ∷ ls) last (suc k) l at =
+    elim (pushed ls last k l at) [ inl there ↦ inl there | inr here ↦ inr (ap suc here.0, here.1) ]
+
+-- one number more
+one_more : (H : Step → Type 0) (s t : SectionState) (last : Landing) → t.landings ≡ s.landings ++ last ∷ []
+    → t.last ≡ s.last + 1 → IsReachedBy H (s.last + 1) last → AreReachedBy H s → AreReachedBy H t
+one_more H s t last are number by reached = record {
+  counted = let before = reached.counted in omega (arith, number, ap length are, length-append s.landings (last ∷ []));
+  each = λ k l at. elim (pushed s.landings last k l (ap (λ (ls : List Landing). slice_get ls k) (sym are) ∙ at)) [
+    | inl there ↦ reached.each k l there
+    | inr here ↦
+        let own : s.last + 1 ≡ suc k = omega (arith, reached.counted, here.0) in
+        subst (IsReachedBy H (suc k)) here.1 (subst (λ (n : ℕ). IsReachedBy H n last) own by)
+  ];
+}
+
+reached_committing : (H : Step → Type 0) (s : SectionState) (c : Commit) (pending : List Placed) → c.seq ≡ s.last + 1
+    → H (Commits c) → AreReachedBy H s → AreReachedBy H (committing s pending)
+reached_committing H s c [] number holds reached = reached
+reached_committing H s c (q ∷ pending) number holds reached =
+    one_more H s (committing s (q ∷ pending)) (ByAttempt q) refl refl (c, number, holds) reached
+
+-- no number before the state's own is left out
+no_skips : (n at : ℕ) (x : Transfer) → n ≡ 0 → replicate n Skipped ++ ByTransfer at x ∷ [] ≡ ByTransfer at x ∷ []
+no_skips n at x none = ap (λ (m : ℕ). replicate m Skipped ++ ByTransfer at x ∷ []) none
+
+module _ (H : Step → Type 0) (p : RunPlan) (t : Trace) where
+  pub reached_next : (s : SectionState) (old new : Ledger) (at : ℕ) (x : Step) → AreAlike t s old
+      → MakesOf p x old new → H x → AreReachedBy H s → AreReachedBy H (next s (at, x))
+  reached_next s old new at (Attempts a) alike made holds reached =
+      record { counted = reached.counted; each = reached.each }
+  reached_next s old new at (Commits c) alike made holds reached =
+      let last = alike.last in
+      reached_committing H s c s.pending (ap (λ (d : Commit). d.seq) made.commit ∙ omega arith) holds reached
+  reached_next s old new at (RollsBack r) alike made holds reached =
+      record { counted = reached.counted; each = reached.each }
+  reached_next s old new at (TakesOver x) alike made holds reached =
+      let last = alike.last in
+      let own : x.seq ≡ s.last + 1 = made.next ∙ omega arith in
+      one_more H s (taking_over s at x) (ByTransfer at x)
+      (ap (λ (ls : List Landing). s.landings ++ ls) (no_skips (x.seq - (s.last + 1)) at x (omega arith))) own
+      (own, holds) reached
+
+  pub all_reached : IsPlanOf p t → All (IsSectionOf p) t.sections → (e : ℕ) → AllByRecursion H (steps_of t e)
+      → AreReachedBy H (history t e)
+  all_reached plan sections e all =
+      kept_where p t plan sections H (AreReachedBy H) reached_next (reached_first H) e all
