@@ -18,10 +18,12 @@
 //! - `random`: there are no random words
 //! - `rest`: the file ends before its first byte, or before its second, and so on
 //! - `long`: a workload and its trace may have no byte, or one, or two, and so on
+//! - `each`: nothing fails, and each byte of the file is one higher in turn: over how many `explain` is as `audit`
 #![tactic(auto)]
 
 mod bytes;
 mod calls;
+mod each;
 mod fault;
 mod limits;
 mod runs;

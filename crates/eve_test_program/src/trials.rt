@@ -2,6 +2,7 @@
 
 use crate::bytes::Bytes;
 use crate::calls::{Answer, Terms, said};
+use crate::each::tell_each;
 use crate::fault::Fault;
 use crate::runs::tell_run;
 use std::fs::Files;
@@ -19,6 +20,7 @@ pub(crate) enum Failure {
     Random,
     Rest,
     Long,
+    Each,
 }
 
 impl Failure {
@@ -32,6 +34,7 @@ impl Failure {
             "random" => Failure::Random,
             "rest" => Failure::Rest,
             "long" => Failure::Long,
+            "each" => Failure::Each,
             _ => {
                 page.fail(Fault::Word);
                 Failure::Nothing
@@ -61,7 +64,7 @@ const MOST: u32 = 10_000;
 fn terms_of(failure: Failure, at: u32) -> Terms {
     let mut terms = Terms::fine();
     match failure {
-        Failure::Nothing | Failure::Rest => {}
+        Failure::Nothing | Failure::Rest | Failure::Each => {}
         Failure::Read => terms.read = u64::from(at),
         Failure::Write => terms.write = u64::from(at),
         Failure::Word => terms.word = u64::from(at),
@@ -223,5 +226,6 @@ pub(crate) fn tell_trial<R: AllocGlobal + Files + RandomSource + Threads + Wait 
         Failure::Read | Failure::Write | Failure::Rest | Failure::Long => {
             tell_in_turn(rt, trial, page)
         }
+        Failure::Each => tell_each(rt, trial.bytes.as_slice(), page),
     }
 }

@@ -2,9 +2,10 @@
 
 use crate::gates::{Held, Turn};
 use crate::replicas::{Attempted, Closed, Deed, Due, OPENING, Seen, Setting, Want};
+use crate::taking::{KEEPS_ITS_TREE, TAKES_NOTHING_OVER, TAKES_OVER};
 use eve_grammar::MOST_VERSIONS;
 use eve_replica::eve_workload::Mixer;
-use eve_replica::{AttemptFault, CloseFault, CommitFault, TransferFault};
+use eve_replica::{AttemptFault, CloseFault, CommitFault};
 
 /// What is done in a case.
 #[derive(Clone, Copy)]
@@ -52,17 +53,11 @@ const OF_VERSION_2: Setting = Setting {
 /// As her deposit of 500 leaves it.
 const DEPOSITED: Seen = Seen(1, 500);
 
-/// As one of 100 does.
-const HUNDRED: Seen = Seen(1, 100);
-
-/// As it is in a state that is taken over.
-const TAKEN_OVER: Seen = Seen(3, 30);
-
 /// As it is in one after which no deposit is taken.
 const WORN: Seen = Seen(MOST_VERSIONS, 30);
 
 /// The first attempt is parallel, and sees the opening rows.
-const FIRST: Want = Want {
+pub const FIRST: Want = Want {
     deed: Deed::Attempt(
         1,
         Attempted::Met(Due {
@@ -147,8 +142,8 @@ const IN_TURN: &[Want] = &[Want {
     what: "the third parallelBatch begins after the second",
 }];
 
-/// Two parallelBatches of 2 and 1 requests by two workers. Whichever runs the first request gives it up, since ann's row
-/// may be written no more, and the other, who waits for it, is told.
+/// Two parallelBatches of 2 and 1 requests by two workers. Whichever runs the first request gives it up, since ann's
+/// row may be written no more, and the other, who waits for it, is told.
 const GIVEN_UP: &[Want] = &[
     Want {
         deed: Deed::TakeOver(1, 0, WORN, None),
@@ -331,262 +326,6 @@ const BROKEN: &[Want] = &[
             }),
         ),
         what: "a serial attempt in view 1 that sees version 0 again",
-    },
-];
-
-/// A deposit of 100 is committed, one of 5 is open, and a state is taken over in its place: a deposit of 5 sees that
-/// state then, and no earlier one is taken over.
-const TAKES_OVER: &[Want] = &[
-    FIRST,
-    Want {
-        deed: Deed::Commit(1, None),
-        what: "the first is committed",
-    },
-    Want {
-        deed: Deed::Attempt(
-            2,
-            Attempted::Met(Due {
-                seq: 2,
-                view: 0,
-                serial: false,
-                seen: HUNDRED,
-            }),
-        ),
-        what: "the second sees the hundred",
-    },
-    Want {
-        deed: Deed::HaveState(HUNDRED),
-        what: "the state is without what is open",
-    },
-    Want {
-        deed: Deed::HaveCents(105),
-        what: "the balances are with it",
-    },
-    Want {
-        deed: Deed::TakeOver(1, 0, TAKEN_OVER, Some(TransferFault::NotDue)),
-        what: "its number is committed",
-    },
-    Want {
-        deed: Deed::HaveState(HUNDRED),
-        what: "nothing is taken over",
-    },
-    Want {
-        deed: Deed::HaveCents(105),
-        what: "nothing is discarded",
-    },
-    Want {
-        deed: Deed::TakeOver(2, 0, TAKEN_OVER, None),
-        what: "the state is taken over",
-    },
-    Want {
-        deed: Deed::HaveState(TAKEN_OVER),
-        what: "the state is that one",
-    },
-    Want {
-        deed: Deed::HaveCents(30),
-        what: "nothing is open on it",
-    },
-    Want {
-        deed: Deed::TakeOver(2, 0, HUNDRED, Some(TransferFault::NotDue)),
-        what: "it isn't taken over again",
-    },
-    Want {
-        deed: Deed::Commit(2, Some(CommitFault::NotOpen)),
-        what: "what was open is discarded",
-    },
-    Want {
-        deed: Deed::Attempt(
-            2,
-            Attempted::Met(Due {
-                seq: 3,
-                view: 0,
-                serial: false,
-                seen: TAKEN_OVER,
-            }),
-        ),
-        what: "the next deposit sees the state",
-    },
-    Want {
-        deed: Deed::HaveCents(35),
-        what: "the deposit leaves 35",
-    },
-    Want {
-        deed: Deed::Commit(3, None),
-        what: "the deposit is committed",
-    },
-    Want {
-        deed: Deed::HaveState(Seen(4, 35)),
-        what: "the state has the deposit",
-    },
-    Want {
-        deed: Deed::GoBack(3, None),
-        what: "nothing to restore",
-    },
-    Want {
-        deed: Deed::TakeOver(4, 0, TAKEN_OVER, Some(TransferFault::NotDue)),
-        what: "its view is an earlier one",
-    },
-    Want {
-        deed: Deed::HaveState(Seen(4, 35)),
-        what: "nothing is taken over in an earlier view",
-    },
-    Want {
-        deed: Deed::TakeOver(9, 4, TAKEN_OVER, None),
-        what: "numbers and views are skipped",
-    },
-    Want {
-        deed: Deed::Attempt(
-            2,
-            Attempted::Met(Due {
-                seq: 10,
-                view: 4,
-                serial: false,
-                seen: TAKEN_OVER,
-            }),
-        ),
-        what: "the next attempt is parallel, in that view",
-    },
-    Want {
-        deed: Deed::TakeOver(u32::MAX, 4, TAKEN_OVER, None),
-        what: "no number is too great",
-    },
-    Want {
-        deed: Deed::TakeOver(u32::MAX, 5, HUNDRED, Some(TransferFault::NotDue)),
-        what: "none comes after it",
-    },
-    Want {
-        deed: Deed::GoBack(u32::MAX, None),
-        what: "what was open is discarded, and the number stays",
-    },
-];
-
-/// Ann's deposit is closed of a record that was taken by hand, so that another attempt fails. The broken replica has its
-/// state and its balances, and takes no other over, be it due or not.
-const TAKES_NOTHING_OVER: &[Want] = &[
-    Want {
-        deed: Deed::Close(0, Closed::Made),
-        what: "her deposit is closed",
-    },
-    Want {
-        deed: Deed::Attempt(1, Attempted::Failed(AttemptFault::Mismatch)),
-        what: "an attempt over her row fails",
-    },
-    Want {
-        deed: Deed::HaveState(OPENING),
-        what: "the state of a broken replica",
-    },
-    Want {
-        deed: Deed::HaveCents(500),
-        what: "the balances of a broken replica",
-    },
-    Want {
-        deed: Deed::TakeOver(1, 0, TAKEN_OVER, Some(TransferFault::Broken)),
-        what: "it is due to no broken replica",
-    },
-    Want {
-        deed: Deed::TakeOver(0, 0, TAKEN_OVER, Some(TransferFault::Broken)),
-        what: "broken comes before what isn't due",
-    },
-    Want {
-        deed: Deed::HaveState(OPENING),
-        what: "nothing is taken over",
-    },
-    Want {
-        deed: Deed::GoBackAtLast(OPENING),
-        what: "her row is restored",
-    },
-    Want {
-        deed: Deed::TakeOver(1, 0, TAKEN_OVER, Some(TransferFault::NotDue)),
-        what: "its view is an earlier one",
-    },
-    Want {
-        deed: Deed::TakeOver(1, 1, TAKEN_OVER, None),
-        what: "the state is taken over",
-    },
-    Want {
-        deed: Deed::HaveState(TAKEN_OVER),
-        what: "the state is that one",
-    },
-    Want {
-        deed: Deed::Attempt(
-            1,
-            Attempted::Met(Due {
-                seq: 2,
-                view: 1,
-                serial: false,
-                seen: TAKEN_OVER,
-            }),
-        ),
-        what: "the next attempt sees the state",
-    },
-];
-
-/// What happens to a replica happens to its tree.
-const KEEPS_ITS_TREE: &[Want] = &[
-    Want {
-        deed: Deed::HaveRoot,
-        what: "the root is that of a new tree, at first",
-    },
-    FIRST,
-    Want {
-        deed: Deed::HaveRoot,
-        what: "the root is that of a new tree, after an attempt",
-    },
-    Want {
-        deed: Deed::GoBack(0, Some(OPENING)),
-        what: "her row is restored",
-    },
-    Want {
-        deed: Deed::HaveRoot,
-        what: "the root is that of a new tree, after a rollback",
-    },
-    Want {
-        deed: Deed::Attempt(
-            1,
-            Attempted::Met(Due {
-                seq: 1,
-                view: 1,
-                serial: true,
-                seen: OPENING,
-            }),
-        ),
-        what: "a serial attempt in view 1 that sees version 0",
-    },
-    Want {
-        deed: Deed::HaveRoot,
-        what: "the root is that of a new tree, after a serial attempt",
-    },
-    Want {
-        deed: Deed::Commit(1, None),
-        what: "the first is committed",
-    },
-    Want {
-        deed: Deed::HaveRoot,
-        what: "the root is that of a new tree, after a commit",
-    },
-    Want {
-        deed: Deed::TakeOver(2, 1, TAKEN_OVER, None),
-        what: "the state is taken over",
-    },
-    Want {
-        deed: Deed::HaveRoot,
-        what: "the root is that of a new tree, after a state is taken over",
-    },
-    Want {
-        deed: Deed::Attempt(
-            2,
-            Attempted::Met(Due {
-                seq: 3,
-                view: 1,
-                serial: false,
-                seen: TAKEN_OVER,
-            }),
-        ),
-        what: "a deposit sees the state",
-    },
-    Want {
-        deed: Deed::HaveRoot,
-        what: "the root is that of a new tree, after one more attempt",
     },
 ];
 

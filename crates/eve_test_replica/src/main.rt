@@ -11,6 +11,7 @@ mod misses;
 mod replicas;
 mod runs;
 mod states;
+mod taking;
 mod world;
 
 use crate::cases::{Case, Doing, FREE_RUN, Running, case_of, format_of};
