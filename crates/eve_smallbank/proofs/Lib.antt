@@ -10,3 +10,5 @@ pub mod Deciding
 pub mod Records
 pub mod Applying
 pub mod Recording
+mod Seeing
+mod TookEffect

@@ -10,3 +10,4 @@ pub mod Touch
 pub mod Decide
 pub mod FromValues
 pub mod Recorded
+pub mod Seen

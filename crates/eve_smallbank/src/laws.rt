@@ -12,6 +12,7 @@ ghost use Rattle.eve_smallbank.specs.Touch.{touched_of, rows_in};
 ghost use Rattle.eve_smallbank.specs.Chain.{Table, visible_at, Sees, IsChained, IsRowChained, HasOneEach, IsWalk};
 ghost use Rattle.eve_smallbank.specs.Chain.{row_entries};
 ghost use Rattle.eve_smallbank.specs.Execution.{executed_on};
+ghost use Rattle.eve_smallbank.specs.Seen.{as_seen};
 ghost use Rattle.eve_smallbank.specs.SerialOrder.{IsSound, IsSerial};
 
 /// What a request makes of the rows that it meets fits it.
@@ -50,6 +51,13 @@ pub fn rows_are_chained_by_walks()
 pub fn fitting_records_are_unique()
     ensures { (names : List (List ℕ)) (table : Table) (x : Executed) → Fits names x
         → AllByRecursion (Sees table) x.entries → x ≡ executed_on names table x.request }
+{}
+
+/// A record that fits is what its request makes of what the record's own entries saw. So whether a record fits is told
+/// by what its request makes of them, which fits (`requests_fit`): it does where the two are the same.
+pub fn fitting_records_are_of_what_they_saw()
+    ensures { (names : List (List ℕ)) (x : Executed) → Fits names x
+        → x ≡ executed_on names (as_seen x.entries) x.request }
 {}
 
 /// A record that fits has an entry for each row that its request touches, in order, and none where the
