@@ -26,3 +26,4 @@ pub mod EntryLimits
 pub mod NumbersBelow
 pub mod Lists
 pub mod Numbered
+mod Lengths

@@ -1,6 +1,6 @@
 -- Fields of a fixed length, read at their places.
-use Rattle.std.proofs.Common.{◌≡◌, ℕ, ◌+◌, ◌<◌, ◌≤◌, Bool, true, false, ◌&&◌, ◌||◌, cond, ltb, leb, eqb, List, length}
-use Rattle.std.proofs.Common.{get_or, drop, Option, Some, None, refl, ap, arith}
+use Rattle.std.proofs.Common.{◌≡◌, ℕ, ◌+◌, ◌^◌, ◌<◌, ◌≤◌, Bool, true, false, ◌&&◌, ◌||◌, cond, ltb, leb, eqb, List}
+use Rattle.std.proofs.Common.{length, get_or, drop, Option, Some, None, is_some, refl, ap, ◌∙◌, arith}
 use Rattle.std.specs.Ordering.{int_eq}
 use Rattle.std.proofs.lemmas.Bool.{ltb-false, ltb-true, le-ltb, eqb-true, eqb-false, eq-eqb}
 use Rattle.std.proofs.lemmas.List.{length-append, length-drop, drop-drop, get_or-drop}
@@ -10,12 +10,15 @@ use Rattle.eve_smallbank.specs.Access.{is_write}
 use Rattle.eve_smallbank.specs.declared.request.Reply.{Reply}
 use Rattle.eve_smallbank.specs.declared.entry.Kind.{Kind}
 use Rattle.eve_smallbank.specs.declared.entry.Entry.{Entry}
-use Rattle.eve_grammar.specs.Limits.{is_entry, is_head}
-use Rattle.eve_grammar.specs.Spelling.{entry_text, restore_text, versioned_text}
+use Rattle.eve_grammar.specs.Limits.{is_between, is_entry, is_head}
+use Rattle.eve_grammar.specs.Trace.{Sent}
+use Rattle.eve_grammar.specs.Frames.{OfSent}
+use Rattle.eve_grammar.specs.Spelling.{body_text, entry_text, restore_text, versioned_text}
 use Rattle.eve_grammar.specs.Reading.{Reader, ◌>>=◌, number_at, signed_at, both, behind, made, made_if, only, head_from}
-use Rattle.eve_grammar.specs.Reading.{header_of, reply_from, reply_at, kind_from, entry_fields_at, entry_at}
+use Rattle.eve_grammar.specs.Reading.{header_of, reply_from, reply_at, sent_of, kind_from, entry_fields_at, entry_at}
 use Rattle.eve_grammar.specs.Reading.{restore_fields_at, restore_at, versioned_fields_at, versioned_at}
 use Rattle.eve_grammar.proofs.Codec.{IsBytes, Codec}
+use Rattle.eve_grammar.proofs.BodyCodecs.{Exact-sent}
 use Rattle.eve_grammar.proofs.FrameLaws.{Exact-header}
 use Rattle.eve_grammar.proofs.PartCodecs.{reply_length, Codec-reply, is_written, entry_length, Codec-entry_fields}
 use Rattle.eve_grammar.proofs.PartCodecs.{is_restored, restore_length, Codec-restore_fields}
@@ -82,6 +85,81 @@ reply_is bytes fits = by (ltb (length bytes) 9) refl
     by : (short : Bool) → ltb (length bytes) 9 ≡ short → reply_at bytes ≡ cond short None (reply_in bytes)
     by true e = too_short 9 _ _ reply_at Codec-reply reply_length bytes fits (ltb-true _ _ e)
     by false e = reply_long bytes (ltb-false _ _ e)
+
+-- ---- replies sent
+
+-- what stands at the places of a reply sent is within the limits
+abbrev pub sent_fits : ℕ → ℕ → List ℕ → Bool
+sent_fits replicas batches bytes =
+    ltb (get_or bytes 12 0) replicas
+    && (is_between 1 batches (number_in 4 13 bytes) && is_some (reply_from (get_or bytes 17 0, signed_in 18 bytes)))
+
+abbrev some_number : ℕ → List ℕ → Option (ℕ × List ℕ)
+some_number n rest = Some (n, rest)
+
+reply_behind : (bytes : List ℕ) → 26 ≤ length bytes → reply_at (drop 17 bytes)
+    ≡ (reply_from (get_or bytes 17 0, signed_in 18 bytes) >>= λ r. Some (r, drop 26 bytes))
+unfolding reply_at
+reply_behind bytes le =
+    let read = both_at (number_at 1) signed_at (drop 17 bytes) (drop 18 bytes) (drop 26 bytes) (number_in 1 17 bytes)
+    (signed_in 18 bytes) (number_at_in 1 17 bytes (omega arith)) (signed_at_in 18 bytes (omega arith)) in
+    rw (read, byte_in 17 bytes) refl
+
+sent_long : (replicas batches : ℕ) (bytes : List ℕ) → length bytes ≡ 26 → is_some (sent_of replicas batches bytes)
+    ≡ sent_fits replicas batches bytes
+unfolding sent_of
+sent_long replicas batches bytes len =
+    by (ltb (get_or bytes 12 0) replicas) (is_between 1 batches (number_in 4 13 bytes))
+    (reply_from (get_or bytes 17 0, signed_in 18 bytes)) refl refl refl
+  where
+    client : number_at 4 bytes ≡ Some (number_in 4 0 bytes, drop 4 bytes)
+    client = number_at_in 4 0 bytes (omega (arith, len))
+
+    number : number_at 8 (drop 4 bytes) ≡ Some (number_in 8 4 bytes, drop 12 bytes)
+    number = number_at_in 8 4 bytes (omega (arith, len))
+
+    replica : number_at 1 (drop 12 bytes) ≡ Some (get_or bytes 12 0, drop 13 bytes)
+    replica = number_at_in 1 12 bytes (omega (arith, len))
+        ∙ ap (λ (n : ℕ). some_number n (drop 13 bytes)) (byte_in 12 bytes)
+
+    seq : number_at 4 (drop 13 bytes) ≡ Some (number_in 4 13 bytes, drop 17 bytes)
+    seq = number_at_in 4 13 bytes (omega (arith, len))
+
+    nothing : eqb (length (drop 26 bytes)) 0 ≡ true
+    nothing = eq-eqb _ _ (omega (arith, length-drop 26 bytes, len))
+
+    by : (a b : Bool) (r : Option Reply) → ltb (get_or bytes 12 0) replicas ≡ a
+        → is_between 1 batches (number_in 4 13 bytes) ≡ b → reply_from (get_or bytes 17 0, signed_in 18 bytes) ≡ r
+        → is_some (sent_of replicas batches bytes) ≡ (a && (b && is_some r))
+    by true true (Some r) p q e =
+        let reply : reply_at (drop 17 bytes) ≡ Some (r, drop 26 bytes) =
+        reply_behind bytes (omega (arith, len)) ∙ rw e refl in
+        rw (client, number, replica, p, seq, q, reply, nothing) refl
+    by true true None p q e =
+        let reply : reply_at (drop 17 bytes) ≡ None = reply_behind bytes (omega (arith, len)) ∙ rw e refl in
+        rw (client, number, replica, p, seq, q, reply) refl
+    by true false r p q e = rw (client, number, replica, p, seq, q) refl
+    by false b r p q e = rw (client, number, replica, p) refl
+
+sent_size : (s : Sent) → length (body_text (OfSent s)) ≡ 26
+sent_size s = omega (arith, reply_length s.reply)
+
+sent_other : (replicas batches : ℕ) (bytes : List ℕ) → replicas ≤ 256 → batches < 2 ^ 32 → IsBytes bytes
+    → (length bytes ≡ 26 → ⊥) → is_some (sent_of replicas batches bytes) ≡ false
+sent_other replicas batches bytes r b fits other = by (sent_of replicas batches bytes) refl
+  where
+    by : (o : Option Sent) → sent_of replicas batches bytes ≡ o → is_some o ≡ false
+    by None e = refl
+    by (Some s) e = absurd (other (ap length ((Exact-sent replicas batches r b).takes bytes s fits e).0 ∙ sent_size s))
+
+pub sent_is : (replicas batches : ℕ) (bytes : List ℕ) → replicas ≤ 256 → batches < 2 ^ 32 → IsBytes bytes
+    → is_some (sent_of replicas batches bytes) ≡ cond (eqb (length bytes) 26) (sent_fits replicas batches bytes) false
+sent_is replicas batches bytes r b fits = by (eqb (length bytes) 26) refl
+  where
+    by : (t : Bool) → eqb (length bytes) 26 ≡ t
+        → is_some (sent_of replicas batches bytes) ≡ cond t (sent_fits replicas batches bytes) false
+    by true e = sent_long replicas batches bytes (eqb-true _ _ e)
+    by false e = sent_other replicas batches bytes r b fits (eqb-false _ _ e)
 
 -- ---- entries
 

@@ -1,6 +1,6 @@
 //! Laws about the definitions. Each body is empty: the contract is the law.
 
-ghost use Rattle.std.specs.Prelude.{◌≡◌, ◌≤◌, ℕ, IsTrue, List, Some};
+ghost use Rattle.std.specs.Prelude.{◌≡◌, ◌≤◌, ℕ, IsTrue, List, Some, length};
 ghost use Rattle.eve_grammar.specs.Trace.{Trace, Transfer, head_of};
 ghost use Rattle.eve_grammar.specs.Frames.{Frame, frames_of};
 ghost use Rattle.eve_grammar.specs.Spelling.{length_of, spelling, transfer_text};
@@ -22,6 +22,11 @@ pub fn traces_have_one_spelling()
 /// Bytes are the spelling of one trace at most.
 pub fn bytes_spell_one_trace()
     ensures { (bytes : List ℕ) (t u : Trace) → Spells bytes t → Spells bytes u → t ≡ u }
+{}
+
+/// Bytes are as long as the trace that they spell.
+pub fn bytes_are_as_long_as_their_trace()
+    ensures { (bytes : List ℕ) (t : Trace) → Spells bytes t → length bytes ≡ length_of t }
 {}
 
 /// The bytes of two small traces.

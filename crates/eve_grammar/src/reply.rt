@@ -1,6 +1,6 @@
 //! Replies.
 
-ghost use Rattle.std.specs.Prelude.{◌≡◌};
+ghost use Rattle.std.specs.Prelude.{◌≡◌, is_some};
 ghost use Rattle.eve_grammar.specs.Reading.{Gives, reply_from, reply_at};
 
 use crate::places::{bytes_from, i64_in};
@@ -24,6 +24,13 @@ fn reply_from(code: u8, value: i64) -> Option<Reply>
         5 => Some(Reply::Aborted(Abort::OutOfRange)),
         _ => None,
     }
+}
+
+/// Whether a code and a value are those of a reply.
+pub(crate) fn is_reply(code: u8, value: i64) -> bool
+    ensures { result ≡ is_some (reply_from (code, value)) }
+{
+    code == 1 || value == 0 && code <= 5
 }
 
 /// A reply in nine bytes: a code and a value in cents, which is 0 except for a total.

@@ -5,6 +5,7 @@ pub mod Keeping
 pub mod StartLaws
 pub mod Reaching
 pub mod Unjudged
+pub mod RunLaws
 pub mod HeaderLaws
 pub mod FormLaws
 pub mod TraceLaws
@@ -19,3 +20,5 @@ pub mod Firsts
 pub mod Lowering
 pub mod Lists
 pub mod FormDecided
+mod OneBeforeAnother
+mod StandingInOrder

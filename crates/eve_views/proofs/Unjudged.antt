@@ -102,11 +102,11 @@ framed_unjudged h p bytes kind accesses body front allowed follow = record {
 }
 
 pub access_framed : (h : Head) (p : Place) (bytes : List ℕ) (kind : ℕ) (body : List ℕ) → kind ≡ 18
-    → IsFrontOf bytes kind body → is_allowed h p kind ≡ true
+    → IsFrontOf bytes kind body → is_allowed h p 18 ≡ true
     → IsFramedUnjudged h p bytes (access_kept (5 + length body))
 access_framed h p bytes kind body is front allowed =
-    framed_unjudged h p bytes 18 0 body (subst (λ (k : ℕ). IsFrontOf bytes k body) is front)
-    (ap (is_allowed h p) (sym is) ∙ allowed) (access_followed h p body)
+    framed_unjudged h p bytes 18 0 body (subst (λ (k : ℕ). IsFrontOf bytes k body) is front) allowed
+    (access_followed h p body)
 
 -- ---- stretches
 

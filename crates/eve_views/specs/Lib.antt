@@ -10,9 +10,11 @@ pub mod Starting
 pub mod Indexing
 pub mod Walking
 pub mod SideBySide
+pub mod Runs
 pub mod Held
 pub mod Fronts
 pub mod Parts
 pub mod StepKinds
 pub mod Lent
 pub mod Order
+pub mod Standing

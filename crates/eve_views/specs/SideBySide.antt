@@ -42,6 +42,10 @@ pub record IsFramedUnjudged (h : Head) (p : Place) (bytes : List ℕ) (k : KeptF
   pub within : k.len ≤ length bytes
   pub right : IsRightFrame (row_count h) bytes → Ok k ≡ kept bytes (frame_at h p bytes)
 
+-- the same wherever a frame of that kind may stand
+abbrev pub FindsUnjudged : List ℕ → KeptFrame → Type 0
+FindsUnjudged bytes k = (h : Head) (p : Place) → IsTrue (is_allowed h p k.kind) → IsFramedUnjudged h p bytes k
+
 -- what is kept of an access frame of this length
 abbrev pub access_kept : ℕ → KeptFrame
 access_kept len = record { kind = ACCESS_FRAME; len = len; accesses = 0 }

@@ -1,11 +1,13 @@
 //! Laws about the definitions. Each body is empty: the contract is the law.
 
-ghost use Rattle.std.specs.Prelude.{◌≡◌, ◌≤◌, ◌+◌, ◌*◌, ◌⊎◌, ℕ, List};
+ghost use Rattle.std.specs.Prelude.{◌≡◌, ◌≤◌, ◌+◌, ◌*◌, ◌⊎◌, ℕ, List, Some};
 ghost use Rattle.eve_views.specs.Cut.{part_start};
 ghost use Rattle.eve_grammar.specs.Trace.{Trace};
 ghost use Rattle.eve_grammar.specs.Places.{IsBytes};
 ghost use Rattle.eve_grammar.specs.Following.{Spells};
-ghost use Rattle.eve_views.specs.Form.{IsLeast, StandsInForm, IsFaultOutside};
+ghost use Rattle.eve_views.specs.Form.{IsLeast, Precedes, StandsInForm, IsFaultOutside};
+ghost use Rattle.eve_views.specs.First.{first_of};
+ghost use Rattle.eve_views.specs.Standing.{StandInOrder};
 ghost use Rattle.eve_views.specs.declared.fault.Fault.{Fault};
 
 /// Bytes have a first fault of form, or they spell a trace, and never both.
@@ -16,6 +18,23 @@ pub fn form_is_decided()
         → ((f : Fault) × IsLeast (IsFaultOutside StandsInForm bytes) f) ⊎ ((t : Trace) × Spells bytes t) }
     ensures apart { (bytes : List ℕ) (f : Fault) (t : Trace) → IsBytes bytes → IsFaultOutside StandsInForm bytes f
         → ¬ Spells bytes t }
+{}
+
+/// The parts of a trace stand one after another, and what they consist of lies in them.
+///
+/// docs/TRACE.md, "Order of frames" and "Parts".
+pub fn parts_stand_in_order()
+    ensures { (t : Trace) → StandInOrder t }
+{}
+
+/// Faults come one before another: what precedes a fault precedes those that it precedes. The first of two is one of
+/// them, and precedes both.
+///
+/// docs/MODEL.md, "Verdict".
+pub fn faults_come_one_before_another()
+    ensures further { (f g h : Fault) → Precedes f g → Precedes g h → Precedes f h }
+    ensures first { (f g : Fault) → (h : Fault) × (first_of (Some f) (Some g) ≡ Some h) × ((h ≡ f) ⊎ (h ≡ g))
+        × Precedes h f × Precedes h g }
 {}
 
 /// Parts that `part_at` gives follow one another from 0 on; those of a size that `part_size` gives have all items.

@@ -12,6 +12,7 @@ pub mod laws;
 mod least;
 mod progress;
 mod reached;
+mod runs;
 mod side_by_side;
 mod starts;
 mod steps;

@@ -11,10 +11,11 @@ ghost use Rattle.eve_views.specs.Form.{SaysHead};
 ghost use Rattle.eve_views.specs.Places.{accesses_in};
 ghost use Rattle.eve_views.specs.Indexing.{kept_in, IsIndex};
 ghost use Rattle.eve_views.specs.SideBySide.{is_right_body, AreRightFrames, IsFramedUnjudged};
-ghost use Rattle.eve_views.specs.SideBySide.{access_kept, IsWalkedUnjudged, WalksOn};
+ghost use Rattle.eve_views.specs.SideBySide.{access_kept, FindsUnjudged, IsWalkedUnjudged, WalksOn};
 
 use crate::body::accesses_behind;
 use crate::reached::Reached;
+use crate::runs::pass_sent;
 use crate::starts::Starts;
 use crate::walk::{Framed, Index, kind_and_body};
 use byteorder::{BigEndian, ByteOrder};
@@ -94,15 +95,14 @@ fn frame_unjudged(at: &Reached, bytes: &[u8]) -> Option<Framed>
     })
 }
 
-/// The length of the access frame at the front of the bytes, where one may stand there and lies there as a whole. Its
-/// body isn't judged.
+/// The length of the access frame at the front of the bytes, where one lies there as a whole. Its body isn't judged.
 #[inline(always)]
-fn access_unjudged(at: &Reached, bytes: &[u8]) -> Option<usize>
-    ensures { IfSome result (λ len. IsFramedUnjudged at.now.head at.now.place bytes.now (access_kept len)) }
+fn access_unjudged(bytes: &[u8]) -> Option<usize>
+    ensures { IfSome result (λ len. FindsUnjudged bytes.now (access_kept len)) }
 {
     let (kind, body) = kind_and_body(bytes)?;
     match kind {
-        FrameKind::Access if at.allows(kind) => Some(FRAME_HEAD_LEN + body.len()),
+        FrameKind::Access => Some(FRAME_HEAD_LEN + body.len()),
         _ => None,
     }
 }
@@ -151,9 +151,15 @@ impl Progress {
         ensures kept { IfOk result (λ right. IsTrue right → WalksOn self.old self.new) }
         ensures on { IfOk result (λ right. IsTrue right → self.old.at ≤ self.new.at) }
     {
+        if self.reached.place.accesses == 0 {
+            return Ok(true);
+        }
+        if !self.reached.allows(FrameKind::Access) {
+            return Ok(false);
+        }
         'frames: while 0 < self.reached.place.accesses {
             let at = self.at;
-            let Some(len) = access_unjudged(&self.reached, &bytes[at..]) else {
+            let Some(len) = access_unjudged(&bytes[at..]) else {
                 return Ok(false);
             };
             self.offsets.push(at as u32)?;
@@ -187,6 +193,8 @@ impl Progress {
             if !walked.pass_frame(head, bytes)? || !walked.pass_accesses(head, bytes)? {
                 return Ok(None);
             }
+            let at = walked.at;
+            walked.at = pass_sent(&mut walked.offsets, &walked.reached, bytes, at, until)?;
         }
         Ok(Some(walked))
     }

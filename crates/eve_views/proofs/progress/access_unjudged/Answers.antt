@@ -1,10 +1,9 @@
-use Rattle.std.proofs.Common.{◌∙◌, ap, sym}
+use Rattle.std.proofs.Common.{ap}
 use Rattle.eve_grammar.specs.Kinds.{kind_byte}
 use Rattle.eve_views.proofs.Unjudged.{access_framed}
 use Rattle.eve_views.proofs.progress.access_unjudged.Goals as goal
 
 pub returns-in-Access : goal.returns-in-Access
-returns-in-Access c =
-    access_framed c.args.at.now.head c.args.at.now.place c.args.bytes.now (kind_byte c.in_ok-kind.kind)
-    c.in_ok-kind.body.now (ap kind_byte c.in-Access.is) c.in_ok-kind.ensures.some
-    (sym c.allows.ensures ∙ c.if-allows.true)
+returns-in-Access c = λ h p allowed.
+    access_framed h p c.args.bytes.now (kind_byte c.in_ok-kind.kind) c.in_ok-kind.body.now (ap kind_byte c.in-Access.is)
+    c.in_ok-kind.ensures.some allowed

@@ -1,10 +1,11 @@
 use Rattle.std.proofs.Common.{◌≡◌, ◌+◌, ◌-◌, ◌∙◌, drop, ℕ, List, [], ◌∷◌, ◌++◌, length, sym, ap, subst, arith}
 use Rattle.std.proofs.Common.{append_assoc}
-use Rattle.std.proofs.lemmas.List.{length-append, length-drop, length-take}
+use Rattle.std.proofs.lemmas.List.{append-nil, length-append, length-drop, length-take}
 use Rattle.eve_grammar.specs.Limits.{row_count}
 use Rattle.eve_grammar.specs.declared.place.Place.{Place}
 use Rattle.eve_views.specs.SideBySide.{AreRightFrames, access_kept}
 use Rattle.eve_views.specs.Walking.{Walking}
+use Rattle.eve_views.proofs.RunLaws.{access_again}
 use Rattle.eve_views.proofs.Unjudged.{walking_unjudged}
 use Rattle.eve_views.proofs.progress.Progress.pass_accesses.Goals as goal
 
@@ -16,7 +17,8 @@ frames-preserved c =
     let bytes = c.args.bytes.now in
     let at = self.at in
     let xs = self.offsets.items in
-    let framed = c.in-Some.ensures in
+    let allowed = c.frames.invariant.allowed c.frames-test.true in
+    let framed = c.in-Some.ensures self.reached.head p allowed in
     let before = c.frames.invariant.walked in
     let more = at + c.in-Some.len in
     let items : c.push.new.self.items ≡ xs ++ at ∷ [] = c.in_ok-push.ensures.items in
@@ -48,4 +50,14 @@ frames-preserved c =
             ∙ append_assoc c.args.self.now.offsets.items kept.more (at ∷ []);
       };
       on = omega (arith, c.frames.invariant.on);
+      allowed = λ more. access_again self.reached.head c.pass.new.self.head p c.pass.new.self.place c.pass.ensures.head
+          c.pass.ensures.place allowed more;
     }
+
+pub frames-init : goal.frames-init
+frames-init c = record {
+  walked = c.requires.walked;
+  kept = record { more = []; offsets = sym (append-nil c.args.self.now.offsets.items) };
+  on = omega arith;
+  allowed = λ some. sym c.allows.ensures ∙ c.if-not-allows.false;
+}

@@ -1,0 +1,5 @@
+use Rattle.eve_views.proofs.OneBeforeAnother.{precedes-trans, one_of_two}
+use Rattle.eve_views.proofs.laws.faults_come_one_before_another.Goals as goal
+
+pub returns : goal.returns
+returns c = record { further = precedes-trans; first = one_of_two }
