@@ -24,3 +24,5 @@ pub mod Ahead
 pub mod Lent
 pub mod Rights
 pub mod Spans
+mod AmongSteps
+mod Faultless

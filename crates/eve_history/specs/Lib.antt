@@ -11,3 +11,4 @@ pub mod SideBySide
 pub mod Rising
 pub mod Repeats
 pub mod Spans
+pub mod AmongSteps

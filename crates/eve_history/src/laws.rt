@@ -2,6 +2,7 @@
 
 ghost use Rattle.std.specs.Prelude.{◌≡◌, ◌≤◌, ◌+◌, ◌-◌, ◌∷◌, ◌++◌, ℕ, suc, List, Some, IsTrue, IsFalse, map, length};
 ghost use Rattle.std.specs.Prelude.{slice_get};
+ghost use Rattle.std.specs.List.{AllByRecursion};
 ghost use Rattle.eve_grammar.specs.Trace.{Step, Access, Attempt, Transfer, Attempts, TakesOver, Vote, Trace};
 ghost use Rattle.eve_grammar.specs.Frames.{Frame, OfAccess, OfVote, has_transfers};
 ghost use Rattle.eve_grammar.specs.Limits.{HasLimits};
@@ -13,8 +14,10 @@ ghost use Rattle.eve_grammar.specs.Spelling.{length_of, frame_text, step_text, f
 ghost use Rattle.eve_grammar.specs.Spelling.{votes_at};
 ghost use Rattle.eve_views.specs.Lent.{HasBytesAt};
 ghost use Rattle.eve_views.specs.declared.fault.Fault.{Fault};
-ghost use Rattle.eve_views.specs.Form.{IsFaultOutside, IsFaultIn};
+ghost use Rattle.eve_views.specs.Form.{HasNone, IsFaultOutside, IsFaultIn};
 ghost use Rattle.eve_history.specs.Section.{Placed, Landing, ByTransfer, Skipped, start, state_after, attempts_by};
+ghost use Rattle.eve_history.specs.Section.{settled};
+ghost use Rattle.eve_history.specs.AmongSteps.{IsStepOf};
 ghost use Rattle.eve_history.specs.Fates.{fates_from};
 ghost use Rattle.eve_history.specs.Order.{StandsInOrders};
 ghost use Rattle.eve_history.specs.Structure.{StandsInStructure};
@@ -67,6 +70,27 @@ pub fn numbers_are_reached()
         → (l : Landing) × (landing_at t e n ≡ Some l) }
     ensures by_attempts { (t : Trace) (e n : ℕ) → HasLimits t → IsFalse (has_transfers t.head.version)
         → ByAttemptsTo t e n }
+{}
+
+/// A section is right where no fault of structure stands in it, and only there.
+///
+/// docs/MODEL.md, "Faults".
+pub fn right_sections_have_no_fault()
+    ensures right { (t : Trace) (e : ℕ) → HasNone (IsFaultIn StandsInStructure t e) → IsRightSection t e }
+    ensures none { (t : Trace) (e : ℕ) → IsRightSection t e → HasNone (IsFaultIn StandsInStructure t e) }
+{}
+
+/// What a section has committed, discarded or taken over are steps of it, at the offsets that are told, whether it is
+/// right or not.
+///
+/// docs/MODEL.md, "Section state, fate".
+pub fn outcomes_come_of_steps()
+    ensures committed { (t : Trace) (e n : ℕ) (p : Placed) → committed_at t e n ≡ Some p
+        → IsStepOf t e p.offset (Attempts p.attempt) }
+    ensures settled { (t : Trace) (e : ℕ)
+        → AllByRecursion (λ p. IsStepOf t e p.offset (Attempts p.attempt)) (settled (history t e)) }
+    ensures taken_over { (t : Trace) (e n at : ℕ) (x : Transfer) → landing_at t e n ≡ Some (ByTransfer at x)
+        → IsStepOf t e at (TakesOver x) }
 {}
 
 /// Faults of orders and of structure stand within the trace.

@@ -1,4 +1,4 @@
--- Public: other crates cite these lemmas. Votes with offsets.
+-- Votes with offsets.
 use Rattle.std.proofs.Common.{◌≡◌, ℕ, ◌+◌, ◌≤◌, List, [], map, filter, length}
 use Rattle.std.proofs.Common.{sym, ap, ◌∙◌}
 use Rattle.std.specs.Prelude.{slice_get}

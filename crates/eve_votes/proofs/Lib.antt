@@ -9,3 +9,4 @@ pub mod Leading
 pub mod Undecided
 pub mod Gathered
 pub mod Sifting
+mod Faultless

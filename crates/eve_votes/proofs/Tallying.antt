@@ -1,4 +1,4 @@
--- Public: other crates cite these lemmas. From what was found to the tally.
+-- From what was found to the tally.
 use Rattle.std.proofs.Common.{◌≡◌, ℕ, ◌+◌, ◌<◌, ◌≤◌, Bool, true, false, cond, List, [], ◌∷◌, ◌++◌, length, get_or}
 use Rattle.std.proofs.Common.{filter, Option, Some, None, IfSome, IfNone, refl, sym, ap, subst, ◌∙◌, append_assoc}
 use Rattle.std.proofs.Common.{arith, ◌⊎◌, inl, inr}

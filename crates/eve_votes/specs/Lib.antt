@@ -6,3 +6,4 @@ pub mod Majority
 pub mod Decisions
 pub mod NextDecision
 pub mod Held
+pub mod VotedFor

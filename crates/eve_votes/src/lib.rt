@@ -4,6 +4,7 @@
 mod ballots;
 mod decided;
 mod decisions;
+pub mod laws;
 mod majority;
 mod sorted_votes;
 mod tally;
