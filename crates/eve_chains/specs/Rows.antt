@@ -114,13 +114,26 @@ kept_by bases p n = if n.taken == p.taken then p.committed else bases n.taken
 abbrev pub met_by : (ℕ → Versioned) → Pair → Noted → Versioned
 met_by bases p n = if (n.taken == p.taken) && (n.view == p.view) then p.working else kept_by bases p n
 
-abbrev pub next_pair : (ℕ → Versioned) → Pair → Noted → Pair
-next_pair bases p n = record {
+-- where the next entry comes, before it
+abbrev pub arrived_by : (ℕ → Versioned) → Pair → Noted → Pair
+arrived_by bases p n = record {
   taken = n.taken;
   view = n.view;
-  committed = if n.commits then after_own (kept_by bases p n) n.entry else kept_by bases p n;
-  working = after_own (met_by bases p n) n.entry;
+  committed = kept_by bases p n;
+  working = met_by bases p n;
 }
+
+-- with its write, if it is one
+abbrev pub taken_by : Pair → Noted → Pair
+taken_by p n = record {
+  taken = p.taken;
+  view = p.view;
+  committed = if n.commits then after_own p.committed n.entry else p.committed;
+  working = after_own p.working n.entry;
+}
+
+abbrev pub next_pair : (ℕ → Versioned) → Pair → Noted → Pair
+next_pair bases p n = taken_by (arrived_by bases p n) n
 
 -- before any entry
 abbrev pub at_first : (ℕ → Versioned) → Pair

@@ -1,19 +1,19 @@
 //! One row walked by itself.
 
-ghost use Rattle.std.specs.Prelude.{◌≡◌, ◌++◌, ◌∷◌, [], None, List, ℕ, if◌then◌else◌};
+ghost use Rattle.std.specs.Prelude.{◌≡◌, ◌++◌, ◌∷◌, [], List, Option, Some, ℕ};
 ghost use Rattle.eve_smallbank.specs.declared.versioned.Versioned.{Versioned as VersionedValue};
-ghost use Rattle.eve_smallbank.specs.Chain.{after_own};
 ghost use Rattle.eve_views.specs.First.{first_of};
+ghost use Rattle.eve_views.specs.declared.fault.Code.{Code as CodeValue};
 ghost use Rattle.eve_chains.specs.Along.{fault_if};
 ghost use Rattle.eve_chains.specs.Bases.{base_at};
-ghost use Rattle.eve_chains.specs.Rows.{Noted, kept_by, met_by};
+ghost use Rattle.eve_chains.specs.Rows.{Noted, arrived_by, taken_by};
 ghost use Rattle.eve_chains.specs.Notes.{noted_at};
 ghost use Rattle.eve_chains.specs.Walked.{pair_of, IsMismatch, HasMet};
 
 use crate::bases::Bases;
 use crate::note::Note;
 use eve_accounts::{Cents, Row};
-use eve_smallbank::{Kind, Versioned};
+use eve_smallbank::Versioned;
 use eve_views::{Code, Fault, first_of};
 
 /// Where a row's walk has come to.
@@ -29,15 +29,6 @@ pub struct RowWalk {
     pub working: Versioned,
     /// The first fault so far.
     pub first: Option<Fault>,
-}
-
-/// What the row has where the next entry comes.
-#[derive(Clone, Copy)]
-struct Met {
-    /// After the committed attempts.
-    committed: Versioned,
-    /// With the attempts of the view that are open.
-    working: Versioned,
 }
 
 impl RowWalk {
@@ -60,65 +51,77 @@ impl RowWalk {
         }
     }
 
-    /// What the row has where the next entry comes. Where another number of states was taken over, it is what the last of
-    /// them has, whatever came before. With a new view a rollback came, which took the open attempts back.
-    fn met_by(&self, bases: &Bases<'_, '_>, row: Row, note: &Note) -> Met
-        ensures committed { result.committed
-            ≡ kept_by (base_at bases.now row) (pair_of self.now) (noted_at row note.now) }
-        ensures working { result.working ≡ met_by (base_at bases.now row) (pair_of self.now) (noted_at row note.now) }
+    /// Goes to where the row's next entry comes. Where another number of states was taken over, the row has what the last
+    /// of them has, whatever came before it. With a new view a rollback came, which took the open attempts back.
+    fn go_to(&mut self, bases: &Bases<'_, '_>, row: Row, note: &Note)
+        ensures pair { pair_of self.new
+            ≡ arrived_by (base_at bases.now row) (pair_of self.old) (noted_at row note.now) }
+        ensures first { self.new.first ≡ self.old.first }
     {
-        if note.taken != self.taken {
-            let state = bases.row(row, note.taken);
-            let working = state;
-            return Met {
-                committed: state,
-                working,
-            };
+        if note.taken == self.taken && note.view == self.view {
+            return;
         }
-        if note.view == self.view {
-            Met {
-                committed: self.committed,
-                working: self.working,
+        if note.taken != self.taken {
+            self.committed = bases.row(row, note.taken);
+        }
+        self.taken = note.taken;
+        self.view = note.view;
+        self.working = self.committed;
+    }
+
+    /// Takes the write of the entry that comes here, if it is one.
+    fn take(&mut self, note: &Note)
+        ensures pair { (number : ℕ) → pair_of self.new ≡ taken_by (pair_of self.old) (noted_at number note.now) }
+        ensures first { self.new.first ≡ self.old.first }
+    {
+        if note.kind.is_write() {
+            let left = Versioned {
+                version: note.version + 1,
+                value: note.after,
+            };
+            let kept = left;
+            self.working = left;
+            if note.commits {
+                self.committed = kept;
             }
-        } else {
-            Met {
-                committed: self.committed,
-                working: self.committed,
-            }
+        }
+    }
+
+    /// Keeps the first of the fault before and of this one.
+    fn tell(&mut self, fault: Fault)
+        ensures pair { pair_of self.new ≡ pair_of self.old }
+        ensures first { self.new.first ≡ first_of self.old.first (Some fault) }
+    {
+        let first = first_of(self.first, Some(fault));
+        self.first = first;
+    }
+
+    /// Judges what the entry that comes here sees, which mostly is right.
+    fn judge(&mut self, replica: u8, note: &Note)
+        ensures pair { pair_of self.new ≡ pair_of self.old }
+        ensures first { (number : ℕ) → (wrong : Option CodeValue)
+            × IsMismatch self.old.working (noted_at number note.now).entry wrong
+            × (self.new.first ≡ first_of self.old.first (fault_if replica note.now.at wrong)) }
+    {
+        if let Some(code) = mismatch(&self.working, note) {
+            self.tell(Fault {
+                code,
+                offset: u64::from(note.at),
+                replica: Some(replica),
+            });
         }
     }
 
     /// The row's next entry met: what it sees is judged, and its write taken, also where something is wrong.
     ///
     /// docs/MODEL.md, "What an entry must see".
-    pub fn meet(&self, replica: u8, bases: &Bases<'_, '_>, row: Row, note: &Note) -> RowWalk
-        ensures { (ns : List Noted) → HasMet replica (base_at bases.now row) ns self.now
-            → HasMet replica (base_at bases.now row) (ns ++ noted_at row note.now ∷ []) result }
+    pub fn meet(&mut self, replica: u8, bases: &Bases<'_, '_>, row: Row, note: &Note)
+        ensures { (ns : List Noted) → HasMet replica (base_at bases.now row) ns self.old
+            → HasMet replica (base_at bases.now row) (ns ++ noted_at row note.now ∷ []) self.new }
     {
-        let met = self.met_by(bases, row, note);
-        let wrong = mismatch(&met.working, note);
-        let committed = committed_with(&met.committed, note);
-        let working = after_own(&met.working, note);
-        let first = first_with(self.first, replica, u64::from(note.at), wrong);
-        RowWalk {
-            taken: note.taken,
-            view: note.view,
-            committed,
-            working,
-            first,
-        }
-    }
-}
-
-/// What the row has after the committed attempts, with the next entry.
-fn committed_with(row: &Versioned, note: &Note) -> Versioned
-    ensures { (number : ℕ) → result
-        ≡ if note.now.commits then after_own row.now (noted_at number note.now).entry else row.now }
-{
-    if note.commits {
-        after_own(row, note)
-    } else {
-        *row
+        self.go_to(bases, row, note);
+        self.judge(replica, note);
+        self.take(note);
     }
 }
 
@@ -132,35 +135,5 @@ fn mismatch(row: &Versioned, note: &Note) -> Option<Code>
         Some(Code::Value)
     } else {
         None
-    }
-}
-
-/// What the row has after one of its entries.
-fn after_own(row: &Versioned, note: &Note) -> Versioned
-    ensures { (number : ℕ) → result ≡ after_own row.now (noted_at number note.now).entry }
-{
-    match note.kind {
-        Kind::Read => *row,
-        Kind::Write => Versioned {
-            version: note.version + 1,
-            value: note.after,
-        },
-    }
-}
-
-/// The first of the fault before and of what is wrong at this offset, which mostly is nothing.
-fn first_with(first: Option<Fault>, replica: u8, offset: u64, wrong: Option<Code>) -> Option<Fault>
-    ensures { result ≡ first_of first (fault_if replica offset wrong) }
-{
-    match wrong {
-        Some(code) => first_of(
-            first,
-            Some(Fault {
-                code,
-                offset,
-                replica: Some(replica),
-            }),
-        ),
-        None => first,
     }
 }

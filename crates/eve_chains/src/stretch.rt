@@ -27,11 +27,26 @@ impl Stretch {
         ensures all { IfOk result (λ stretches. AreBetween self.now.from self.now.to stretches.items) }
         ensures few { IfOk result (λ stretches. length stretches.items ≤ parts) }
     {
+        self.cut_long(alloc, parts, LEAST_ITEMS)
+    }
+
+    /// The same, with none but the last shorter than the least length.
+    pub fn cut_long(
+        &self,
+        alloc: Global,
+        parts: u8,
+        least: usize,
+    ) -> Result<Vec<Stretch>, AllocError>
+        requires rising { self.now.from ≤ self.now.to }
+        requires parts { 1 ≤ parts }
+        ensures all { IfOk result (λ stretches. AreBetween self.now.from self.now.to stretches.items) }
+        ensures few { IfOk result (λ stretches. length stretches.items ≤ parts) }
+    {
         let start = self.from;
         let to = self.to;
         let mut stretches = Vec::new(alloc);
         let mut from = start;
-        let size = part_size(to - start, usize::from(parts), LEAST_ITEMS);
+        let size = part_size(to - start, usize::from(parts), least);
         for _ in 1..parts {
             if to - from <= size {
                 break;

@@ -32,6 +32,12 @@ use std::thread::Threads;
 /// each, stays in a processor's own memory.
 const LEAST_RECORDS: usize = 2048;
 
+/// In how many parts a range of rows is walked at most, since each part reads all records.
+const MOST_PARTS: u8 = 4;
+
+/// The fewest rows of a part but the last.
+const LEAST_ROWS: usize = 2048;
+
 /// What the walks of a range of rows give.
 #[derive(Drop)]
 pub struct Walked {
@@ -147,34 +153,60 @@ fn count_changes(rows: &[GatheredRow]) -> usize {
     count
 }
 
-/// What the walks of a range of rows gave, after all attempts.
-fn finish(
-    alloc: Global,
+/// Adds what the walks of a part of a range gave, after all attempts, to what those of the rows before it gave.
+fn add_part(
     history: &History<'_>,
     trace: &Trace<'_>,
-    range: Stretch,
+    start: usize,
+    part: Stretch,
     rows: &[GatheredRow],
-) -> Result<Walked, AllocError>
+    walked: &mut Walked,
+) -> Result<(), AllocError>
     requires history { history.now ≡ section_history trace.now history.now.replica }
-    requires within { IsWithin (row_count (head_of trace.now)) range }
-    requires as_many { length rows.now ≡ range.to - range.from }
-    requires walked { EachHasWalked trace.now history.now.replica range.from
+    requires within { IsWithin (row_count (head_of trace.now)) part }
+    requires behind { start ≤ part.from }
+    requires before { IsWalked trace.now history.now.replica (record { from = start; to = part.from }) walked.old }
+    requires as_many { length rows.now ≡ part.to - part.from }
+    requires walked { EachHasWalked trace.now history.now.replica part.from
         (notes_between history.now 0 (length history.now.attempts)) rows.now }
-    ensures { IfOk result (IsWalked trace.now history.now.replica range) }
+    ensures { OnOk result (IsWalked trace.now history.now.replica (record { from = start; to = part.to }) walked.new) }
 {
     let _replica = history.replica();
     trace.recall_limits();
-    let _range = range;
-    let mut first = None;
-    let mut changes = Vec::with_capacity(alloc, count_changes(rows))?;
+    let _start = start;
+    let _part = part;
+    walked.changes.reserve(count_changes(rows))?;
     for row in rows {
-        first = first_of(first, row.walked.walk.first);
-        changes.extend_from_slice(&row.walked.changes)?;
+        walked.first = first_of(walked.first, row.walked.walk.first);
+        walked.changes.extend_from_slice(&row.walked.changes)?;
     }
-    Ok(Walked { first, changes })
+    Ok(())
 }
 
-/// A range of rows walked along all settled attempts.
+/// A part of a range of rows walked along all settled attempts, behind the rows of the range before it.
+fn walk_part(
+    alloc: Global,
+    history: &History<'_>,
+    trace: &Trace<'_>,
+    opening: &Balances,
+    start: usize,
+    part: Stretch,
+    walked: &mut Walked,
+) -> Result<(), AllocError>
+    requires history { history.now ≡ section_history trace.now history.now.replica }
+    requires opening { opening.now ≡ opening_rows trace.now.customers }
+    requires within { IsWithin (row_count (head_of trace.now)) part }
+    requires behind { start ≤ part.from }
+    requires before { IsWalked trace.now history.now.replica (record { from = start; to = part.from }) walked.old }
+    ensures { OnOk result (IsWalked trace.now history.now.replica (record { from = start; to = part.to }) walked.new) }
+{
+    let mut rows = begin(alloc, trace, opening, part)?;
+    walk_rows(&mut rows, part.from, history, trace, opening)?;
+    add_part(history, trace, start, part, &rows, walked)
+}
+
+/// A range of rows walked along all settled attempts. Of many rows some are walked at a time, so that what is gathered of
+/// them, and what each changed, takes little memory.
 fn walk_range(
     alloc: Global,
     history: &History<'_>,
@@ -187,9 +219,16 @@ fn walk_range(
     requires within { IsWithin (row_count (head_of trace.now)) range }
     ensures { IfOk result (IsWalked trace.now history.now.replica range) }
 {
-    let mut rows = begin(alloc, trace, opening, range)?;
-    walk_rows(&mut rows, range.from, history, trace, opening)?;
-    finish(alloc, history, trace, range, &rows)
+    let start = range.from;
+    let parts = range.cut_long(alloc, MOST_PARTS, LEAST_ROWS)?;
+    let mut walked = Walked {
+        first: None,
+        changes: Vec::new(alloc),
+    };
+    for part in &parts {
+        walk_part(alloc, history, trace, opening, start, *part, &mut walked)?;
+    }
+    Ok(walked)
 }
 
 /// Each of the ranges walked, in rayon's pieces: as many threads as there are ranges, with the caller's, and of one range

@@ -45,7 +45,7 @@ fn walk_notes(
         → HasWalked replica (base_at bases.now row) (ns ++ map (noted_at row) notes.now) on.new) }
 {
     for note in notes {
-        on.walk = on.walk.meet(replica, bases, row, note);
+        on.walk.meet(replica, bases, row, note);
         note_change(&mut on.changes, row, note)?;
     }
     Ok(())
@@ -55,7 +55,7 @@ fn walk_notes(
 fn note_change(changes: &mut Vec<Changed>, row: Row, note: &Note) -> Result<(), AllocError>
     ensures { OnOk result (changes.new.items ≡ changes_along changes.old.items (noted_at row note.now ∷ [])) }
 {
-    if note.commits && note.kind.is_write() {
+    if note.kind.is_write() && note.commits {
         add_change(
             changes,
             Changed {

@@ -21,8 +21,8 @@ loop-note-preserved c = λ ns known.
     let more : before ++ f n ∷ [] ≡ ns ++ map f (take (k + 1) c.args.notes.now) =
     one_more_at f ns c.args.notes.now k n c.loop-note-test.true c.note-item.is in
     record {
-      met = subst (λ (ms : List Noted). HasMet c.args.replica bases ms c.meet-on.result) more
-          (c.meet-on.ensures before so.met);
+      met = subst (λ (ms : List Noted). HasMet c.args.replica bases ms c.meet.new.self) more
+          (c.meet.ensures before so.met);
       changes = c.in_ok-note_change.ensures
           ∙ changes_more [] before (f n ∷ []) c.loop-note.on.changes.items so.changes
           ∙ ap (changes_along []) more;

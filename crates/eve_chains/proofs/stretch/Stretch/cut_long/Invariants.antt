@@ -1,6 +1,6 @@
 use Rattle.std.proofs.Common.{◌≤◌, ◌+◌, length}
 use Rattle.eve_chains.specs.Stretches.{AreBetween}
-use Rattle.eve_chains.proofs.stretch.Stretch.cut.Given as goal
+use Rattle.eve_chains.proofs.stretch.Stretch.cut_long.Given as goal
 
 abbrev pub invariant-loop : goal.invariant-loop
 invariant-loop l = record {
