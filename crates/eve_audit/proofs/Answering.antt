@@ -15,23 +15,23 @@ use Rattle.eve_audit.specs.Reports.{IsFirstOf}
 use Rattle.eve_audit.specs.declared.verdict.AcceptedTrace.{AcceptedTrace}
 use Rattle.eve_audit.specs.declared.verdict.WholeVerdict.TheVariants as whole
 use Rattle.eve_audit.specs.Answer.{IsAnswer, IsRead, IsWholeAnswer, IsYesOfAudited, IfNo}
-use Rattle.eve_audit.proofs.Sections.{FatesAreAsItEnds}
+use Rattle.eve_audit.proofs.Sections.{IsLaidOut}
 use Rattle.eve_audit.proofs.Verdicts.{faultless, found_in_form, trace_first}
-use Rattle.eve_audit.proofs.Within.{trace_fault_within, long_as}
+use Rattle.eve_audit.proofs.Within.{trace_fault_within}
 use Rattle.eve_audit.proofs.Naming.{named_in, named_in_none}
 use Rattle.eve_audit.specs.declared.verdict.Verdict.{Verdict}
 use Rattle.eve_history.specs.Order.{StandsInOrders}
 use Rattle.eve_history.specs.SectionHistory.{section_histories}
 
 module _ (bytes : List ℕ) (t : Trace) (read : IsRead bytes t) (once : (u : Trace) → Spells bytes u → u ≡ t) where
-  pub no_for : ((f : Fault) → IsFaultOutside StandsInOrders t f → f.offset ≤ length_of t)
-      → ((e : ℕ) → FatesAreAsItEnds t e) → (f : Fault) → IsFirstOf (IsTraceFault t) f → IsAnswer bytes (No f)
-  no_for orders fates f found = record {
+  pub no_for : length bytes ≡ length_of t
+      → ((f : Fault) → IsFaultOutside StandsInOrders t f → f.offset ≤ length_of t)
+      → IsLaidOut t → (f : Fault) → IsFirstOf (IsTraceFault t) f → IsAnswer bytes (No f)
+  no_for long orders laid f found = record {
     verdict = trace_first bytes t read.spells once f read.none found;
     yes = tt;
-    within = (let within = trace_fault_within t orders fates f found.is in let long = long_as bytes t read.spells in
-        omega (arith, within, long));
-    replica = named_in bytes t read.spells once fates f found.is;
+    within = (let within = trace_fault_within t laid orders f found.is in omega (arith, within, long));
+    replica = named_in bytes t read.spells once laid f found.is;
   }
 
   pub yes_for : (s : Summary) → IsSummary t s → HasNone (IsTraceFault t) → IsAudited t → IsAnswer bytes (Yes s)

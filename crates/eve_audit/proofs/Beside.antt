@@ -8,7 +8,7 @@ use Rattle.eve_agree.specs.DueTokens.{TokensAreDue}
 use Rattle.eve_agree.specs.ShownTokens.{IsDueReplica}
 use Rattle.eve_audit.specs.declared.replicas.Report.{Report}
 use Rattle.eve_audit.specs.Peers.{AreDueReplicas}
-use Rattle.eve_audit.specs.Reports.{IsReportOf}
+use Rattle.eve_audit.specs.Reports.{IsReportOf, IsSettledReportOf}
 use Rattle.eve_audit.proofs.Told.{replica_told, section_history_by_its_own}
 
 -- the tokens of a replica with no fault of its own are due
@@ -21,6 +21,12 @@ due_of_report t e report is =
       settled = is.settled ∙ ap (settling t) own;
       due = subst (TokensAreDue t) own is.sound.tokens;
     }
+
+-- a report by the number that its history names
+pub settled_by_its_own : (t : Trace) (e : ℕ) (report : Report) → IsSettledReportOf t e report
+    → IsSettledReportOf t report.history.replica report
+settled_by_its_own t e report is =
+    subst (λ (k : ℕ). IsSettledReportOf t k report) (sym (replica_told t e report.history is.history)) is
 
 module _ (t : Trace) where
   -- one more

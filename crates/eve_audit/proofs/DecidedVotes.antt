@@ -1,20 +1,17 @@
 -- What verifiers decided can be decided: a decided commit has a vote for it.
-use Rattle.std.proofs.Common.{◌≡◌, ℕ, ◌+◌, ◌<◌, ◌≤◌, inl, inr, List, length, get_or, refl, sym, subst, ◌∙◌, arith}
-use Rattle.std.specs.List.{All}
+use Rattle.std.proofs.Common.{◌≡◌, ℕ, ◌<◌, ◌≤◌, inl, inr, List, length, get_or, refl, sym, subst, ◌∙◌, arith}
 use Rattle.std.proofs.lemmas.Bool.{cases_lt}
-use Rattle.std.proofs.lemmas.List.{get_or_default}
+use Rattle.std.proofs.lemmas.Option.{slice_get_within, get_or_from_slice_get}
 use Rattle.eve_grammar.specs.Trace.{Choice, ForRollback, ForCommit, Vote, Trace}
-use Rattle.eve_grammar.specs.Limits.{HasLimits}
 use Rattle.eve_grammar.specs.Spelling.{votes_of}
 use Rattle.eve_votes.specs.Votes.{IsDecided, backers}
-use Rattle.eve_votes.proofs.Counting.{decided_backs}
-use Rattle.eve_votes.proofs.Deciding.{quorum_limits}
+use Rattle.eve_votes.specs.VotedFor.{IsVotedFor}
 use Rattle.eve_agree.specs.Majority.{SomeDecided}
 use Rattle.eve_audit.proofs.Deciding.{Decided, decided_both, decided_as, below_or_none, numbers}
 
--- a quorum is one verifier or more
-pub some_quorum : (t : Trace) → HasLimits t → 1 ≤ t.head.quorum
-some_quorum t limits = let quorum = quorum_limits t limits in omega (arith, quorum.1)
+-- each commit that is decided has a vote for it
+abbrev pub HaveVotes : Trace → Type 0
+HaveVotes t = (n view : ℕ) (token : List ℕ) → IsDecided t n view token → IsVotedFor t n view token
 
 pub enough : (quorum votes : ℕ) → Decided (quorum ≤ votes)
 enough quorum votes = elim (cases_lt votes quorum) [
@@ -65,29 +62,25 @@ module _ (t : Trace) where
           (λ found. subst (λ (b : List ℕ). IsDecided t n w.view b) (same found.0 token (sym found.1 ∙ is)) found.2)
           (enough t.head.quorum (backers t n w.view (ForCommit token)))
 
-  -- a decided commit has a vote for it
-  module _ (limits : HasLimits t) where
-    IsOne : Vote → Type 0
-    IsOne w = AtVote (λ x. x ≡ w)
-
-    all_ones : (v : ℕ) → v + t.head.quorum ≤ length t.verifiers → All IsOne (votes_of t v)
-    unfolding IsOne AtVote vote
-    all_ones v early k d lt =
-        let some = some_quorum t limits in
-        (v, omega (arith, some, early), (k, lt, get_or_default (votes_of t v) k no_vote d lt))
-
-    pub voted : (P : Vote → Type 0) (n view : ℕ) (token : List ℕ) → IsDecided t n view token
-        → ((w : Vote) → w.view ≡ view → w.choice ≡ ForCommit token → P w) → AtVote P
-    unfolding IsOne AtVote
-    voted P n view token decided holds =
-        let back = decided_backs t IsOne n view token (some_quorum t limits) all_ones decided in
-        let one : AtVote (λ x. x ≡ back.vote) = back.holds in
-        (one.0, one.1, (one.2.0, one.2.1, subst P (sym one.2.2) (holds back.vote back.in_view back.commit)))
+  pub voted : HaveVotes t → (P : Vote → Type 0) (n view : ℕ) (token : List ℕ) → IsDecided t n view token
+      → ((w : Vote) → w.view ≡ view → w.choice ≡ ForCommit token → P w) → AtVote P
+  unfolding AtVote vote
+  voted votes P n view token decided holds =
+      let cast = votes n view token decided in (
+        cast.verifier,
+        cast.verifies,
+        (
+          cast.place,
+          slice_get_within (votes_of t cast.verifier) cast.place cast.vote cast.there,
+          subst P (sym (get_or_from_slice_get (votes_of t cast.verifier) cast.place cast.vote no_vote cast.there))
+              (holds cast.vote cast.in_view cast.commit),
+        ),
+      )
 
   -- whether some commit of a number is decided in a view
-  pub some_decided : HasLimits t → (n view : ℕ) → Decided (SomeDecided t n view)
+  pub some_decided : HaveVotes t → (n view : ℕ) → Decided (SomeDecided t n view)
   unfolding IsFor AtVote
-  some_decided limits n view =
+  some_decided votes n view =
       decided_as from to
       (at_vote (λ w. (w.view ≡ view) × IsFor n w) (λ w. decided_both (numbers w.view view) (is_for n w)))
     where
@@ -97,7 +90,7 @@ module _ (t : Trace) where
           (backed.0, subst (λ (v : ℕ). IsDecided t n v backed.0) found.2.2.0 backed.2)
 
       to : SomeDecided t n view → AtVote (λ w. (w.view ≡ view) × IsFor n w)
-      to some = voted limits (λ w. (w.view ≡ view) × IsFor n w) n view some.0 some.1 (λ w in_view commit. (
+      to some = voted votes (λ w. (w.view ≡ view) × IsFor n w) n view some.0 some.1 (λ w in_view commit. (
         in_view,
         (some.0, commit, subst (λ (v : ℕ). IsDecided t n v some.0) (sym in_view) some.1),
       ))

@@ -3,7 +3,9 @@ use Rattle.std.proofs.Common.{◌≡◌, ℕ, zero, suc, ◌+◌, ◌-◌, ◌<�
 use Rattle.std.proofs.lemmas.Bool.{cases_lt}
 use Rattle.eve_smallbank.specs.Access.{Executed, Fits}
 use Rattle.eve_grammar.specs.Trace.{Trace, head_of}
-use Rattle.eve_grammar.specs.Limits.{HasLimits}
+use Rattle.std.specs.Prelude.{IsTrue}
+use Rattle.eve_grammar.specs.Limits.{HasLimits, HasHeadLimits, is_head}
+use Rattle.eve_grammar.specs.declared.head.Head.{Head}
 use Rattle.eve_grammar.specs.Spelling.{length_of}
 use Rattle.eve_grammar.specs.Following.{Spells}
 use Rattle.eve_views.specs.Form.{IsLeast, StandsInForm, IsFaultOutside}
@@ -15,9 +17,10 @@ use Rattle.eve_audit.specs.declared.verdict.Verdict.TheVariants.{Yes, No}
 use Rattle.eve_audit.specs.Verdict.{IsSummary, IsVerdict}
 use Rattle.eve_audit.specs.Reports.{last_of}
 use Rattle.eve_audit.specs.Answer.{IsRead}
-use Rattle.eve_audit.proofs.Sections.{FatesAreAsItEnds}
+use Rattle.eve_audit.proofs.Sections.{IsLaidOut}
 use Rattle.eve_audit.proofs.Deciding.{Decided}
-use Rattle.eve_audit.proofs.Verdicts.{found_in_form, trace_first, faultless, some_replica}
+use Rattle.eve_audit.proofs.DecidedVotes.{HaveVotes}
+use Rattle.eve_audit.proofs.Verdicts.{found_in_form, trace_first, faultless}
 use Rattle.eve_audit.proofs.FirstOfAll.{first_in_trace}
 use Rattle.eve_history.specs.Order.{StandsInOrders}
 
@@ -78,17 +81,18 @@ summary_of t some =
 
 module _ (fits : (names : List (List ℕ)) (x : Executed) → Decided (Fits names x)) (once : (bytes : List ℕ) (t u : Trace)
     → Spells bytes t → Spells bytes u → t ≡ u) (limits : (bytes : List ℕ) (t : Trace) → Spells bytes t → HasLimits t)
+    (heads : (h : Head) → IsTrue (is_head h) → HasHeadLimits h) (votes : (t : Trace) → HasLimits t → HaveVotes t)
     (orders : (t : Trace) (f : Fault) → IsFaultOutside StandsInOrders t f → f.offset ≤ length_of t)
-    (fates : (t : Trace) (e : ℕ) → FatesAreAsItEnds t e) where
+    (laid : (t : Trace) → IsLaidOut t) where
   of_trace : (bytes : List ℕ) (t : Trace) → IsRead bytes t → (v : Verdict) × IsVerdict bytes v
-  of_trace bytes t read = elim (first_in_trace t (fates t) (limits bytes t read.spells) fits (orders t)) [
+  of_trace bytes t read = elim (first_in_trace t (laid t) (votes t (limits bytes t read.spells)) fits (orders t)) [
     | inl found ↦ (
       No found.0,
       trace_first bytes t read.spells (λ u other. once bytes u t other read.spells) found.0
           read.none found.1,
     )
     | inr none ↦
-        let summary = summary_of t (some_replica (head_of t) (limits bytes t read.spells).head) in (
+        let summary = summary_of t (heads (head_of t) (limits bytes t read.spells).head).some_replicas in (
           Yes summary.0,
           (
             t,

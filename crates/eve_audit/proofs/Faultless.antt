@@ -1,11 +1,11 @@
 -- A trace without a fault is accepted.
 use Rattle.std.proofs.Common.{◌≡◌, ℕ, inl, inr, List, length}
-use Rattle.std.specs.List.{AllByRecursion}
 use Rattle.std.proofs.lemmas.Bool.{cases_lt}
 use Rattle.std.specs.Prelude.{AllPairs, ◌≢◌}
 use Rattle.eve_smallbank.specs.SmallBank.{Request}
 use Rattle.eve_smallbank.specs.Access.{Executed, Fits}
-use Rattle.eve_smallbank.specs.Chain.{Table, Sees}
+use Rattle.eve_smallbank.specs.Chain.{Table}
+use Rattle.eve_smallbank.specs.Seen.{as_seen}
 use Rattle.eve_smallbank.specs.Execution.{executed_on}
 use Rattle.eve_grammar.specs.Trace.{Trace}
 use Rattle.eve_grammar.specs.Limits.{HasLimits}
@@ -13,6 +13,10 @@ use Rattle.eve_grammar.specs.Following.{Spells}
 use Rattle.eve_views.specs.declared.fault.Code.TheVariants as code
 use Rattle.eve_history.specs.SectionHistory.{names_of, IsRightSection}
 use Rattle.eve_history.specs.Order.{StandsInOrders}
+use Rattle.eve_history.specs.Structure.{StandsInStructure}
+use Rattle.eve_votes.specs.Votes.{IsDecided}
+use Rattle.eve_votes.specs.VotedFor.{IsVotedFor}
+use Rattle.eve_votes.specs.Faults.{AreVotesSound, StandsInVotes}
 use Rattle.eve_chains.specs.Visible.{executed_by}
 use Rattle.eve_chains.specs.Committed.{batch_request_ids}
 use Rattle.eve_chains.specs.Sound.{OfSettledAccesses, RecordsFit, EntriesSee, SettledAreSound}
@@ -24,20 +28,20 @@ use Rattle.eve_audit.specs.declared.verdict.Verdict.TheVariants.{Yes}
 use Rattle.eve_audit.specs.Verdict.{Stands, IsVerdict, SpellsAudited, IsOwnFault, of_structure, of_records, of_chains}
 use Rattle.eve_audit.specs.Verdict.{of_restores, of_tokens, IsTraceFault, of_votes, of_majorities, of_agreement}
 use Rattle.eve_audit.specs.Verdict.{of_replies, in_orders, in_section, in_common}
-use Rattle.eve_views.specs.Form.{HasNone}
+use Rattle.eve_views.specs.Form.{HasNone, IsFaultIn, IsFaultOutside}
 use Rattle.eve_audit.specs.Reports.{IsSoundReplica, IsSoundTogether}
 use Rattle.eve_audit.proofs.Accepted.{no_request_again, accepted_of}
 use Rattle.eve_audit.proofs.Kept.{sound_beyond}
 use Rattle.eve_audit.proofs.Verdicts.{stands_in_bytes}
 use Rattle.eve_audit.proofs.FittingRecords.{fits_decided}
-use Rattle.eve_audit.proofs.Unfaulted.{right_section, records_fit, right_restores, due_tokens}
-use Rattle.eve_audit.proofs.UnfaultedTogether.{sound_votes, all_backed, all_agree, all_replied}
+use Rattle.eve_audit.proofs.Unfaulted.{records_fit, right_restores, due_tokens}
+use Rattle.eve_audit.proofs.UnfaultedTogether.{all_backed, all_agree, all_replied}
 
--- what is known of records and requests
+-- what the laws of the crates below say where faults don't stand
 pub record Laws : Type 0 where
   pub fit : (names : List (List ℕ)) (table : Table) (request : Request) → Fits names (executed_on names table request)
-  pub only : (names : List (List ℕ)) (table : Table) (x : Executed) → Fits names x
-      → AllByRecursion (Sees table) x.entries → x ≡ executed_on names table x.request
+  pub only : (names : List (List ℕ)) (x : Executed) → Fits names x
+      → x ≡ executed_on names (as_seen x.entries) x.request
   pub apart : (t : Trace) → ((at : ℕ) → ¬ StandsInOrders code.SameRequest t at)
       → AllPairs (λ a b. a ≢ b) (batch_request_ids t)
   pub see : (t : Trace) (e : ℕ) → HasNoFault t e → EntriesSee t e
@@ -45,12 +49,16 @@ pub record Laws : Type 0 where
       → OfSettledAccesses t e (λ p x. ¬ ¬ Fits (names_of t) (executed_by t p.attempt x))
   pub sound : (t : Trace) (e : ℕ) → HasLimits t → IsRightSection t e → RecordsFit t e → EntriesSee t e
       → SettledAreSound t e
+  pub right : (t : Trace) (e : ℕ) → HasNone (IsFaultIn StandsInStructure t e) → IsRightSection t e
+  pub votes : (t : Trace) → HasLimits t → HasNone (IsFaultOutside StandsInVotes t) → AreVotesSound t
+  pub voted : (t : Trace) (n view : ℕ) (token : List ℕ) → HasLimits t → IsDecided t n view token
+      → IsVotedFor t n view token
 
 module _ (laws : Laws) (t : Trace) (limits : HasLimits t) where
   -- a replica without a fault of its own
   own_sound : (e : ℕ) → HasNone (IsOwnFault t e) → IsSoundReplica t e
   own_sound e none =
-      let right = right_section t e (λ f is. none f (of_structure is)) in
+      let right = laws.right t e (λ f is. none f (of_structure is)) in
       let attempts : HasNoFault t e =
       record { records = λ f is. none f (of_records is); chains = λ f is. none f (of_chains is) } in
       record {
@@ -70,8 +78,9 @@ module _ (laws : Laws) (t : Trace) (limits : HasLimits t) where
 
     together : IsSoundTogether t
     together = record {
-      votes = sound_votes t limits (λ f is. none f (in_common (of_votes is)));
-      backed = all_backed t limits (λ f is. none f (in_common (of_majorities is)));
+      votes = laws.votes t limits (λ f is. none f (in_common (of_votes is)));
+      backed = all_backed t (λ n view token. laws.voted t n view token limits)
+          (λ f is. none f (in_common (of_majorities is)));
       agree = all_agree t (λ f is. none f (in_common (of_agreement is)));
       replied = all_replied t (λ f is. none f (in_common (of_replies is)));
     }

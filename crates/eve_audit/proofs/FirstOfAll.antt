@@ -7,7 +7,6 @@ use Rattle.std.proofs.lemmas.List.FromFn.{length-enumerate_from}
 use Rattle.eve_smallbank.specs.Access.{Executed, Fits}
 use Rattle.eve_grammar.specs.Trace.{Trace}
 use Rattle.eve_grammar.specs.Frames.{sections_of}
-use Rattle.eve_grammar.specs.Limits.{HasLimits}
 use Rattle.eve_grammar.specs.Spelling.{section_text, sections_start, section_start, verifiers_start, length_of}
 use Rattle.eve_views.specs.Code.{code_number, phase_of}
 use Rattle.eve_views.specs.declared.fault.Code.{Code}
@@ -26,12 +25,14 @@ use Rattle.eve_audit.specs.Verdict.{IsOwnFault, of_structure, of_records, of_cha
 use Rattle.eve_audit.specs.Verdict.{IsTraceFault, of_votes, of_majorities, of_agreement, of_replies, in_orders}
 use Rattle.eve_audit.specs.Verdict.{in_section, in_common}
 use Rattle.eve_views.specs.Form.{HasNone, Precedes, IsFaultOutside}
+use Rattle.eve_views.specs.Standing.{StandInOrder}
 use Rattle.eve_audit.specs.Reports.{IsFirstOf}
-use Rattle.eve_audit.proofs.Sections.{LiesIn, FatesAreAsItEnds}
+use Rattle.eve_audit.proofs.Sections.{LiesIn, IsLaidOut}
 use Rattle.eve_audit.proofs.Unique.{code_with, with_its_number}
 use Rattle.eve_audit.proofs.Placed.{majority_lies, outcome_lies}
-use Rattle.eve_audit.proofs.Within.{fewer, trace_fault_within}
+use Rattle.eve_audit.proofs.Within.{trace_fault_within}
 use Rattle.eve_audit.proofs.Deciding.{Decided, decided_as, decided_both, numbers, below_or_none}
+use Rattle.eve_audit.proofs.DecidedVotes.{HaveVotes}
 use Rattle.eve_audit.proofs.StandingDecided.{orders_decided, votes_decided, replies_decided, structure_decided}
 use Rattle.eve_audit.proofs.StandingDecided.{records_decided, chains_decided, restores_decided, tokens_decided}
 use Rattle.eve_audit.proofs.StandingDecided.{majorities_decided, agreement_decided}
@@ -187,16 +188,16 @@ StandsAt t c at =
 of_some : (t : Trace) (P : ℕ → Type 0) → ((e : ℕ) → Decided (P e)) → Decided (OfSome t P)
 of_some t P decided = below_or_none P decided (length t.sections)
 
-all_decided : (t : Trace) → HasLimits t → ((names : List (List ℕ)) (x : Executed) → Decided (Fits names x))
+all_decided : (t : Trace) → HaveVotes t → ((names : List (List ℕ)) (x : Executed) → Decided (Fits names x))
     → (c : Code) (at : ℕ) → Decided (StandsAt t c at)
-all_decided t limits fits c at =
+all_decided t votes fits c at =
     decided_either (orders_decided t at c)
     (decided_either (of_some t (λ e. Own t e c at) (λ e.
     decided_either (structure_decided t at e c)
     (decided_either (records_decided t at e fits c) (decided_either (chains_decided t at e c)
     (decided_either (restores_decided t at e c) (tokens_decided t at e c))))))
-    (decided_either (votes_decided t at limits c)
-    (decided_either (of_some t (λ e. StandsInMajorities c t e at) (λ e. majorities_decided t at e limits c))
+    (decided_either (votes_decided t at votes c)
+    (decided_either (of_some t (λ e. StandsInMajorities c t e at) (λ e. majorities_decided t at e votes c))
     (decided_either (of_some t (λ e. StandsInAgreement c t e at) (λ e. agreement_decided t at e c))
     (replies_decided t at c)))))
 
@@ -267,19 +268,19 @@ module _ (t : Trace) (c : Code) (at : ℕ) where
       }
 
 -- a section in which an offset lies is there
-there : (t : Trace) (e at : ℕ) → LiesIn t e at → e < length t.sections
-there t e at lies = elim (cases_lt e (length t.sections)) [
+there : (t : Trace) → StandInOrder t → (e at : ℕ) → LiesIn t e at → e < length t.sections
+there t parts e at lies = elim (cases_lt e (length t.sections)) [
   | inl lt ↦ lt
   | inr le ↦
       let count : length (sections_of t) ≡ length t.sections = length-enumerate_from 0 t.sections in
       let behind : section_start t e ≡ verifiers_start t =
       ap (λ xs. sections_start t + length (flat_map section_text xs))
       (take_all e (sections_of t) (omega (arith, count, le))) in
-      let all = fewer section_text (e + 1) (sections_of t) in
+      let all = parts.last_section (e + 1) in
       absurd (omega (arith, lies.0, lies.1, behind, all))
 ]
 
-module _ (t : Trace) (fates : (e : ℕ) → FatesAreAsItEnds t e) where
+module _ (t : Trace) (laid : IsLaidOut t) where
   own_from : (e : ℕ) (f : Fault) → IsOwnFault t e f → Own t e f.code f.offset
   own_from e f (of_structure is) = inl is.stands
   own_from e f (of_records is) = inr (inl is.stands)
@@ -294,29 +295,29 @@ module _ (t : Trace) (fates : (e : ℕ) → FatesAreAsItEnds t e) where
   stands_from f (in_common (of_majorities is)) =
       inr (inr (inr (inl (
         is.0,
-        there t is.0 f.offset
-            (majority_lies t is.0 f.code f.offset is.1.stands),
+        there t laid.parts is.0 f.offset
+            (majority_lies t laid is.0 f.code f.offset is.1.stands),
         is.1.stands,
       ))))
   stands_from f (in_common (of_agreement is)) =
       inr (inr (inr (inr (inl (
         is.0,
-        there t is.0 f.offset
-            (outcome_lies t is.0 (fates is.0) f.code f.offset is.1.stands),
+        there t laid.parts is.0 f.offset
+            (outcome_lies t laid is.0 f.code f.offset is.1.stands),
         is.1.stands,
       )))))
   stands_from f (in_common (of_replies is)) = inr (inr (inr (inr (inr is.stands))))
 
-  module _ (limits : HasLimits t) (fits : (names : List (List ℕ)) (x : Executed) → Decided (Fits names x))
+  module _ (votes : HaveVotes t) (fits : (names : List (List ℕ)) (x : Executed) → Decided (Fits names x))
       (orders : (f : Fault) → IsFaultOutside StandsInOrders t f → f.offset ≤ length_of t) where
     within : (c : Code) (at : ℕ) → StandsAt t c at → at ≤ length_of t
     within c at stands =
         let found = fault_at t c at stands in
-        let low = trace_fault_within t orders fates found.fault found.is in
+        let low = trace_fault_within t laid orders found.fault found.is in
         omega (arith, low, found.offset)
 
     pub first_in_trace : ((f : Fault) × IsFirstOf (IsTraceFault t) f) ⊎ HasNone (IsTraceFault t)
-    first_in_trace = elim (first_or_none (StandsAt t) (all_decided t limits fits) (length_of t) within) [
+    first_in_trace = elim (first_or_none (StandsAt t) (all_decided t votes fits) (length_of t) within) [
       | inr none ↦ inr (λ f is. none f.code f.offset (stands_from f is))
       | inl first ↦ (let found = fault_at t first.kind first.offset first.stands in
           inl (
@@ -326,7 +327,7 @@ module _ (t : Trace) (fates : (e : ℕ) → FatesAreAsItEnds t e) where
           ))
     ]
       where
-        by : (first : IsFirstHere (StandsAt t) (all_decided t limits fits) (length_of t) within)
+        by : (first : IsFirstHere (StandsAt t) (all_decided t votes fits) (length_of t) within)
             (found : IsAt t first.kind first.offset) (g : Fault)
             → (phase_of first.kind < phase_of g.code)
             ⊎ ((phase_of first.kind ≡ phase_of g.code)

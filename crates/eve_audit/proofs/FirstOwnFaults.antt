@@ -7,15 +7,6 @@ use Rattle.eve_views.specs.Form.{HasNone, Precedes}
 use Rattle.eve_views.specs.declared.fault.Fault.{Fault}
 use Rattle.eve_audit.specs.Verdict.{IsOwnFault}
 use Rattle.eve_audit.specs.Reports.{IsFirstOf, IsFoundBelow, IsLeastBelow, last_of, IsFaultBelow}
-use Rattle.eve_views.proofs.Firsts.{up_to-trans}
-
--- ---- the order of faults
-
-precedes-trans : (f g h : Fault) → Precedes f g → Precedes g h → Precedes f h
-precedes-trans f g h (inl a) (inl b) = inl (omega (arith, a, b))
-precedes-trans f g h (inl a) (inr b) = inl (omega (arith, a, b.0))
-precedes-trans f g h (inr a) (inl b) = inl (omega (arith, a.0, b))
-precedes-trans f g h (inr a) (inr b) = inr (omega (arith, a.0, b.0), up_to-trans f g h a.1 b.1)
 
 -- ---- replica by replica
 
@@ -58,16 +49,17 @@ first_more t e f none own_first = record {
 }
 
 -- it has one beside an earlier replica's
-pub both_more : (t : Trace) (e : ℕ) (f g h : Fault) → IsFirstOf (IsFaultBelow t e) g → IsFirstOf (IsOwnFault t e) f
+pub both_more : ((f g h : Fault) → Precedes f g → Precedes g h → Precedes f h) → (t : Trace) (e : ℕ) (f g h : Fault)
+    → IsFirstOf (IsFaultBelow t e) g → IsFirstOf (IsOwnFault t e) f
     → (h ≡ g) ⊎ (h ≡ f) → Precedes h g → Precedes h f → IsFirstOf (IsFaultBelow t (e + 1)) h
-both_more t e f g h found own_first one before after = record {
+both_more further t e f g h found own_first one before after = record {
   is = elim one [
     | inl same ↦ subst (λ (x : Fault). IsFaultBelow t (e + 1) x) (sym same) (more_below t e g found.is)
     | inr same ↦ subst (λ (x : Fault). IsFaultBelow t (e + 1) x) (sym same) (own_below t e f own_first.is)
   ];
   first = λ x below. elim (fault_below t e x below) [
-    | inl less ↦ precedes-trans h g x before (found.first x less)
-    | inr own ↦ precedes-trans h f x after (own_first.first x own)
+    | inl less ↦ further h g x before (found.first x less)
+    | inr own ↦ further h f x after (own_first.first x own)
   ];
 }
 

@@ -1,16 +1,20 @@
 -- What was found of replicas stays true as it is kept and taken.
-use Rattle.std.proofs.Common.{◌≡◌, Option, Some, None, List, [], ◌∷◌, ◌++◌, All, IfSome, IsNone, refl, sym, ap, subst}
+use Rattle.std.proofs.Common.{◌≡◌, List, [], ◌∷◌, ◌++◌, All, sym, ap, subst}
 use Rattle.std.proofs.Common.{◌∙◌, ℕ, ◌+◌, arith, length, length-append, inl, inr}
-use Rattle.std.specs.Prelude.{Result}
+use Rattle.std.specs.Prelude.{Result, Ok, Err, IfOk, IfErr, is_ok, true, false}
 use Rattle.std.proofs.lemmas.Bool.{cases_lt}
 use Rattle.std.proofs.lemmas.List.{get_or_append_left, get_or_push}
 use Rattle.std.proofs.lemmas.List.Elements.{All-append, All-cons, All-head, All-nil, All-tail}
 use Rattle.eve_grammar.specs.Trace.{Trace}
-use Rattle.eve_views.specs.declared.fault.Fault.{Fault}
+use Rattle.eve_views.specs.Form.{IfFound}
+use Rattle.eve_views.specs.declared.fault.CheckFault.{CheckFault}
+use Rattle.eve_views.specs.declared.fault.CheckFault.TheVariants.{Memory}
 use Rattle.eve_audit.specs.declared.replicas.Report.{Report}
-use Rattle.eve_audit.specs.declared.workers.Finding.{Finding}
+use Rattle.eve_audit.specs.declared.findings.Finding.{Finding}
 use Rattle.eve_audit.specs.declared.workers.Slot.{Slot}
-use Rattle.eve_audit.specs.Findings.{AreDealt, AreTrue, IsAnswerOf, finding}
+use Rattle.eve_audit.specs.Findings.{AreDealt, AreTrueSoFar, IsAnswerOf, IsSettledAnswerOf, finding}
+use Rattle.eve_audit.specs.Verdict.{IsOwnFault}
+use Rattle.eve_audit.specs.Reports.{IsFirstOf, IsSettledReportOf}
 
 pub one_longer : {A : Type 0} (xs more : List A) (x : A) → more ≡ xs ++ x ∷ [] → length more ≡ length xs + 1
 one_longer xs more x added = ap length added ∙ length-append xs (x ∷ [])
@@ -39,12 +43,32 @@ module _ {A : Type 0} (P : A → Type 0) where
   all_push xs room more x all is same added = subst (All P) (sym (added ∙ ap (λ (ys : List A). ys ++ x ∷ []) same))
       (All-append P xs (x ∷ []) all (All-cons P x [] is (All-nil P)))
 
--- what was taken first is true, and so is what is left
-pub taken_is_true : (t : Trace) (e : ℕ) (old new : Slot) (r : Option (Result Report Fault))
-    → IfSome r (λ answer. old.findings.items ≡ finding e answer ∷ new.findings.items) → (IsNone r → new ≡ old)
-    → AreTrue t old → IfSome r (IsAnswerOf t e) × AreTrue t new
-taken_is_true t e old new (Some answer) next none all =
-    let P : Finding → Type 0 = λ f. IsAnswerOf t f.replica f.answer in
-    let before = subst (All P) next all in
-    (All-head P (finding e answer) new.findings.items before, All-tail P (finding e answer) new.findings.items before)
-taken_is_true t e old new None next none all = (tt, subst (AreTrue t) (sym (none refl)) all)
+-- what was taken first is settled, and so is what is left
+pub settled_taken : (t : Trace) (e : ℕ) (answer : Result Report CheckFault) (all rest : List Finding)
+    → all ≡ finding e answer ∷ rest → AreTrueSoFar t all → IsSettledAnswerOf t e answer × AreTrueSoFar t rest
+settled_taken t e answer all rest is settled =
+    let P : Finding → Type 0 = λ f. IsSettledAnswerOf t f.replica f.answer in
+    let before = subst (All P) is settled in
+    (All-head P (finding e answer) rest before, All-tail P (finding e answer) rest before)
+
+module _ (t : Trace) (e : ℕ) where
+  pub settled_answer : (answer : Result Report CheckFault) → IfOk answer (IsSettledReportOf t e)
+      → IfErr answer (λ why. IfFound why (IsFirstOf (IsOwnFault t e))) → IsSettledAnswerOf t e answer
+  settled_answer (Ok report) settled first = settled
+  settled_answer (Err why) settled first = first
+
+  -- what was found against a replica stands whatever its tokens are
+  pub settled_by_fault : (answer : Result Report CheckFault) → is_ok answer ≡ false → IsAnswerOf t e answer
+      → IsSettledAnswerOf t e answer
+  settled_by_fault (Ok report) wrong is = absurd (true_false wrong)
+    where
+      true_false : true ≡ false → ⊥
+      true_false same = cc
+  settled_by_fault (Err why) wrong is = is
+
+-- a finding of nothing, as it is put in another's place
+pub settled_nothing : (t : Trace) (nothing f : Finding) → nothing.answer ≡ Err Memory → f ≡ nothing
+    → IsSettledAnswerOf t f.replica f.answer
+settled_nothing t nothing f is same =
+    subst (λ (h : Finding). IsSettledAnswerOf t h.replica h.answer) (sym same)
+    (subst (IsSettledAnswerOf t nothing.replica) (sym is) tt)

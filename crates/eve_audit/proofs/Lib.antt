@@ -1,4 +1,5 @@
 pub mod Sections
+pub mod Places
 pub mod Phases
 pub mod Firsts
 pub mod Verdicts

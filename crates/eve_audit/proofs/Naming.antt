@@ -13,7 +13,7 @@ use Rattle.eve_audit.specs.Verdict.{Stands, in_form, in_trace, IsOwnFault, of_st
 use Rattle.eve_audit.specs.Verdict.{of_restores, of_tokens, IsCommonFault, IsTraceFault}
 use Rattle.eve_audit.specs.Where.{NamesItsSection}
 use Rattle.eve_audit.specs.Verdict as of
-use Rattle.eve_audit.proofs.Sections.{LiesIn, FatesAreAsItEnds}
+use Rattle.eve_audit.proofs.Sections.{LiesIn, IsLaidOut}
 use Rattle.eve_audit.proofs.Where.{one_section}
 use Rattle.eve_audit.proofs.Placed.{structure_lies, record_lies, chain_lies, restore_lies, token_lies, majority_lies}
 use Rattle.eve_audit.proofs.Placed.{outcome_lies}
@@ -39,36 +39,36 @@ Names t f = (e : ℕ) → (f.replica ≡ Some e) ↔ IsTrue (is_in_section t e f
 inner : (d e : ℕ) → ◌≡◌ {A = Option ℕ} (Some d) (Some e) → d ≡ e
 inner d e same = cc
 
-inside : (t : Trace) (d : ℕ) (f : Fault) → f.replica ≡ Some d → LiesIn t d f.offset → Names t f
-inside t d f is lies e = (
+inside : (t : Trace) → IsLaidOut t → (d : ℕ) (f : Fault) → f.replica ≡ Some d → LiesIn t d f.offset → Names t f
+inside t laid d f is lies e = (
   λ named. held_from t e f.offset (subst (λ (k : ℕ). LiesIn t k f.offset) (inner d e (sym is ∙ named)) lies),
-  λ held. is ∙ ap (λ (k : ℕ). Some k) (one_section t d e f.offset lies (lies_from t e f.offset held)),
+  λ held. is ∙ ap (λ (k : ℕ). Some k) (one_section t laid.parts d e f.offset lies (lies_from t e f.offset held)),
 )
 
-outside : (t : Trace) (f : Fault) → f.replica ≡ None → IsOutside t f.offset → Names t f
-outside t f is out e = (
+outside : (t : Trace) → IsLaidOut t → (f : Fault) → f.replica ≡ None → IsOutside t f.offset → Names t f
+outside t laid f is out e = (
   λ named. absurd (none-some e (sym is ∙ named)),
-  λ held. absurd (in_none t e f.offset out (lies_from t e f.offset held)),
+  λ held. absurd (in_none t laid.parts e f.offset out (lies_from t e f.offset held)),
 )
 
-module _ (t : Trace) (fates : (e : ℕ) → FatesAreAsItEnds t e) (f : Fault) where
+module _ (t : Trace) (laid : IsLaidOut t) (f : Fault) where
   own_names : (e : ℕ) → IsOwnFault t e f → Names t f
-  own_names e (of_structure is) = inside t e f is.inside (structure_lies t e f.code f.offset is.stands)
-  own_names e (of_records is) = inside t e f is.inside (record_lies t e (fates e) f.code f.offset is.stands)
-  own_names e (of_chains is) = inside t e f is.inside (chain_lies t e (fates e) f.code f.offset is.stands)
-  own_names e (of_restores is) = inside t e f is.inside (restore_lies t e f.code f.offset is.stands)
-  own_names e (of_tokens is) = inside t e f is.inside (token_lies t e (fates e) f.code f.offset is.stands)
+  own_names e (of_structure is) = inside t laid e f is.inside (structure_lies t laid e f.code f.offset is.stands)
+  own_names e (of_records is) = inside t laid e f is.inside (record_lies t laid e f.code f.offset is.stands)
+  own_names e (of_chains is) = inside t laid e f is.inside (chain_lies t laid e f.code f.offset is.stands)
+  own_names e (of_restores is) = inside t laid e f is.inside (restore_lies t laid e f.code f.offset is.stands)
+  own_names e (of_tokens is) = inside t laid e f is.inside (token_lies t laid e f.code f.offset is.stands)
 
   common_names : IsCommonFault t f → Names t f
-  common_names (of.of_votes is) = outside t f is.outside (vote_fault_outside t f.code f.offset is.stands)
+  common_names (of.of_votes is) = outside t laid f is.outside (vote_fault_outside t laid.parts f.code f.offset is.stands)
   common_names (of.of_majorities is) =
-      inside t is.0 f is.1.inside (majority_lies t is.0 f.code f.offset is.1.stands)
+      inside t laid is.0 f is.1.inside (majority_lies t laid is.0 f.code f.offset is.1.stands)
   common_names (of.of_agreement is) =
-      inside t is.0 f is.1.inside (outcome_lies t is.0 (fates is.0) f.code f.offset is.1.stands)
-  common_names (of.of_replies is) = outside t f is.outside (reply_outside t f.code f.offset is.stands)
+      inside t laid is.0 f is.1.inside (outcome_lies t laid is.0 f.code f.offset is.1.stands)
+  common_names (of.of_replies is) = outside t laid f is.outside (reply_outside t laid.parts f.code f.offset is.stands)
 
   trace_names : IsTraceFault t f → Names t f
-  trace_names (of.in_orders is) = outside t f is.outside (order_outside t f.code f.offset is.stands)
+  trace_names (of.in_orders is) = outside t laid f is.outside (order_outside t laid.parts f.code f.offset is.stands)
   trace_names (of.in_section below) = own_names below.0 below.2
   trace_names (of.in_common is) = common_names is
 
@@ -76,9 +76,9 @@ module _ (t : Trace) (fates : (e : ℕ) → FatesAreAsItEnds t e) (f : Fault) wh
 
 -- of bytes that spell this trace
 pub named_in : (bytes : List ℕ) (t : Trace) → Spells bytes t → ((u : Trace) → Spells bytes u → u ≡ t)
-    → ((e : ℕ) → FatesAreAsItEnds t e) → (f : Fault) → IsTraceFault t f → NamesItsSection bytes f
-named_in bytes t spells once fates f is = record {
-  names = λ u other. subst (λ (x : Trace). Names x f) (sym (once u other)) (trace_names t fates f is);
+    → IsLaidOut t → (f : Fault) → IsTraceFault t f → NamesItsSection bytes f
+named_in bytes t spells once laid f is = record {
+  names = λ u other. subst (λ (x : Trace). Names x f) (sym (once u other)) (trace_names t laid f is);
   outside = λ none. absurd (none t spells);
 }
 
@@ -88,10 +88,10 @@ pub named_in_none : (bytes : List ℕ) (f : Fault) → IsFaultOutside StandsInFo
     → NamesItsSection bytes f
 named_in_none bytes f is none = record { names = λ t spells. absurd (none t spells); outside = λ _. is.outside }
 
-module _ (fates : (t : Trace) (e : ℕ) → FatesAreAsItEnds t e) (once : (bytes : List ℕ) (t u : Trace) → Spells bytes t
+module _ (laid : (t : Trace) → IsLaidOut t) (once : (bytes : List ℕ) (t u : Trace) → Spells bytes t
     → Spells bytes u → t ≡ u) (bytes : List ℕ) (f : Fault) where
   of_trace : (t : Trace) → Spells bytes t → IsTraceFault t f → NamesItsSection bytes f
-  of_trace t spells is = named_in bytes t spells (λ u other. once bytes u t other spells) (fates t) f is
+  of_trace t spells is = named_in bytes t spells (λ u other. once bytes u t other spells) (laid t) f is
 
   pub standing_named : ((g : Fault) (t : Trace) → IsFaultOutside StandsInForm bytes g → ¬ Spells bytes t)
       → Stands bytes f

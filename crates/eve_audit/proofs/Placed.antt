@@ -1,19 +1,19 @@
 -- Each fault that stands names the replica in whose section it lies, or none.
-use Rattle.std.proofs.Common.{◌≡◌, ℕ, zero, suc, List, [], None, Some, refl, ap, subst}
+use Rattle.std.proofs.Common.{◌≡◌, ℕ, List, [], ◌∷◌, ◌++◌, None, Some, refl, ap, subst, ◌∙◌}
 use Rattle.std.specs.Prelude.{IsTrue, IsFalse, ◌≢◌, Bool, true, false, ◌&&◌, ◌||◌, ◌==◌, nat_le}
 use Rattle.eve_smallbank.specs.Access.{Fits}
 use Rattle.eve_grammar.specs.Trace.{Access, Attempt, Transfer, Step, Attempts, Commits, RollsBack, TakesOver, Trace}
-use Rattle.eve_grammar.specs.Spelling.{steps_at, accesses_at}
+use Rattle.eve_grammar.specs.Spelling.{accesses_at}
 use Rattle.eve_views.specs.Code.{phase_of}
 use Rattle.eve_views.specs.declared.fault.Code.{Code}
 use Rattle.eve_views.specs.declared.fault.Code.TheVariants as code
 use Rattle.eve_views.specs.declared.fault.Fault.{Fault}
 use Rattle.eve_grammar.specs.Accesses.{is_right_place}
 use Rattle.eve_grammar.specs.Following.{Spells}
-use Rattle.eve_history.specs.Section.{Placed, ByTransfer, SectionState, start, state_after, settled, is_right_attempt}
+use Rattle.eve_history.specs.Section.{Placed, SectionState, start, state_after, settled, is_right_attempt}
 use Rattle.eve_history.specs.Section.{is_right_certificate, is_right_access, is_right_commit, is_right_rollback}
 use Rattle.eve_history.specs.Section.{is_right_transfer, are_right_accesses}
-use Rattle.eve_history.specs.SectionHistory.{history, landing_at, committed_at, names_of}
+use Rattle.eve_history.specs.SectionHistory.{history, committed_at, names_of}
 use Rattle.eve_views.specs.Form.{SomePlace}
 use Rattle.eve_history.specs.Structure.{accesses_of, OfAttempt, OfCommit, OfRollback, OfTransfer, AtStep}
 use Rattle.eve_history.specs.Structure.{AtAccess, StandsInStructure}
@@ -26,25 +26,22 @@ use Rattle.eve_agree.specs.Agreement.{StandsInAgreement}
 use Rattle.eve_audit.specs.Verdict.{Stands, in_form, in_trace, IsTraceFault, in_orders, in_section, in_common, of_votes}
 use Rattle.eve_audit.specs.Verdict.{of_majorities, of_agreement, of_replies, IsOwnFault, of_structure, of_records}
 use Rattle.eve_audit.specs.Verdict.{of_chains, of_restores, of_tokens}
-use Rattle.eve_audit.proofs.Sections.{LiesIn, FatesAreAsItEnds}
+use Rattle.eve_audit.proofs.Sections.{LiesIn, IsLaidOut}
 use Rattle.eve_audit.proofs.Phases.{form_phase, order_phase, structure_phase, record_phase, chain_phase, restore_phase}
 use Rattle.eve_audit.proofs.Phases.{token_phase, vote_phase, majority_phase, outcome_phase, reply_phase}
-use Rattle.eve_audit.proofs.Where.{StepIn, OfLanding, at_place, steps_in, states_in, starts_in, step_in}
-use Rattle.eve_audit.proofs.Where.{access_in, committed_in, settled_in}
-use Rattle.eve_audit.proofs.Reached.{none_there, each_at, each_committed}
+use Rattle.eve_history.specs.AmongSteps.{IsStepOf}
+use Rattle.eve_audit.proofs.Where.{at_place, step_in, step_of, access_in, access_of}
 
-module _ (t : Trace) (e : ℕ) where
+module _ (t : Trace) (laid : IsLaidOut t) (e : ℕ) where
   at_step : (at : ℕ) (P : SectionState → Step → Type 0) → AtStep t e at P
       → LiesIn t e at
-  at_step at P place = subst (LiesIn t e) place.holds.1.0 (step_in t e place.before place.item place.rest place.is)
+  at_step at P place = subst (LiesIn t e) place.holds.1.0
+      (step_in t laid.parts e place.before place.item place.rest place.is)
 
   at_access : (at : ℕ) (P : Attempt → List Access → Access → Type 0)
       → AtAccess t e at P → LiesIn t e at
   at_access at P place = by place.item.1 refl place.holds.1
     where
-      within : StepIn t e place.item
-      within = at_place (StepIn t e) (steps_at t e) place.before place.item place.rest place.is (steps_in t e)
-
       by : (step : Step) → place.item.1 ≡ step
           → OfAttempt step (λ a. IsTrue (is_right_attempt t (state_after start place.before) a)
           × IsTrue (is_right_certificate t a)
@@ -52,8 +49,9 @@ module _ (t : Trace) (e : ℕ) where
           × ((x.0 ≡ at) × P a (accesses_of before) x.1)))
           → LiesIn t e at
       by (Attempts a) is h = subst (LiesIn t e) h.2.holds.1.0
-          (access_in t e place.item.0 a (subst (λ (s : Step). StepIn t e (place.item.0, s)) is within) h.2.before
-          h.2.item h.2.rest h.2.is)
+          (access_in t laid.parts e place.before place.item.0 a place.rest
+          (place.is
+          ∙ ap (λ (s : Step). place.before ++ (place.item.0, s) ∷ place.rest) is) h.2.before h.2.item h.2.rest h.2.is)
       by (Commits c) is h = absurd h
       by (RollsBack r) is h = absurd h
       by (TakesOver x) is h = absurd h
@@ -75,59 +73,51 @@ module _ (t : Trace) (e : ℕ) where
 
   pub restore_lies : (c : Code) (at : ℕ) → StandsInRestores c t e at → LiesIn t e at
   restore_lies code.Restore at stands =
-      subst (LiesIn t e) stands.holds.0 (step_in t e stands.before stands.item stands.rest stands.is)
+      subst (LiesIn t e) stands.holds.0 (step_in t laid.parts e stands.before stands.item stands.rest stands.is)
   restore_lies c at stands = absurd stands
 
   pub majority_lies : (c : Code) (at : ℕ) → StandsInMajorities c t e at → LiesIn t e at
   majority_lies code.NoMajority at stands =
-      subst (LiesIn t e) stands.holds.0 (step_in t e stands.before stands.item stands.rest stands.is)
+      subst (LiesIn t e) stands.holds.0 (step_in t laid.parts e stands.before stands.item stands.rest stands.is)
   majority_lies code.RollbackNoMajority at stands =
-      subst (LiesIn t e) stands.holds.0 (step_in t e stands.before stands.item stands.rest stands.is)
+      subst (LiesIn t e) stands.holds.0 (step_in t laid.parts e stands.before stands.item stands.rest stands.is)
   majority_lies code.TransferNoMajority at stands =
-      subst (LiesIn t e) stands.holds.0 (step_in t e stands.before stands.item stands.rest stands.is)
+      subst (LiesIn t e) stands.holds.0 (step_in t laid.parts e stands.before stands.item stands.rest stands.is)
   majority_lies c at stands = absurd stands
 
-  -- where a state that was taken over stands
-  taken_lies : (n at : ℕ) (x : Transfer) → landing_at t e n ≡ Some (ByTransfer at x) → LiesIn t e at
-  taken_lies zero at x is = none_there (ByTransfer at x) is
-  taken_lies (suc n) at x is = starts_in t e (at, TakesOver x)
-      (each_at (OfLanding (StepIn t e)) (history t e).landings n (ByTransfer at x) (states_in t e) is)
+  at_settled : (at : ℕ) (P : Placed → Access → Type 0) → AtSettledAccess t e at P → LiesIn t e at
+  at_settled at P place = subst (LiesIn t e) place.holds.holds.0
+      (access_of t laid.parts e place.item.offset place.item.attempt
+      (at_place (λ (p : Placed). IsStepOf t e p.offset (Attempts p.attempt)) (settled (history t e)) place.before
+      place.item place.rest place.is (laid.each_settled e))
+      place.holds.before place.holds.item place.holds.rest place.holds.is)
 
-  module _ (law : FatesAreAsItEnds t e) where
-    at_settled : (at : ℕ) (P : Placed → Access → Type 0) → AtSettledAccess t e at P → LiesIn t e at
-    at_settled at P place = subst (LiesIn t e) place.holds.holds.0 (access_in t e place.item.offset place.item.attempt
-        (at_place (λ (p : Placed). StepIn t e (p.offset, Attempts p.attempt)) (settled (history t e)) place.before
-        place.item place.rest place.is (settled_in t e law))
-        place.holds.before place.holds.item place.holds.rest place.holds.is)
+  -- where an attempt that was committed stands
+  committed_lies : (n : ℕ) (p : Placed) → committed_at t e n ≡ Some p → LiesIn t e p.offset
+  committed_lies n p at = step_of t laid.parts e p.offset (Attempts p.attempt) (laid.committed e n p at)
 
-    -- where an attempt that was committed stands
-    committed_lies : (n : ℕ) (p : Placed) → committed_at t e n ≡ Some p → LiesIn t e p.offset
-    committed_lies zero p at = none_there p at
-    committed_lies (suc n) p at = starts_in t e (p.offset, Attempts p.attempt)
-        (each_committed (λ q. StepIn t e (q.offset, Attempts q.attempt)) (history t e).landings n p
-        (committed_in t e law) at)
+  pub record_lies : (c : Code) (at : ℕ) → StandsInRecords c t e at → LiesIn t e at
+  record_lies code.Record at stands = at_settled at (λ p x. ¬ Fits (names_of t) (executed_by t p.attempt x)) stands
+  record_lies c at stands = absurd stands
 
-    pub record_lies : (c : Code) (at : ℕ) → StandsInRecords c t e at → LiesIn t e at
-    record_lies code.Record at stands = at_settled at (λ p x. ¬ Fits (names_of t) (executed_by t p.attempt x)) stands
-    record_lies c at stands = absurd stands
+  pub chain_lies : (c : Code) (at : ℕ) → StandsInChains c t e at → LiesIn t e at
+  chain_lies code.Version at stands =
+      at_settled at (λ p x. SomePlace x.entries (λ _ y. y.version ≢ (visible_to t p x.index y.row).version)) stands
+  chain_lies code.Value at stands =
+      at_settled at (λ p x. SomePlace x.entries (λ _ y. y.seen ≢ (visible_to t p x.index y.row).value)) stands
+  chain_lies c at stands = absurd stands
 
-    pub chain_lies : (c : Code) (at : ℕ) → StandsInChains c t e at → LiesIn t e at
-    chain_lies code.Version at stands =
-        at_settled at (λ p x. SomePlace x.entries (λ _ y. y.version ≢ (visible_to t p x.index y.row).version)) stands
-    chain_lies code.Value at stands =
-        at_settled at (λ p x. SomePlace x.entries (λ _ y. y.seen ≢ (visible_to t p x.index y.row).value)) stands
-    chain_lies c at stands = absurd stands
+  pub token_lies : (c : Code) (at : ℕ) → StandsInTokens c t e at → LiesIn t e at
+  token_lies code.Token at stands =
+      subst (LiesIn t e) stands.offset (committed_lies stands.n stands.item stands.is)
+  token_lies c at stands = absurd stands
 
-    pub token_lies : (c : Code) (at : ℕ) → StandsInTokens c t e at → LiesIn t e at
-    token_lies code.Token at stands =
-        subst (LiesIn t e) stands.offset (committed_lies stands.n stands.item stands.is)
-    token_lies c at stands = absurd stands
-
-    pub outcome_lies : (c : Code) (at : ℕ) → StandsInAgreement c t e at → LiesIn t e at
-    outcome_lies code.Outcome at stands =
-        subst (LiesIn t e) stands.offset (committed_lies stands.n stands.item stands.is)
-    outcome_lies code.TransferBalances at stands = taken_lies stands.n at stands.state stands.is
-    outcome_lies c at stands = absurd stands
+  pub outcome_lies : (c : Code) (at : ℕ) → StandsInAgreement c t e at → LiesIn t e at
+  outcome_lies code.Outcome at stands =
+      subst (LiesIn t e) stands.offset (committed_lies stands.n stands.item stands.is)
+  outcome_lies code.TransferBalances at stands =
+      step_of t laid.parts e at (TakesOver stands.state) (laid.taken_over e stands.n at stands.state stands.is)
+  outcome_lies c at stands = absurd stands
 
 -- whether the faults of a phase lie in sections
 abbrev pub is_inside : ℕ → Bool
@@ -139,20 +129,20 @@ pub data IsPlaced (bytes : List ℕ) (f : Fault) : Type 0 where
   inside : (t : Trace) (e : ℕ) → Spells bytes t → f.replica ≡ Some e → LiesIn t e f.offset → is_inside (phase_of f.code)
       ≡ true → IsPlaced bytes f
 
-module _ (laws : (t : Trace) (e : ℕ) → FatesAreAsItEnds t e) (bytes : List ℕ) (f : Fault) where
+module _ (laid : (t : Trace) → IsLaidOut t) (bytes : List ℕ) (f : Fault) where
   own_placed : (t : Trace) (e : ℕ) → Spells bytes t → IsOwnFault t e f → IsPlaced bytes f
-  own_placed t e spells (of_structure is) = inside t e spells is.inside (structure_lies t e f.code f.offset is.stands)
+  own_placed t e spells (of_structure is) = inside t e spells is.inside (structure_lies t (laid t) e f.code f.offset is.stands)
       (ap is_inside (structure_phase t e f is))
   own_placed t e spells (of_records is) =
-      inside t e spells is.inside (record_lies t e (laws t e) f.code f.offset is.stands)
+      inside t e spells is.inside (record_lies t (laid t) e f.code f.offset is.stands)
       (ap is_inside (record_phase t e f is))
   own_placed t e spells (of_chains is) =
-      inside t e spells is.inside (chain_lies t e (laws t e) f.code f.offset is.stands)
+      inside t e spells is.inside (chain_lies t (laid t) e f.code f.offset is.stands)
       (ap is_inside (chain_phase t e f is))
-  own_placed t e spells (of_restores is) = inside t e spells is.inside (restore_lies t e f.code f.offset is.stands)
+  own_placed t e spells (of_restores is) = inside t e spells is.inside (restore_lies t (laid t) e f.code f.offset is.stands)
       (ap is_inside (restore_phase t e f is))
   own_placed t e spells (of_tokens is) =
-      inside t e spells is.inside (token_lies t e (laws t e) f.code f.offset is.stands)
+      inside t e spells is.inside (token_lies t (laid t) e f.code f.offset is.stands)
       (ap is_inside (token_phase t e f is))
 
   trace_placed : (t : Trace) → Spells bytes t → IsTraceFault t f → IsPlaced bytes f
@@ -160,9 +150,9 @@ module _ (laws : (t : Trace) (e : ℕ) → FatesAreAsItEnds t e) (bytes : List �
   trace_placed t spells (in_section below) = own_placed t below.0 spells below.2
   trace_placed t spells (in_common (of_votes is)) = outside is.outside (ap is_inside (vote_phase t f is))
   trace_placed t spells (in_common (of_majorities is)) = inside t is.0 spells is.1.inside
-      (majority_lies t is.0 f.code f.offset is.1.stands) (ap is_inside (majority_phase t f is))
+      (majority_lies t (laid t) is.0 f.code f.offset is.1.stands) (ap is_inside (majority_phase t f is))
   trace_placed t spells (in_common (of_agreement is)) = inside t is.0 spells is.1.inside
-      (outcome_lies t is.0 (laws t is.0) f.code f.offset is.1.stands) (ap is_inside (outcome_phase t f is))
+      (outcome_lies t (laid t) is.0 f.code f.offset is.1.stands) (ap is_inside (outcome_phase t f is))
   trace_placed t spells (in_common (of_replies is)) = outside is.outside (ap is_inside (reply_phase t f is))
 
   pub placed : Stands bytes f → IsPlaced bytes f

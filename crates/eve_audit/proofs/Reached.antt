@@ -5,12 +5,13 @@ use Rattle.std.specs.Prelude.{IsTrue, cond}
 use Rattle.std.specs.List.{AllByRecursion, find, enumerate_from}
 use Rattle.std.specs.Option.{is_some}
 use Rattle.std.proofs.lemmas.Bool.{cases_lt, false≢true}
+use Rattle.std.proofs.lemmas.List.{get_or_past}
 use Rattle.std.proofs.lemmas.Option.{none-some, same_Some}
 use Rattle.eve_grammar.specs.Trace.{Transfer, Trace}
+use Rattle.eve_grammar.specs.Frames.{OfReplica}
+use Rattle.eve_grammar.specs.Spelling.{frame_text, located, step_text, section_start, steps_at}
 use Rattle.eve_history.specs.Section.{Placed, Landing, ByAttempt, ByTransfer, Skipped, SectionState, start, state_after}
-use Rattle.eve_history.specs.Section.{attempts_by}
 use Rattle.eve_history.specs.SectionHistory.{history, landing_at, attempt_by, committed_at, is_landing, is_reached}
-use Rattle.eve_history.proofs.Rights.{none_at}
 use Rattle.eve_agree.specs.Agreement.{first_to_commit}
 
 -- ---- options and lists
@@ -28,17 +29,6 @@ pub each_at : {A : Type 0} (P : A → Type 0) (xs : List A) (k : ℕ) (x : A) �
 each_at P [] k x all at = none_there x at
 each_at P (y ∷ xs) zero x all at = subst P (same_Some y x at) all.0
 each_at P (y ∷ xs) (suc k) x all at = each_at P xs k x all.1 at
-
--- and of the attempts by which numbers were reached at each number
-pub each_committed : (P : Placed → Type 0) (ls : List Landing) (k : ℕ) (p : Placed) → AllByRecursion P (attempts_by ls)
-    → attempt_by (slice_get ls k) ≡ Some p → P p
-each_committed P [] k p all at = none_there p at
-each_committed P (ByAttempt q ∷ ls) zero p all at = subst P (same_Some q p at) all.0
-each_committed P (ByTransfer from x ∷ ls) zero p all at = none_there p at
-each_committed P (Skipped ∷ ls) zero p all at = none_there p at
-each_committed P (ByAttempt q ∷ ls) (suc k) p all at = each_committed P ls k p all.1 at
-each_committed P (ByTransfer from x ∷ ls) (suc k) p all at = each_committed P ls k p all at
-each_committed P (Skipped ∷ ls) (suc k) p all at = each_committed P ls k p all at
 
 -- ---- by an attempt or by a state
 
@@ -63,9 +53,14 @@ reached_by t e n reached = by (landing_at t e (suc n)) refl reached
 
 -- ---- beyond the last replica there are no steps
 
+pub no_steps : (t : Trace) (e : ℕ) → length t.sections ≤ e → steps_at t e ≡ []
+unfolding steps_at
+no_steps t e le = ap (located step_text (section_start t e + length (frame_text (OfReplica e))))
+    (get_or_past t.sections e [] le)
+
 pub state_of_none : (t : Trace) (e : ℕ) → length t.sections ≤ e → history t e ≡ start
 unfolding history
-state_of_none t e le = ap (state_after start) (none_at t e le)
+state_of_none t e le = ap (state_after start) (no_steps t e le)
 
 pub committed_there : (t : Trace) (e n : ℕ) (p : Placed) → committed_at t e n ≡ Some p → e < length t.sections
 committed_there t e zero p at = none_there p at

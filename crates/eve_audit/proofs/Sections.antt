@@ -1,19 +1,21 @@
--- In which section an offset lies, and how a section ends.
-use Rattle.std.specs.Prelude.{◌≡◌, ℕ, ◌+◌, ◌<◌, ◌≤◌, map}
-use Rattle.eve_grammar.specs.Trace.{Trace}
-use Rattle.eve_grammar.specs.Spelling.{section_start, steps_at}
-use Rattle.eve_history.specs.Section.{attempts_by}
-use Rattle.eve_history.specs.SectionHistory.{history, placed_at, picked, is_committed, is_discarded, attempts_among}
-use Rattle.eve_history.specs.Fates.{fates_from}
+-- In which section an offset lies, and how a trace is laid out.
+use Rattle.std.specs.Prelude.{◌≡◌, ℕ, ◌+◌, ◌<◌, ◌≤◌, Some}
+use Rattle.std.specs.List.{AllByRecursion}
+use Rattle.eve_grammar.specs.Trace.{Transfer, Attempts, TakesOver, Trace}
+use Rattle.eve_grammar.specs.Spelling.{section_start}
+use Rattle.eve_views.specs.Standing.{StandInOrder}
+use Rattle.eve_history.specs.Section.{Placed, ByTransfer, settled}
+use Rattle.eve_history.specs.SectionHistory.{history, landing_at, committed_at}
+use Rattle.eve_history.specs.AmongSteps.{IsStepOf}
 
 -- the offset lies in the section of replica e
 abbrev pub LiesIn : Trace → ℕ → ℕ → Type 0
 LiesIn t e at = (section_start t e ≤ at) × (at < section_start t (e + 1))
 
--- what a section has committed and discarded in the end are its attempts with that fate
-abbrev pub FatesAreAsItEnds : Trace → ℕ → Type 0
-FatesAreAsItEnds t e =
-    (map placed_at (attempts_by (history t e).landings) ≡ picked is_committed (attempts_among (steps_at t e))
-    (fates_from 0 (steps_at t e)))
-    × (map placed_at (history t e).discarded ≡ picked is_discarded (attempts_among (steps_at t e))
-    (fates_from 0 (steps_at t e)))
+-- what the laws say of where the parts of a trace stand, and which of its steps its sections came to
+pub record IsLaidOut (t : Trace) : Type 0 where
+  pub parts : StandInOrder t
+  pub committed : (e n : ℕ) (p : Placed) → committed_at t e n ≡ Some p → IsStepOf t e p.offset (Attempts p.attempt)
+  pub each_settled : (e : ℕ) → AllByRecursion (λ p. IsStepOf t e p.offset (Attempts p.attempt)) (settled (history t e))
+  pub taken_over : (e n at : ℕ) (x : Transfer) → landing_at t e n ≡ Some (ByTransfer at x)
+      → IsStepOf t e at (TakesOver x)

@@ -1,13 +1,13 @@
 -- What a yes says follows from what the phases find.
 use Rattle.std.proofs.Common.{◌≡◌, ℕ, zero, suc, ◌-◌, length, map, slice_get, Some, subst, arith}
 use Rattle.std.specs.Prelude.{IsTrue, AllPairs, ◌≢◌}
-use Rattle.eve_grammar.specs.Trace.{Transfer, Sent, TakesOver, Trace}
+use Rattle.eve_grammar.specs.Trace.{Transfer, Sent, TakesOver, Trace, head_of}
+use Rattle.eve_grammar.specs.Limits.{HasHeadLimits}
 use Rattle.eve_grammar.specs.Spelling.{steps_at}
 use Rattle.eve_grammar.specs.Certificate.{keeps_groups}
 use Rattle.eve_history.specs.Section.{Placed, ByTransfer, batch_at}
 use Rattle.eve_history.specs.SectionHistory.{landing_at, committed_at, is_reached, ByAttemptsTo}
 use Rattle.eve_votes.specs.Votes.{IsDecided}
-use Rattle.eve_votes.proofs.Deciding.{quorum_limits}
 use Rattle.eve_chains.specs.Visible.{execution, executions}
 use Rattle.eve_chains.specs.Committed.{opening_bank, bank_after, balances_to, committed_to, Leads}
 use Rattle.eve_chains.specs.Committed.{IsSerialBetween, committed_request_ids}
@@ -39,6 +39,7 @@ module _ (t : Trace) (accepted : IsAccepted t) where
 
   -- what the laws of the crates below say of a trace that is accepted
   pub record Laws : Type 0 where
+    pub head : HasHeadLimits (head_of t)
     pub numbers : (e n : ℕ) (p : Placed) → committed_at t e n ≡ Some p → p.attempt.seq ≡ n
     pub before : (e n : ℕ) (p : Placed) → committed_at t e (suc n) ≡ Some p → IsTrue (is_reached t e n)
     pub lands : (e k at : ℕ) (x : Transfer) → slice_get (steps_at t e) k ≡ Some (at, TakesOver x)
@@ -84,7 +85,7 @@ module _ (t : Trace) (accepted : IsAccepted t) where
       restored = laws.restored;
       once = laws.once;
       replied = reply_given;
-      majority = (quorum_limits t accepted.limits).1;
+      majority = laws.head.majority;
       decided = attempt_decided;
       commits = λ e k at c found. commit_backed t (steps_at t e) k at c (accepted.backed e) found;
       rollbacks = λ e k at r found. rollback_backed t (steps_at t e) k at r (accepted.backed e) found;

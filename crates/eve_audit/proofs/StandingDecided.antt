@@ -4,13 +4,15 @@ use Rattle.std.proofs.Common.{Option, Some, None, IfSome, refl, sym, ap, subst, 
 use Rattle.std.specs.Prelude.{IsTrue, IsFalse, Contains, slice_index_or, Bool}
 use Rattle.std.specs.List.{list_any}
 use Rattle.std.proofs.lemmas.Bool.{cases_Bool, cases_lt, false≢true}
+use Rattle.std.proofs.lemmas.List.{get_or_past}
 use Rattle.std.proofs.lemmas.Option.{same_Some, slice_get_within}
 use Rattle.eve_smallbank.specs.Access.{Executed, Fits}
 use Rattle.eve_grammar.specs.Trace.{ForRollback, ForCommit, Vote, Access, Attempt, Commit, Rollback, Transfer, Step}
 use Rattle.eve_grammar.specs.Trace.{Attempts, Commits, RollsBack, TakesOver, Trace}
 use Rattle.eve_grammar.specs.Accesses.{is_right_place}
-use Rattle.eve_grammar.specs.Limits.{HasLimits}
-use Rattle.eve_grammar.specs.Spelling.{customers_at, batches_at, steps_at, accesses_at, votes_at, sent_at}
+use Rattle.eve_grammar.specs.Frames.{OfVote, OfVerifier}
+use Rattle.eve_grammar.specs.Spelling.{frame_text, located, verifier_start, customers_at, batches_at, steps_at}
+use Rattle.eve_grammar.specs.Spelling.{accesses_at, votes_at, sent_at}
 use Rattle.eve_views.specs.Form.{SomePlace}
 use Rattle.eve_views.specs.declared.fault.Code.{Code}
 use Rattle.eve_views.specs.declared.fault.Code.TheVariants as code
@@ -20,7 +22,6 @@ use Rattle.eve_history.specs.Section.{is_right_rollback, is_right_transfer, are_
 use Rattle.eve_history.specs.SectionHistory.{history, landing_at, attempt_by, committed_at, names_of}
 use Rattle.eve_history.specs.Order.{request_ids_at, StandsInOrders}
 use Rattle.eve_history.specs.Structure.{accesses_of, OfAttempt, OfCommit, OfRollback, OfTransfer, StandsInStructure}
-use Rattle.eve_history.proofs.Places.{place_here, place_later, place_cases, no_place}
 use Rattle.eve_chains.specs.Visible.{executed_by, visible_to}
 use Rattle.eve_chains.specs.Faults.{AtSettledAccess, StandsInRecords, StandsInChains}
 use Rattle.eve_agree.specs.Tables.{are_right_restores}
@@ -28,14 +29,14 @@ use Rattle.eve_agree.specs.Restores.{StandsInRestores}
 use Rattle.eve_agree.specs.DueTokens.{due_token, StandsInTokens}
 use Rattle.eve_votes.specs.Votes.{is_vote_on, IsDecided, backers}
 use Rattle.eve_votes.specs.Faults.{HasTwoDecisions, StandsInVotes, IsFurther}
-use Rattle.eve_votes.proofs.Casting.{none_behind}
 use Rattle.eve_agree.specs.Majority.{StandsInMajorities}
 use Rattle.eve_agree.specs.Agreement.{first_to_commit, HaveSameOutcome, HasBalancesOfFirst, StandsInAgreement}
 use Rattle.eve_agree.specs.ByNumber.{SomeCommitted, SomeTakenOver}
 use Rattle.eve_agree.specs.SentReplies.{StandsInReplies}
+use Rattle.eve_audit.proofs.Places.{place_here, place_later, place_cases, no_place}
 use Rattle.eve_audit.proofs.Deciding.{Decided, HasEquality, decided_both, decided_not, decided_as, some_if}
 use Rattle.eve_audit.proofs.Deciding.{below_or_none, numbers, integers, lists, pairs}
-use Rattle.eve_audit.proofs.DecidedVotes.{enough, vote, AtVote, at_vote, IsFor, is_for, voted, some_decided}
+use Rattle.eve_audit.proofs.DecidedVotes.{HaveVotes, enough, vote, AtVote, at_vote, IsFor, is_for, voted, some_decided}
 use Rattle.eve_audit.proofs.Reached.{none_there, landed_by}
 use Rattle.eve_audit.proofs.UnfaultedTogether.{same_outcome, balances_of_first, replied}
 
@@ -166,12 +167,12 @@ module _ (t : Trace) where
       let clash = also.2.2 in
       (w.view, x.view, clash.1.0.0, clash.1.1.0, clash.0, clash.1.0.2, clash.1.1.2)
 
-  module _ (limits : HasLimits t) where
+  module _ (votes : HaveVotes t) where
     clash_of : (n : ℕ) → HasTwoDecisions t n → AtVote t (λ w. AtVote t (Clash n w))
     unfolding Clash IsFor
     clash_of n two =
-        voted t limits (λ w. AtVote t (Clash n w)) n two.0 two.2 two.5 (λ w in_view commit.
-        voted t limits (Clash n w) n two.1 two.3 two.6 (λ x in_other also. (
+        voted t votes (λ w. AtVote t (Clash n w)) n two.0 two.2 two.5 (λ w in_view commit.
+        voted t votes (Clash n w) n two.1 two.3 two.6 (λ x in_other also. (
           (λ same. two.4 (sym in_view ∙ same ∙ in_other)),
           (
             (two.2, commit, subst (λ (v : ℕ). IsDecided t n v two.2) (sym in_view) two.5),
@@ -189,6 +190,15 @@ module _ (t : Trace) where
 
 -- ---- phase by phase
 
+-- after the last verifier there are no votes
+none_behind : (t : Trace) (v : ℕ) (P : List (ℕ × Vote) → ℕ × Vote → Type 0) → length t.verifiers ≤ v
+    → SomePlace (votes_at t v) P → ⊥
+unfolding votes_at
+none_behind t v P past place =
+    no_place P (subst (λ (ws : List Vote). SomePlace
+    (located (λ w. frame_text (OfVote w)) (verifier_start t v + length (frame_text (OfVerifier v))) ws) P)
+    (get_or_past t.verifiers v [] past) place)
+
 module _ (t : Trace) (at : ℕ) where
   pub orders_decided : (c : Code) → Decided (StandsInOrders c t at)
   orders_decided code.SameName =
@@ -200,8 +210,8 @@ module _ (t : Trace) (at : ℕ) where
       (batches_at t)
   orders_decided c = inr (λ stands. absurd stands)
 
-  pub votes_decided : HasLimits t → (c : Code) → Decided (StandsInVotes c t at)
-  votes_decided limits code.TwoVotes =
+  pub votes_decided : HaveVotes t → (c : Code) → Decided (StandsInVotes c t at)
+  votes_decided votes code.TwoVotes =
       decided_as (λ found. (found.0, found.2))
       (λ further. (further.0, there further.0 further.1 (cases_lt further.0 (length t.verifiers)), further.1))
       (below_or_none (λ v. SomePlace (votes_at t v) (λ before w. (w.0 ≡ at) × IsFurther before w))
@@ -212,10 +222,10 @@ module _ (t : Trace) (at : ℕ) where
           → (v < length t.verifiers) ⊎ (length t.verifiers ≤ v)
           → v < length t.verifiers
       there v further (inl lt) = lt
-      there v further (inr le) = absurd (none_behind t v at le further)
-  votes_decided limits code.TwoDecisions =
-      place_decided _ (λ _ b. decided_both (numbers b.0 at) (two_decided t limits b.1.0)) (batches_at t)
-  votes_decided limits c = inr (λ stands. absurd stands)
+      there v further (inr le) = absurd (none_behind t v _ le further)
+  votes_decided votes code.TwoDecisions =
+      place_decided _ (λ _ b. decided_both (numbers b.0 at) (two_decided t votes b.1.0)) (batches_at t)
+  votes_decided votes c = inr (λ stands. absurd stands)
 
   pub replies_decided : (c : Code) → Decided (StandsInReplies c t at)
   replies_decided code.Reply = place_decided _ (λ _ s. decided_both (numbers s.0 at) (decided_not (replied t s.1)))
@@ -341,21 +351,21 @@ module _ (t : Trace) (at : ℕ) where
         (λ n p. decided_not (lists numbers p.attempt.token (due_token t e p)))
     tokens_decided c = inr (λ stands. absurd stands)
 
-    pub majorities_decided : HasLimits t → (c : Code) → Decided (StandsInMajorities c t e at)
-    majorities_decided limits code.NoMajority =
+    pub majorities_decided : HaveVotes t → (c : Code) → Decided (StandsInMajorities c t e at)
+    majorities_decided votes code.NoMajority =
         place_decided _ (λ _ step. decided_both (numbers step.0 at)
         (of_commit step.1 _ (λ c. decided_not (enough t.head.quorum (backers t c.seq c.view (ForCommit c.token))))))
         (steps_at t e)
-    majorities_decided limits code.RollbackNoMajority =
+    majorities_decided votes code.RollbackNoMajority =
         place_decided _ (λ _ step. decided_both (numbers step.0 at)
         (of_rollback step.1 _ (λ r. decided_not
         (enough t.head.quorum (backers t (r.to + 1) (r.view - 1) ForRollback)))))
         (steps_at t e)
-    majorities_decided limits code.TransferNoMajority =
+    majorities_decided votes code.TransferNoMajority =
         place_decided _ (λ _ step. decided_both (numbers step.0 at)
-        (of_transfer step.1 _ (λ x. decided_not (some_decided t limits x.seq x.view))))
+        (of_transfer step.1 _ (λ x. decided_not (some_decided t votes x.seq x.view))))
         (steps_at t e)
-    majorities_decided limits c = inr (λ stands. absurd stands)
+    majorities_decided votes c = inr (λ stands. absurd stands)
 
     pub agreement_decided : (c : Code) → Decided (StandsInAgreement c t e at)
     agreement_decided code.Outcome =

@@ -1,19 +1,16 @@
 -- Where no phase finds a fault, all is as it must be, replica by replica.
-use Rattle.std.proofs.Common.{◌≡◌, ℕ, List, [], ◌∷◌, ◌++◌, Option, Some, None, inl, inr, refl, sym, ap, subst, ◌∙◌}
+use Rattle.std.proofs.Common.{◌≡◌, ℕ, List, [], ◌∷◌, ◌++◌, Some, inl, inr, refl, sym, ap, subst, ◌∙◌}
 use Rattle.std.proofs.Common.{append_assoc}
 use Rattle.std.specs.List.{AllByRecursion}
 use Rattle.std.specs.Prelude.{IsTrue}
 use Rattle.std.proofs.lemmas.Bool.{cases_Bool, and_from}
+use Rattle.std.proofs.lemmas.List.Sums.{fold-append}
 use Rattle.eve_smallbank.specs.Access.{Executed, Fits}
 use Rattle.eve_grammar.specs.Trace.{Access, Step, Attempts, Commits, RollsBack, TakesOver, Trace}
 use Rattle.eve_grammar.specs.Spelling.{steps_at}
 use Rattle.eve_views.specs.declared.fault.Code.TheVariants as code
-use Rattle.eve_history.specs.declared.wrong.Wrong.{Wrong}
-use Rattle.eve_history.specs.FirstWrong.{first_wrong, fault_of}
 use Rattle.eve_history.specs.Section.{Placed, SectionState, start, next, state_after, settled}
-use Rattle.eve_history.specs.SectionHistory.{history, names_of, IsRightSection}
-use Rattle.eve_history.proofs.StructureLaws.{state_after-append, right_steps, found_is_least}
-use Rattle.eve_history.specs.Structure.{StandsInStructure}
+use Rattle.eve_history.specs.SectionHistory.{history, names_of}
 use Rattle.eve_chains.specs.Visible.{executed_by}
 use Rattle.eve_chains.specs.Sound.{OfSettledAccesses, RecordsFit}
 use Rattle.eve_agree.specs.Tables.{are_right_restores, all_restore_rightly, RestoresAreRight}
@@ -23,15 +20,6 @@ use Rattle.eve_views.specs.Form.{HasNone, IsFaultIn}
 use Rattle.eve_audit.proofs.Deciding.{Decided, stable, numbers, lists}
 
 module _ (t : Trace) (e : ℕ) where
-  -- ---- structure
-
-  pub right_section : HasNone (IsFaultIn StandsInStructure t e) → IsRightSection t e
-  right_section none = by (first_wrong t start (steps_at t e)) refl
-    where
-      by : (o : Option Wrong) → first_wrong t start (steps_at t e) ≡ o → IsRightSection t e
-      by None is = right_steps t start (steps_at t e) is
-      by (Some w) is = absurd (none (fault_of e w) (found_is_least t e w is).is)
-
   -- ---- records
 
   module _ (decided : (names : List (List ℕ)) (x : Executed) → Decided (Fits names x)) where
@@ -55,7 +43,7 @@ module _ (t : Trace) (e : ℕ) where
 
   state_push : (before : List (ℕ × Step)) (step : ℕ × Step) → state_after start (before ++ step ∷ [])
       ≡ next (state_after start before) step
-  state_push before step = state_after-append start before (step ∷ [])
+  state_push before step = fold-append next start before (step ∷ [])
 
   module _ (none : HasNone (IsFaultIn StandsInRestores t e)) where
     restores_along : (before rest : List (ℕ × Step)) → steps_at t e ≡ before ++ rest

@@ -1,29 +1,20 @@
 -- Where no phase finds a fault, all is as it must be, of all replicas together.
-use Rattle.std.proofs.Common.{◌≡◌, ℕ, ◌+◌, ◌-◌, ◌<◌, ◌≤◌, inl, inr, List, [], ◌∷◌, ◌++◌, length, Option, Some, None}
-use Rattle.std.proofs.Common.{IfSome, slice_get, get_or, refl, sym, ap, subst, ◌∙◌, arith, option_map, map}
-use Rattle.std.specs.List.{AllByRecursion, All, list_all}
-use Rattle.std.specs.Prelude.{IsTrue}
-use Rattle.std.proofs.lemmas.Bool.{cases_eq}
-use Rattle.std.proofs.lemmas.Option.{slice_get-get_or, slice_get_within, same_Some, slice_get-map}
+use Rattle.std.proofs.Common.{◌≡◌, ℕ, ◌+◌, ◌-◌, ◌<◌, inl, inr, List, [], ◌∷◌, ◌++◌, length, Option, Some, None}
+use Rattle.std.proofs.Common.{IfSome, slice_get, refl, sym, ap, subst, ◌∙◌, arith, option_map, map}
+use Rattle.std.specs.List.{AllByRecursion}
+use Rattle.std.proofs.lemmas.Option.{slice_get_within, same_Some, slice_get-map}
 use Rattle.std.proofs.lemmas.List.{length-map}
-use Rattle.eve_grammar.specs.Trace.{ForRollback, ForCommit, Asked, Sent, Transfer, Batch, Step, Attempts, Commits}
+use Rattle.eve_grammar.specs.Trace.{ForRollback, ForCommit, Asked, Sent, Transfer, Step, Attempts, Commits}
 use Rattle.eve_grammar.specs.Trace.{RollsBack, TakesOver, Trace, request_id}
 use Rattle.eve_grammar.specs.Frames.{OfSent}
-use Rattle.eve_grammar.specs.Spelling.{frame_text, located, batches_at, sent_start, sent_at, steps_at, votes_of}
-use Rattle.eve_grammar.specs.Limits.{HasLimits, is_vote}
-use Rattle.eve_grammar.proofs.Grouping.{all_at}
+use Rattle.eve_grammar.specs.Spelling.{frame_text, located, sent_start, sent_at, steps_at}
 use Rattle.eve_views.specs.Form.{HasNone, IsFaultSomewhere, IsFaultOutside}
 use Rattle.eve_views.specs.declared.fault.Code.TheVariants as code
 use Rattle.eve_views.specs.declared.fault.Fault.{Fault}
-use Rattle.eve_history.specs.Section.{Placed, ByTransfer, no_batch, batch_at}
+use Rattle.eve_history.specs.Section.{Placed, ByTransfer, batch_at}
 use Rattle.eve_history.specs.SectionHistory.{landing_at, committed_at}
-use Rattle.eve_history.proofs.OrderLaws.{batch_count}
 use Rattle.eve_chains.specs.Committed.{balances_to}
-use Rattle.eve_votes.specs.Votes.{IsDecided, backers}
-use Rattle.eve_votes.specs.Faults.{HasTwoDecisions, AreVotesSound, StandsInVotes}
-use Rattle.eve_votes.proofs.Counting.{decided_backs, one_token}
-use Rattle.eve_votes.proofs.Deciding.{IsRight, right_vote, quorum_limits, decisions_stand}
-use Rattle.eve_votes.proofs.Tallying.{votes_once}
+use Rattle.eve_votes.specs.Votes.{backers}
 use Rattle.eve_agree.specs.Majority.{IsBacked, AllAreBacked, StandsInMajorities}
 use Rattle.eve_agree.specs.Agreement.{first_to_commit, HaveSameOutcome, HasBalancesOfFirst, ReplicasAgree}
 use Rattle.eve_agree.specs.Agreement.{StandsInAgreement}
@@ -31,65 +22,17 @@ use Rattle.eve_agree.specs.SentReplies.{IsReplied, AllReplied, StandsInReplies}
 use Rattle.eve_audit.proofs.Deciding.{Decided, decided_both, decided_as, all_or_place, all_if_none, below_or_none}
 use Rattle.eve_audit.proofs.Deciding.{numbers, integers}
 use Rattle.eve_audit.proofs.Deciding.{lists, options, replies}
-use Rattle.eve_audit.proofs.DecidedVotes.{some_quorum, enough, some_decided}
+use Rattle.eve_audit.proofs.DecidedVotes.{HaveVotes, enough, some_decided}
 use Rattle.eve_audit.proofs.Reached.{none_there, some_there}
-
--- ---- votes
-
-votes_right : (t : Trace) → HasLimits t → (v : ℕ) → v + t.head.quorum ≤ length t.verifiers
-    → All (IsRight (length t.batches)) (votes_of t v)
-votes_right t limits v early k d lt =
-    let some = some_quorum t limits in
-    let there : v < length t.verifiers = omega (arith, some, early) in
-    let own : IsTrue (list_all (is_vote (length t.batches)) (votes_of t v)) =
-    all_at (list_all (is_vote (length t.batches))) t.verifiers v (votes_of t v) limits.votes
-    (slice_get-get_or t.verifiers v [] there) in
-    right_vote (length t.batches) (get_or (votes_of t v) k d)
-    (all_at (is_vote (length t.batches)) (votes_of t v) k (get_or (votes_of t v) k d) own
-    (slice_get-get_or (votes_of t v) k d lt))
-
-module _ (t : Trace) (limits : HasLimits t) where
-  module _ (none : HasNone (IsFaultOutside StandsInVotes t)) where
-    one_view : (n view other : ℕ) (token other_token : List ℕ) → IsDecided t n view token
-        → IsDecided t n other other_token → view ≡ other
-    one_view n view other token other_token decided also = elim (cases_eq view other) [
-      | inl same ↦ same
-      | inr apart ↦
-          let back = decided_backs t (IsRight (length t.batches)) n view token (some_quorum t limits)
-          (votes_right t limits) decided in
-          let low : 1 ≤ n = subst (λ (m : ℕ). 1 ≤ m) back.seq back.holds.low in
-          let high : n ≤ length t.batches = subst (λ (m : ℕ). m ≤ length t.batches) back.seq back.holds.high in
-          let there : n - 1 < length (batches_at t) = omega (arith, low, high, batch_count t) in
-          let b : ℕ × (ℕ × Batch) = get_or (batches_at t) (n - 1) (0, (0, no_batch)) in
-          let two : HasTwoDecisions t n =
-          (view, other, token, other_token, apart, decided, also) in
-          absurd (none (record { code = code.TwoDecisions; offset = b.0; replica = None })
-          (record {
-            stands = decisions_stand t n b.0 b.1 low
-                (slice_get-get_or (batches_at t) (n - 1) (0, (0, no_batch)) there) two;
-            outside = refl;
-          }))
-    ]
-
-    pub sound_votes : AreVotesSound t
-    sound_votes = record {
-      once = votes_once t (λ at stands. none (record { code = code.TwoVotes; offset = at; replica = None })
-          (record { stands = stands; outside = refl }));
-      one_view = one_view;
-      one_token = λ n view other token other_token decided also.
-          one_token t n view token other_token (quorum_limits t limits).1 decided
-          (subst (λ (v : ℕ). IsDecided t n v other_token) (sym (one_view n view other token other_token decided also))
-          also);
-    }
 
 -- ---- majorities
 
 module _ (t : Trace) where
-  backed : HasLimits t → (step : Step) → Decided (IsBacked t step)
-  backed limits (Attempts a) = inl tt
-  backed limits (Commits c) = enough t.head.quorum (backers t c.seq c.view (ForCommit c.token))
-  backed limits (RollsBack r) = enough t.head.quorum (backers t (r.to + 1) (r.view - 1) ForRollback)
-  backed limits (TakesOver x) = some_decided t limits x.seq x.view
+  backed : HaveVotes t → (step : Step) → Decided (IsBacked t step)
+  backed votes (Attempts a) = inl tt
+  backed votes (Commits c) = enough t.head.quorum (backers t c.seq c.view (ForCommit c.token))
+  backed votes (RollsBack r) = enough t.head.quorum (backers t (r.to + 1) (r.view - 1) ForRollback)
+  backed votes (TakesOver x) = some_decided t votes x.seq x.view
 
   -- where no majority voted for a step, a fault stands
   unbacked : (e : ℕ) (before : List (ℕ × Step)) (step : ℕ × Step) (rest : List (ℕ × Step))
@@ -127,8 +70,8 @@ module _ (t : Trace) where
     ),
   )
 
-  pub all_backed : HasLimits t → HasNone (IsFaultSomewhere StandsInMajorities t) → AllAreBacked t
-  all_backed limits none e = elim (all_or_place (λ s. IsBacked t s.1) (λ s. backed limits s.1) (steps_at t e)) [
+  pub all_backed : HaveVotes t → HasNone (IsFaultSomewhere StandsInMajorities t) → AllAreBacked t
+  all_backed votes none e = elim (all_or_place (λ s. IsBacked t s.1) (λ s. backed votes s.1) (steps_at t e)) [
     | inl all ↦ all
     | inr place ↦
         let wrong = unbacked e place.before place.item place.rest place.is place.holds in

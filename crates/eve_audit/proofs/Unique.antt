@@ -12,7 +12,7 @@ use Rattle.eve_audit.specs.declared.verdict.Summary.{Summary}
 use Rattle.eve_audit.specs.declared.verdict.Verdict.{Verdict}
 use Rattle.eve_audit.specs.declared.verdict.Verdict.TheVariants.{Yes, No}
 use Rattle.eve_audit.specs.Verdict.{IsFirst, IsSummary, IsVerdict}
-use Rattle.eve_audit.proofs.Sections.{LiesIn, FatesAreAsItEnds}
+use Rattle.eve_audit.proofs.Sections.{LiesIn, IsLaidOut}
 use Rattle.eve_audit.proofs.Where.{one_section}
 use Rattle.eve_audit.proofs.Placed.{is_inside, IsPlaced, outside, inside, placed}
 
@@ -74,7 +74,7 @@ both_ways f g (inr a) (inr b) = by a.1 b.1
     by (inr c) (inl d) = absurd (omega (arith, c.0, d))
     by (inr c) (inr d) = (c.0, one_number f.code g.code (omega (arith, c.1, d.1)))
 
-module _ (laws : (t : Trace) (e : ℕ) → FatesAreAsItEnds t e) (spelled_once : (bytes : List ℕ) (t u : Trace)
+module _ (laid : (t : Trace) → IsLaidOut t) (spelled_once : (bytes : List ℕ) (t u : Trace)
     → Spells bytes t → Spells bytes u → t ≡ u) (bytes : List ℕ) where
   -- and so in one section
   one_replica : (f g : Fault) → f.offset ≡ g.offset → f.code ≡ g.code → IsPlaced bytes f → IsPlaced bytes g → f.replica
@@ -94,14 +94,14 @@ module _ (laws : (t : Trace) (e : ℕ) → FatesAreAsItEnds t e) (spelled_once :
       let own : LiesIn t d f.offset =
       subst (LiesIn t d) (sym at)
       (subst (λ (x : Trace). LiesIn x d g.offset) (spelled_once bytes u t other_spells spells) other_lies) in
-      one ∙ ap (λ (k : ℕ). Some k) (one_section t e d f.offset lies own) ∙ sym other
+      one ∙ ap (λ (k : ℕ). Some k) (one_section t (laid t).parts e d f.offset lies own) ∙ sym other
 
   one_fault : (f g : Fault) → IsFirst bytes f → IsFirst bytes g → f ≡ g
   one_fault f g one other =
       let same = both_ways f g (one.first g other.judged) (other.first f one.judged) in
       joined f g same.0 same.1
-      (one_replica f g same.0 same.1 (placed laws bytes f one.judged.stands)
-      (placed laws bytes g other.judged.stands))
+      (one_replica f g same.0 same.1 (placed laid bytes f one.judged.stands)
+      (placed laid bytes g other.judged.stands))
     where
       joined : (f g : Fault) → f.offset ≡ g.offset → f.code ≡ g.code → f.replica ≡ g.replica → f ≡ g
       joined f g at same replica = ap (λ (x : ℕ). fault f.code x f.replica) at

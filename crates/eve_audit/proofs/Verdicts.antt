@@ -1,11 +1,7 @@
 -- From what is found in the bytes and in their trace to the verdict.
 use Rattle.std.proofs.Common.{◌≡◌, ℕ, ◌<◌, ◌≤◌, inl, inr, List, length, sym, subst, ◌∙◌, arith}
-use Rattle.std.specs.Prelude.{IsTrue}
 use Rattle.eve_grammar.specs.Trace.{Trace}
-use Rattle.eve_grammar.specs.Limits.{is_head}
-use Rattle.eve_grammar.specs.declared.head.Head.{Head}
 use Rattle.eve_grammar.specs.Following.{Spells}
-use Rattle.eve_grammar.proofs.HeadLimits.{head_has_limits}
 use Rattle.eve_views.specs.Code.{phase_of}
 use Rattle.eve_views.specs.Form.{Precedes, IfFound, IsLeast, HasNone, StandsInForm, IsFaultOutside}
 use Rattle.eve_views.specs.declared.fault.CheckFault.{CheckFault}
@@ -74,7 +70,3 @@ summary_is t s replicas batches some found = record {
   least = found.least;
   reached = elim found.reached [ inl none ↦ absurd (omega (arith, some, none.0)) | inr r ↦ r ];
 }
-
--- there is a replica
-pub some_replica : (h : Head) → IsTrue (is_head h) → 1 ≤ h.replicas
-some_replica h right = (head_has_limits h right).some_replicas

@@ -1,23 +1,37 @@
 -- What was found of replicas by themselves. docs/ARCHITECTURE.md, "Threads of an audit".
 use Rattle.std.specs.Prelude.{◌≡◌, ◌<◌, ℕ, List, length, slice_index_or, Result, MatchResult, All}
 use Rattle.eve_grammar.specs.Trace.{Trace}
-use Rattle.eve_views.specs.declared.fault.Fault.{Fault}
+use Rattle.eve_views.specs.Form.{IfFound}
+use Rattle.eve_views.specs.declared.fault.CheckFault.{CheckFault}
 use Rattle.eve_audit.specs.declared.replicas.Report.{Report}
-use Rattle.eve_audit.specs.declared.workers.Finding.{Finding}
+use Rattle.eve_audit.specs.declared.findings.Finding.{Finding}
 use Rattle.eve_audit.specs.declared.workers.Slot.{Slot}
 use Rattle.eve_audit.specs.Verdict.{IsOwnFault}
-use Rattle.eve_audit.specs.Reports.{IsFirstOf, IsReportOf}
+use Rattle.eve_audit.specs.Reports.{IsFirstOf, IsReportOf, IsSettledReportOf}
 
 -- what judging a replica by itself comes to: its report, or the first of its own faults
-abbrev pub IsAnswerOf : Trace → ℕ → Result Report Fault → Type 0
-IsAnswerOf t e answer = MatchResult answer (IsReportOf t e) (IsFirstOf (IsOwnFault t e))
+abbrev pub IsAnswerOf : Trace → ℕ → Result Report CheckFault → Type 0
+IsAnswerOf t e answer = MatchResult answer (IsReportOf t e) (λ why. IfFound why (IsFirstOf (IsOwnFault t e)))
 
-abbrev pub finding : ℕ → Result Report Fault → Finding
+-- the same where its tokens aren't judged yet
+abbrev pub IsSettledAnswerOf : Trace → ℕ → Result Report CheckFault → Type 0
+IsSettledAnswerOf t e answer =
+    MatchResult answer (IsSettledReportOf t e) (λ why. IfFound why (IsFirstOf (IsOwnFault t e)))
+
+abbrev pub finding : ℕ → Result Report CheckFault → Finding
 finding e answer = record { replica = e; answer = answer }
 
 -- each finding is of the replica that it names
-abbrev pub AreTrue : Trace → Slot → Type 0
-AreTrue t slot = All (λ f. IsAnswerOf t f.replica f.answer) slot.findings.items
+abbrev pub AreTrue : Trace → List Finding → Type 0
+AreTrue t = All (λ f. IsAnswerOf t f.replica f.answer)
+
+-- so it is, where tokens aren't judged yet
+abbrev pub AreTrueSoFar : Trace → List Finding → Type 0
+AreTrueSoFar t = All (λ f. IsSettledAnswerOf t f.replica f.answer)
+
+-- and in all workers' slots
+abbrev pub AreAllTrueSoFar : Trace → List Slot → Type 0
+AreAllTrueSoFar t = All (λ slot. AreTrueSoFar t slot.findings.items)
 
 -- each slot has the share of the worker with its number, among this number of workers
 abbrev pub AreDealt : ℕ → List Slot → Type 0

@@ -3,8 +3,11 @@ use Rattle.std.specs.Prelude.{◌≡◌, ℕ, ◌<◌, ◌≤◌, ◌-◌, ◌^�
 use Rattle.eve_grammar.specs.Trace.{Trace}
 use Rattle.eve_grammar.specs.Frames.{sections_of}
 use Rattle.eve_views.specs.declared.fault.Fault.{Fault}
-use Rattle.eve_views.specs.Form.{Precedes, HasNone}
+use Rattle.eve_views.specs.Form.{Precedes, HasNone, IsFaultIn}
 use Rattle.eve_history.specs.SectionHistory.{SectionHistory, section_history, history, IsRightSection}
+use Rattle.eve_history.specs.Structure.{StandsInStructure}
+use Rattle.eve_chains.specs.Faults.{HasNoFault}
+use Rattle.eve_agree.specs.Restores.{StandsInRestores}
 use Rattle.eve_chains.specs.Sound.{SettledAreSound}
 use Rattle.eve_chains.specs.Settling.{Settling, settling}
 use Rattle.eve_agree.specs.Tables.{RestoresAreRight}
@@ -36,6 +39,21 @@ pub record IsReportOf (t : Trace) (e : ℕ) (report : Report) : Type 0 where
   pub settled : report.settled ≡ settling t e
   pub sound : IsSoundReplica t e
   pub none : HasNone (IsOwnFault t e)
+
+-- what holds of a replica that has no fault of its own but for those of tokens, and which faults it hasn't
+pub record IsSoundBeforeTokens (t : Trace) (e : ℕ) : Type 0 where
+  pub right : IsRightSection t e
+  pub sound : SettledAreSound t e
+  pub restores : RestoresAreRight t e
+  pub structure : HasNone (IsFaultIn StandsInStructure t e)
+  pub settled : HasNoFault t e
+  pub rollbacks : HasNone (IsFaultIn StandsInRestores t e)
+
+-- the report of such a replica
+pub record IsSettledReportOf (t : Trace) (e : ℕ) (report : Report) : Type 0 where
+  pub history : report.history ≡ section_history t e
+  pub settled : report.settled ≡ settling t e
+  pub sound : IsSoundBeforeTokens t e
 
 -- a fault that a replica below n has of its own
 abbrev pub IsFaultBelow : Trace → ℕ → Fault → Type 0

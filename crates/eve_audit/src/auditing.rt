@@ -1,6 +1,6 @@
 //! The verdict on a trace, from what its phases find.
 
-ghost use Rattle.std.specs.Prelude.{◌≡◌, ◌≤◌, ℕ, List, IfOk, IfErr, All, length};
+ghost use Rattle.std.specs.Prelude.{◌≡◌, ◌≤◌, ℕ, List, IfOk, IfErr, length};
 ghost use Rattle.eve_grammar.specs.Following.{Spells};
 ghost use Rattle.eve_views.specs.Form.{IfFound, HasNone, IsFaultOutside};
 ghost use Rattle.eve_history.specs.SectionHistory.{names_of, section_histories};
@@ -16,19 +16,22 @@ ghost use Rattle.eve_audit.specs.declared.verdict.Summary.{Summary as SummaryVal
 ghost use Rattle.eve_audit.specs.declared.verdict.Verdict.TheVariants.{Yes, No};
 ghost use Rattle.eve_views.specs.declared.fault.Fault.{Fault};
 
+use crate::findings::{Finding, judge_side_by_side};
 use crate::laws::accepted_traces_are_audited;
 use crate::replicas::{Reports, judge_replicas};
 use crate::verdict::{AcceptedTrace, AuditFault, Summary, Verdict, WholeVerdict};
-use crate::workers::Slot;
 use eve_accounts::Names;
 use eve_agree::{equal_balances, majorities, replies};
 use eve_chains::Settled;
 use eve_chains::laws::requests_take_effect_once;
 use eve_grammar::MOST_AUDIT_WORKERS;
-use eve_grammar::laws::bytes_spell_one_trace;
-use eve_history::laws::{fates_are_as_the_section_ends, faults_lie_within};
+use eve_grammar::laws::{
+    bytes_are_as_long_as_their_trace, bytes_spell_one_trace, right_heads_have_limits,
+};
+use eve_history::laws::{faults_lie_within, outcomes_come_of_steps};
 use eve_history::{History, orders_side_by_side};
 use eve_recorder::Gate;
+use eve_views::laws::parts_stand_in_order;
 use eve_views::{CheckFault, Trace};
 use eve_votes::Tally;
 use std::alloc::{AllocError, Global};
@@ -57,8 +60,10 @@ fn open<'a, R: Threads + Sync>(
     ensures fault { IfErr result (λ why. IfFound why (λ f. IsAnswer bytes.now (No f))) }
 {
     bytes_spell_one_trace();
+    bytes_are_as_long_as_their_trace();
+    parts_stand_in_order();
     faults_lie_within();
-    fates_are_as_the_section_ends();
+    outcomes_come_of_steps();
     let trace = match Trace::read_side_by_side(rt, alloc, bytes, jobs) {
         Ok(trace) => trace,
         Err(why) => return Err(why),
@@ -90,16 +95,16 @@ fn judge_together(
 }
 
 /// A trace whose orders have no fault, with its summary and what each of its sections tells, or its first fault. What
-/// workers have found of the replicas isn't judged again.
+/// was found of the replicas isn't judged again.
 fn judge_trace<'a, R: Threads + Sync>(
     rt: &R,
     alloc: Global,
     opened: Opened<'a>,
-    slots: &mut [Slot<'a>],
+    findings: &mut [Finding<'a>],
 ) -> Result<AcceptedTrace<'a>, CheckFault>
     requires names { opened.names.items ≡ names_of opened.trace }
     requires orders { HasNone (IsFaultOutside StandsInOrders opened.trace) }
-    requires slots { All (AreTrue opened.trace) slots.old }
+    requires findings { AreTrue opened.trace findings.old }
     ensures trace { IfOk result (λ a. a.trace ≡ opened.entry.trace) }
     ensures histories { IfOk result (λ a. a.histories.items ≡ section_histories opened.entry.trace) }
     ensures summary { IfOk result (λ a. IsSummary opened.entry.trace a.summary) }
@@ -109,8 +114,9 @@ fn judge_trace<'a, R: Threads + Sync>(
 {
     let Opened { trace, names } = opened;
     trace.recall_limits();
+    right_heads_have_limits();
     requests_take_effect_once();
-    let found = match judge_replicas(rt, alloc, &trace, &names, slots) {
+    let found = match judge_replicas(rt, alloc, &trace, &names, findings) {
         Ok(found) => found,
         Err(why) => return Err(why),
     };
@@ -140,18 +146,20 @@ fn verdict_on<'a, R: Threads + Sync>(
     rt: &R,
     alloc: Global,
     opened: Opened<'a>,
-    slots: &mut [Slot<'a>],
+    findings: &mut [Finding<'a>],
 ) -> Result<WholeVerdict<'a>, AuditFault>
     requires names { opened.names.items ≡ names_of opened.trace }
     requires orders { HasNone (IsFaultOutside StandsInOrders opened.trace) }
-    requires slots { All (AreTrue opened.trace) slots.old }
+    requires findings { AreTrue opened.trace findings.old }
     ensures { IfOk result (λ w. (bytes : List ℕ) → IsRead bytes opened.entry.trace → IsWholeAnswer bytes w) }
 {
     bytes_spell_one_trace();
+    bytes_are_as_long_as_their_trace();
+    parts_stand_in_order();
     faults_lie_within();
-    fates_are_as_the_section_ends();
+    outcomes_come_of_steps();
     accepted_traces_are_audited();
-    match judge_trace(rt, alloc, opened, slots) {
+    match judge_trace(rt, alloc, opened, findings) {
         Ok(accepted) => Ok(WholeVerdict::Yes(accepted)),
         Err(CheckFault::Found(fault)) => Ok(WholeVerdict::No(fault)),
         Err(CheckFault::Memory) => Err(AuditFault::Memory),
@@ -193,8 +201,10 @@ pub fn audit_one<R: Threads + Sync>(
 ///
 /// - First the caller reads the trace and judges its orders: the bodies of batches, attempts and access records, and
 ///   then the requests' numbers, in up to `workers` threads, which end before a worker begins.
-/// - Then worker e mod `workers` judges replica e by itself, and enters the gate with e first. A batch that came to the
-///   same in a sound replica that it judged before isn't hashed again.
+/// - Then worker e mod `workers` judges replica e by itself, but for its tokens, and enters the gate with e first.
+/// - Of the replicas without a fault so far, the tokens of the one that committed most batches are judged in up to
+///   `workers` threads, or else of the next. Beside it those of the others are judged, side by side: a batch that came
+///   to the same there isn't hashed again.
 /// - At last, once all workers have ended, the caller judges what the replicas come to together.
 ///
 /// At most `workers` threads work at once: with one worker none is started, and a replica has more than one thread
@@ -245,8 +255,8 @@ pub fn audit_whole<'a, R: Threads + Wait + Sync, G: Gate>(
         Err(CheckFault::Memory) => return Err(AuditFault::Memory),
     };
     let (trace, names) = (&opened.trace, &opened.names);
-    match Slot::judge_side_by_side(rt, alloc, trace, names, workers, gate) {
-        Ok(mut slots) => verdict_on(rt, alloc, opened, slots.as_mut_slice()),
+    match judge_side_by_side(rt, alloc, trace, names, workers, gate) {
+        Ok(mut findings) => verdict_on(rt, alloc, opened, findings.as_mut_slice()),
         Err(AllocError) => Err(AuditFault::Memory),
     }
 }

@@ -23,6 +23,7 @@ use eve_chains::laws::{
     committed_orders_keep_the_groups, requests_take_effect_once, serial_order_of_a_section,
     states_are_the_balances,
 };
+use eve_grammar::laws::right_heads_have_limits;
 use eve_history::laws::numbers_are_reached;
 
 /// Bytes have one verdict at most.
@@ -32,7 +33,8 @@ pub fn verdicts_are_unique()
     ensures { (bytes : List ℕ) (v w : Verdict) → IsVerdict bytes v → IsVerdict bytes w → v ≡ w }
 {
     eve_grammar::laws::bytes_spell_one_trace();
-    eve_history::laws::fates_are_as_the_section_ends();
+    eve_views::laws::parts_stand_in_order();
+    eve_history::laws::outcomes_come_of_steps();
 }
 
 /// Every list of bytes has a verdict: so the verdict on bytes is one, and always there.
@@ -43,11 +45,14 @@ pub fn bytes_have_a_verdict()
 {
     eve_grammar::laws::bytes_spell_one_trace();
     eve_grammar::laws::spelled_parts_are_within_limits();
+    eve_grammar::laws::right_heads_have_limits();
     eve_views::laws::form_is_decided();
+    eve_views::laws::parts_stand_in_order();
+    eve_votes::laws::decided_commits_have_a_vote();
     eve_history::laws::faults_lie_within();
-    eve_history::laws::fates_are_as_the_section_ends();
+    eve_history::laws::outcomes_come_of_steps();
     eve_smallbank::laws::requests_fit();
-    eve_smallbank::laws::fitting_records_are_unique();
+    eve_smallbank::laws::fitting_records_are_of_what_they_saw();
 }
 
 /// Each fault that stands lies within the bytes, or at their end: so does each fault that a phase names.
@@ -56,8 +61,10 @@ pub fn bytes_have_a_verdict()
 pub fn standing_faults_lie_within()
     ensures { (bytes : List ℕ) (f : Fault) → Stands bytes f → f.offset ≤ length bytes }
 {
+    eve_grammar::laws::bytes_are_as_long_as_their_trace();
+    eve_views::laws::parts_stand_in_order();
     eve_history::laws::faults_lie_within();
-    eve_history::laws::fates_are_as_the_section_ends();
+    eve_history::laws::outcomes_come_of_steps();
 }
 
 /// Each fault that stands names the replica in whose section it lies, and none where it lies in none: so does each
@@ -69,7 +76,8 @@ pub fn standing_faults_name_their_section()
 {
     eve_grammar::laws::bytes_spell_one_trace();
     eve_views::laws::form_is_decided();
-    eve_history::laws::fates_are_as_the_section_ends();
+    eve_views::laws::parts_stand_in_order();
+    eve_history::laws::outcomes_come_of_steps();
 }
 
 /// Each replica is judged by itself: two traces that agree in the header, the customers, the batches and a replica's
@@ -93,7 +101,10 @@ pub fn a_yes_is_audited()
     eve_grammar::laws::bytes_spell_one_trace();
     eve_grammar::laws::spelled_parts_are_within_limits();
     eve_smallbank::laws::requests_fit();
-    eve_smallbank::laws::fitting_records_are_unique();
+    eve_smallbank::laws::fitting_records_are_of_what_they_saw();
+    eve_votes::laws::votes_without_faults_are_sound();
+    eve_votes::laws::decided_commits_have_a_vote();
+    eve_history::laws::right_sections_have_no_fault();
     eve_chains::laws::requests_take_effect_once();
     eve_chains::laws::faults_tell_what_is_wrong();
     eve_chains::laws::sound_attempts_fit_and_see();
@@ -107,6 +118,7 @@ pub fn a_yes_is_audited()
 pub fn accepted_traces_are_audited()
     ensures { (t : Trace) → IsAccepted t → IsAudited t }
 {
+    right_heads_have_limits();
     numbers_are_reached();
     states_are_the_balances();
     serial_order_of_a_section();

@@ -2,6 +2,7 @@
 #![tactic(auto)]
 
 mod auditing;
+mod findings;
 pub mod laws;
 mod peers;
 mod replicas;

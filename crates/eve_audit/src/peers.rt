@@ -45,7 +45,7 @@ pub fn that_committed_more<'b, 'a>(before: Option<Peer<'b, 'a>>, next: Peer<'b, 
 }
 
 /// How many batches a replica committed.
-fn batches_of(history: &History<'_>) -> u32
+pub fn batches_of(history: &History<'_>) -> u32
     ensures { result ≤ length history.now.landings }
 {
     let mut batches = 0;

@@ -1,6 +1,6 @@
 //! The audit of each replica by itself.
 
-ghost use Rattle.std.specs.Prelude.{◌≡◌, ◌++◌, ◌∷◌, [], ℕ, IfOk, IfErr, IfSome, OnOk, ◌<◌, ◌≤◌, ◌^◌, length, min, All};
+ghost use Rattle.std.specs.Prelude.{◌≡◌, ◌++◌, ◌∷◌, [], ℕ, IfOk, IfErr, OnOk, ◌<◌, ◌≤◌, ◌^◌, length, min};
 ghost use Rattle.eve_views.specs.Form.{IfFound, HasNone, IsFaultIn};
 ghost use Rattle.eve_history.specs.SectionHistory.{names_of, section_history, section_histories};
 ghost use Rattle.eve_history.specs.Structure.{StandsInStructure};
@@ -8,16 +8,19 @@ ghost use Rattle.eve_chains.specs.Settling.{settling, settlings};
 ghost use Rattle.eve_audit.specs.Findings.{AreTrue, IsAnswerOf};
 ghost use Rattle.eve_audit.specs.Peers.{IsSoundPeer};
 ghost use Rattle.eve_audit.specs.Verdict.{IsOwnFault};
-ghost use Rattle.eve_audit.specs.Reports.{IsFirstOf, IsReportOf, IsSoundReplica, IsLeastBelow, IsFaultBelow};
+ghost use Rattle.eve_audit.specs.Reports.{IsFirstOf, IsReportOf, IsSettledReportOf, IsSoundBeforeTokens};
+ghost use Rattle.eve_audit.specs.Reports.{IsSoundReplica, IsLeastBelow, IsFaultBelow};
 
+use crate::findings::Finding;
 use crate::peers::most_committed;
-use crate::workers::Slot;
 use eve_accounts::Names;
 use eve_agree::{Peer, rollbacks, tokens, tokens_beside};
 use eve_chains::{Settled, check};
 use eve_history::History;
+use eve_views::laws::faults_come_one_before_another;
 use eve_views::{CheckFault, Fault, Trace, first_of};
 use std::alloc::{AllocError, Global};
+use std::mem;
 use std::thread::Threads;
 
 /// A replica's report: what it did, and what it committed.
@@ -53,17 +56,17 @@ pub struct Reports<'a> {
     pub committed: u32,
 }
 
-/// The replicas' reports, each replica judged by itself, by its worker or here; or the first of the faults that they
-/// have of their own.
+/// The replicas' reports, each replica judged by itself, as was found before or here; or the first of the faults that
+/// they have of their own.
 pub fn judge_replicas<'a, R: Threads + Sync>(
     rt: &R,
     alloc: Global,
     trace: &Trace<'a>,
     names: &Names<'_>,
-    slots: &mut [Slot<'a>],
+    findings: &mut [Finding<'a>],
 ) -> Result<Reports<'a>, CheckFault>
     requires names { names.now.items ≡ names_of trace.now }
-    requires slots { All (AreTrue trace.now) slots.old }
+    requires findings { AreTrue trace.now findings.old }
     ensures histories { IfOk result (λ reports. reports.histories.items ≡ section_histories trace.now) }
     ensures settled { IfOk result (λ reports. reports.settled.items ≡ settlings trace.now) }
     ensures committed { IfOk result (λ reports. IsLeastBelow trace.now (length trace.now.sections) reports.committed) }
@@ -71,6 +74,7 @@ pub fn judge_replicas<'a, R: Threads + Sync>(
     ensures none { IfOk result (λ _. HasNone (IsFaultBelow trace.now (length trace.now.sections))) }
     ensures first { IfErr result (λ why. IfFound why (IsFirstOf (IsFaultBelow trace.now (length trace.now.sections)))) }
 {
+    faults_come_one_before_another();
     let mut first: Option<Fault> = None;
     let mut kept = Reports {
         histories: Vec::new(alloc),
@@ -79,7 +83,7 @@ pub fn judge_replicas<'a, R: Threads + Sync>(
     };
     'replicas: for e in 0..trace.section_count() {
         let peer = most_committed(trace, &kept.histories, &kept.settled);
-        match judge_missing(rt, alloc, trace, names, slots, e, peer) {
+        match judge_missing(rt, alloc, trace, names, findings, e, peer) {
             Ok(report) => keep(&mut kept, report)?,
             Err(CheckFault::Found(fault)) => {
                 first = first_of(first, Some(fault));
@@ -93,36 +97,34 @@ pub fn judge_replicas<'a, R: Threads + Sync>(
     }
 }
 
-/// A replica's report, or the first of its own faults, by the replica's number from 0. Its structure, records, chains
-/// and tokens are judged in up to `jobs` threads, at least 1; for one job no thread is started. Where there is another
-/// replica whose tokens are due, its tokens are judged beside that one's, in one thread.
-pub fn judge_replica<'a, R: Threads + Sync>(
+/// A replica's report but for its tokens, which aren't judged yet, or the first of its own faults, by the replica's
+/// number from 0. Its structure, records and chains are judged in up to `jobs` threads, at least 1; for one job no
+/// thread is started.
+pub fn settle_replica<'a, R: Threads + Sync>(
     rt: &R,
     alloc: Global,
     trace: &Trace<'a>,
     names: &Names<'_>,
     e: u8,
     jobs: u8,
-    peer: Option<Peer<'_, 'a>>,
 ) -> Result<Report<'a>, CheckFault>
     requires there { e < length trace.now.sections }
     requires names { names.now.items ≡ names_of trace.now }
     requires jobs { 1 ≤ jobs }
-    requires peer { IsSoundPeer trace.now peer }
-    ensures report { IfOk result (IsReportOf trace.now e) }
+    ensures report { IfOk result (IsSettledReportOf trace.now e) }
     ensures first { IfErr result (λ why. IfFound why (IsFirstOf (IsOwnFault trace.now e))) }
 {
     let history = match History::of_side_by_side(rt, alloc, trace, e, jobs) {
         Ok(history) => history,
         Err(why) => return Err(why),
     };
-    match settle(rt, alloc, trace, names, &history, jobs, peer) {
+    match settle(rt, alloc, trace, names, &history, jobs) {
         Ok(settled) => Ok(Report { history, settled }),
         Err(why) => Err(why),
     }
 }
 
-/// What a replica with a right section committed, or the first of its own faults.
+/// What a replica with a right section committed, or the first of its own faults but for those of tokens.
 fn settle<'a, R: Threads + Sync>(
     rt: &R,
     alloc: Global,
@@ -130,26 +132,68 @@ fn settle<'a, R: Threads + Sync>(
     names: &Names<'_>,
     history: &History<'a>,
     jobs: u8,
-    peer: Option<Peer<'_, 'a>>,
 ) -> Result<Settled<'a>, CheckFault>
     requires history { history.now ≡ section_history trace.now history.now.replica }
     requires none { HasNone (IsFaultIn StandsInStructure trace.now history.now.replica) }
     requires names { names.now.items ≡ names_of trace.now }
     requires jobs { 1 ≤ jobs }
-    requires peer { IsSoundPeer trace.now peer }
     ensures settled { IfOk result (λ settled. settled ≡ settling trace.now history.now.replica) }
-    ensures sound { IfOk result (λ _. IsSoundReplica trace.now history.now.replica) }
-    ensures none { IfOk result (λ _. HasNone (IsOwnFault trace.now history.now.replica)) }
+    ensures sound { IfOk result (λ _. IsSoundBeforeTokens trace.now history.now.replica) }
     ensures first { IfErr result (λ why. IfFound why (IsFirstOf (IsOwnFault trace.now history.now.replica))) }
 {
     history.recall_right();
     let settled = check(rt, alloc, history, trace, names, jobs)?;
     rollbacks(alloc, trace, history, &settled)?;
-    match peer {
-        Some(peer) => tokens_beside(alloc, trace, history, &settled, peer)?,
-        None => tokens(rt, alloc, trace, history, &settled, jobs)?,
-    }
     Ok(settled)
+}
+
+/// Judges the tokens of a replica that is sound otherwise: beside another replica whose tokens are due, if there is
+/// one, in one thread; else by themselves in up to `jobs` threads, at least 1.
+pub fn judge_tokens<'a, R: Threads + Sync>(
+    rt: &R,
+    alloc: Global,
+    trace: &Trace<'a>,
+    report: &Report<'a>,
+    jobs: u8,
+    peer: Option<Peer<'_, 'a>>,
+) -> Result<(), CheckFault>
+    requires settled { IsSettledReportOf trace.now report.now.history.replica report.now }
+    requires jobs { 1 ≤ jobs }
+    requires peer { IsSoundPeer trace.now peer }
+    ensures report { IfOk result (λ _. IsReportOf trace.now report.now.history.replica report.now) }
+    ensures first { IfErr result (λ why. IfFound why (IsFirstOf (IsOwnFault trace.now report.now.history.replica))) }
+{
+    let Report { history, settled } = report;
+    match peer {
+        Some(peer) => tokens_beside(alloc, trace, history, settled, peer),
+        None => tokens(rt, alloc, trace, history, settled, jobs),
+    }
+}
+
+/// A replica's report, or the first of its own faults, by the replica's number from 0, all judged in this thread; its
+/// tokens beside another replica's that are due, if there is one.
+fn judge_replica<'a, R: Threads + Sync>(
+    rt: &R,
+    alloc: Global,
+    trace: &Trace<'a>,
+    names: &Names<'_>,
+    e: u8,
+    peer: Option<Peer<'_, 'a>>,
+) -> Result<Report<'a>, CheckFault>
+    requires there { e < length trace.now.sections }
+    requires names { names.now.items ≡ names_of trace.now }
+    requires peer { IsSoundPeer trace.now peer }
+    ensures report { IfOk result (IsReportOf trace.now e) }
+    ensures first { IfErr result (λ why. IfFound why (IsFirstOf (IsOwnFault trace.now e))) }
+{
+    let report = match settle_replica(rt, alloc, trace, names, e, 1) {
+        Ok(report) => report,
+        Err(why) => return Err(why),
+    };
+    match judge_tokens(rt, alloc, trace, &report, 1, peer) {
+        Ok(()) => Ok(report),
+        Err(why) => Err(why),
+    }
 }
 
 /// A replica's report, or the first of its own faults: as was found before, or else as it is judged here, beside a peer
@@ -159,40 +203,40 @@ fn judge_missing<'a, R: Threads + Sync>(
     alloc: Global,
     trace: &Trace<'a>,
     names: &Names<'_>,
-    slots: &mut [Slot<'a>],
+    findings: &mut [Finding<'a>],
     e: u8,
     peer: Option<Peer<'_, 'a>>,
 ) -> Result<Report<'a>, CheckFault>
     requires there { e < length trace.now.sections }
     requires names { names.now.items ≡ names_of trace.now }
-    requires slots { All (AreTrue trace.now) slots.old }
+    requires findings { AreTrue trace.now findings.old }
     requires peer { IsSoundPeer trace.now peer }
     ensures report { IfOk result (IsReportOf trace.now e) }
     ensures first { IfErr result (λ why. IfFound why (IsFirstOf (IsOwnFault trace.now e))) }
-    ensures left { All (AreTrue trace.now) slots.new }
+    ensures left { AreTrue trace.now findings.new }
 {
-    match take_found(trace, slots, e) {
-        Some(Ok(report)) => Ok(report),
-        Some(Err(fault)) => Err(CheckFault::Found(fault)),
-        None => judge_replica(rt, alloc, trace, names, e, 1, peer),
+    match take_found(trace, findings, e) {
+        Ok(report) => Ok(report),
+        Err(CheckFault::Found(fault)) => Err(CheckFault::Found(fault)),
+        Err(CheckFault::Memory) => judge_replica(rt, alloc, trace, names, e, peer),
     }
 }
 
-/// Takes what was found of a replica, if that comes next in its worker's slot.
+/// Takes what was found of a replica; `Memory` where nothing was.
 fn take_found<'a>(
     trace: &Trace<'a>,
-    slots: &mut [Slot<'a>],
+    findings: &mut [Finding<'a>],
     e: u8,
-) -> Option<Result<Report<'a>, Fault>>
-    requires { All (AreTrue trace.now) slots.old }
-    ensures answer { IfSome result (IsAnswerOf trace.now e) }
-    ensures left { All (AreTrue trace.now) slots.new }
+) -> Result<Report<'a>, CheckFault>
+    requires { AreTrue trace.now findings.old }
+    ensures answer { IsAnswerOf trace.now e result }
+    ensures left { AreTrue trace.now findings.new }
 {
-    if slots.is_empty() {
-        return None;
+    let place = e as usize;
+    if place >= findings.len() || findings[place].replica != e {
+        return Err(CheckFault::Memory);
     }
-    let worker = e as usize % slots.len();
-    slots[worker].take(e)
+    mem::replace(&mut findings[place], Finding::of_nothing()).answer
 }
 
 /// Keeps the next replica's report.

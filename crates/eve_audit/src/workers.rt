@@ -5,12 +5,11 @@ ghost use Rattle.std.specs.Prelude.{IsTrue, IsNone, IfOk, IfSome};
 ghost use Rattle.std.specs.Thread.{IsSync};
 ghost use Rattle.eve_history.specs.SectionHistory.{names_of};
 
-use crate::peers::that_committed_more;
-use crate::replicas::{Report, judge_replica};
+use crate::findings::Finding;
+use crate::replicas::{Report, settle_replica};
 use eve_accounts::Names;
-use eve_agree::Peer;
 use eve_recorder::Gate;
-use eve_views::{CheckFault, Fault, Trace};
+use eve_views::{CheckFault, Trace};
 use std::alloc::{AllocError, Global};
 use std::collections::VecDeque;
 use std::sync::Wait;
@@ -43,15 +42,6 @@ impl Share {
     }
 }
 
-/// What judging a replica by itself came to.
-#[derive(Drop)]
-pub struct Finding<'a> {
-    /// The replica's number, from 0.
-    pub replica: u8,
-    /// Its report, or the first of its own faults.
-    pub answer: Result<Report<'a>, Fault>,
-}
-
 /// What one worker has found, in the order in which it judged.
 #[derive(Drop)]
 pub struct Slot<'a> {
@@ -62,15 +52,15 @@ pub struct Slot<'a> {
 }
 
 impl<'a> Slot<'a> {
-    ghost use Rattle.eve_audit.specs.declared.workers.Finding.{Finding as FindingValue};
-    ghost use Rattle.eve_audit.specs.Findings.{AreDealt, AreTrue, finding};
-    ghost use Rattle.eve_audit.specs.Peers.{IsSoundPeer};
+    ghost use Rattle.eve_audit.specs.declared.findings.Finding.{Finding as FindingValue};
+    ghost use Rattle.eve_audit.specs.Findings.{AreDealt, AreTrueSoFar, AreAllTrueSoFar, finding};
 
-    /// What workers find of the replicas, side by side, each replica judged by itself. Worker e mod `workers` judges
-    /// replica e, and enters the gate with e first. Where there are more workers than replicas, each replica has its
-    /// part of the threads: at most `workers` threads work at once, and with one worker none is started. The caller
-    /// runs a worker that can't be started. Where a worker has no memory for a replica, it finds nothing of it.
-    pub fn judge_side_by_side<R: Threads + Wait + Sync, G: Gate>(
+    /// What workers find of the replicas, side by side, each replica judged by itself, but for its tokens. Worker e mod
+    /// `workers` judges replica e, and enters the gate with e first. Where there are more workers than replicas, each
+    /// replica has its part of the threads: at most `workers` threads work at once, and with one worker none is
+    /// started. The caller runs a worker that can't be started. Where a worker has no memory for a replica, it finds
+    /// nothing of it.
+    pub fn settle_side_by_side<R: Threads + Wait + Sync, G: Gate>(
         rt: &R,
         alloc: Global,
         trace: &Trace<'a>,
@@ -80,7 +70,7 @@ impl<'a> Slot<'a> {
     ) -> Result<Vec<Slot<'a>>, AllocError>
         requires some { 1 ≤ workers }
         requires names { names.now.items ≡ names_of trace.now }
-        ensures found { IfOk result (λ slots. All (AreTrue trace.now) slots.items) }
+        ensures found { IfOk result (λ slots. AreAllTrueSoFar trace.now slots.items) }
         ensures shares { IfOk result (λ slots. AreDealt (length slots.items) slots.items) }
         ensures workers { IfOk result (λ slots. length slots.items ≡ min workers (length trace.now.sections)) }
     {
@@ -88,12 +78,12 @@ impl<'a> Slot<'a> {
         let replicas = trace.section_count();
         let mut slots = Slot::empty_slots(alloc, workers.min(replicas))?;
         let jobs = jobs_of_each(workers, replicas);
-        Slot::judge_shares(rt, alloc, trace, names, gate, slots.as_mut_slice(), jobs);
+        Slot::settle_shares(rt, alloc, trace, names, gate, slots.as_mut_slice(), jobs);
         Ok(slots)
     }
 
     /// Takes what was found of a replica, if that comes next.
-    pub fn take(&mut self, e: u8) -> Option<Result<Report<'a>, Fault>>
+    pub fn take(&mut self, e: u8) -> Option<Result<Report<'a>, CheckFault>>
         ensures next { IfSome result (λ answer. self.old.findings.items ≡ finding e answer ∷ self.new.findings.items) }
         ensures none { IsNone result → self.new ≡ self.old }
         ensures other { IsNone result → (first : FindingValue) (rest : List FindingValue)
@@ -133,8 +123,8 @@ impl<'a> Slot<'a> {
         Ok(slots)
     }
 
-    /// Judges the workers' replicas, each worker's in a thread of its own where one can be started.
-    fn judge_shares<R: Threads + Wait + Sync, G: Gate>(
+    /// Judges the workers' replicas but for their tokens, each worker's in a thread of its own where one can be started.
+    fn settle_shares<R: Threads + Wait + Sync, G: Gate>(
         rt: &R,
         alloc: Global,
         trace: &Trace<'a>,
@@ -146,9 +136,9 @@ impl<'a> Slot<'a> {
         requires names { names.now.items ≡ names_of trace.now }
         requires jobs { 1 ≤ jobs }
         requires some { 0 < length slots.old }
-        requires so_far { All (AreTrue trace.now) slots.old }
+        requires so_far { AreAllTrueSoFar trace.now slots.old }
         requires shares { AreDealt (length slots.old) slots.old }
-        ensures found { All (AreTrue trace.now) slots.new }
+        ensures found { AreAllTrueSoFar trace.now slots.new }
         ensures len { length slots.new ≡ length slots.old }
         ensures shares { AreDealt (length slots.new) slots.new }
     {
@@ -159,14 +149,14 @@ impl<'a> Slot<'a> {
             workers,
             &|_: usize, slot: &mut Slot|
                 requires { IsSync R.row × IsSync G.row × (names.now.items ≡ names_of trace.now) × (1 ≤ jobs)
-                    × AreTrue trace.now slot.old }
-                ensures { AreTrue trace.entry.now slot.new × (slot.new.share ≡ slot.old.share) }
-            { slot.judge_share(rt, alloc, trace, names, gate, jobs) },
+                    × AreTrueSoFar trace.now slot.old.findings.items }
+                ensures { AreTrueSoFar trace.entry.now slot.new.findings.items × (slot.new.share ≡ slot.old.share) }
+            { slot.settle_share(rt, alloc, trace, names, gate, jobs) },
         );
     }
 
-    /// Judges the worker's replicas.
-    fn judge_share<R: Threads + Wait + Sync, G: Gate>(
+    /// Judges the worker's replicas but for their tokens.
+    fn settle_share<R: Threads + Wait + Sync, G: Gate>(
         &mut self,
         rt: &R,
         alloc: Global,
@@ -177,22 +167,22 @@ impl<'a> Slot<'a> {
     )
         requires names { names.now.items ≡ names_of trace.now }
         requires jobs { 1 ≤ jobs }
-        requires so_far { AreTrue trace.now self.old }
-        ensures found { AreTrue trace.now self.new }
+        requires so_far { AreTrueSoFar trace.now self.old.findings.items }
+        ensures found { AreTrueSoFar trace.now self.new.findings.items }
         ensures share { self.new.share ≡ self.old.share }
     {
         let share = self.share;
         for e in 0..trace.section_count() {
             if share.has(e) {
                 gate.enter(rt, u32::from(e));
-                self.judge(rt, alloc, trace, names, e, jobs);
+                self.settle(rt, alloc, trace, names, e, jobs);
             }
         }
     }
 
-    /// Judges a replica by itself in up to `jobs` threads, at least 1, beside a replica that it found sound before, if
-    /// there is one. It keeps what it finds; where memory runs out it keeps nothing.
-    fn judge<R: Threads + Sync>(
+    /// Judges a replica by itself, but for its tokens, in up to `jobs` threads, at least 1. It keeps what it finds; where
+    /// memory runs out it keeps nothing of it.
+    fn settle<R: Threads + Sync>(
         &mut self,
         rt: &R,
         alloc: Global,
@@ -203,36 +193,17 @@ impl<'a> Slot<'a> {
     )
         requires there { e < length trace.now.sections }
         requires names { names.now.items ≡ names_of trace.now }
-        requires so_far { AreTrue trace.now self.old }
+        requires so_far { AreTrueSoFar trace.now self.old.findings.items }
         requires jobs { 1 ≤ jobs }
-        ensures found { AreTrue trace.now self.new }
+        ensures found { AreTrueSoFar trace.now self.new.findings.items }
         ensures share { self.new.share ≡ self.old.share }
     {
         if self.findings.reserve(1).is_err() {
             return;
         }
-        let peer = self.most_committed(trace);
-        let answer = match judge_replica(rt, alloc, trace, names, e, jobs, peer) {
-            Ok(report) => Ok(report),
-            Err(CheckFault::Found(fault)) => Err(fault),
-            Err(CheckFault::Memory) => return,
-        };
+        let answer = settle_replica(rt, alloc, trace, names, e, jobs);
         self.findings
             .push_back_reserved(Finding { replica: e, answer });
-    }
-
-    /// Of the replicas that it found sound, the one that committed most.
-    fn most_committed(&self, trace: &Trace<'a>) -> Option<Peer<'_, 'a>>
-        requires { AreTrue trace.now self.now }
-        ensures { IsSoundPeer trace.now result }
-    {
-        let mut most = None;
-        for i in 0..self.findings.len() {
-            if let Ok(report) = &self.findings[i].answer {
-                most = Some(that_committed_more(most, report.peer()));
-            }
-        }
-        most
     }
 }
 

@@ -3,7 +3,7 @@ use Rattle.eve_grammar.specs.Trace.{head_of}
 use Rattle.eve_audit.specs.Verdict.{IsCommonFault, IsTraceFault}
 use Rattle.eve_audit.specs.Reports.{IsFirstOf, IsFaultBelow}
 use Rattle.eve_audit.proofs.Firsts.{found_weaker, section_first, common_first, none_in_trace}
-use Rattle.eve_audit.proofs.Verdicts.{summary_is, some_replica}
+use Rattle.eve_audit.proofs.Verdicts.{summary_is}
 use Rattle.eve_audit.proofs.Accepted.{no_request_again, accepted_of}
 use Rattle.eve_audit.proofs.auditing.judge_trace.Goals as goal
 
@@ -25,7 +25,8 @@ returns-clause-histories g c = c.in-Ok.ensures.histories
 pub returns-clause-summary : goal.returns-clause-summary
 returns-clause-summary g c =
     let t = c.args.opened.trace in
-    let some : 1 ≤ length t.sections = some_replica (head_of t) c.recall_limits.ensures.head in
+    let some : 1 ≤ length t.sections =
+    (c.right_heads_have_limits.ensures.limits (head_of t) c.recall_limits.ensures.head).some_replicas in
     summary_is t _ c.section_count.ensures c.batch_count.ensures some c.in-Ok.ensures.committed
 
 pub returns-clause-accepted : goal.returns-clause-accepted

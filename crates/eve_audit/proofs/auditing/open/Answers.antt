@@ -14,12 +14,13 @@ returns-clause-fault g c =
     c.in-Err-orders_side_by_side.why
     (λ f least. no_for bytes t (record { spells = c.in-Ok.ensures.trace; none = c.in-Ok.ensures.faultless })
     (λ u other. c.bytes_spell_one_trace.ensures bytes u t other c.in-Ok.ensures.trace)
-    (c.faults_lie_within.ensures.orders t)
-    (λ e. (
-      c.fates_are_as_the_section_ends.ensures.committed t e,
-      c.fates_are_as_the_section_ends.ensures.discarded
-          t e,
-    )) f (order_first t f least))
+    (c.bytes_are_as_long_as_their_trace.ensures bytes t c.in-Ok.ensures.trace) (c.faults_lie_within.ensures.orders t)
+    (record {
+      parts = c.parts_stand_in_order.ensures t;
+      committed = c.outcomes_come_of_steps.ensures.committed t;
+      each_settled = c.outcomes_come_of_steps.ensures.settled t;
+      taken_over = c.outcomes_come_of_steps.ensures.taken_over t;
+    }) f (order_first t f least))
     c.in-Err-orders_side_by_side.ensures.least
 
 pub returns-in-Err-clause-fault : goal.returns-in-Err-clause-fault

@@ -14,10 +14,11 @@ returns-in-Err-Found g c = λ bytes read.
     let t = c.args.opened.trace in
     whole_no bytes c.in-Err-Found.fault
     (no_for bytes t read (λ u other. c.bytes_spell_one_trace.ensures bytes u t other read.spells)
-    (c.faults_lie_within.ensures.orders t)
-    (λ e. (
-      c.fates_are_as_the_section_ends.ensures.committed t e,
-      c.fates_are_as_the_section_ends.ensures.discarded
-          t e,
-    ))
+    (c.bytes_are_as_long_as_their_trace.ensures bytes t read.spells) (c.faults_lie_within.ensures.orders t)
+    (record {
+      parts = c.parts_stand_in_order.ensures t;
+      committed = c.outcomes_come_of_steps.ensures.committed t;
+      each_settled = c.outcomes_come_of_steps.ensures.settled t;
+      taken_over = c.outcomes_come_of_steps.ensures.taken_over t;
+    })
     c.in-Err-Found.fault (rw c.in-Err-Found.field-0-is at c.in-Err-Found.ensures.first))

@@ -1,3 +1,4 @@
+use Rattle.eve_grammar.specs.Trace.{head_of}
 use Rattle.eve_audit.proofs.Sentences.{audited_with}
 use Rattle.eve_audit.proofs.laws.accepted_traces_are_audited.Goals as goal
 
@@ -7,6 +8,7 @@ returns c = λ t accepted.
     let serial = c.serial_order_of_a_section.ensures in
     audited_with t accepted
     (record {
+      head = c.right_heads_have_limits.ensures.limits (head_of t) accepted.limits.head;
       numbers = λ e n p. numbers.numbers t e n p (accepted.right e);
       before = λ e n p. numbers.before t e n p (accepted.right e);
       lands = λ e k at x. numbers.lands t e k at x (accepted.right e);

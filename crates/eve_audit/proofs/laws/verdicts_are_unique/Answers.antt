@@ -3,8 +3,9 @@ use Rattle.eve_audit.proofs.laws.verdicts_are_unique.Goals as goal
 
 pub returns : goal.returns
 returns c = λ bytes v w one other. one_verdict
-    (λ t e. (
-      c.fates_are_as_the_section_ends.ensures.committed t e,
-      c.fates_are_as_the_section_ends.ensures.discarded t
-          e,
-    )) c.bytes_spell_one_trace.ensures bytes v w one other
+    (λ t. record {
+      parts = c.parts_stand_in_order.ensures t;
+      committed = c.outcomes_come_of_steps.ensures.committed t;
+      each_settled = c.outcomes_come_of_steps.ensures.settled t;
+      taken_over = c.outcomes_come_of_steps.ensures.taken_over t;
+    }) c.bytes_spell_one_trace.ensures bytes v w one other

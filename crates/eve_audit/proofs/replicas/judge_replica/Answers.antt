@@ -1,35 +1,23 @@
-use Rattle.std.proofs.Common.{ℕ, subst, sym, ◌∙◌, ap}
-use Rattle.eve_views.specs.Form.{IfFound, HasNone, IsFaultIn}
-use Rattle.eve_chains.specs.Settling.{settling}
+use Rattle.std.proofs.Common.{ℕ, subst}
+use Rattle.eve_views.specs.Form.{IfFound}
 use Rattle.eve_audit.specs.Verdict.{IsOwnFault}
-use Rattle.eve_audit.specs.Reports.{IsFirstOf, IsSoundReplica}
-use Rattle.eve_audit.proofs.Told.{replica_told, section_history_by_its_own}
-use Rattle.eve_history.specs.Structure.{StandsInStructure}
+use Rattle.eve_audit.specs.Reports.{IsFirstOf, IsReportOf}
+use Rattle.eve_audit.proofs.Beside.{settled_by_its_own}
+use Rattle.eve_audit.proofs.Told.{replica_told}
 use Rattle.eve_audit.proofs.replicas.judge_replica.Goals as goal
 
-pub settle-requires-clause-history : goal.settle-requires-clause-history
-settle-requires-clause-history g c κs within = section_history_by_its_own c.args.trace.now c.args.e
-    c.in-Ok.history c.in-Ok.ensures.section_history
+pub judge_tokens-requires-clause-settled : goal.judge_tokens-requires-clause-settled
+judge_tokens-requires-clause-settled g c κs within =
+    settled_by_its_own c.args.trace.now c.args.e c.in-Ok.report c.in-Ok.ensures.report
 
-pub settle-requires-clause-none : goal.settle-requires-clause-none
-settle-requires-clause-none g c κs within =
-    subst (λ (k : ℕ). HasNone (IsFaultIn StandsInStructure c.args.trace.now k))
-    (sym (replica_told c.args.trace.now c.args.e c.in-Ok.history c.in-Ok.ensures.section_history))
-    c.in-Ok.ensures.none
-
-pub returns-in-Ok-settle-clause-report : goal.returns-in-Ok-settle-clause-report
-returns-in-Ok-settle-clause-report g c =
-    let t = c.args.trace.now in
-    let is = replica_told t c.args.e c.in-Ok.history c.in-Ok.ensures.section_history in
-    record {
-      history = c.in-Ok.ensures.section_history;
-      settled = c.in-Ok-settle.ensures.settled ∙ ap (settling t) is;
-      sound = subst (IsSoundReplica t) is c.in-Ok-settle.ensures.sound;
-      none = subst (λ (k : ℕ). HasNone (IsOwnFault t k)) is c.in-Ok-settle.ensures.none;
-    }
+pub returns-in-Ok-judge_tokens-clause-report : goal.returns-in-Ok-judge_tokens-clause-report
+returns-in-Ok-judge_tokens-clause-report g c =
+    subst (λ (k : ℕ). IsReportOf c.args.trace.now k c.in-Ok.report)
+    (replica_told c.args.trace.now c.args.e c.in-Ok.report.history c.in-Ok.ensures.report.history)
+    c.in-Ok-judge_tokens.ensures.report
 
 pub returns-clause-first : goal.returns-clause-first
 returns-clause-first g c =
-    subst (λ (k : ℕ). IfFound c.in-Err-settle.why (IsFirstOf (IsOwnFault c.args.trace.now k)))
-    (replica_told c.args.trace.now c.args.e c.in-Ok.history c.in-Ok.ensures.section_history)
-    c.in-Err-settle.ensures.first
+    subst (λ (k : ℕ). IfFound c.in-Err-judge_tokens.why (IsFirstOf (IsOwnFault c.args.trace.now k)))
+    (replica_told c.args.trace.now c.args.e c.in-Ok.report.history c.in-Ok.ensures.report.history)
+    c.in-Err-judge_tokens.ensures.first

@@ -1,6 +1,5 @@
 -- What was found in the replicas so far, and what was kept of them; what their workers found is true, and the tokens of
 -- those that were kept are due.
-use Rattle.std.proofs.Common.{All}
 use Rattle.eve_audit.specs.Findings.{AreTrue}
 use Rattle.eve_audit.specs.Peers.{AreDueReplicas}
 use Rattle.eve_audit.specs.Reports.{IsJudgedBelow}
@@ -8,5 +7,5 @@ use Rattle.eve_audit.proofs.replicas.judge_replicas.Given as goal
 
 abbrev pub invariant-replicas : goal.invariant-replicas
 invariant-replicas g l = IsJudgedBelow l.trace l.e l.first l.kept.histories.items l.kept.settled.items
-    l.kept.committed × All (AreTrue l.trace) l.slots
+    l.kept.committed × AreTrue l.trace l.findings
     × AreDueReplicas l.trace l.kept.histories.items l.kept.settled.items

@@ -1,0 +1,34 @@
+use Rattle.std.proofs.Common.{ℕ, subst, sym, ◌∙◌, ap}
+use Rattle.eve_views.specs.Form.{IfFound, HasNone, IsFaultIn}
+use Rattle.eve_chains.specs.Settling.{settling}
+use Rattle.eve_audit.specs.Verdict.{IsOwnFault}
+use Rattle.eve_audit.specs.Reports.{IsFirstOf, IsSoundBeforeTokens}
+use Rattle.eve_audit.proofs.Told.{replica_told, section_history_by_its_own}
+use Rattle.eve_history.specs.Structure.{StandsInStructure}
+use Rattle.eve_audit.proofs.replicas.settle_replica.Goals as goal
+
+pub settle-requires-clause-history : goal.settle-requires-clause-history
+settle-requires-clause-history g c κs within = section_history_by_its_own c.args.trace.now c.args.e
+    c.in-Ok.history c.in-Ok.ensures.section_history
+
+pub settle-requires-clause-none : goal.settle-requires-clause-none
+settle-requires-clause-none g c κs within =
+    subst (λ (k : ℕ). HasNone (IsFaultIn StandsInStructure c.args.trace.now k))
+    (sym (replica_told c.args.trace.now c.args.e c.in-Ok.history c.in-Ok.ensures.section_history))
+    c.in-Ok.ensures.none
+
+pub returns-in-Ok-settle-clause-report : goal.returns-in-Ok-settle-clause-report
+returns-in-Ok-settle-clause-report g c =
+    let t = c.args.trace.now in
+    let is = replica_told t c.args.e c.in-Ok.history c.in-Ok.ensures.section_history in
+    record {
+      history = c.in-Ok.ensures.section_history;
+      settled = c.in-Ok-settle.ensures.settled ∙ ap (settling t) is;
+      sound = subst (IsSoundBeforeTokens t) is c.in-Ok-settle.ensures.sound;
+    }
+
+pub returns-clause-first : goal.returns-clause-first
+returns-clause-first g c =
+    subst (λ (k : ℕ). IfFound c.in-Err-settle.why (IsFirstOf (IsOwnFault c.args.trace.now k)))
+    (replica_told c.args.trace.now c.args.e c.in-Ok.history c.in-Ok.ensures.section_history)
+    c.in-Err-settle.ensures.first
