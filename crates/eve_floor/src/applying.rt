@@ -9,8 +9,8 @@ ghost use Rattle.eve_floor.specs.Applying.{IsLookedUp, Applies, Refuses};
 use crate::{ExecFault, Floor};
 use eve_recorder::{Gate, TicketSeat, Tickets};
 use eve_smallbank::{Request, Touched, laws};
-use eve_stamps::{AccessRecord, Stamp, Stripe, apply, apply_two, span_of, untouched};
-use std::sync::{Mutex, Wait};
+use eve_stamps::{AccessRecord, Stamp, apply, apply_two, span_of, untouched};
+use std::sync::Wait;
 
 /// What is to be executed, and who does it.
 #[derive(Clone, Copy)]
@@ -46,7 +46,8 @@ impl Task<'_> {
     }
 }
 
-/// Applies the task at a number that is drawn under the locks of its stripes, and returns its record.
+/// Applies the task at a number that is drawn under the locks of its stripes, and returns its record. Where there are
+/// two of these, the first is locked first.
 pub fn applied<R: Wait, G: Gate>(
     rt: &R,
     floor: &Floor,
@@ -60,19 +61,27 @@ pub fn applied<R: Wait, G: Gate>(
     ensures { Applies floor.now task.now drawer.old drawer.new result }
 {
     let Touched::Rows(rows) = task.reached else {
-        return on_none(rt, tickets, drawer, task, gate);
+        return refused(rt, tickets, drawer, task, gate);
     };
     let span = span_of(rows);
-    let first = &floor.stripes[span.first];
+    let mut first = floor.stripes[span.first].lock(rt);
     if span.first == span.last {
-        return on_one(rt, first, tickets, drawer, task, gate);
+        let tick = ticket(rt, tickets, drawer, task.index, gate)?;
+        return Ok(apply(&mut first, task.request, task.reached, task.stamp(tick))?);
     }
-    let last = &floor.stripes[span.last];
-    on_two(rt, first, last, tickets, drawer, task, gate)
+    let mut last = floor.stripes[span.last].lock(rt);
+    let tick = ticket(rt, tickets, drawer, task.index, gate)?;
+    Ok(apply_two(
+        &mut first,
+        &mut last,
+        task.request,
+        task.reached,
+        task.stamp(tick),
+    )?)
 }
 
 /// Applies a task that is refused before it touches a row. It takes no lock.
-fn on_none<R: Wait, G: Gate>(
+fn refused<R: Wait, G: Gate>(
     rt: &R,
     tickets: &Tickets,
     drawer: &mut TicketSeat,
@@ -90,52 +99,6 @@ fn on_none<R: Wait, G: Gate>(
     };
     let tick = ticket(rt, tickets, drawer, task.index, gate)?;
     Ok(untouched(*why, task.stamp(tick)))
-}
-
-/// Applies a task whose rows lie in one stripe.
-fn on_one<R: Wait, G: Gate>(
-    rt: &R,
-    lock: &Mutex<Stripe>,
-    tickets: &Tickets,
-    drawer: &mut TicketSeat,
-    task: &Task,
-    gate: &G,
-) -> Result<AccessRecord, ExecFault>
-    requires tickets { drawer.old.tickets ≡ tickets.now }
-    requires touched { (names : List (List ℕ)) × IsLookedUp names task.now }
-    ensures { (names : List (List ℕ)) → IsLookedUp names task.now
-        → Applies names task.now drawer.old drawer.new result }
-{
-    let mut stripe = lock.lock(rt);
-    let tick = ticket(rt, tickets, drawer, task.index, gate)?;
-    Ok(apply(&mut stripe, task.request, task.reached, task.stamp(tick))?)
-}
-
-/// Applies a task whose rows lie in two stripes, and locks the first of these first.
-fn on_two<R: Wait, G: Gate>(
-    rt: &R,
-    first: &Mutex<Stripe>,
-    last: &Mutex<Stripe>,
-    tickets: &Tickets,
-    drawer: &mut TicketSeat,
-    task: &Task,
-    gate: &G,
-) -> Result<AccessRecord, ExecFault>
-    requires tickets { drawer.old.tickets ≡ tickets.now }
-    requires touched { (names : List (List ℕ)) × IsLookedUp names task.now }
-    ensures { (names : List (List ℕ)) → IsLookedUp names task.now
-        → Applies names task.now drawer.old drawer.new result }
-{
-    let mut first = first.lock(rt);
-    let mut last = last.lock(rt);
-    let tick = ticket(rt, tickets, drawer, task.index, gate)?;
-    Ok(apply_two(
-        &mut first,
-        &mut last,
-        task.request,
-        task.reached,
-        task.stamp(tick),
-    )?)
 }
 
 /// Enters the gate with the index, and draws a number.

@@ -46,10 +46,9 @@ pub fn execute<R: Wait, G: Gate>(
         Executes recorder.now floor.now request index worker.old worker.new result }
     ensures seats { KeepsSeats worker.old worker.new }
 {
-    let request = request_at(batch, index);
-    let reached = touched(&request, floor.names);
-    execute_request(
-        rt, floor, recorder, tickets, worker, &request, &reached, index, gate,
+    let reached = touched(&request_at(batch, index), floor.names);
+    execute_touched(
+        rt, floor, recorder, tickets, worker, batch, &reached, index, gate,
     )
 }
 
@@ -76,10 +75,24 @@ pub fn execute_touched<R: Wait, G: Gate>(
         Executes recorder.now floor.now request index worker.old worker.new result }
     ensures seats { KeepsSeats worker.old worker.new }
 {
+    if worker.waiting.is_some() {
+        return Err(ExecFault::Full);
+    }
     let request = request_at(batch, index);
-    execute_request(
-        rt, floor, recorder, tickets, worker, &request, reached, index, gate,
-    )
+    let task = Task {
+        request: &request,
+        reached,
+        index,
+        worker: worker.seat.worker(),
+        place: worker.seat.place() as u16,
+    };
+    let made = applied(rt, floor, tickets, &mut worker.tickets, &task, gate)?;
+    if recorder.note(rt, &mut worker.seat, made).is_ok() {
+        Ok(())
+    } else {
+        worker.waiting = Some(made);
+        Err(ExecFault::Full)
+    }
 }
 
 /// Executes the request as `execute_touched` does, for a first worker that keeps its records itself: the record is
@@ -112,43 +125,6 @@ pub fn execute_kept<R: Wait, G: Gate>(
         place,
     };
     applied(rt, floor, tickets, drawer, &task, gate)
-}
-
-/// Executes the request, which has this index in its batch, and notes its record.
-fn execute_request<R: Wait, G: Gate>(
-    rt: &R,
-    floor: &Floor,
-    recorder: &Recorder,
-    tickets: &Tickets,
-    worker: &mut Worker,
-    request: &Request,
-    reached: &Touched,
-    index: u16,
-    gate: &G,
-) -> Result<(), ExecFault>
-    requires seats { IsSeatedAt recorder.now tickets.now worker.old }
-    requires touched { reached.now ≡ touched_of floor.now (plain request.now) }
-    requires place { length worker.old.seat.noted < MOST_PLACES }
-    ensures executes { Executes recorder.now floor.now (plain request.now) index worker.old worker.new result }
-    ensures seats { KeepsSeats worker.old worker.new }
-{
-    if worker.waiting.is_some() {
-        return Err(ExecFault::Full);
-    }
-    let task = Task {
-        request,
-        reached,
-        index,
-        worker: worker.seat.worker(),
-        place: worker.seat.place() as u16,
-    };
-    let made = applied(rt, floor, tickets, &mut worker.tickets, &task, gate)?;
-    if recorder.note(rt, &mut worker.seat, made).is_ok() {
-        Ok(())
-    } else {
-        worker.waiting = Some(made);
-        Err(ExecFault::Full)
-    }
 }
 
 /// The request with this index in the batch.

@@ -1,10 +1,8 @@
--- What the first worker has of the batch that was next, where it is closed.
+-- What the first worker has of the batch that was next.
 use Rattle.std.proofs.Common.{◌≡◌, ℕ, List, ◌∷◌, sym, subst, ap, ◌∙◌}
-use Rattle.eve_grammar.specs.Trace.{Attempt, Batch}
-use Rattle.eve_attempts.specs.declared.front.AttemptFront.{AttemptFront}
+use Rattle.eve_grammar.specs.Trace.{Batch}
 use Rattle.eve_replica_crew.specs.FirstWorkers.{FirstWorker, RunsNext}
 use Rattle.eve_replica_crew.specs.Recording.{AreNotedOf}
-use Rattle.eve_replica.specs.Replicas.{ClosesNoted, ClosesThese, Replica}
 
 module _ (before after : FirstWorker) (b : Batch) (others : List Batch) (runs : RunsNext before after)
     (next : before.left ≡ b ∷ others) where
@@ -15,11 +13,7 @@ module _ (before after : FirstWorker) (b : Batch) (others : List Batch) (runs : 
   pub left_next : before.left ≡ b ∷ after.left
   left_next = runs.next ∙ ap (λ (c : Batch). c ∷ after.left) same_batch
 
-  pub closes_noted : (front : AttemptFront) (old new : Replica) (a : Attempt) → before.names ≡ old.names
-      → ClosesThese front old new b after.records a → ClosesNoted front old new b after.records a
-  closes_noted front old new a names closes = record {
-    noted = subst (λ (ns : List (List ℕ)). AreNotedOf ns b after.records) names
-        (subst (λ (c : Batch). AreNotedOf before.names c after.records) same_batch runs.noted);
-    closed = closes.closed;
-    rest = closes.rest;
-  }
+  pub noted_next : (names : List (List ℕ)) → before.names ≡ names → AreNotedOf names b after.records
+  noted_next names is =
+      subst (λ (ns : List (List ℕ)). AreNotedOf ns b after.records) is
+      (subst (λ (c : Batch). AreNotedOf before.names c after.records) same_batch runs.noted)

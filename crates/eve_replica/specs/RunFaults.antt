@@ -1,4 +1,6 @@
--- Why an attempt fails, by the fault of a worker, and why a run ends, by the fault of an attempt.
+-- Why an attempt fails, by the fault of a worker, and why a run ends, by the fault of an attempt; and in which format
+-- a run may end so.
+use Rattle.std.specs.Prelude.{◌≡◌, ℕ, ⊤}
 use Rattle.eve_floor.specs.declared.fault.ExecFault.{ExecFault}
 use Rattle.eve_floor.specs.declared.fault.ExecFault.TheVariants as exec
 use Rattle.eve_replica.specs.declared.fault.AttemptFault.{AttemptFault}
@@ -25,3 +27,10 @@ run_fault_of attempt.Spent = run.Broken
 run_fault_of attempt.NoRow = run.Broken
 run_fault_of attempt.Mismatch = run.Broken
 run_fault_of attempt.Broken = run.Broken
+
+-- A run of either format may end for want of memory, and either may break; too long are only the states that are taken
+-- over in format 2.
+abbrev pub MayEnd : ℕ → RunFault → Type 0
+MayEnd format run.Memory = ⊤
+MayEnd format run.Broken = ⊤
+MayEnd format run.TooLong = format ≡ 2

@@ -1,7 +1,7 @@
 //! A replica's own account of its rows.
 
 ghost use Rattle.std.specs.Prelude.{◌≡◌, ◌+◌, ◌-◌, ◌*◌, ◌^◌, ◌<◌, ◌≤◌, ◌↔◌, ◌⊎◌, true, false, Err, All, length};
-ghost use Rattle.std.specs.Prelude.{IsTrue, IfOk, IfErr, IfSome, IfNone, OnOk, OnErr, IsOk, Contains, List, [], ◌∷◌, map};
+ghost use Rattle.std.specs.Prelude.{IsTrue, IfOk, IfErr, IfSome, IfNone, OnOk, OnErr, IsOk, Contains, [], map};
 ghost use Rattle.eve_grammar.specs.Bodies.{transfer as plain_state};
 ghost use Rattle.eve_grammar.specs.Limits.{is_batch};
 ghost use Rattle.eve_write.specs.Data.{batch as plain, attempt, commit, rollback};
@@ -9,23 +9,19 @@ ghost use Rattle.eve_attempts.specs.Ledgers.{ledger_rows, opening};
 ghost use Rattle.eve_attempts.specs.Closing.{touched_in_batch, AreMismatched};
 ghost use Rattle.eve_attempts.specs.Discarding.{RollsBack};
 ghost use Rattle.eve_attempts.specs.TakingOver.{TakesOver};
-ghost use Rattle.eve_grammar.specs.Trace.{Batch};
-ghost use Rattle.eve_replica_crew.specs.FirstWorkers.{StaysAt};
+ghost use Rattle.eve_replica_crew.specs.Recording.{AreNotedOf};
 ghost use Rattle.eve_replica.specs.Replicas.{AttemptsDue, ClosesThese, IsFirstOpen, CommitsFirst};
-ghost use Rattle.eve_replica.specs.Replicas.{GivesUp, IsDue, KeepsCrew, MayAttempt, front_of};
+ghost use Rattle.eve_replica.specs.Replicas.{FailsAttempt, IsDue, KeepsCrew, MayAttempt, front_of};
 
 use crate::fault::{AttemptFault, CommitFault, TransferFault};
 use eve_accounts::{Balances, Names};
 use eve_attempts::{AttemptFront, CloseFault as Unclosed, Ledger};
 use eve_grammar::{MOST_BATCHES, MOST_WINDOW, MOST_WORKERS, TransferData};
-use eve_recorder::Gate;
-use eve_replica_crew::Lead;
 use eve_smallbank::Touched;
 use eve_stamps::AccessRecord;
 use eve_write::{AttemptData, BatchData, CommitData, RollbackData};
 use std::alloc::{AllocError, Global};
 use std::marker::Model;
-use std::sync::Wait;
 
 /// A replica's own account of its rows: all of it but the stripes and the workers. Contracts see of it what they see of
 /// the replica.
@@ -80,39 +76,30 @@ impl<'n> Account<'n> {
         })
     }
 
-    /// The first worker runs its part in the next batch. What was noted of it, and nothing else, becomes an attempt in
-    /// the view and in the mode that are due, and is opened. An error without a fault comes where a worker gave a
-    /// request up; any fault breaks the replica.
-    pub(crate) fn close_next<R: Wait, G: Gate>(
+    /// What was noted of the next batch, and nothing else, becomes an attempt in the view and in the mode that are due,
+    /// and is opened. Any fault breaks the replica.
+    pub(crate) fn close_noted(
         &mut self,
-        rt: &R,
         alloc: Global,
-        lead: &mut Lead<'_>,
         batch: &BatchData,
         touched: &[Touched],
-        gate: &G,
-    ) -> Result<AttemptData, Option<AttemptFault>>
+        records: &[AccessRecord],
+    ) -> Result<AttemptData, AttemptFault>
         requires due { MayAttempt self.old (plain batch.now) touched.now }
-        requires over { lead.old.names ≡ self.old.names }
-        requires next { (rest : List Batch) × (lead.old.left ≡ plain batch.now ∷ rest) }
-        ensures lead { StaysAt lead.old lead.new }
-        ensures left { OnOk result (lead.old.left ≡ plain batch.now ∷ lead.new.left) }
+        requires noted { AreNotedOf self.old.names (plain batch.now) records.now }
         ensures attempted { IfOk result (λ a. AttemptsDue self.old self.new (plain batch.now) (attempt a)) }
         ensures records { let front = front_of self.old.ledger self.old.ledger.view self.old.ledger.is_next_serial in
-            IfOk result (λ a. ClosesThese front self.old self.new (plain batch.now) lead.new.records (attempt a)) }
-        ensures refused { IfErr result (λ given. GivesUp given self.old self.new) }
+            IfOk result (λ a. ClosesThese front self.old self.new (plain batch.now) records.now (attempt a)) }
+        ensures refused { IfErr result (λ why. FailsAttempt why self.old self.new) }
+        ensures broken { OnErr result (self.new.is_broken ≡ true) }
         ensures same { KeepsCrew self.old self.new }
     {
-        if !lead.next(rt, gate) {
-            return Err(None);
-        }
         let front = self.next_front();
-        let records = lead.records();
         let tick = greatest_tick(records);
         match self.close(alloc, front, batch, touched, records, tick) {
             Ok(attempt) => Ok(attempt),
-            Err(Unclosed::Memory) => Err(Some(self.broken_by(AttemptFault::Memory))),
-            Err(Unclosed::Mismatch) => Err(Some(self.broken_by(AttemptFault::Mismatch))),
+            Err(Unclosed::Memory) => Err(self.broken_by(AttemptFault::Memory)),
+            Err(Unclosed::Mismatch) => Err(self.broken_by(AttemptFault::Mismatch)),
         }
     }
 

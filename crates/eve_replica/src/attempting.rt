@@ -8,6 +8,7 @@ ghost use Rattle.eve_write.specs.Data.{attempt, batch as plain_batch, section, s
 ghost use Rattle.eve_grammar.specs.Trace.{Batch};
 ghost use Rattle.eve_replica_crew.specs.FirstWorkers.{StaysAt};
 ghost use Rattle.eve_replica_crew.specs.Parts.{assigned_batches};
+ghost use Rattle.eve_replica_crew.specs.Recording.{AreNotedOf};
 ghost use Rattle.eve_replica_crew.specs.Sharing.{IsRightAssignment};
 ghost use Rattle.eve_replica.specs.Replicas.{AttemptsDue, FailsAttempt, GivesUp, KeepsCrew, MayAttempt};
 ghost use Rattle.eve_replica.specs.Serving.{AreDue, GoesOn, IsRightMixed, MayAttemptAll, AttemptsAll, attempt_move};
@@ -16,12 +17,14 @@ ghost use Rattle.eve_replica.specs.Replicas.{IsFresh};
 ghost use Rattle.eve_replica.specs.RunFaults.{attempt_fault_of};
 
 use crate::account::Account;
-use crate::fault::{AttemptFault, RunFault, fault_of};
+use crate::fault::{AttemptFault, fault_of};
 use eve_floor::{ExecFault, Floor};
 use eve_recorder::Gate;
 use eve_replica_crew::{Assignment, Lead, Workers, run_batches};
+use eve_smallbank::Touched;
+use eve_stamps::AccessRecord;
 use eve_workload::MixedBatch;
-use eve_write::{AttemptData, Step};
+use eve_write::{AttemptData, BatchData, Step};
 use std::alloc::{AllocError, Global};
 use std::sync::Wait;
 use std::thread::Threads;
@@ -56,7 +59,7 @@ pub(crate) fn run_and_close<R: Threads + Wait + Sync, G: Gate>(
             AttemptsDue account.entry.now account.exit.now (plain_batch batch.entry.now) (attempt a)) }
         ensures refused { IfErr result (λ given. GivesUp given account.entry.now account.exit.now) }
         ensures same { KeepsCrew account.entry.now account.exit.now }
-    { account.close_next(rt, alloc, lead, batch, touched, gate) };
+    { lead_one(rt, alloc, lead, account, batch, touched, gate) };
     let ran = run_batches(rt, alloc, floor, workers, &[assignment], gate, &mut own);
     match ran {
         Ok((Ok(attempt), _)) => Ok(attempt),
@@ -66,49 +69,37 @@ pub(crate) fn run_and_close<R: Threads + Wait + Sync, G: Gate>(
     }
 }
 
-/// Runs the batches of a window by the workers, one after another, and makes an attempt of what they noted of each
-/// while the other workers run the next. A fault breaks the replica; the attempts before it stay open.
-pub(crate) fn run_and_close_each<R: Threads + Wait + Sync, G: Gate>(
+/// The first worker runs its part in the next batch, of which an attempt is made then. An error with a fault has broken
+/// the replica; one without comes where a worker gave a request up.
+fn lead_one<R: Wait, G: Gate>(
     rt: &R,
     alloc: Global,
-    floor: &Floor,
-    workers: &mut Workers,
+    lead: &mut Lead<'_>,
     account: &mut Account<'_>,
-    steps: &mut Vec<Step>,
-    window: &[MixedBatch],
-    assignments: &[Assignment],
+    batch: &BatchData,
+    touched: &[Touched],
     gate: &G,
-) -> Result<(), RunFault>
-    requires assignments { All (IsRightAssignment floor.now workers.old.many) assignments.now }
-    requires over { floor.now ≡ account.old.names }
-    requires batches { assigned_batches assignments.now ≡ map (λ m. plain_batch m.batch) window.now }
-    requires due { MayAttemptAll account.old window.now }
-    ensures workers { workers.new ≡ workers.old }
-    ensures on { OnOk result (AttemptsAll window.now account.old steps.old account.new steps.new) }
-    ensures broken { OnErr result (account.new.is_broken ≡ true) }
+) -> Result<AttemptData, Option<AttemptFault>>
+    requires due { MayAttempt account.old (plain_batch batch.now) touched.now }
+    requires over { lead.old.names ≡ account.old.names }
+    requires next { (rest : List Batch) × (lead.old.left ≡ plain_batch batch.now ∷ rest) }
+    ensures lead { StaysAt lead.old lead.new }
+    ensures attempted { IfOk result (λ a. AttemptsDue account.old account.new (plain_batch batch.now) (attempt a)) }
+    ensures refused { IfErr result (λ given. GivesUp given account.old account.new) }
     ensures same { KeepsCrew account.old account.new }
 {
-    let mut own = |lead: &mut Lead| -> Result<(), Option<RunFault>>
-        requires { MayAttemptAll account.now window.now × (lead.old.names ≡ account.now.names)
-            × (lead.old.left ≡ map (λ m. plain_batch m.batch) window.now) }
-        ensures lead { StaysAt lead.old lead.new }
-        ensures on { OnOk result
-            (AttemptsAll window.entry.now account.entry.now steps.entry.now account.exit.now steps.exit.now) }
-        ensures broken { IfErr result (λ given. IfSome given (λ _. account.exit.now.is_broken ≡ true)) }
-        ensures same { KeepsCrew account.entry.now account.exit.now }
-    { close_each(rt, alloc, lead, account, steps, window, gate) };
-    let ran = run_batches(rt, alloc, floor, workers, assignments, gate, &mut own);
-    match ran {
-        Ok((Ok(()), _)) => Ok(()),
-        Ok((Err(Some(why)), _)) => Err(why),
-        Ok((Err(None), told)) => Err(account.broken_by(fault_told(told)).into()),
-        Err(_) => Err(account.broken_by(AttemptFault::Memory).into()),
+    if !lead.next(rt, gate) {
+        return Err(None);
+    }
+    match account.close_noted(alloc, batch, touched, lead.records()) {
+        Ok(attempt) => Ok(attempt),
+        Err(why) => Err(Some(why)),
     }
 }
 
-/// The first worker runs its part in each batch of the window, and attempts it. An error with a fault has broken the
-/// replica; one without comes where a worker gave a request up.
-fn close_each<R: Wait, G: Gate>(
+/// The first worker runs its part in each batch of the window, of which an attempt is made then. An error with a fault
+/// has broken the replica; one without comes where a worker gave a request up.
+pub(crate) fn lead_each<R: Wait, G: Gate>(
     rt: &R,
     alloc: Global,
     lead: &mut Lead<'_>,
@@ -116,7 +107,7 @@ fn close_each<R: Wait, G: Gate>(
     steps: &mut Vec<Step>,
     window: &[MixedBatch],
     gate: &G,
-) -> Result<(), Option<RunFault>>
+) -> Result<(), Option<AttemptFault>>
     requires due { MayAttemptAll account.old window.now }
     requires over { lead.old.names ≡ account.old.names }
     requires left { lead.old.left ≡ map (λ m. plain_batch m.batch) window.now }
@@ -126,41 +117,39 @@ fn close_each<R: Wait, G: Gate>(
     ensures same { KeepsCrew account.old account.new }
 {
     for place in 0..window.len() {
-        close_mixed(rt, alloc, lead, account, steps, &window[place], gate)?;
+        if !lead.next(rt, gate) {
+            return Err(None);
+        }
+        match add_attempt(alloc, account, steps, &window[place], lead.records()) {
+            Ok(()) => {}
+            Err(why) => return Err(Some(why)),
+        }
     }
     Ok(())
 }
 
-/// The first worker runs its part in the next batch, and attempts it.
-fn close_mixed<R: Wait, G: Gate>(
-    rt: &R,
+/// Makes an attempt of what was noted of the next batch, and adds it to what the replica did.
+fn add_attempt(
     alloc: Global,
-    lead: &mut Lead<'_>,
     account: &mut Account<'_>,
     steps: &mut Vec<Step>,
     mixed: &MixedBatch,
-    gate: &G,
-) -> Result<(), Option<RunFault>>
+    records: &[AccessRecord],
+) -> Result<(), AttemptFault>
     requires due { AreDue 1 account.old.ledger }
     requires mixed { IsRightMixed account.old.names mixed.now }
     requires whole { account.old.is_broken ≡ false }
-    requires over { lead.old.names ≡ account.old.names }
-    requires next { (rest : List Batch) × (lead.old.left ≡ plain_batch mixed.now.batch ∷ rest) }
-    ensures lead { StaysAt lead.old lead.new }
-    ensures left { OnOk result (lead.old.left ≡ plain_batch mixed.now.batch ∷ lead.new.left) }
+    requires noted { AreNotedOf account.old.names (plain_batch mixed.now.batch) records.now }
     ensures on { OnOk result (GoesOn (attempt_move 1 (plain_batch mixed.now.batch ∷ []))
         (server_with account.old steps.old) (server_with account.new steps.new)) }
-    ensures broken { IfErr result (λ given. IfSome given (λ _. account.new.is_broken ≡ true)) }
+    ensures broken { OnErr result (account.new.is_broken ≡ true) }
     ensures same { KeepsCrew account.old account.new }
 {
     let touched = mixed.touched.as_slice();
-    match account.close_next(rt, alloc, lead, &mixed.batch, touched, gate) {
-        Ok(attempt) => match add_step(steps, Step::Attempt(attempt)) {
-            Ok(()) => Ok(()),
-            Err(_) => Err(Some(account.broken_by(AttemptFault::Memory).into())),
-        },
-        Err(Some(why)) => Err(Some(why.into())),
-        Err(None) => Err(None),
+    let attempt = account.close_noted(alloc, &mixed.batch, touched, records)?;
+    match add_step(steps, Step::Attempt(attempt)) {
+        Ok(()) => Ok(()),
+        Err(_) => Err(account.broken_by(AttemptFault::Memory)),
     }
 }
 
@@ -176,7 +165,7 @@ pub(crate) fn add_step(steps: &mut Vec<Step>, step: Step) -> Result<(), AllocErr
 }
 
 /// The attempt's fault for a worker's. Where no worker has one, what they noted is no attempt.
-fn fault_told(told: Option<ExecFault>) -> AttemptFault
+pub(crate) fn fault_told(told: Option<ExecFault>) -> AttemptFault
     ensures fresh { IsFresh result }
     ensures same { IfSome told (λ why. result ≡ attempt_fault_of why) }
 {

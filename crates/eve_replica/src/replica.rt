@@ -13,20 +13,21 @@ ghost use Rattle.eve_attempts.specs.Closing.{touched_in_batch, AreMismatched};
 ghost use Rattle.eve_attempts.specs.Discarding.{RollsBack};
 ghost use Rattle.eve_attempts.specs.TakingOver.{IsStateOf, TakesOver};
 ghost use Rattle.eve_replica.specs.Replicas.{Attempts, AttemptsDue, FailsAttempt, ClosesThese, ClosesOwn};
-ghost use Rattle.eve_replica.specs.Replicas.{IsDue, IsFirstOpen, CommitsFirst};
+ghost use Rattle.eve_replica.specs.Replicas.{IsDue, IsFirstOpen, CommitsFirst, KeepsCrew};
 ghost use Rattle.eve_replica.specs.Serving.{IsRightMixed, MayAttemptAll, AttemptsAll};
+ghost use Rattle.eve_replica_crew.specs.FirstWorkers.{StaysAt};
 ghost use Rattle.eve_replica_crew.specs.Parts.{assigned_batches};
 ghost use Rattle.eve_replica_crew.specs.Sharing.{IsRightAssignment};
 
 use crate::account::Account;
-use crate::attempting::{run_and_close, run_and_close_each};
-use crate::fault::{AttemptFault, CloseFault, CommitFault, RunFault, TransferFault};
+use crate::attempting::{fault_told, lead_each, run_and_close};
+use crate::fault::{AttemptFault, CloseFault, CommitFault, TransferFault};
 use eve_accounts::{Balances, Names};
 use eve_attempts::{AttemptFront, CloseFault as Unclosed};
 use eve_floor::Floor;
 use eve_grammar::{MOST_BATCHES, MOST_WINDOW, MOST_WORKERS, TransferData};
 use eve_recorder::Gate;
-use eve_replica_crew::{Assignment, Workers, crew_size};
+use eve_replica_crew::{Assignment, Lead, Workers, crew_size, run_batches};
 use eve_smallbank::{Touched, Versioned};
 use eve_stamps::AccessRecord;
 use eve_workload::{MixedBatch, look_up};
@@ -230,7 +231,8 @@ impl<'n> Replica<'n> {
     }
 
     /// Runs the batches of a window, which are the next, by the workers of a replica that isn't broken, and makes an
-    /// attempt of what they noted of each. A fault breaks the replica; the attempts before it stay open.
+    /// attempt of what they noted of each while the other workers run the next. A fault breaks the replica; the attempts
+    /// before it stay open.
     pub(crate) fn attempt_window<R: Threads + Wait + Sync, G: Gate>(
         &mut self,
         rt: &R,
@@ -238,7 +240,7 @@ impl<'n> Replica<'n> {
         steps: &mut Vec<Step>,
         window: &[MixedBatch],
         gate: &G,
-    ) -> Result<(), RunFault>
+    ) -> Result<(), AttemptFault>
         requires due { MayAttemptAll self.old window.now }
         ensures on { OnOk result (AttemptsAll window.now self.old steps.old self.new steps.new) }
         ensures broken { OnErr result (self.new.is_broken ≡ true) }
@@ -246,19 +248,33 @@ impl<'n> Replica<'n> {
         let workers = self.workers.many();
         let serial = self.is_next_serial();
         let Ok(assignments) = assignments_of(alloc, &self.floor, workers, window, serial) else {
-            return Err(self.account.broken_by(AttemptFault::Memory).into());
+            return Err(self.account.broken_by(AttemptFault::Memory));
         };
-        run_and_close_each(
+        let account = &mut self.account;
+        let mut own = |lead: &mut Lead| -> Result<(), Option<AttemptFault>>
+            requires { MayAttemptAll account.now window.now × (lead.old.names ≡ account.now.names)
+                × (lead.old.left ≡ map (λ m. plain m.batch) window.now) }
+            ensures lead { StaysAt lead.old lead.new }
+            ensures on { OnOk result
+                (AttemptsAll window.entry.now account.entry.now steps.entry.now account.exit.now steps.exit.now) }
+            ensures broken { IfErr result (λ given. IfSome given (λ _. account.exit.now.is_broken ≡ true)) }
+            ensures same { KeepsCrew account.entry.now account.exit.now }
+        { lead_each(rt, alloc, lead, account, steps, window, gate) };
+        let ran = run_batches(
             rt,
             alloc,
             &self.floor,
             &mut self.workers,
-            &mut self.account,
-            steps,
-            window,
             assignments.as_slice(),
             gate,
-        )
+            &mut own,
+        );
+        match ran {
+            Ok((Ok(()), _)) => Ok(()),
+            Ok((Err(Some(why)), _)) => Err(why),
+            Ok((Err(None), told)) => Err(account.broken_by(fault_told(told))),
+            Err(_) => Err(account.broken_by(AttemptFault::Memory)),
+        }
     }
 
     /// Makes an attempt of records that a caller took, and opens it.

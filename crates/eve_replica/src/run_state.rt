@@ -1,10 +1,11 @@
 //! The state of a run.
 
-ghost use Rattle.std.specs.Prelude.{◌≡◌, ◌≤◌, ◌+◌, ◌-◌, ◌<◌, ◌++◌, min, map, All, List, [], OnOk, Some, None, length};
+ghost use Rattle.std.specs.Prelude.{◌≡◌, ◌≤◌, ◌+◌, ◌-◌, ◌<◌, ◌++◌, map, All, List, [], OnOk, Some, None, length};
 ghost use Rattle.eve_grammar.specs.Trace.{Vote};
 ghost use Rattle.eve_write.specs.Data.{batch as plain};
 ghost use Rattle.eve_replica.specs.declared.standing.Standing.{Standing};
 ghost use Rattle.eve_replica.specs.Deciding.{AreUndecided};
+ghost use Rattle.eve_replica.specs.RunFaults.{MayEnd};
 ghost use Rattle.eve_replica.specs.Sections.{RunPlan};
 ghost use Rattle.eve_replica.specs.Serving.{IsRightMixed, Serves, AreBatchesFrom, AreWholeWindow};
 ghost use Rattle.eve_replica.specs.Serving.{IsSameRun, IsUnderWay};
@@ -18,7 +19,7 @@ ghost use Rattle.std.specs.Arc.{arc_value};
 ghost use Rattle.eve_grammar.specs.Bodies.{transfer};
 ghost use Rattle.eve_grammar.specs.Limits.{is_transfer};
 
-use crate::fault::RunFault;
+use crate::fault::{AttemptFault, RunFault};
 use crate::server::Server;
 use crate::standing::{MOST_VIEWS, Standing};
 use crate::votes::{vote_for_commit, vote_for_rollback};
@@ -49,7 +50,8 @@ pub(crate) struct RunState<'n, 'b> {
 }
 
 impl<'n, 'b> RunState<'n, 'b> {
-    /// Runs one window: the next batches are attempted, at most a window's number of them, and decided in order.
+    /// Runs one window: each live replica attempts the next batches, a window's number of them or all that are left,
+    /// and they are decided in order.
     ///
     /// docs/TRACE.md, "The deployment's procedure".
     pub(crate) fn run_window<R: Threads + Wait + Sync, G: Gate>(
@@ -66,30 +68,7 @@ impl<'n, 'b> RunState<'n, 'b> {
         ensures none_open { OnOk result (self.new.standing.opened ≡ 0) }
         ensures same { OnOk result (IsSameRun self.old self.new) }
         ensures view { OnOk result (self.new.standing.view ≤ self.old.standing.view + 1) }
-    {
-        self.attempt(rt, alloc, gate)?;
-        while self.standing.opened > 0 {
-            self.decide(alloc)?;
-        }
-        Ok(())
-    }
-
-    /// Each live replica, one after another, attempts the batches of the window: its number of them, or all that are
-    /// left.
-    fn attempt<R: Threads + Wait + Sync, G: Gate>(
-        &mut self,
-        rt: &R,
-        alloc: Global,
-        gate: &G,
-    ) -> Result<(), RunFault>
-        requires under_way { (p : RunPlan) × IsUnderWay p self.old }
-        requires none_open { self.old.standing.opened ≡ 0 }
-        requires left { self.old.standing.committed < length self.old.batches.now }
-        ensures under_way { (p : RunPlan) → IsUnderWay p self.old → OnOk result (IsUnderWay p self.new) }
-        ensures same { OnOk result (IsSameRun self.old self.new) }
-        ensures standing { OnOk result (self.new.standing ≡ after_attempts self.new.standing.opened self.old.standing) }
-        ensures many { let left = length self.old.batches.now - self.old.standing.committed in
-            OnOk result (self.new.standing.opened ≡ min self.old.head.window left) }
+        ensures why { IfErr result (MayEnd self.old.head.version) }
     {
         let batches = self.batches;
         let from = self.standing.committed as usize;
@@ -97,6 +76,9 @@ impl<'n, 'b> RunState<'n, 'b> {
         let window = &batches[from..end];
         attempt_all(rt, alloc, self.servers.as_mut_slice(), window, gate)?;
         self.standing.opened = window.len() as u32;
+        while self.standing.opened > 0 {
+            self.decide(alloc)?;
+        }
         Ok(())
     }
 
@@ -111,6 +93,7 @@ impl<'n, 'b> RunState<'n, 'b> {
         ensures view { OnOk result (self.new.standing.view ≤ self.old.standing.view + 1) }
         ensures same_view { 0 < self.new.standing.opened
             → OnOk result (self.new.standing.view ≡ self.old.standing.view) }
+        ensures why { IfErr result (MayEnd self.old.head.version) }
     {
         match decided(self.servers.as_slice()) {
             Some(token) => self.commit(alloc, token),
@@ -130,6 +113,7 @@ impl<'n, 'b> RunState<'n, 'b> {
         ensures under_way { (p : RunPlan) → IsUnderWay p self.old → OnOk result (IsUnderWay p self.new) }
         ensures same { OnOk result (IsSameRun self.old self.new) }
         ensures standing { OnOk result (self.new.standing ≡ after_commit self.old.standing) }
+        ensures why { IfErr result (MayEnd self.old.head.version) }
     {
         let seq = self.standing.committed + 1;
         let batches = self.batches.len();
@@ -175,7 +159,7 @@ fn attempt_all<R: Threads + Wait + Sync, G: Gate>(
     servers: &mut [Server],
     window: &[MixedBatch],
     gate: &G,
-) -> Result<(), RunFault>
+) -> Result<(), AttemptFault>
     requires serve { (p : RunPlan) × (at : Standing) × (votes : List Vote) × All (IsRightMixed p.names) window.now
         × AreBatchesFrom p.batches (at.committed + at.opened) (map (λ m. plain m.batch) window.now)
         × All (Serves p at votes) servers.old × (at.opened ≡ 0) × (length window.now ≤ p.first.window)
@@ -192,7 +176,12 @@ fn attempt_all<R: Threads + Wait + Sync, G: Gate>(
     ensures undecided { AreUndecided (sections_in servers.old) → OnOk result (AreUndecided (sections_in servers.new)) }
 {
     for server in servers.iter_mut() {
-        server.attempt_window(rt, alloc, window, gate)?;
+        if !server.is_live {
+            continue;
+        }
+        server
+            .replica
+            .attempt_window(rt, alloc, &mut server.steps, window, gate)?;
     }
     Ok(())
 }
@@ -223,6 +212,7 @@ fn commit_each(
         → IsLeft p.batches at → AreTakenIn p (sections_in servers.old)
         → OnOk result (AreTakenIn p (sections_in servers.new)) }
     ensures undecided { AreUndecided (sections_in servers.old) → OnOk result (AreUndecided (sections_in servers.new)) }
+    ensures why { IfErr result (MayEnd head.now.version) }
 {
     if head.version == 1 {
         commit_all(servers, seq, token)?;

@@ -1,10 +1,11 @@
 //! The run of a whole deployment.
 
-ghost use Rattle.std.specs.Prelude.{◌≡◌, ◌≤◌, ◌<◌, ◌*◌, ◌⊎◌, true, [], All, IfOk, OnOk, length, map, vec_len};
+ghost use Rattle.std.specs.Prelude.{◌≡◌, ◌≤◌, ◌<◌, ◌*◌, ◌⊎◌, true, [], All, IfOk, IfErr, OnOk, length, map, vec_len};
 ghost use Rattle.eve_grammar.specs.Trace.{opening_rows};
 ghost use Rattle.eve_write.specs.Data.{batch as plain, customer, section, sent};
 ghost use Rattle.eve_workload.specs.Workload.{customer_names};
 ghost use Rattle.eve_replica.specs.Run.{IsRunOf};
+ghost use Rattle.eve_replica.specs.RunFaults.{MayEnd};
 ghost use Rattle.eve_replica.specs.Sections.{RunPlan};
 ghost use Rattle.eve_replica.specs.Sending.{sent_from_on};
 ghost use Rattle.eve_replica.specs.Serving.{IsRightMixed, IsPlanFor, Serves, IsUnderWay, IsSameRun, AreReplies};
@@ -47,7 +48,8 @@ pub fn run<R: Threads + Wait + Sync, G: Gate>(
     gate: &G,
 ) -> Result<Parts, RunFault>
     requires { (1 ≤ workload.now.format) × (workload.now.format ≤ NEWEST_VERSION) }
-    ensures { IfOk result (IsRunOf workload.now mixer) }
+    ensures run { IfOk result (IsRunOf workload.now mixer) }
+    ensures why { IfErr result (MayEnd workload.now.format) }
 {
     run_consuming(rt, alloc, workload.copy(alloc)?, mixer, random, gate)
 }
@@ -65,7 +67,8 @@ pub fn run_consuming<R: Threads + Wait + Sync, G: Gate>(
     gate: &G,
 ) -> Result<Parts, RunFault>
     requires { (1 ≤ workload.format) × (workload.format ≤ NEWEST_VERSION) }
-    ensures { IfOk result (IsRunOf workload mixer) }
+    ensures run { IfOk result (IsRunOf workload mixer) }
+    ensures why { IfErr result (MayEnd workload.format) }
 {
     let customers = workload.customers().to_vec(alloc)?;
     let names = names_of(alloc, customers.as_slice(), random)?;
@@ -83,7 +86,8 @@ fn run_named<R: Threads + Wait + Sync, G: Gate>(
 ) -> Result<Parts, RunFault>
     requires named { names.now.items ≡ customer_names workload.customers }
     requires format { (1 ≤ workload.format) × (workload.format ≤ NEWEST_VERSION) }
-    ensures { IfOk result (IsRunOf workload mixer) }
+    ensures run { IfOk result (IsRunOf workload mixer) }
+    ensures why { IfErr result (MayEnd workload.format) }
 {
     let head = workload.head();
     let (customers, listed) = workload.into_lists();
@@ -164,6 +168,7 @@ fn run_windows<R: Threads + Wait + Sync, G: Gate>(
     ensures same { OnOk result (IsSameRun state.old state.new) }
     ensures done { OnOk result (state.new.standing.committed ≡ length state.old.batches.now) }
     ensures view { OnOk result (state.new.standing.view ≤ 2 * length state.old.batches.now) }
+    ensures why { IfErr result (MayEnd state.old.head.version) }
 {
     let batches = state.batches;
     for turn in 0..2 * batches.len() {

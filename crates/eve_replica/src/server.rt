@@ -1,30 +1,27 @@
 //! Replicas of a run, with what they did.
 
-ghost use Rattle.std.specs.Prelude.{◌≡◌, true, false, ◌+◌, ◌-◌, ◌<◌, ◌^◌, [], ◌∷◌, ◌++◌, All, IsTrue, IsSome, OnErr};
-ghost use Rattle.std.specs.Prelude.{OnOk, length, map};
+ghost use Rattle.std.specs.Prelude.{◌≡◌, true, false, ◌+◌, ◌-◌, ◌<◌, ◌^◌, [], ◌∷◌, ◌++◌, IsTrue, IsSome};
+ghost use Rattle.std.specs.Prelude.{OnOk, length};
 ghost use Rattle.std.specs.Prelude.{◌≢◌, ◌*◌, ℕ, List, IfOk};
 ghost use Rattle.std.specs.Arc.{arc_value};
 ghost use Rattle.eve_grammar.specs.Bodies.{transfer};
 ghost use Rattle.eve_grammar.specs.Limits.{is_step, is_transfer};
 ghost use Rattle.eve_grammar.specs.Trace.{TakesOver};
 ghost use Rattle.eve_attempts.specs.Ledgers.{ledger_rows};
-ghost use Rattle.eve_write.specs.Data.{batch, section, step as plain};
+ghost use Rattle.eve_write.specs.Data.{section, step as plain};
 ghost use Rattle.eve_replica.specs.Deciding.{is_some_of};
 ghost use Rattle.eve_replica.specs.Sections.{RunPlan};
-ghost use Rattle.eve_replica.specs.Serving.{IsRightMixed, AreDue, AreRightSteps, GoesOn, GivesUpNext};
-ghost use Rattle.eve_replica.specs.Serving.{attempt_move, commit_move, rollback_move};
+ghost use Rattle.eve_replica.specs.Serving.{AreRightSteps, GoesOn, GivesUpNext};
+ghost use Rattle.eve_replica.specs.Serving.{commit_move, rollback_move};
 ghost use Rattle.eve_replica.specs.Serving.{next_token, standing_of, CommitsNext, IsLentBy, MayTakeOver, MissesRightly};
 
 use crate::attempting::add_step;
 use crate::fault::RunFault;
 use crate::replica::Replica;
 use eve_grammar::{Head, TransferData};
-use eve_recorder::Gate;
-use eve_workload::MixedBatch;
 use eve_write::{Step, commit_fits, is_right_transfer};
 use std::alloc::{AllocError, Global};
-use std::sync::{Arc, Wait};
-use std::thread::Threads;
+use std::sync::Arc;
 
 /// A replica of a run, with what it did so far, and whether it goes on.
 #[derive(Drop)]
@@ -58,30 +55,6 @@ impl<'n> Server<'n> {
             Some(own) => own == token,
             None => false,
         }
-    }
-
-    /// Attempts these batches, which are the next, if the replica is live.
-    pub(crate) fn attempt_window<R: Threads + Wait + Sync, G: Gate>(
-        &mut self,
-        rt: &R,
-        alloc: Global,
-        window: &[MixedBatch],
-        gate: &G,
-    ) -> Result<(), RunFault>
-        requires mixed { All (IsRightMixed self.old.replica.names) window.now }
-        requires whole { self.old.replica.is_broken ≡ false }
-        requires due { self.old.is_live ≡ true → AreDue (length window.now) self.old.replica.ledger }
-        requires none_missing { self.old.is_live ≡ true → self.old.missing ≡ 0 }
-        ensures on { OnOk result (GoesOn (attempt_move (length window.now) (map (λ m. batch m.batch) window.now))
-            self.old self.new) }
-        ensures broken { OnErr result (self.new.replica.is_broken ≡ true) }
-        ensures live { self.new.is_live ≡ self.old.is_live }
-    {
-        if !self.is_live {
-            return Ok(());
-        }
-        self.replica
-            .attempt_window(rt, alloc, &mut self.steps, window, gate)
     }
 
     /// In format 1, commits the batch, which is the next, where the replica is live and its first open attempt has this

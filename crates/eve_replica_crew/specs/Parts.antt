@@ -4,7 +4,7 @@ use Rattle.eve_grammar.specs.Trace.{Batch}
 use Rattle.eve_write.specs.Data.{batch as plain}
 use Rattle.eve_replica_crew.specs.declared.assignment.Assignment.{Assignment}
 use Rattle.eve_replica_crew.specs.declared.part.LeadPart.{LeadPart}
-use Rattle.eve_replica_crew.specs.declared.part.LeadPart.TheVariants.{Alone, Beside}
+use Rattle.eve_replica_crew.specs.declared.part.LeadPart.TheVariants.{Lone, Shared}
 
 -- the batches of these assignments
 abbrev pub assigned_batches : List Assignment → List Batch
@@ -12,13 +12,13 @@ assigned_batches assignments = map (λ a. plain a.batch.now) assignments
 
 -- the batch of a part
 abbrev pub batch_of_part : LeadPart → Batch
-batch_of_part (Alone lone) = plain lone.assignment.batch.now
-batch_of_part (Beside part) = plain part.shared.batch.now
+batch_of_part (Lone lone) = plain lone.assignment.batch.now
+batch_of_part (Shared part) = plain part.shared.batch.now
 
 -- the names of the customers over whose stripes it is run
 abbrev pub names_of_part : LeadPart → List (List ℕ)
-names_of_part (Alone lone) = lone.floor.now
-names_of_part (Beside part) = part.shared.floor.now
+names_of_part (Lone lone) = lone.floor.now
+names_of_part (Shared part) = part.shared.floor.now
 
 -- the batches of parts that are run from the last one on, in that order
 abbrev pub batches_left : List LeadPart → List Batch

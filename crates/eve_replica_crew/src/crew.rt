@@ -84,7 +84,7 @@ pub(crate) fn deal<'s>(
 {
     deal_parts(shared, crew, seating, &mut parts.others)?;
     let own = shared_part_of(shared, seating);
-    parts.lead.push_reserved(LeadPart::Beside(own));
+    parts.lead.push_reserved(LeadPart::Shared(own));
     Ok(())
 }
 

@@ -41,7 +41,7 @@ pub(crate) fn lone_parts<'s>(
         let assignment = assignments[left];
         parts
             .lead
-            .push_reserved(LeadPart::Alone(LonePart { floor, assignment }));
+            .push_reserved(LeadPart::Lone(LonePart { floor, assignment }));
     }
     Ok(parts)
 }

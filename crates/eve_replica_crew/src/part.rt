@@ -41,9 +41,9 @@ pub(crate) struct LonePart<'s> {
 #[derive(Drop)]
 pub(crate) enum LeadPart<'s> {
     /// All of it.
-    Alone(LonePart<'s>),
+    Lone(LonePart<'s>),
     /// What it claims beside other workers.
-    Beside(SharedPart<'s>),
+    Shared(SharedPart<'s>),
 }
 
 /// The parts of the workers, each worker's first batch last.

@@ -1,14 +1,13 @@
 //! A worker's parts in its batches.
 
-ghost use Rattle.std.specs.Prelude.{◌≡◌, ◌+◌, ◌<◌, ◌≤◌, ◌++◌, [], IfOk, IfSome, OnOk, length, vec_len, vec_capacity};
+ghost use Rattle.std.specs.Prelude.{◌≡◌, ◌<◌, ◌≤◌, ℕ, List, [], IfOk, IfSome, OnOk, length, vec_len, vec_capacity};
 ghost use Rattle.eve_smallbank.specs.Touch.{touched_of};
 ghost use Rattle.eve_write.specs.Data.{batch as plain_batch};
 ghost use Rattle.eve_floor.specs.Executing.{IsSeatedAt};
-ghost use Rattle.eve_grammar.specs.Trace.{request_with};
-ghost use Rattle.eve_recorder.specs.Noted.{IsOrderly};
+ghost use Rattle.eve_grammar.specs.Trace.{Batch, request_with};
 ghost use Rattle.eve_replica_crew.specs.Parts.{batch_of_part, names_of_part};
 ghost use Rattle.eve_replica_crew.specs.Recording.{AreKeptFrom, AreNotedOf};
-ghost use Rattle.eve_replica_crew.specs.Sharing.{IsSet};
+ghost use Rattle.eve_replica_crew.specs.Sharing.{IsSet, IsTakeable};
 ghost use Rattle.eve_replica_crew.specs.Crews.{IsSeated};
 
 use crate::crew::Member;
@@ -37,8 +36,15 @@ pub(crate) fn run_parts<R: Wait, G: Gate>(
         let Some(tick) = member.tick.take() else {
             unreachable!()
         };
-        let (tick, end) = run_part(rt, ticks, part, tick, gate);
-        member.tick = Some(tick);
+        let Part {
+            shared,
+            seat,
+            mut claims,
+            ..
+        } = part;
+        let mut worker = Worker::new(seat, tick);
+        let end = claim_and_run(rt, ticks, &shared, &mut worker, &mut claims, gate);
+        member.tick = Some(tick_of(worker));
         if let Err(why) = end {
             member.fault = fault_in(why);
             return;
@@ -64,14 +70,31 @@ pub(crate) fn run_lead_part<R: Wait, G: Gate>(
     ensures noted { OnOk result (AreNotedOf (names_of_part part.entry) (batch_of_part part.entry) records.new.items) }
 {
     match part {
-        LeadPart::Alone(lone) => match run_lone(rt, ticks, &lone, tick, gate, records) {
+        LeadPart::Lone(lone) => match run_lone(rt, ticks, &lone, tick, gate, records) {
             Ok(()) => Ok(()),
             Err(why) => Err(Some(why)),
         },
-        LeadPart::Beside(beside) => match run_shared_part(rt, ticks, beside, tick, gate, records) {
-            Ok(()) => Ok(()),
-            Err(why) => Err(fault_in(why)),
-        },
+        LeadPart::Shared(part) => {
+            let SharedPart {
+                shared,
+                mut taker,
+                mut claims,
+                ..
+            } = part;
+            match run_shared(
+                rt,
+                ticks,
+                &shared,
+                &mut taker,
+                &mut claims,
+                tick,
+                gate,
+                records,
+            ) {
+                Ok(()) => Ok(()),
+                Err(why) => Err(fault_in(why)),
+            }
+        }
     }
 }
 
@@ -83,57 +106,26 @@ fn fault_in(own: Option<GivenUp>) -> Option<ExecFault> {
     }
 }
 
-/// Runs the first worker's part in one batch, keeps its records, and takes what the others noted, once all is noted.
-/// The error is the worker's own fault, or none where another worker gave a request up.
-fn run_shared_part<R: Wait, G: Gate>(
-    rt: &R,
-    ticks: &Tickets,
-    part: SharedPart<'_>,
-    tick: &mut TicketSeat,
-    gate: &G,
-    records: &mut Vec<AccessRecord>,
-) -> Result<(), Option<GivenUp>>
-    requires tick { tick.old.tickets ≡ ticks.now }
-    requires empty { vec_len records.old ≡ 0 }
-    requires room { MOST_REQUESTS ≤ vec_capacity records.old }
-    ensures tick { tick.new.tickets ≡ ticks.now }
-    ensures room { vec_capacity records.new ≡ vec_capacity records.old }
-    ensures noted { let shared = part.entry.shared in
-        OnOk result (AreNotedOf shared.floor.now (plain_batch shared.batch.now) records.new.items) }
-{
-    let SharedPart {
-        shared,
-        mut taker,
-        mut claims,
-        ..
-    } = part;
-    claim_and_keep(rt, ticks, &shared, tick, &mut claims, gate, records)?;
-    if !shared.progress.wait_for(rt, noted_after(&shared)) {
-        return Err(None);
-    }
-    take_rest(rt, &shared, &mut taker, records);
-    Ok(())
-}
-
-/// Claims requests of the batch and runs them, as `claim_and_run` does, and keeps their records.
-fn claim_and_keep<R: Wait, G: Gate>(
+/// Claims requests of a batch that the first worker shares and runs them, as `claim_and_run` does, keeps their records,
+/// and takes what the others noted, once all is noted. The error is the worker's own fault, or none where another worker
+/// gave a request up.
+fn run_shared<R: Wait, G: Gate>(
     rt: &R,
     ticks: &Tickets,
     shared: &SharedBatch<'_>,
-    tick: &mut TicketSeat,
+    taker: &mut TakerSeat,
     claims: &mut TicketSeat,
+    tick: &mut TicketSeat,
     gate: &G,
     records: &mut Vec<AccessRecord>,
 ) -> Result<(), Option<GivenUp>>
-    requires set { IsSet shared.now }
+    requires seats { IsTakeable shared.now taker.old claims.old }
     requires tick { tick.old.tickets ≡ ticks.now }
-    requires claims { claims.old.tickets ≡ shared.now.claims.now }
     requires empty { vec_len records.old ≡ 0 }
     requires room { MOST_REQUESTS ≤ vec_capacity records.old }
     ensures tick { tick.new.tickets ≡ ticks.now }
-    ensures kept { AreKeptFrom shared.now.floor.now (plain_batch shared.now.batch.now) 0 records.new.items }
-    ensures few { vec_len records.new ≤ length shared.now.batch.now.requests.items }
     ensures room { vec_capacity records.new ≡ vec_capacity records.old }
+    ensures noted { OnOk result (AreNotedOf shared.now.floor.now (plain_batch shared.now.batch.now) records.new.items) }
 {
     let mut pace = Pace::new();
     for place in 0..shared.batch.requests.len() {
@@ -158,7 +150,8 @@ fn claim_and_keep<R: Wait, G: Gate>(
         }
         pace.note();
     }
-    tell(&mut pace, shared.progress)
+    tell(&mut pace, shared.progress)?;
+    take_rest(rt, shared, taker, records)
 }
 
 /// Claims the next request and returns its index, once all requests of earlier batches and of earlier parallelBatches
@@ -203,51 +196,33 @@ fn tell(pace: &mut Pace, progress: &Progress) -> Result<(), Option<GivenUp>> {
     }
 }
 
-/// Takes what the others noted of the batch, until there is a record of each request.
+/// Takes what the others noted of the batch, once all is noted, until there is a record of each request. An error where
+/// another worker gave a request up.
 fn take_rest<R: Wait>(
     rt: &R,
     shared: &SharedBatch<'_>,
     taker: &mut TakerSeat,
     records: &mut Vec<AccessRecord>,
-)
+) -> Result<(), Option<GivenUp>>
     requires set { IsSet shared.now }
     requires taker { taker.old.recorder ≡ shared.now.recorder.now.recorder }
     requires fresh { taker.old.taken ≡ [] }
     requires few { vec_len records.old ≤ length shared.now.batch.now.requests.items }
     requires room { MOST_REQUESTS ≤ vec_capacity records.old }
     ensures room { vec_capacity records.new ≡ vec_capacity records.old }
-    ensures taken { records.new.items ≡ records.old.items ++ taker.new.taken }
-    ensures orderly { IsOrderly taker.new.taken }
+    ensures noted { (names : List (List ℕ)) (b : Batch) → AreKeptFrom names b 0 records.old.items
+        → OnOk result (AreNotedOf names b records.new.items) }
 {
+    if !shared.progress.wait_for(rt, noted_after(shared)) {
+        return Err(None);
+    }
     for place in records.len()..shared.batch.requests.len() {
         let Some(record) = shared.recorder.take(rt, taker) else {
             break;
         };
         records.push_reserved(record);
     }
-}
-
-/// Runs the worker's part in one batch, and returns the seat at the tickets of ticks. The error is the worker's own
-/// fault, or none where another worker gave a request up.
-fn run_part<R: Wait, G: Gate>(
-    rt: &R,
-    ticks: &Tickets,
-    part: Part<'_>,
-    tick: TicketSeat,
-    gate: &G,
-) -> (TicketSeat, Result<(), Option<GivenUp>>)
-    requires { tick.tickets ≡ ticks.now }
-    ensures { result.0.tickets ≡ ticks.now }
-{
-    let Part {
-        shared,
-        seat,
-        mut claims,
-        ..
-    } = part;
-    let mut worker = Worker::new(seat, tick);
-    let end = claim_and_run(rt, ticks, &shared, &mut worker, &mut claims, gate);
-    (tick_of(worker), end)
+    Ok(())
 }
 
 /// The worker's seat at the tickets of ticks.
@@ -283,8 +258,20 @@ fn claim_and_run<R: Wait, G: Gate>(
         let Some(index) = next_due(rt, shared, claims, &mut pace)? else {
             break;
         };
-        if let Err(why) = run_request(rt, ticks, shared, worker, index, gate) {
-            return Err(Some(why));
+        let reached = touched_at(shared, index);
+        let executed = execute_touched(
+            rt,
+            shared.floor,
+            shared.recorder,
+            ticks,
+            worker,
+            shared.batch,
+            &reached,
+            index,
+            gate,
+        );
+        if let Err(why) = executed {
+            return Err(Some(shared.progress.give_up(why)));
         }
         pace.note();
     }
@@ -303,40 +290,6 @@ fn claim(shared: &SharedBatch<'_>, claims: &mut TicketSeat) -> Option<u16>
         Some(number as u16)
     } else {
         None
-    }
-}
-
-/// Runs the request with this index. The error is why it is given up.
-fn run_request<R: Wait, G: Gate>(
-    rt: &R,
-    ticks: &Tickets,
-    shared: &SharedBatch<'_>,
-    worker: &mut Worker,
-    index: u16,
-    gate: &G,
-) -> Result<(), GivenUp>
-    requires set { IsSet shared.now }
-    requires there { index < length shared.now.batch.now.requests.items }
-    requires place { length worker.old.seat.noted < MOST_PLACES }
-    requires own { IsSeatedAt shared.now.recorder.now ticks.now worker.old }
-    ensures own { IsSeatedAt shared.now.recorder.now ticks.now worker.new }
-    ensures noted { OnOk result (length worker.new.seat.noted ≡ length worker.old.seat.noted + 1) }
-{
-    let reached = touched_at(shared, index);
-    let executed = execute_touched(
-        rt,
-        shared.floor,
-        shared.recorder,
-        ticks,
-        worker,
-        shared.batch,
-        &reached,
-        index,
-        gate,
-    );
-    match executed {
-        Ok(()) => Ok(()),
-        Err(why) => Err(shared.progress.give_up(why)),
     }
 }
 

@@ -31,8 +31,8 @@ one_or_two (suc zero) some few = inl refl
 one_or_two (suc (suc zero)) some few = inr refl
 one_or_two (suc (suc (suc n))) some few = absurd (omega arith)
 
-pub returns : goal.returns
-returns g c =
+pub returns-clause-run : goal.returns-clause-run
+returns-clause-run g c =
     let w = c.args.workload in
     let h : Head = c.head-head.result in
     let p : Parts = record {

@@ -1,7 +1,7 @@
 use Rattle.std.proofs.Common.{◌≡◌, vec_len, vec_capacity}
 use Rattle.eve_write.specs.Data.{batch as plain}
 use Rattle.eve_replica_crew.specs.Recording.{AreKeptFrom}
-use Rattle.eve_replica_crew.proofs.work.claim_and_keep.Given as goal
+use Rattle.eve_replica_crew.proofs.work.run_shared.Given as goal
 
 abbrev pub invariant-loop-place : goal.invariant-loop-place
 invariant-loop-place g l =

@@ -5,7 +5,7 @@ use Rattle.eve_grammar.specs.Trace.{Batch}
 use Rattle.eve_write.specs.Data.{batch as plain}
 use Rattle.eve_replica_crew.specs.Recording.{AreKeptFrom}
 use Rattle.eve_replica_crew.proofs.Records.{kept_push, refused_at}
-use Rattle.eve_replica_crew.proofs.work.claim_and_keep.Goals as goal
+use Rattle.eve_replica_crew.proofs.work.run_shared.Goals as goal
 
 pub loop-place-preserved : goal.loop-place-preserved
 loop-place-preserved g c =
@@ -24,3 +24,7 @@ pub returns-in-Err-clause-tick : goal.returns-in-Err-clause-tick
 returns-in-Err-clause-tick g c =
     refused_at c.in-Err.why c.loop-place.tick c.execute_kept-executed.new.drawer c.args.ticks.now c.in-Err.ensures
     c.loop-place.invariant.0
+
+pub returns-clause-noted : goal.returns-clause-noted
+returns-clause-noted g c =
+    c.take_rest.ensures.noted c.args.shared.now.floor.now (plain c.args.shared.now.batch.now) c.loop-place.invariant.4

@@ -3,7 +3,7 @@ use Rattle.eve_write.specs.Data.{batch}
 use Rattle.eve_replica_crew.specs.FirstWorkers.{StaysAt}
 use Rattle.eve_replica.specs.Replicas.{KeepsCrew}
 use Rattle.eve_replica.specs.Serving.{GoesOn, attempt_move, server_with}
-use Rattle.eve_replica.proofs.attempting.close_each.Given as goal
+use Rattle.eve_replica.proofs.attempting.lead_each.Given as goal
 
 abbrev pub invariant-loop-place : goal.invariant-loop-place
 invariant-loop-place g l = record {

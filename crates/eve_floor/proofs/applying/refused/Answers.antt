@@ -1,6 +1,6 @@
 use Rattle.std.proofs.Common.{sym, ◌∙◌, refl}
 use Rattle.eve_smallbank.specs.SmallBank.{plain}
-use Rattle.eve_floor.proofs.applying.on_none.Goals as goal
+use Rattle.eve_floor.proofs.applying.refused.Goals as goal
 
 pub returns : goal.returns
 returns g c = λ names looked.

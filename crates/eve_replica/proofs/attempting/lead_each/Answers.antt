@@ -7,9 +7,12 @@ use Rattle.eve_write.specs.Data.{batch}
 use Rattle.eve_workload.specs.declared.mixer.MixedBatch.{MixedBatch}
 use Rattle.eve_replica.specs.declared.standing.Standing.{Standing}
 use Rattle.eve_replica.specs.Serving.{GoesOn, IsRightMixed, attempt_move, server_with}
+use Rattle.eve_stamps.specs.Applied.{Applied}
+use Rattle.eve_replica_crew.specs.Recording.{AreNotedOf}
 use Rattle.eve_replica.proofs.Going.{one_more}
+use Rattle.eve_replica.proofs.Noted.{left_next, noted_next}
 use Rattle.eve_replica.proofs.OneStep.{none_made}
-use Rattle.eve_replica.proofs.attempting.close_each.Goals as goal
+use Rattle.eve_replica.proofs.attempting.lead_each.Goals as goal
 
 -- the batch that is next, before those after it
 next_left : (window : List MixedBatch) (m : MixedBatch) (place : ℕ) → place < length window → m ≡ get_or window place m
@@ -37,21 +40,27 @@ loop-place-preserved g c = record {
   on = one_more c.loop-place.place (map (λ m. batch m.batch) c.args.window.now)
       (batch c.index-window-place.result.batch)
       (server_with c.args.account.now c.args.steps.now) (server_with c.loop-place.account c.loop-place.steps)
-      (server_with c.close_mixed.new.account c.close_mixed.new.steps)
+      (server_with c.add_attempt.new.account c.add_attempt.new.steps)
       (slice_get-map (λ (m : MixedBatch). batch m.batch) c.args.window.now c.loop-place.place
       ∙ ap (option_map (λ m. batch m.batch))
       (slice_get_read c.args.window.now (length c.args.window.now) c.loop-place.place c.index-window-place.result refl
       (omega arith) c.index-window-place.is))
-      refl c.loop-place.invariant.on c.in_ok-close_mixed.ensures.on;
+      refl c.loop-place.invariant.on c.in-Ok.ensures.on;
   same = (
-    c.close_mixed.ensures.same.0 ∙ c.loop-place.invariant.same.0,
-    c.close_mixed.ensures.same.1 ∙ c.loop-place.invariant.same.1,
+    c.add_attempt.ensures.same.0 ∙ c.loop-place.invariant.same.0,
+    c.add_attempt.ensures.same.1 ∙ c.loop-place.invariant.same.1,
   );
   stays = (
-    c.close_mixed.ensures.lead.0 ∙ c.loop-place.invariant.stays.0,
-    c.close_mixed.ensures.lead.1 ∙ c.loop-place.invariant.stays.1,
+    c.next.ensures.stays.0 ∙ c.loop-place.invariant.stays.0,
+    c.next.ensures.stays.1 ∙ c.loop-place.invariant.stays.1,
   );
-  left = let both = sym c.in_ok-close_mixed.ensures.left ∙ c.loop-place.invariant.left
+  left = let both = sym (left_next c.loop-place.lead c.next.new.self (batch c.index-window-place.result.batch)
+      (drop (c.loop-place.place + 1) (map (λ (m : MixedBatch). batch m.batch) c.args.window.now))
+      (c.if-not-next.ensures.runs refl)
+      (c.loop-place.invariant.left
+      ∙ next_left c.args.window.now c.index-window-place.result c.loop-place.place (omega arith)
+      c.index-window-place.is))
+      ∙ c.loop-place.invariant.left
       ∙ next_left c.args.window.now c.index-window-place.result c.loop-place.place (omega arith)
       c.index-window-place.is in cc;
 }
@@ -65,8 +74,8 @@ returns-clause-on g c =
     (server_with c.loop-place.account c.loop-place.steps))
     all c.loop-place.invariant.on
 
-pub close_mixed-requires-clause-due : goal.close_mixed-requires-clause-due
-close_mixed-requires-clause-due g c κs within =
+pub add_attempt-requires-clause-due : goal.add_attempt-requires-clause-due
+add_attempt-requires-clause-due g c =
     let was = c.requires.due.due in
     let now = (c.loop-place.invariant.on.live refl).1 in
     let committed = ap (λ (s : Standing). s.committed) now in
@@ -74,24 +83,25 @@ close_mixed-requires-clause-due g c κs within =
     let room = c.loop-place.invariant.on.room in
     record { last = omega (arith, was.last); room = omega (arith, was.room) }
 
-pub close_mixed-requires-clause-mixed : goal.close_mixed-requires-clause-mixed
-close_mixed-requires-clause-mixed g c κs within =
+pub add_attempt-requires-clause-mixed : goal.add_attempt-requires-clause-mixed
+add_attempt-requires-clause-mixed g c =
     let one : MixedBatch = c.index-window-place.result in
     subst (λ (names : List (List ℕ)). IsRightMixed names one) (sym c.loop-place.invariant.on.names)
     (subst (IsRightMixed c.args.account.now.names) (sym c.index-window-place.is)
     (c.requires.due.mixed c.loop-place.place one (omega arith)))
 
-pub close_mixed-requires-clause-whole : goal.close_mixed-requires-clause-whole
-close_mixed-requires-clause-whole g c κs within = c.loop-place.invariant.on.whole c.requires.due.whole
+pub add_attempt-requires-clause-whole : goal.add_attempt-requires-clause-whole
+add_attempt-requires-clause-whole g c = c.loop-place.invariant.on.whole c.requires.due.whole
 
-pub close_mixed-requires-clause-over : goal.close_mixed-requires-clause-over
-close_mixed-requires-clause-over g c κs within =
-    c.loop-place.invariant.stays.1 ∙ c.requires.over ∙ sym c.loop-place.invariant.same.0
-
-pub close_mixed-requires-clause-next : goal.close_mixed-requires-clause-next
-close_mixed-requires-clause-next g c κs within = (
-  drop (c.loop-place.place + 1) (map (λ (m : MixedBatch). batch m.batch) c.args.window.now),
-  c.loop-place.invariant.left
-      ∙ next_left c.args.window.now c.index-window-place.result c.loop-place.place (omega arith)
-      c.index-window-place.is,
-)
+pub add_attempt-requires-clause-noted : goal.add_attempt-requires-clause-noted
+add_attempt-requires-clause-noted g c =
+    let b = batch c.index-window-place.result.batch in
+    subst (λ (rs : List Applied). AreNotedOf c.loop-place.account.names b rs) (sym c.records.ensures)
+    (noted_next c.loop-place.lead c.next.new.self b
+    (drop (c.loop-place.place + 1) (map (λ (m : MixedBatch). batch m.batch) c.args.window.now))
+    (c.if-not-next.ensures.runs refl)
+    (c.loop-place.invariant.left
+    ∙ next_left c.args.window.now c.index-window-place.result c.loop-place.place (omega arith)
+    c.index-window-place.is)
+    c.loop-place.account.names
+    (c.loop-place.invariant.stays.1 ∙ c.requires.over ∙ sym c.loop-place.invariant.same.0))
