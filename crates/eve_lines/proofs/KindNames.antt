@@ -1,4 +1,4 @@
--- Public: other crates cite these lemmas. How long the names of kinds of frames are.
+-- How long the names of kinds of frames are.
 use Rattle.std.proofs.Common.{ℕ, ◌≤◌, ◌==◌, Bool, true, false, if◌then◌else◌, List, length, lit≤, subst, sym, ◌≡◌}
 use Rattle.eve_frames.specs.Kinds.{kind_name}
 

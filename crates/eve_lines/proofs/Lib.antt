@@ -1,1 +1,2 @@
-pub mod KindNames
+pub mod Digits
+mod KindNames

@@ -2,14 +2,17 @@
 
 ghost use Rattle.std.specs.Prelude.{◌+◌, ◌≤◌};
 ghost use Rattle.arrayvec.specs.ArrayVec.{array_vec_len};
+ghost use Rattle.eve_lines.specs.Extending.{Extends};
 
 use crate::entry::put_entry;
-use crate::line::{LINE_ROOM, LONGEST_PART, Line, put, put_number};
+use crate::line::{LINE_ROOM, LONGEST_PART, Line, put};
+use crate::number::put_numbered;
 use eve_frames::AccessView;
 
 /// Appends the entries, `none` where there are none.
 fn put_entries(line: &mut Line, access: &AccessView)
     requires { array_vec_len line.old + 336 ≤ LINE_ROOM }
+    ensures extends { Extends line.old.items line.new.items }
 {
     let count = access.len();
     if count == 0 {
@@ -32,13 +35,11 @@ fn put_entries(line: &mut Line, access: &AccessView)
 #[inline(always)]
 pub(crate) fn put_access(line: &mut Line, access: &AccessView)
     requires { array_vec_len line.old + LONGEST_PART ≤ LINE_ROOM }
+    ensures extends { Extends line.old.items line.new.items }
 {
-    put(line, " worker ");
-    put_number(line, u64::from(access.worker()));
-    put(line, " place ");
-    put_number(line, u64::from(access.place()));
-    put(line, " request ");
-    put_number(line, u64::from(access.index()));
+    put_numbered(line, " worker ", u64::from(access.worker()));
+    put_numbered(line, " place ", u64::from(access.place()));
+    put_numbered(line, " request ", u64::from(access.index()));
     put(line, ": ");
     put_entries(line, access);
 }

@@ -1,10 +1,13 @@
 //! The words of an Attempt frame.
 
 ghost use Rattle.std.specs.Prelude.{◌+◌, ◌<◌, ◌≤◌, length};
-ghost use Rattle.eve_frames.specs.Said.{attempt_said};
+ghost use Rattle.eve_frames.specs.Views.{attempt_in};
 ghost use Rattle.arrayvec.specs.ArrayVec.{array_vec_len};
+ghost use Rattle.eve_lines.specs.Extending.{Extends};
 
-use crate::line::{LINE_ROOM, LONGEST_PART, Line, has_room, put, put_number};
+use crate::line::{LINE_ROOM, LONGEST_PART, Line, put};
+use crate::number::put_numbered;
+use crate::parts::Parts;
 use crate::reply::put_reply;
 use crate::short::put_batch_and_view;
 use crate::token::put_token;
@@ -35,6 +38,7 @@ impl<'a> AttemptWords<'a> {
     /// Appends ` batch 1 view 0 parallel order`.
     fn put_front(&self, line: &mut Line)
         requires { array_vec_len line.old + LONGEST_PART ≤ LINE_ROOM }
+        ensures extends { Extends line.old.items line.new.items }
     {
         put_batch_and_view(line, self.attempt.seq(), self.attempt.view());
         put(line, " ");
@@ -45,46 +49,52 @@ impl<'a> AttemptWords<'a> {
     /// Appends the reply to the request of an index, behind what parts it from the one before.
     fn put_reply(&self, line: &mut Line, index: usize)
         requires room { array_vec_len line.old + LONGEST_PART ≤ LINE_ROOM }
-        requires there { index < length (attempt_said self.now.attempt).replies }
+        requires there { index < length (attempt_in self.now.attempt.bytes.now).replies }
+        ensures extends { Extends line.old.items line.new.items }
     {
         put(line, if index == 0 { ": " } else { "; " });
         put_reply(line, self.attempt.reply(index));
     }
 
-    /// Appends the next part; no, where all have come.
-    fn put_next(&mut self, line: &mut Line) -> bool
+    /// Appends the token.
+    fn put_end(&self, line: &mut Line)
         requires { array_vec_len line.old + LONGEST_PART ≤ LINE_ROOM }
+        ensures extends { Extends line.old.items line.new.items }
     {
+        put(line, " token ");
+        put_token(line, self.attempt.token());
+    }
+
+    /// Appends part number `part`, from 0, of an attempt at so many requests.
+    fn put_part(&self, line: &mut Line, part: usize, count: usize)
+        requires room { array_vec_len line.old + LONGEST_PART ≤ LINE_ROOM }
+        requires placed { count ≤ length (attempt_in self.now.attempt.bytes.now).certificate }
+        requires replied { count ≤ length (attempt_in self.now.attempt.bytes.now).replies }
+        requires few { count ≤ MOST_REQUESTS }
+        ensures extends { Extends line.old.items line.new.items }
+    {
+        if part == 0 {
+            return self.put_front(line);
+        }
+        if part <= count {
+            return put_numbered(line, " ", u64::from(self.attempt.index_at(part - 1)));
+        }
+        if part <= 2 * count {
+            return self.put_reply(line, part - 1 - count);
+        }
+        self.put_end(line);
+    }
+}
+
+impl Parts for AttemptWords<'_> {
+    fn put_next(&mut self, line: &mut Line) -> bool {
         let count = self.attempt.len().min(MOST_REQUESTS);
         let came = self.came;
         if came > 2 * count + 1 {
             return false;
         }
         self.came = came + 1;
-        if came == 0 {
-            self.put_front(line);
-        } else if came <= count {
-            put(line, " ");
-            put_number(line, u64::from(self.attempt.index_at(came - 1)));
-        } else if came <= 2 * count {
-            self.put_reply(line, came - 1 - count);
-        } else {
-            put(line, " token ");
-            put_token(line, self.attempt.token());
-        }
-        true
-    }
-
-    /// Appends as many parts as there is room for; no, where all have come.
-    pub(crate) fn fill(&mut self, line: &mut Line) -> bool {
-        'parts: for _ in 0..LINE_ROOM {
-            if !has_room(line) {
-                return true;
-            }
-            if !self.put_next(line) {
-                return false;
-            }
-        }
+        self.put_part(line, came, count);
         true
     }
 }

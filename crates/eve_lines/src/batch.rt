@@ -1,9 +1,13 @@
 //! The words of a Batch frame.
 
-ghost use Rattle.std.specs.Prelude.{◌≡◌, ◌+◌, ◌≤◌, IsFalse};
+ghost use Rattle.std.specs.Prelude.{◌+◌, ◌<◌, ◌≤◌, length};
+ghost use Rattle.eve_frames.specs.Views.{batch_in};
 ghost use Rattle.arrayvec.specs.ArrayVec.{array_vec_len};
+ghost use Rattle.eve_lines.specs.Extending.{Extends};
 
-use crate::line::{LINE_ROOM, LONGEST_PART, Line, has_room, put, put_number};
+use crate::line::{LINE_ROOM, LONGEST_PART, Line, put};
+use crate::number::put_numbered;
+use crate::parts::Parts;
 use crate::request::put_request;
 use eve_frames::{BatchView, Requests};
 
@@ -29,29 +33,23 @@ impl<'a> BatchWords<'a> {
         }
     }
 
-    /// Appends the next size, behind ` batch 1 sizes` where it is the first; no, where all have come.
-    fn put_size(&mut self, line: &mut Line) -> bool
-        requires { array_vec_len line.old + LONGEST_PART ≤ LINE_ROOM }
-        ensures { IsFalse result → array_vec_len line.new ≡ array_vec_len line.old }
+    /// Appends the size of a parallelBatch, behind ` batch 1 sizes` where that is the first.
+    fn put_size(&self, line: &mut Line, group: usize)
+        requires room { array_vec_len line.old + LONGEST_PART ≤ LINE_ROOM }
+        requires there { group < length (batch_in self.now.batch.bytes.now).1.sizes }
+        ensures extends { Extends line.old.items line.new.items }
     {
-        let came = self.came;
-        if came >= self.batch.groups() {
-            return false;
-        }
-        self.came = came + 1;
-        if came == 0 {
-            put(line, " batch ");
-            put_number(line, u64::from(self.batch.seq()));
+        if group == 0 {
+            put_numbered(line, " batch ", u64::from(self.batch.seq()));
             put(line, " sizes");
         }
-        put(line, " ");
-        put_number(line, u64::from(self.batch.group(came)));
-        true
+        put_numbered(line, " ", u64::from(self.batch.group(group)));
     }
 
     /// Appends the next request, behind what parts it from what stands before it; no, where all have come.
     fn put_request(&mut self, line: &mut Line) -> bool
         requires { array_vec_len line.old + LONGEST_PART ≤ LINE_ROOM }
+        ensures extends { Extends line.old.items line.new.items }
     {
         let Some(asked) = self.requests.next() else {
             return false;
@@ -61,17 +59,16 @@ impl<'a> BatchWords<'a> {
         put_request(line, &asked);
         true
     }
+}
 
-    /// Appends as many parts as there is room for; no, where all have come.
-    pub(crate) fn fill(&mut self, line: &mut Line) -> bool {
-        'parts: for _ in 0..LINE_ROOM {
-            if !has_room(line) {
-                return true;
-            }
-            if !self.put_size(line) && !self.put_request(line) {
-                return false;
-            }
+impl Parts for BatchWords<'_> {
+    fn put_next(&mut self, line: &mut Line) -> bool {
+        let came = self.came;
+        if came >= self.batch.groups() {
+            return self.put_request(line);
         }
+        self.came = came + 1;
+        self.put_size(line, came);
         true
     }
 }

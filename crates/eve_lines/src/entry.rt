@@ -2,8 +2,10 @@
 
 ghost use Rattle.std.specs.Prelude.{◌+◌, ◌≤◌, length};
 ghost use Rattle.arrayvec.specs.ArrayVec.{array_vec_len};
+ghost use Rattle.eve_lines.specs.Extending.{Extends};
 
-use crate::line::{LINE_ROOM, Line, put, put_number, put_signed};
+use crate::line::{LINE_ROOM, Line, put};
+use crate::number::{put_numbered, put_signed};
 use eve_smallbank::{Entry, Kind, Versioned};
 
 /// `read` or `write`.
@@ -16,14 +18,25 @@ pub fn kind_word(kind: Kind) -> &'static str
     }
 }
 
+/// What stands before an entry's row.
+#[inline(always)]
+fn row_words(kind: Kind) -> &'static str
+    ensures { length result.now ≤ 10 }
+{
+    match kind {
+        Kind::Read => "read row ",
+        Kind::Write => "write row ",
+    }
+}
+
 /// Appends what a row has: ` version 1 value 100`.
 #[inline(always)]
 pub(crate) fn put_versioned(line: &mut Line, has: Versioned)
     requires { array_vec_len line.old + 56 ≤ LINE_ROOM }
-    ensures { array_vec_len line.new ≤ array_vec_len line.old + 56 }
+    ensures extends { Extends line.old.items line.new.items }
+    ensures len { array_vec_len line.new ≤ array_vec_len line.old + 56 }
 {
-    put(line, " version ");
-    put_number(line, has.version);
+    put_numbered(line, " version ", has.version);
     put(line, " value ");
     put_signed(line, has.value.get());
 }
@@ -32,11 +45,10 @@ pub(crate) fn put_versioned(line: &mut Line, has: Versioned)
 #[inline(always)]
 pub fn put_entry(line: &mut Line, entry: &Entry)
     requires { array_vec_len line.old + 110 ≤ LINE_ROOM }
-    ensures { array_vec_len line.new ≤ array_vec_len line.old + 110 }
+    ensures extends { Extends line.old.items line.new.items }
+    ensures len { array_vec_len line.new ≤ array_vec_len line.old + 110 }
 {
-    put(line, kind_word(entry.kind));
-    put(line, " row ");
-    put_number(line, u64::from(entry.row.number()));
+    put_numbered(line, row_words(entry.kind), u64::from(entry.row.number()));
     let version = entry.version;
     let value = entry.seen;
     put_versioned(line, Versioned { version, value });

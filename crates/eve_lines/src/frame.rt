@@ -3,11 +3,14 @@
 ghost use Rattle.std.specs.Prelude.{◌+◌, ◌≤◌, length};
 ghost use Rattle.arrayvec.specs.ArrayVec.{array_vec_len};
 ghost use Rattle.eve_grammar.specs.declared.frame_kind.TheConstants.{FRAME_HEAD_LEN};
+ghost use Rattle.eve_lines.specs.Extending.{Extends};
 
 use crate::access::put_access;
 use crate::attempt::AttemptWords;
 use crate::batch::BatchWords;
-use crate::line::{LINE_ROOM, LONGEST_PART, Line, put, put_number};
+use crate::line::{LINE_ROOM, LONGEST_PART, Line};
+use crate::number::put_numbered;
+use crate::parts::fill;
 use crate::rollback::RollbackWords;
 use crate::short::{put_commit, put_customer, put_sent, put_vote};
 use crate::transfer::{TransferWords, is_state_body};
@@ -114,19 +117,14 @@ impl<'a> FrameWords<'a> {
     /// Appends the words of a frame without lists, or with short ones.
     fn put_short(&self, line: &mut Line)
         requires { array_vec_len line.old + LONGEST_PART ≤ LINE_ROOM }
+        ensures extends { Extends line.old.items line.new.items }
     {
         match &self.words {
             Words::None | Words::Batch(_) | Words::Attempt(_) => {}
             Words::Rollback(_) | Words::Transfer(_) => {}
             Words::Customer(number, customer) => put_customer(line, *number, customer),
-            Words::Replica(replica) => {
-                put(line, " replica ");
-                put_number(line, u64::from(*replica));
-            }
-            Words::Verifier(verifier) => {
-                put(line, " verifier ");
-                put_number(line, u64::from(*verifier));
-            }
+            Words::Replica(replica) => put_numbered(line, " replica ", u64::from(*replica)),
+            Words::Verifier(verifier) => put_numbered(line, " verifier ", u64::from(*verifier)),
             Words::Access(access) => put_access(line, access),
             Words::Commit(commit) => put_commit(line, commit),
             Words::Vote(vote) => put_vote(line, vote),
@@ -134,15 +132,16 @@ impl<'a> FrameWords<'a> {
         }
     }
 
-    /// Appends as many of them as there is room for; no, where all have come.
+    /// Appends as many of them as there is room for; no, where all have come. What stands in the line stays.
     pub fn fill(&mut self, line: &mut Line) -> bool
         requires { array_vec_len line.old + LONGEST_PART ≤ LINE_ROOM }
+        ensures extends { Extends line.old.items line.new.items }
     {
         match &mut self.words {
-            Words::Batch(words) => words.fill(line),
-            Words::Attempt(words) => words.fill(line),
-            Words::Rollback(words) => words.fill(line),
-            Words::Transfer(words) => words.fill(line),
+            Words::Batch(words) => fill(words, line),
+            Words::Attempt(words) => fill(words, line),
+            Words::Rollback(words) => fill(words, line),
+            Words::Transfer(words) => fill(words, line),
             _ => {
                 self.put_short(line);
                 false

@@ -9,6 +9,8 @@ mod frame;
 mod header;
 mod kind;
 mod line;
+mod number;
+mod parts;
 mod reply;
 mod request;
 mod rollback;
@@ -23,8 +25,9 @@ pub use header::put_header;
 pub use kind::kind_name;
 pub use line::{
     LINE_ROOM, LONGEST_NAME, LONGEST_NUMBER, LONGEST_PART, Line, put, put_bytes, put_line_feed,
-    put_name, put_number, put_signed,
+    put_name,
 };
+pub use number::{put_number, put_numbered, put_signed};
 pub use reply::put_reply;
 pub use request::put_request;
 pub use token::put_token;

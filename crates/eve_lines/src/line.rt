@@ -1,10 +1,9 @@
 //! A line in a fixed array.
 
-ghost use Rattle.std.specs.Prelude.{◌≡◌, ◌+◌, ◌≤◌, ◌++◌, [], ◌∷◌, IsTrue, decimal, length};
+ghost use Rattle.std.specs.Prelude.{◌≡◌, ◌+◌, ◌≤◌, ◌++◌, [], ◌∷◌, IsTrue, length, take};
 ghost use Rattle.arrayvec.specs.ArrayVec.{array_vec_len};
 
 use arrayvec::ArrayVec;
-use itoa::Buffer;
 
 /// How many bytes of a line are held at once.
 pub const LINE_ROOM: usize = 4096;
@@ -43,32 +42,12 @@ pub fn put(line: &mut Line, text: &str)
     put_bytes(line, text.as_bytes());
 }
 
-/// Appends a number.
-#[inline(always)]
-pub fn put_number(line: &mut Line, number: u64)
-    requires { array_vec_len line.old + LONGEST_NUMBER ≤ LINE_ROOM }
-    ensures items { line.new.items ≡ line.old.items ++ decimal number }
-    ensures len { array_vec_len line.new ≤ array_vec_len line.old + LONGEST_NUMBER }
-{
-    let mut digits = Buffer::new();
-    put(line, digits.format(number));
-}
-
-/// Appends a number that may be negative.
-#[inline(always)]
-pub fn put_signed(line: &mut Line, amount: i64)
-    requires { array_vec_len line.old + LONGEST_NUMBER ≤ LINE_ROOM }
-    ensures { array_vec_len line.new ≤ array_vec_len line.old + LONGEST_NUMBER }
-{
-    let mut digits = Buffer::new();
-    put(line, digits.format(amount));
-}
-
 /// Appends a name.
 #[inline(always)]
 pub fn put_name(line: &mut Line, name: &[u8])
     requires { array_vec_len line.old + LONGEST_NAME ≤ LINE_ROOM }
-    ensures { array_vec_len line.new ≤ array_vec_len line.old + LONGEST_NAME }
+    ensures items { line.new.items ≡ line.old.items ++ take LONGEST_NAME name.now }
+    ensures len { array_vec_len line.new ≤ array_vec_len line.old + LONGEST_NAME }
 {
     let len = name.len().min(LONGEST_NAME);
     put_bytes(line, &name[..len]);

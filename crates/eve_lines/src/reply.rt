@@ -2,8 +2,10 @@
 
 ghost use Rattle.std.specs.Prelude.{◌+◌, ◌≤◌, length};
 ghost use Rattle.arrayvec.specs.ArrayVec.{array_vec_len};
+ghost use Rattle.eve_lines.specs.Extending.{Extends};
 
-use crate::line::{LINE_ROOM, Line, put, put_signed};
+use crate::line::{LINE_ROOM, Line, put};
+use crate::number::put_signed;
 use eve_smallbank::{Abort, Reply};
 
 /// Why a transaction changed nothing, in one word.
@@ -22,7 +24,8 @@ fn abort_word(why: Abort) -> &'static str
 #[inline(always)]
 pub fn put_reply(line: &mut Line, reply: Reply)
     requires { array_vec_len line.old + 26 ≤ LINE_ROOM }
-    ensures { array_vec_len line.new ≤ array_vec_len line.old + 26 }
+    ensures extends { Extends line.old.items line.new.items }
+    ensures len { array_vec_len line.new ≤ array_vec_len line.old + 26 }
 {
     match reply {
         Reply::Done => put(line, "Done"),

@@ -2,8 +2,10 @@
 
 ghost use Rattle.std.specs.Prelude.{◌+◌, ◌≤◌, length};
 ghost use Rattle.arrayvec.specs.ArrayVec.{array_vec_len};
+ghost use Rattle.eve_lines.specs.Extending.{Extends};
 
-use crate::line::{LINE_ROOM, Line, put, put_name, put_number, put_signed};
+use crate::line::{LINE_ROOM, Line, put, put_name};
+use crate::number::{put_numbered, put_signed};
 use eve_accounts::Amount;
 use eve_grammar::Asked;
 use eve_smallbank::Request;
@@ -24,7 +26,8 @@ fn request_word(request: &Request) -> &'static str
 /// Appends a name and an amount.
 fn put_move(line: &mut Line, name: &[u8], amount: Amount)
     requires { array_vec_len line.old + 45 ≤ LINE_ROOM }
-    ensures { array_vec_len line.new ≤ array_vec_len line.old + 45 }
+    ensures extends { Extends line.old.items line.new.items }
+    ensures len { array_vec_len line.new ≤ array_vec_len line.old + 45 }
 {
     put_name(line, name);
     put(line, " ");
@@ -34,7 +37,8 @@ fn put_move(line: &mut Line, name: &[u8], amount: Amount)
 /// Appends what is asked for behind the client's number: the names and the amount.
 fn put_operands(line: &mut Line, request: &Request)
     requires { array_vec_len line.old + 49 ≤ LINE_ROOM }
-    ensures { array_vec_len line.new ≤ array_vec_len line.old + 49 }
+    ensures extends { Extends line.old.items line.new.items }
+    ensures len { array_vec_len line.new ≤ array_vec_len line.old + 49 }
 {
     match request {
         Request::Balance(name) => put_name(line, name),
@@ -52,12 +56,11 @@ fn put_operands(line: &mut Line, request: &Request)
 /// Appends a request as a workload has it: `deposit 7 2 ann 7`.
 pub fn put_request(line: &mut Line, asked: &Asked)
     requires { array_vec_len line.old + 102 ≤ LINE_ROOM }
-    ensures { array_vec_len line.new ≤ array_vec_len line.old + 102 }
+    ensures extends { Extends line.old.items line.new.items }
+    ensures len { array_vec_len line.new ≤ array_vec_len line.old + 102 }
 {
-    put(line, request_word(&asked.request));
-    put_number(line, u64::from(asked.client));
-    put(line, " ");
-    put_number(line, asked.number);
+    put_numbered(line, request_word(&asked.request), u64::from(asked.client));
+    put_numbered(line, " ", asked.number);
     put(line, " ");
     put_operands(line, &asked.request);
 }

@@ -2,31 +2,33 @@
 
 ghost use Rattle.std.specs.Prelude.{◌+◌, ◌≤◌};
 ghost use Rattle.arrayvec.specs.ArrayVec.{array_vec_len};
+ghost use Rattle.eve_lines.specs.Extending.{Extends};
 
 use crate::entry::put_versioned;
-use crate::line::{LINE_ROOM, LONGEST_PART, Line, has_room, put, put_number};
+use crate::line::{LINE_ROOM, LONGEST_PART, Line, put};
+use crate::number::put_numbered;
+use crate::parts::Parts;
 use eve_frames::RollbackView;
 use eve_smallbank::Versioned;
 
 /// Appends ` to 1 view 1: `.
 fn put_front(line: &mut Line, rollback: &RollbackView)
     requires { array_vec_len line.old + 60 ≤ LINE_ROOM }
-    ensures { array_vec_len line.new ≤ array_vec_len line.old + 60 }
+    ensures extends { Extends line.old.items line.new.items }
+    ensures len { array_vec_len line.new ≤ array_vec_len line.old + 60 }
 {
-    put(line, " to ");
-    put_number(line, u64::from(rollback.to()));
-    put(line, " view ");
-    put_number(line, u64::from(rollback.view()));
+    put_numbered(line, " to ", u64::from(rollback.to()));
+    put_numbered(line, " view ", u64::from(rollback.view()));
     put(line, ": ");
 }
 
 /// Appends `row 1 version 1 value 100`.
 pub(crate) fn put_row(line: &mut Line, row: u32, has: Versioned)
     requires { array_vec_len line.old + 80 ≤ LINE_ROOM }
-    ensures { array_vec_len line.new ≤ array_vec_len line.old + 80 }
+    ensures extends { Extends line.old.items line.new.items }
+    ensures len { array_vec_len line.new ≤ array_vec_len line.old + 80 }
 {
-    put(line, "row ");
-    put_number(line, u64::from(row));
+    put_numbered(line, "row ", u64::from(row));
     put_versioned(line, has);
 }
 
@@ -52,6 +54,7 @@ impl<'a> RollbackWords<'a> {
     /// Appends what stands before the restores, and `none` where there are none.
     fn begin(&mut self, line: &mut Line)
         requires { array_vec_len line.old + LONGEST_PART ≤ LINE_ROOM }
+        ensures extends { Extends line.old.items line.new.items }
     {
         self.has_begun = true;
         put_front(line, &self.rollback);
@@ -63,6 +66,7 @@ impl<'a> RollbackWords<'a> {
     /// Appends the next restore; no, where all have come.
     fn put_restore(&mut self, line: &mut Line) -> bool
         requires { array_vec_len line.old + LONGEST_PART ≤ LINE_ROOM }
+        ensures extends { Extends line.old.items line.new.items }
     {
         let came = self.came;
         if came >= self.rollback.len() {
@@ -78,28 +82,14 @@ impl<'a> RollbackWords<'a> {
         put_row(line, restore.row.number(), Versioned { version, value });
         true
     }
+}
 
-    /// Appends the next part; no, where all have come.
-    fn put_next(&mut self, line: &mut Line) -> bool
-        requires { array_vec_len line.old + LONGEST_PART ≤ LINE_ROOM }
-    {
+impl Parts for RollbackWords<'_> {
+    fn put_next(&mut self, line: &mut Line) -> bool {
         if self.has_begun {
             return self.put_restore(line);
         }
         self.begin(line);
-        true
-    }
-
-    /// Appends as many parts as there is room for; no, where all have come.
-    pub(crate) fn fill(&mut self, line: &mut Line) -> bool {
-        'parts: for _ in 0..LINE_ROOM {
-            if !has_room(line) {
-                return true;
-            }
-            if !self.put_next(line) {
-                return false;
-            }
-        }
         true
     }
 }

@@ -4,8 +4,10 @@ ghost use Rattle.std.specs.Prelude.{◌+◌, ◌-◌, ◌/◌, ◌<◌, ◌≤�
 ghost use Rattle.eve_grammar.specs.Reading.{transfer_of};
 ghost use Rattle.eve_frames.specs.Said.{transfer_said};
 ghost use Rattle.arrayvec.specs.ArrayVec.{array_vec_len};
+ghost use Rattle.eve_lines.specs.Extending.{Extends};
 
-use crate::line::{LINE_ROOM, LONGEST_PART, Line, has_room, put};
+use crate::line::{LINE_ROOM, LONGEST_PART, Line, put};
+use crate::parts::Parts;
 use crate::rollback::put_row;
 use crate::short::put_batch_and_view;
 use eve_frames::TransferView;
@@ -36,6 +38,7 @@ impl<'a> TransferWords<'a> {
     /// Appends ` batch 1 view 0: `.
     fn put_front(&self, line: &mut Line)
         requires { array_vec_len line.old + LONGEST_PART ≤ LINE_ROOM }
+        ensures extends { Extends line.old.items line.new.items }
     {
         put_batch_and_view(line, self.transfer.seq(), self.transfer.view());
         put(line, ": ");
@@ -46,17 +49,17 @@ impl<'a> TransferWords<'a> {
         requires room { array_vec_len line.old + LONGEST_PART ≤ LINE_ROOM }
         requires there { row < length (transfer_said self.now.transfer).rows }
         requires few { row < MOST_ROWS }
+        ensures extends { Extends line.old.items line.new.items }
     {
         if row > 0 {
             put(line, "; ");
         }
         put_row(line, row as u32, self.transfer.row(row));
     }
+}
 
-    /// Appends the next part; no, where all have come.
-    fn put_next(&mut self, line: &mut Line) -> bool
-        requires { array_vec_len line.old + LONGEST_PART ≤ LINE_ROOM }
-    {
+impl Parts for TransferWords<'_> {
+    fn put_next(&mut self, line: &mut Line) -> bool {
         let count = self.transfer.len().min(MOST_ROWS as usize);
         let came = self.came;
         if came > count {
@@ -65,22 +68,9 @@ impl<'a> TransferWords<'a> {
         self.came = came + 1;
         if came == 0 {
             self.put_front(line);
-        } else {
-            self.put_row(line, came - 1);
+            return true;
         }
-        true
-    }
-
-    /// Appends as many parts as there is room for; no, where all have come.
-    pub(crate) fn fill(&mut self, line: &mut Line) -> bool {
-        'parts: for _ in 0..LINE_ROOM {
-            if !has_room(line) {
-                return true;
-            }
-            if !self.put_next(line) {
-                return false;
-            }
-        }
+        self.put_row(line, came - 1);
         true
     }
 }

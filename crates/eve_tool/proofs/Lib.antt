@@ -3,6 +3,7 @@ mod SentLines
 mod WholeInput
 pub mod Leaving
 pub mod Running
+mod Putting
 mod LongLines
 mod Explaining
 mod CallWords

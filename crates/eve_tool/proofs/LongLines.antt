@@ -1,6 +1,6 @@
 -- Lines with words that no clause names, sent one after another.
 use Rattle.std.proofs.Common.{◌≡◌, ℕ, zero, suc, ◌+◌, ◌-◌, ◌<◌, ◌≤◌}
-use Rattle.std.proofs.Common.{List, [], ◌∷◌, ◌++◌, Option, Some, Result, Ok, Err, OnErr, length, map, take}
+use Rattle.std.proofs.Common.{List, [], ◌∷◌, ◌++◌, Option, Some, Result, Ok, Err, OnOk, OnErr, length, map, take}
 use Rattle.std.proofs.Common.{drop, codes}
 use Rattle.std.proofs.Common.{refl, ap, sym, subst, ◌∙◌, arith, append_assoc, append-nil, length-append}
 use Rattle.std.specs.Prelude.{decimal, option_map, slice_index}
@@ -19,77 +19,75 @@ use Rattle.eve_streams.specs.Front.{AppendsFront}
 use Rattle.eve_streams.proofs.Joining.{AppendsFront-after, AppendsFront-more}
 use Rattle.eve_views.specs.Code.{code_name, code_number}
 use Rattle.eve_views.specs.declared.fault.Fault.{Fault}
-use Rattle.eve_tool.specs.Lines.{fault_line, line_feed, replica_text}
-use Rattle.eve_tool.specs.Long.{AreLongLines, IsLongLine, SendsLine, SendsLines, SendsUpTo, StopsUpTo, StopsInLine}
+use Rattle.eve_tool.specs.Lines.{fault_line, line_feed, line_front, replica_text}
+use Rattle.eve_tool.specs.Long.{AreLongLines, IsLongLine, PutsLine, SendsLines, SendsUpTo, StopsUpTo, StopsInLine}
 use Rattle.eve_tool.specs.Long.{StopsInLines, line_front_of, front_of_view, header_front, long_fronts}
-use Rattle.eve_tool.specs.Sending.{SendsSome}
+use Rattle.eve_tool.specs.Sending.{SendsSome, PutsText, PutsSome, StopsInSome}
+use Rattle.eve_lines.specs.Extending.{Extends}
+use Rattle.eve_tool.proofs.Putting.{puts-stops, puts-text, puts-then}
 use Rattle.eve_tool.proofs.SentLines.{AppendsFront-so_far, frame_placed, length-body, placed_at}
-
--- ---- some bytes
-
-pub some-none : (a : Option (List ℕ)) → SendsSome a a
-some-none a = record { text = []; appended = Appends-nil a }
-
-pub some-sent : (a b : Option (List ℕ)) (text : List ℕ) → Appends a b text → SendsSome a b
-some-sent a b text sent = record { text = text; appended = sent }
-
-pub some-front : (a b : Option (List ℕ)) (text : List ℕ) → AppendsFront a b text → SendsSome a b
-some-front a b text front = record { text = _; appended = front.appended }
-
-pub some-then : (a b c : Option (List ℕ)) → SendsSome a b → SendsSome b c → SendsSome a c
-some-then a b c first second = record {
-  text = first.text ++ second.text;
-  appended = Appends-trans a b c first.text second.text first.appended second.appended;
-}
-
-pub some-line : (a b : Option (List ℕ)) (front : List ℕ) → SendsLine a b front → SendsSome a b
-some-line a b front line = record { text = line.line; appended = line.sent }
-
-pub some-in_line : (a b : Option (List ℕ)) (front : List ℕ) → StopsInLine a b front → SendsSome a b
-some-in_line a b front line = some-front a b line.line line.sent
 
 -- ---- a line
 
 whole : (front words : List ℕ) → IsLongLine front (front ++ (words ++ line_feed))
 whole front words = record { words = words; is = refl }
 
--- its front, its words and its end were sent
-pub line-sent : (a b c d : Option (List ℕ)) (front : List ℕ) → Appends a b front → SendsSome b c → Appends c d line_feed
-    → SendsLine a d front
-line-sent a b c d front first words last = record {
-  line = front ++ (words.text ++ line_feed);
-  is = whole front words.text;
-  sent = Appends-trans a b d front (words.text ++ line_feed) first
-      (Appends-trans b c d words.text line_feed words.appended last);
+-- the first line: its front, its words and its end were put
+pub line-first : (l k j : List ℕ) (front m : List ℕ) → l ≡ [] → k ≡ l ++ front → Extends k j → m ≡ j ++ line_feed
+    → IsLongLine front m
+line-first l k j front m empty first words last = record {
+  words = words.words;
+  is = last ∙ ap (λ x. x ++ line_feed) (words.is ∙ ap (λ x. x ++ words.words) (first ∙ ap (λ x. x ++ front) empty))
+      ∙ append_assoc front words.words line_feed;
 }
 
--- it was stopped in its front
-pub line-stops_in_front : (a b : Option (List ℕ)) (front : List ℕ) → AppendsFront a b front → StopsInLine a b front
-line-stops_in_front a b front stops = record {
+-- room was made, and its front, its words and its end were put
+pub line-put : (a b c d : Option (List ℕ)) (held l k j kept front : List ℕ) → PutsText a b held l [] → k ≡ l ++ front
+    → PutsSome b c k j → PutsText c d j kept line_feed → PutsLine a d held kept front
+line-put a b c d held l k j kept front room first words last = record {
+  line = front ++ (words.text ++ line_feed);
+  is = whole front words.text;
+  puts = puts-then a b d held l kept [] (front ++ (words.text ++ line_feed)) room
+      (puts-then b b d l k kept front (words.text ++ line_feed) (puts-text b l k front first)
+      (puts-then b c d k j kept words.text line_feed words.puts last));
+}
+
+-- it was stopped before its front
+pub line-stops_at_front : (a b : Option (List ℕ)) (held front : List ℕ) → AppendsFront a b held
+    → StopsInLine a b held front
+line-stops_at_front a b held front stops = record {
   line = front ++ ([] ++ line_feed);
   is = whole front [];
-  sent = AppendsFront-more a b front ([] ++ line_feed) stops;
+  sent = AppendsFront-more a b held (front ++ ([] ++ line_feed)) stops;
 }
 
 -- it was stopped in its words
-pub line-stops_in_words : (a b c : Option (List ℕ)) (front : List ℕ) → Appends a b front → SendsSome b c
-    → StopsInLine a c front
-line-stops_in_words a b c front first words = record {
+pub line-stops_in_words : (a b c : Option (List ℕ)) (held l k front : List ℕ) → PutsText a b held l [] → k ≡ l ++ front
+    → StopsInSome b c k → StopsInLine a c held front
+line-stops_in_words a b c held l k front room first words = record {
   line = front ++ (words.text ++ line_feed);
   is = whole front words.text;
-  sent = AppendsFront-after a b c front (words.text ++ line_feed) first
-      (AppendsFront-so_far b c words.text line_feed (omega arith) words.appended);
+  sent = puts-stops a b c held l [] (front ++ (words.text ++ line_feed)) room
+      (puts-stops b b c l k front (words.text ++ line_feed) (puts-text b l k front first)
+      (subst (AppendsFront b c) (append_assoc k words.text line_feed)
+      (AppendsFront-more b c (k ++ words.text) line_feed words.sent)));
 }
 
 -- it was stopped before its end
-pub line-stops_at_end : (a b c d : Option (List ℕ)) (front : List ℕ) → Appends a b front → SendsSome b c
-    → AppendsFront c d line_feed → StopsInLine a d front
-line-stops_at_end a b c d front first words last = record {
+pub line-stops_at_end : (a b c d : Option (List ℕ)) (held l k j front : List ℕ) → PutsText a b held l [] → k ≡ l ++ front
+    → PutsSome b c k j → AppendsFront c d j → StopsInLine a d held front
+line-stops_at_end a b c d held l k j front room first words last = record {
   line = front ++ (words.text ++ line_feed);
   is = whole front words.text;
-  sent = AppendsFront-after a b d front (words.text ++ line_feed) first
-      (AppendsFront-after b c d words.text line_feed words.appended last);
+  sent = puts-stops a b d held l [] (front ++ (words.text ++ line_feed)) room
+      (puts-stops b b d l k front (words.text ++ line_feed) (puts-text b l k front first)
+      (puts-stops b c d k j words.text line_feed words.puts (AppendsFront-more c d j line_feed last)));
 }
+
+-- a line is some text
+pub put_some-line : (a b : Option (List ℕ)) (held kept front : List ℕ) → PutsLine a b held kept front
+    → PutsSome a b held kept
+put_some-line a b held kept front line = record { text = line.line; puts = line.puts }
 
 -- ---- lines
 
@@ -101,14 +99,14 @@ plain (front ∷ fronts) =
     let line = front ++ ([] ++ line_feed) in
     (line ++ rest.0, (line, rest.0, whole front [], rest.1, refl))
 
--- lines with the first fronts were sent, and lines with the others are to come
-pub record SendsFar (old new : Option (List ℕ)) (fronts : List (List ℕ)) (i : ℕ) : Type 0 where
+-- lines with the first fronts were sent or are held, and lines with the others are to come
+pub record HoldsFar (old new : Option (List ℕ)) (held : List ℕ) (fronts : List (List ℕ)) (i : ℕ) : Type 0 where
   pub sent : List ℕ
   pub appended : Appends old new sent
-  pub closes : (rest : List ℕ) → AreLongLines (drop i fronts) rest → AreLongLines fronts (sent ++ rest)
+  pub closes : (rest : List ℕ) → AreLongLines (drop i fronts) rest → AreLongLines fronts ((sent ++ held) ++ rest)
 
 -- none yet
-pub far-none : (a : Option (List ℕ)) (fronts : List (List ℕ)) → SendsFar a a fronts 0
+far-none : (a : Option (List ℕ)) (fronts : List (List ℕ)) → HoldsFar a a [] fronts 0
 far-none a fronts = record { sent = []; appended = Appends-nil a; closes = λ rest are. are }
 
 -- the fronts from one on
@@ -120,44 +118,73 @@ drop-next (f ∷ fs) (suc i) front e =
     let behind : suc i + 1 ≡ suc (i + 1) = omega arith in rw behind (drop-next fs i front e)
 
 -- one more
-pub far-more : (a b c : Option (List ℕ)) (fronts : List (List ℕ)) (i : ℕ) (front : List ℕ)
-    → slice_get fronts i ≡ Some front → SendsLine b c front → SendsFar a b fronts i → SendsFar a c fronts (i + 1)
-far-more a b c fronts i front at line far = record {
-  sent = far.sent ++ line.line;
-  appended = Appends-trans a b c far.sent line.line far.appended line.sent;
-  closes = λ rest are.
-      let next = sym (drop-next fronts i front at) in
-      let with_line : AreLongLines (front ∷ drop (i + 1) fronts) (line.line ++ rest) =
-      (line.line, rest, line.is, are, refl) in
-      subst (AreLongLines fronts) (sym (append_assoc far.sent line.line rest))
-      (far.closes (line.line ++ rest) (subst (λ fs. AreLongLines fs (line.line ++ rest)) next with_line));
-}
-
--- all of them
-pub far-all : (a b : Option (List ℕ)) (fronts : List (List ℕ)) (i : ℕ) → length fronts ≤ i → SendsFar a b fronts i
-    → SendsLines a b fronts
-far-all a b fronts i past far =
-    let none : drop i fronts ≡ [] = drop_of_length-le fronts {i = i} past in
-    let are = far.closes [] (subst (λ fs. AreLongLines fs []) (sym none) refl) in
-    record {
-      text = far.sent;
-      are = subst (AreLongLines fronts) (append-nil far.sent) are;
-      sent = far.appended;
+pub far-more : (a b c : Option (List ℕ)) (held kept : List ℕ) (fronts : List (List ℕ)) (i : ℕ) (front : List ℕ)
+    → slice_get fronts i ≡ Some front → PutsLine b c held kept front → HoldsFar a b held fronts i
+    → HoldsFar a c kept fronts (i + 1)
+far-more a b c held kept fronts i front at line far =
+    let further = line.puts.sent in record {
+      sent = far.sent ++ further;
+      appended = Appends-trans a b c far.sent further far.appended line.puts.appended;
+      closes = λ rest are.
+          let next = sym (drop-next fronts i front at) in
+          let with_line : AreLongLines (front ∷ drop (i + 1) fronts) (line.line ++ rest) =
+          (line.line, rest, line.is, are, refl) in
+          let joined : (far.sent ++ held) ++ (line.line ++ rest) ≡ ((far.sent ++ further) ++ kept) ++ rest =
+          sym (append_assoc (far.sent ++ held) line.line rest)
+          ∙ ap (λ l. l ++ rest) (append_assoc far.sent held line.line ∙ ap (λ l. far.sent ++ l) (sym line.puts.whole)
+          ∙ sym (append_assoc far.sent further kept)) in
+          subst (AreLongLines fronts) joined
+          (far.closes (line.line ++ rest) (subst (λ fs. AreLongLines fs (line.line ++ rest)) next with_line));
     }
 
+-- the first is held
+pub far-first : (a : Option (List ℕ)) (line : List ℕ) (fronts : List (List ℕ)) (front : List ℕ)
+    → slice_get fronts 0 ≡ Some front → IsLongLine front line → HoldsFar a a line fronts 1
+far-first a line fronts front at is =
+    far-more a a a [] line fronts 0 front at
+    (record { line = line; is = is; puts = puts-text a [] line line refl }) (far-none a fronts)
+
+-- what was sent and what is held are all of them
+far-are : (a b : Option (List ℕ)) (held : List ℕ) (fronts : List (List ℕ)) (i : ℕ) → length fronts ≤ i
+    → (far : HoldsFar a b held fronts i) → AreLongLines fronts (far.sent ++ held)
+far-are a b held fronts i past far =
+    let none : drop i fronts ≡ [] = drop_of_length-le fronts {i = i} past in
+    subst (AreLongLines fronts) (append-nil (far.sent ++ held))
+    (far.closes [] (subst (λ fs. AreLongLines fs []) (sym none) refl))
+
+pub far-all : (a b c : Option (List ℕ)) (held : List ℕ) (fronts : List (List ℕ)) (i : ℕ) → length fronts ≤ i
+    → HoldsFar a b held fronts i → Appends b c held → SendsLines a c fronts
+far-all a b c held fronts i past far sent = record {
+  text = far.sent ++ held;
+  are = far-are a b held fronts i past far;
+  sent = Appends-trans a b c far.sent held far.appended sent;
+}
+
+-- the last that are held were stopped
+pub far-stops_at_end : (a b c : Option (List ℕ)) (held : List ℕ) (fronts : List (List ℕ)) (i : ℕ) → length fronts ≤ i
+    → HoldsFar a b held fronts i → AppendsFront b c held → StopsInLines a c fronts
+far-stops_at_end a b c held fronts i past far stops = record {
+  text = far.sent ++ held;
+  are = far-are a b held fronts i past far;
+  sent = AppendsFront-after a b c far.sent held far.appended stops;
+}
+
 -- the next was stopped
-pub far-stops : (a b c : Option (List ℕ)) (fronts : List (List ℕ)) (i : ℕ) (front : List ℕ)
-    → slice_get fronts i ≡ Some front → StopsInLine b c front → SendsFar a b fronts i → StopsInLines a c fronts
-far-stops a b c fronts i front at stops far =
+pub far-stops : (a b c : Option (List ℕ)) (held : List ℕ) (fronts : List (List ℕ)) (i : ℕ) (front : List ℕ)
+    → slice_get fronts i ≡ Some front → StopsInLine b c held front → HoldsFar a b held fronts i → StopsInLines a c fronts
+far-stops a b c held fronts i front at stops far =
     let rest = plain (drop (i + 1) fronts) in
     let next = sym (drop-next fronts i front at) in
     let with_line : AreLongLines (front ∷ drop (i + 1) fronts) (stops.line ++ rest.0) =
     (stops.line, rest.0, stops.is, rest.1, refl) in
+    let joined : far.sent ++ ((held ++ stops.line) ++ rest.0) ≡ (far.sent ++ held) ++ (stops.line ++ rest.0) =
+    ap (λ l. far.sent ++ l) (append_assoc held stops.line rest.0) ∙ sym (append_assoc far.sent held (stops.line ++ rest.0))
+    in
     record {
-      text = far.sent ++ (stops.line ++ rest.0);
+      text = (far.sent ++ held) ++ (stops.line ++ rest.0);
       are = far.closes (stops.line ++ rest.0) (subst (λ fs. AreLongLines fs (stops.line ++ rest.0)) next with_line);
-      sent = AppendsFront-after a b c far.sent (stops.line ++ rest.0) far.appended
-          (AppendsFront-more b c stops.line rest.0 stops.sent);
+      sent = subst (AppendsFront a c) joined (AppendsFront-after a b c far.sent ((held ++ stops.line) ++ rest.0)
+          far.appended (AppendsFront-more b c (held ++ stops.line) rest.0 stops.sent));
     }
 
 -- ---- up to a line
@@ -222,6 +249,14 @@ front_of_frame frames i f view within got at text =
     let front_is : front_of_view view ≡ line_front_of p = rw (offset_is, name_is, len_is) refl in
     front_at frames i p placed.1 ∙ ap Some (sym front_is)
 
+-- that front was put, from what was asked of the view
+pub front_put : (l k name : List ℕ) (offset body_len : ℕ) (view : FrameView) → k ≡ l ++ line_front offset name body_len
+    → offset ≡ view.offset → name ≡ kind_name (slice_index view.bytes.now 0) → body_len ≡ length view.bytes.now - 5
+    → k ≡ l ++ front_of_view view
+front_put l k name offset body_len view put at named counted =
+    let is : line_front offset name body_len ≡ front_of_view view = rw (at, named, counted) refl in
+    put ∙ ap (λ x. l ++ x) is
+
 -- ---- results
 
 -- what stands stands at a fault
@@ -229,14 +264,18 @@ pub at_any_err : {A E P : Type 0} (r : Result A E) → P → OnErr r P
 at_any_err (Ok x) p = tt
 at_any_err (Err e) p = p
 
--- five texts that were put one after the other
-pub put_five : (s r q p o l a b c d e : List ℕ) → r ≡ s ++ a → q ≡ r ++ b → p ≡ q ++ c → o ≡ p ++ d → l ≡ o ++ e
-    → l ≡ s ++ (a ++ (b ++ (c ++ (d ++ e))))
-put_five s r q p o l a b c d e first second third fourth fifth =
-    fifth ∙ (ap (λ x. x ++ e) fourth ∙ append_assoc p d e)
-    ∙ (ap (λ x. x ++ (d ++ e)) third ∙ append_assoc q c (d ++ e))
-    ∙ (ap (λ x. x ++ (c ++ (d ++ e))) second ∙ append_assoc r b (c ++ (d ++ e)))
-    ∙ (ap (λ x. x ++ (b ++ (c ++ (d ++ e)))) first ∙ append_assoc s a (b ++ (c ++ (d ++ e))))
+-- what follows from both ways out
+pub either_way : {A E P Q R : Type 0} (r : Result A E) → OnOk r P → OnErr r Q → (P → R) → (Q → R) → R
+either_way (Ok x) p q f g = f p
+either_way (Err e) p q f g = g q
+
+-- four texts that were put one after the other
+pub put_four : (s r q p o a b c d : List ℕ) → r ≡ s ++ a → q ≡ r ++ b → p ≡ q ++ c → o ≡ p ++ d
+    → o ≡ s ++ (a ++ (b ++ (c ++ d)))
+put_four s r q p o a b c d first second third fourth =
+    fourth ∙ (ap (λ x. x ++ d) third ∙ append_assoc q c d)
+    ∙ (ap (λ x. x ++ (c ++ d)) second ∙ append_assoc r b (c ++ d))
+    ∙ (ap (λ x. x ++ (b ++ (c ++ d))) first ∙ append_assoc s a (b ++ (c ++ d)))
 
 -- the line of a fault is not empty
 pub fault_line-some : (f : Fault) → 0 < length (fault_line f)

@@ -9,7 +9,13 @@ use Rattle.eve_write.specs.declared.parts.Parts.{Parts}
 use Rattle.eve_write.specs.Writing.{Stopped}
 use Rattle.eve_tool.specs.declared.fault.ToolFault.{ToolFault}
 use Rattle.eve_tool.specs.declared.fault.ToolFault.TheVariants as fault
-use Rattle.eve_tool.specs.Run.{Runs, IsRunOfText, StopsRun}
+use Rattle.eve_tool_arguments.specs.Formats.{version_of}
+use Rattle.eve_tool_arguments.specs.declared.format.Format.TheVariants as format
+use Rattle.eve_replica.specs.RunFaults.{MayEnd}
+use Rattle.eve_replica.specs.declared.fault.RunFault.{RunFault}
+use Rattle.eve_replica.specs.declared.fault.RunFault.TheVariants as run
+use Rattle.eve_tool.specs.Fault.{fault_of_run}
+use Rattle.eve_tool.specs.Run.{IsRunnable, Runs, IsRunOfText, StopsRun}
 use Rattle.eve_tool.specs.Calls.{Leaves}
 use Rattle.eve_tool_arguments.specs.Arguments.{Run}
 
@@ -41,6 +47,14 @@ failed_run written failures limit mixer asked bytes p old new short few run fits
     written = stopped.front;
   },
 )
+
+-- where the run of a workload of the format ends without a trace, it stops for that
+pub ended_stops : (asked : Format) (bytes : List ℕ) (why : RunFault) → IsRunnable asked bytes
+    → MayEnd (version_of asked) why → StopsRun asked bytes (fault_of_run why)
+ended_stops asked bytes run.Memory runs may = tt
+ended_stops asked bytes run.Broken runs may = runs
+ended_stops format.One bytes run.TooLong runs may = absurd (omega (arith, may))
+ended_stops format.Two bytes run.TooLong runs may = runs
 
 -- nothing was sent, where the bytes were not run
 pub unrun_left : {O : Type 0} (written : O → Option (List ℕ)) (failures : O → ℕ) (limit : ℕ) (mixer : Mixer)

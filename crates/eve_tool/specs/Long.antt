@@ -12,6 +12,7 @@ use Rattle.eve_streams.specs.Front.{AppendsFront}
 use Rattle.eve_views.specs.Form.{IsLeast, StandsInForm, IsFaultOutside}
 use Rattle.eve_views.specs.declared.fault.Fault.{Fault}
 use Rattle.eve_tool.specs.Lines.{fault_line, line_feed, line_front}
+use Rattle.eve_tool.specs.Sending.{PutsText}
 
 -- the front of a frame's line, with the byte at which it begins
 abbrev pub line_front_of : ℕ × Frame → List ℕ
@@ -61,17 +62,17 @@ ShowsLong bytes text status =
 
 -- ---- what was sent of them
 
--- a line with this front was sent
-pub record SendsLine (old new : Option (List ℕ)) (front : List ℕ) : Type 0 where
+-- of what was held and then a line with this front, some was sent and the rest is kept
+pub record PutsLine (old new : Option (List ℕ)) (held kept front : List ℕ) : Type 0 where
   pub line : List ℕ
   pub is : IsLongLine front line
-  pub sent : Appends old new line
+  pub puts : PutsText old new held kept line
 
--- a front of a line with this front was sent, and not all of it
-pub record StopsInLine (old new : Option (List ℕ)) (front : List ℕ) : Type 0 where
+-- a front of what was held and then a line with this front was sent, and not all of it
+pub record StopsInLine (old new : Option (List ℕ)) (held front : List ℕ) : Type 0 where
   pub line : List ℕ
   pub is : IsLongLine front line
-  pub sent : AppendsFront old new line
+  pub sent : AppendsFront old new (held ++ line)
 
 -- lines with these fronts were sent
 pub record SendsLines (old new : Option (List ℕ)) (fronts : List (List ℕ)) : Type 0 where

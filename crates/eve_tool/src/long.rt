@@ -1,6 +1,6 @@
 //! The call `show --long`: the frames of a trace with their fields, a line for each.
 
-ghost use Rattle.std.specs.Prelude.{◌≡◌, ◌≢◌, ◌<◌, ◌≤◌, ◌+◌, ◌++◌, length, Some};
+ghost use Rattle.std.specs.Prelude.{◌≡◌, ◌≢◌, ◌<◌, ◌≤◌, ◌+◌, ◌*◌, ◌++◌, [], length, Some};
 ghost use Rattle.std.specs.Prelude.{IfOk, IfErr, IfSome, OnOk, OnErr};
 ghost use Rattle.std.specs.Io.KnownBytes.{Appends};
 ghost use Rattle.arrayvec.specs.ArrayVec.{array_vec_len};
@@ -9,9 +9,9 @@ ghost use Rattle.eve_streams.specs.Failures.{after_failure};
 ghost use Rattle.eve_streams.specs.Front.{AppendsFront};
 ghost use Rattle.eve_tool.specs.Calls.{WasRead, Leaves, StopsLong};
 ghost use Rattle.eve_tool.specs.Lines.{fault_line, line_feed, line_front};
-ghost use Rattle.eve_tool.specs.Long.{ShowsLong, header_front, long_fronts, front_of_view, SendsLine, StopsInLine};
-ghost use Rattle.eve_tool.specs.Long.{SendsLines, SendsUpTo, StopsInLines};
-ghost use Rattle.eve_tool.specs.Sending.{SendsSome};
+ghost use Rattle.eve_tool.specs.Long.{ShowsLong, IsLongLine, header_front, long_fronts, front_of_view};
+ghost use Rattle.eve_tool.specs.Long.{PutsLine, StopsInLine, SendsLines, SendsUpTo, StopsInLines};
+ghost use Rattle.eve_tool.specs.Sending.{SendsSome, PutsText, PutsSome, StopsInSome};
 ghost use Rattle.eve_tool_arguments.specs.Arguments.{ShowLong};
 ghost use Rattle.eve_tool.specs.Writes.{WritesAll, WritesAllOf};
 
@@ -20,125 +20,126 @@ use crate::lines::push_fault_line;
 use eve_grammar::{FRAME_HEAD_LEN, HEADER_LEN, Head, MOST_BYTES, u8_at, u32_at};
 use eve_lines::{
     FrameWords, LINE_ROOM, LONGEST_PART, Line, put, put_header, put_line_feed, put_number,
+    put_numbered,
 };
 use eve_streams::{SendFault, Sink, Source, read_all, send_all};
 use eve_views::{CheckFault, Fault, FrameView, Trace};
 use std::alloc::Global;
 
+/// How many bytes of lines are sent together, about.
+const BLOCK: usize = 1024;
+
 /// Appends the front of a frame's line: the byte at which it begins, its kind's name, and how many bytes its body has.
 fn put_front(line: &mut Line, offset: u64, name: &str, body_len: u64)
     requires room { array_vec_len line.old + LONGEST_PART ≤ LINE_ROOM }
     requires short { length name.now ≤ 8 }
-    ensures { line.new.items ≡ line.old.items ++ line_front offset name.now body_len }
+    ensures items { line.new.items ≡ line.old.items ++ line_front offset name.now body_len }
+    ensures len { array_vec_len line.new ≤ array_vec_len line.old + 50 }
 {
     put_number(line, offset);
     put(line, " ");
     put(line, name);
-    put(line, " ");
-    put_number(line, body_len);
+    put_numbered(line, " ", body_len);
 }
 
-/// Sends the front of a frame's line.
-fn send_front<O: Sink>(
-    line: &mut Line,
-    offset: u64,
-    name: &str,
-    body_len: u64,
-    out: &mut O,
-) -> Result<(), SendFault>
-    requires { length name.now ≤ 8 }
-    ensures sent { OnOk result (Appends (O.written out.old) (O.written out.new)
-        (line_front offset name.now body_len)) }
-    ensures front { OnErr result (AppendsFront (O.written out.old) (O.written out.new)
-        (line_front offset name.now body_len)) }
+/// Sends what is held, and empties the line.
+fn send_held<O: Sink>(line: &mut Line, out: &mut O) -> Result<(), SendFault>
+    ensures sent { OnOk result (Appends (O.written out.old) (O.written out.new) line.old.items) }
+    ensures empty { OnOk result (line.new.items ≡ []) }
+    ensures front { OnErr result (AppendsFront (O.written out.old) (O.written out.new) line.old.items) }
     ensures fine { OnOk result (O.failures out.new ≡ O.failures out.old) }
     ensures counted { OnErr result (O.failures out.new ≡ after_failure (O.failures out.old)) }
 {
+    send_all(out, line.as_slice())?;
     line.clear();
-    put_front(line, offset, name, body_len);
-    send_all(out, line.as_slice())
+    Ok(())
 }
 
-/// Sends the end of a line.
-fn send_end<O: Sink>(out: &mut O) -> Result<(), SendFault>
-    ensures sent { OnOk result (Appends (O.written out.old) (O.written out.new) line_feed) }
-    ensures front { OnErr result (AppendsFront (O.written out.old) (O.written out.new) line_feed) }
+/// Sends what is held, where it leaves no room for a front and a part of the words.
+fn make_room<O: Sink>(line: &mut Line, out: &mut O) -> Result<(), SendFault>
+    ensures puts { OnOk result (PutsText (O.written out.old) (O.written out.new) line.old.items line.new.items []) }
+    ensures room { OnOk result (array_vec_len line.new + 2 * LONGEST_PART ≤ LINE_ROOM) }
+    ensures front { OnErr result (AppendsFront (O.written out.old) (O.written out.new) line.old.items) }
     ensures fine { OnOk result (O.failures out.new ≡ O.failures out.old) }
     ensures counted { OnErr result (O.failures out.new ≡ after_failure (O.failures out.old)) }
 {
-    send_all(out, b"\n")
+    if line.len() > BLOCK {
+        return send_held(line, out);
+    }
+    Ok(())
 }
 
-/// Sends what frame number `number` says, in as many parts as it takes.
-fn send_words<O: Sink>(
+/// Puts what frame number `number` says, in as many parts as it takes.
+fn put_words<O: Sink>(
     line: &mut Line,
     number: usize,
     frame: &FrameView<'_>,
     out: &mut O,
 ) -> Result<(), SendFault>
-    ensures sent { SendsSome (O.written out.old) (O.written out.new) }
+    ensures puts { OnOk result (PutsSome (O.written out.old) (O.written out.new) line.old.items line.new.items) }
+    ensures front { OnErr result (StopsInSome (O.written out.old) (O.written out.new) line.old.items) }
     ensures fine { OnOk result (O.failures out.new ≡ O.failures out.old) }
     ensures counted { OnErr result (O.failures out.new ≡ after_failure (O.failures out.old)) }
 {
     let mut words = FrameWords::of(number, frame.bytes());
     'parts: for _ in 0..=frame.body_len() {
-        line.clear();
-        let more = words.fill(line);
-        send_all(out, line.as_slice())?;
-        if !more {
+        make_room(line, out)?;
+        if !words.fill(line) {
             break;
         }
     }
     Ok(())
 }
 
-/// Sends the line of frame number `number`.
-fn send_frame<O: Sink>(
+/// Puts the end of a line.
+fn put_end<O: Sink>(line: &mut Line, out: &mut O) -> Result<(), SendFault>
+    ensures puts { OnOk result (PutsText (O.written out.old) (O.written out.new) line.old.items line.new.items
+        line_feed) }
+    ensures front { OnErr result (AppendsFront (O.written out.old) (O.written out.new) line.old.items) }
+    ensures fine { OnOk result (O.failures out.new ≡ O.failures out.old) }
+    ensures counted { OnErr result (O.failures out.new ≡ after_failure (O.failures out.old)) }
+{
+    make_room(line, out)?;
+    put_line_feed(line);
+    Ok(())
+}
+
+/// Puts the line of frame number `number`.
+fn put_frame<O: Sink>(
     line: &mut Line,
     number: usize,
     frame: &FrameView<'_>,
     out: &mut O,
 ) -> Result<(), SendFault>
-    ensures sent { OnOk result (SendsLine (O.written out.old) (O.written out.new) (front_of_view frame.now)) }
-    ensures front { OnErr result (StopsInLine (O.written out.old) (O.written out.new) (front_of_view frame.now)) }
+    ensures puts { OnOk result (PutsLine (O.written out.old) (O.written out.new) line.old.items line.new.items
+        (front_of_view frame.now)) }
+    ensures front { OnErr result (StopsInLine (O.written out.old) (O.written out.new) line.old.items
+        (front_of_view frame.now)) }
     ensures fine { OnOk result (O.failures out.new ≡ O.failures out.old) }
     ensures counted { OnErr result (O.failures out.new ≡ after_failure (O.failures out.old)) }
 {
-    send_front(
+    make_room(line, out)?;
+    put_front(
         line,
         frame.offset(),
         frame.kind_name(),
         frame.body_len() as u64,
-        out,
-    )?;
-    send_words(line, number, frame, out)?;
-    send_end(out)
+    );
+    put_words(line, number, frame, out)?;
+    put_end(line, out)
 }
 
-/// Sends what a header says.
-fn send_header_words<O: Sink>(line: &mut Line, head: &Head, out: &mut O) -> Result<(), SendFault>
-    ensures sent { SendsSome (O.written out.old) (O.written out.new) }
-    ensures fine { OnOk result (O.failures out.new ≡ O.failures out.old) }
-    ensures counted { OnErr result (O.failures out.new ≡ after_failure (O.failures out.old)) }
+/// Puts the line of the header: the first.
+fn put_header_line(line: &mut Line, head: &Head)
+    requires { line.old.items ≡ [] }
+    ensures { IsLongLine header_front line.new.items }
 {
-    line.clear();
+    put_front(line, 0, "Header", 32);
     put_header(line, head);
-    send_all(out, line.as_slice())
+    put_line_feed(line);
 }
 
-/// Sends the line of the header.
-fn send_header<O: Sink>(line: &mut Line, head: &Head, out: &mut O) -> Result<(), SendFault>
-    ensures sent { OnOk result (SendsLine (O.written out.old) (O.written out.new) header_front) }
-    ensures front { OnErr result (StopsInLine (O.written out.old) (O.written out.new) header_front) }
-    ensures fine { OnOk result (O.failures out.new ≡ O.failures out.old) }
-    ensures counted { OnErr result (O.failures out.new ≡ after_failure (O.failures out.old)) }
-{
-    send_front(line, 0, "Header", 32, out)?;
-    send_header_words(line, head, out)?;
-    send_end(out)
-}
-
-/// Sends the lines of the header and of all frames.
+/// Sends the lines of the header and of all frames, many at a time.
 fn send_trace<O: Sink>(trace: &Trace<'_>, out: &mut O) -> Result<(), SendFault>
     ensures sent { OnOk result (SendsLines (O.written out.old) (O.written out.new)
         (long_fronts (frames_of trace.now))) }
@@ -148,11 +149,11 @@ fn send_trace<O: Sink>(trace: &Trace<'_>, out: &mut O) -> Result<(), SendFault>
     ensures counted { OnErr result (O.failures out.new ≡ after_failure (O.failures out.old)) }
 {
     let mut line = Line::new();
-    send_header(&mut line, &trace.head(), out)?;
+    put_header_line(&mut line, &trace.head());
     'frames: for i in 0..trace.frame_count() {
-        send_frame(&mut line, i, &trace.frame(i), out)?;
+        put_frame(&mut line, i, &trace.frame(i), out)?;
     }
-    Ok(())
+    send_held(&mut line, out)
 }
 
 /// The frame that begins at this byte, where it lies there as a whole.
@@ -179,14 +180,15 @@ fn frame_at(bytes: &[u8], at: usize) -> Option<FrameView<'_>>
     })
 }
 
-/// Sends the lines of the frames that end by this byte.
-fn send_frames_before<O: Sink>(
+/// Puts the lines of the frames that end by this byte.
+fn put_frames_before<O: Sink>(
     line: &mut Line,
     bytes: &[u8],
     until: usize,
     out: &mut O,
 ) -> Result<(), SendFault>
-    ensures sent { SendsSome (O.written out.old) (O.written out.new) }
+    ensures puts { OnOk result (PutsSome (O.written out.old) (O.written out.new) line.old.items line.new.items) }
+    ensures sent { OnErr result (SendsSome (O.written out.old) (O.written out.new)) }
     ensures fine { OnOk result (O.failures out.new ≡ O.failures out.old) }
     ensures counted { OnErr result (O.failures out.new ≡ after_failure (O.failures out.old)) }
 {
@@ -198,7 +200,7 @@ fn send_frames_before<O: Sink>(
         let Some(frame) = frame_at(bytes, at) else {
             break;
         };
-        send_frame(line, number, &frame, out)?;
+        put_frame(line, number, &frame, out)?;
         at += frame.bytes.len();
     }
     Ok(())
@@ -217,8 +219,9 @@ fn send_before<O: Sink>(bytes: &[u8], until: usize, out: &mut O) -> Result<(), S
         return Ok(());
     };
     let mut line = Line::new();
-    send_header(&mut line, &head, out)?;
-    send_frames_before(&mut line, bytes, until, out)
+    put_header_line(&mut line, &head);
+    put_frames_before(&mut line, bytes, until, out)?;
+    send_held(&mut line, out)
 }
 
 /// Sends the lines of the header and of the frames before a fault, and then the line of the fault.

@@ -1,6 +1,6 @@
 //! The call `run`: a deployment serves a workload, and the trace of the run is written.
 
-ghost use Rattle.std.specs.Prelude.{◌≡◌, ◌≢◌, ◌≤◌, ◌<◌, ◌⊎◌, ℕ, List, Some, Err, length};
+ghost use Rattle.std.specs.Prelude.{◌≡◌, ◌≢◌, ◌≤◌, ◌<◌, ◌⊎◌, Some, Err, length};
 ghost use Rattle.std.specs.Prelude.{IfOk, IfErr, OnOk};
 ghost use Rattle.eve_grammar.specs.Spelling.{length_of, spelling};
 ghost use Rattle.eve_streams.specs.Failures.{after_failure};
@@ -8,7 +8,7 @@ ghost use Rattle.eve_write.specs.Data.{trace};
 ghost use Rattle.eve_write.specs.Writable.{HasSpelling};
 ghost use Rattle.eve_write.specs.Writing.{Wrote, Stopped};
 ghost use Rattle.eve_tool.specs.Calls.{WasRead, Leaves};
-ghost use Rattle.eve_tool.specs.Run.{IsRunnable, Runs, IsRunOfText, StopsRun};
+ghost use Rattle.eve_tool.specs.Run.{Runs, IsRunOfText, StopsRun};
 ghost use Rattle.eve_tool_arguments.specs.Arguments.{Run};
 ghost use Rattle.eve_tool.specs.Writes.{WritesAll, WritesAllOf};
 
@@ -17,7 +17,7 @@ use crate::random::random_words;
 use eve_grammar::MOST_BYTES;
 use eve_recorder::OpenGate;
 use eve_replica::eve_workload::{Mixer, Workload};
-use eve_replica::{RunFault, run_consuming};
+use eve_replica::run_consuming;
 use eve_streams::{Sink, Source, read_all};
 use eve_tool_arguments::Format;
 use eve_write::{GatherFault, Parts, gather_spelled};
@@ -63,17 +63,7 @@ fn parts_of<R: RandomSource + Threads + Wait + Sync>(
     let random = random_words(rt)?;
     match run_consuming(rt, alloc, workload, mixer, random, &OpenGate) {
         Ok(parts) => Ok(parts),
-        Err(why) => Err(stop_of(format, why)),
-    }
-}
-
-/// Why a run of this format stops. In format 1 no state is taken over, so that none are too long.
-fn stop_of(format: Format, why: RunFault) -> ToolFault
-    ensures { (bytes : List ℕ) → IsRunnable format bytes → StopsRun format bytes result }
-{
-    match (format, why) {
-        (Format::One, RunFault::TooLong) => ToolFault::Broken,
-        _ => ToolFault::from(why),
+        Err(why) => Err(ToolFault::from(why)),
     }
 }
 

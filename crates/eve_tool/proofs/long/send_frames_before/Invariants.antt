@@ -1,9 +1,0 @@
--- Something was sent, and nothing failed.
-use Rattle.std.proofs.Common.{◌≡◌}
-use Rattle.eve_tool.specs.Sending.{SendsSome}
-use Rattle.eve_tool.proofs.long.send_frames_before.Given as goal
-
-abbrev pub invariant-frames : goal.invariant-frames
-invariant-frames g l =
-    SendsSome (g.O.Sink.written l.initial.out) (g.O.Sink.written l.out)
-    × (g.O.Sink.failures l.out ≡ g.O.Sink.failures l.initial.out)
