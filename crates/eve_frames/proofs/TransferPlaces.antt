@@ -1,5 +1,6 @@
 -- Where a Transfer frame's fields stand.
-use Rattle.std.proofs.Common.{◌≡◌, ℕ, ◌+◌, ◌-◌, ◌*◌, List, length, take, drop, Some, is_some, unwrap_or, [], sym, ap, subst, ◌∙◌, arith}
+use Rattle.std.proofs.Common.{◌≡◌, ℕ, ◌+◌, ◌-◌, ◌*◌, List, [], length, take, drop, Some, is_some, unwrap_or}
+use Rattle.std.proofs.Common.{sym, ap, subst, ◌∙◌, arith}
 use Rattle.std.specs.Prelude.{IsTrue}
 use Rattle.std.proofs.lemmas.List.{length-drop}
 use Rattle.byteorder.specs.Endian.{big_number}
@@ -70,8 +71,8 @@ transfer_at bytes n x e =
           });
     }
 
-pub transfer_read : (bytes : List ℕ) → IsTrue (has_transfer_body bytes) → transfer_of (state_rows_in bytes) (drop 5 bytes)
-    ≡ Some (transfer_in bytes)
+pub transfer_read : (bytes : List ℕ) → IsTrue (has_transfer_body bytes)
+    → transfer_of (state_rows_in bytes) (drop 5 bytes) ≡ Some (transfer_in bytes)
 unfolding transfer_in
 transfer_read bytes there = found (transfer_of (state_rows_in bytes) (drop 5 bytes)) _ there
 

@@ -51,7 +51,8 @@ pub fn outcomes_are_read_again()
 
 /// The body of a Transfer frame that was tested for some number of rows has that number, which no header has to tell.
 pub fn transfers_tell_their_rows()
-    ensures { (rows : ℕ) (bytes : List ℕ) → IsTrue (is_some (transfer_of rows (body_in bytes))) → state_rows_in bytes ≡ rows }
+    ensures { (rows : ℕ) (bytes : List ℕ) → IsTrue (is_some (transfer_of rows (body_in bytes)))
+        → state_rows_in bytes ≡ rows }
 {}
 
 /// What the frames say fits the format's limits.

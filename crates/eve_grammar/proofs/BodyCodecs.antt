@@ -497,8 +497,8 @@ transfer_codec rows =
     (both (number_at 4) (both (number_at 4) (state_rows_at rows))) transfer_from transfer_parts (is_transfer rows)
     (λ p fits. (refl, fits)) (λ x fits. (refl, fits))
     (Codec-both (big_bytes 4) (is_number 4) (number_at 4) _ _ (both (number_at 4) (state_rows_at rows)) Codec-number4
-    (Codec-both (big_bytes 4) (is_number 4) (number_at 4) (flat_map versioned_text) (are_taken rows) (state_rows_at rows)
-    Codec-number4 (rows_codec rows)))
+    (Codec-both (big_bytes 4) (is_number 4) (number_at 4) (flat_map versioned_text) (are_taken rows)
+    (state_rows_at rows) Codec-number4 (rows_codec rows)))
 
 pub Exact-transfer : (rows : ℕ) → Exact transfer_text (is_transfer rows) (transfer_of rows)
 unfolding transfer_of

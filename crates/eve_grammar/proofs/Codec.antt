@@ -11,9 +11,11 @@ use Rattle.eve_grammar.specs.Reading.{Reader, ◌>>=◌, both_by, led_by, made_i
 pub use Rattle.eve_grammar.specs.Places.{IsBytes}
 pub use Rattle.std.proofs.lemmas.Option.{same_Some as some_is}
 
+-- what stands behind a front of bytes is bytes
 pub IsBytes-drop : (n : ℕ) (bytes : List ℕ) → IsBytes bytes → IsBytes (drop n bytes)
 IsBytes-drop n bytes h i = rw get_or-drop (h (n + i))
 
+-- a front of bytes is bytes
 pub IsBytes-take : (n : ℕ) (bytes : List ℕ) → IsBytes bytes → IsBytes (take n bytes)
 IsBytes-take n bytes h i =
     elim (cases_lt i n) [
@@ -21,17 +23,18 @@ IsBytes-take n bytes h i =
       | inr le ↦ rw (get_or_past (take n bytes) i 0 (omega (arith, length-take n bytes))) (omega arith)
     ]
 
--- the value of a step that did not fail
+-- where two steps, one after the other, give a value, each of them gave one
 pub bind_some : {A B : Type 0} (r : Option A) (f : A → Option B) (y : B) → (r >>= f) ≡ Some y → (x : A) × (r ≡ Some x)
     × (f x ≡ Some y)
 bind_some (Some x) f y e = (x, refl, e)
 bind_some None f y e = absurd cc
 
--- a test that did not fail
+-- where a test stands before a value, and there is one, the test passed
 pub guard_some : {A : Type 0} (b : Bool) (o : Option A) (y : A) → cond b o None ≡ Some y → (b ≡ true) × (o ≡ Some y)
 guard_some true o y e = (refl, e)
 guard_some false o y e = absurd cc
 
+-- where a test that passes gives no value, and there is one, the test failed
 pub guard_none : {A : Type 0} (b : Bool) (o : Option A) (y : A) → cond b None o ≡ Some y → (b ≡ false) × (o ≡ Some y)
 guard_none true o y e = absurd cc
 guard_none false o y e = (refl, e)
@@ -41,6 +44,7 @@ pub record Takes (bytes text rest : List ℕ) : Type 0 where
   pub parts : bytes ≡ text ++ rest
   pub rest_fits : IsBytes rest
 
+-- what took one text and then another took both, one after the other
 pub Takes-then : (a x b y c : List ℕ) → Takes a x b → Takes b y c → Takes a (x ++ y) c
 Takes-then a x b y c p q =
     record { parts = p.parts ∙ ap (λ (t : List ℕ). x ++ t) q.parts ∙ sym (append_assoc x y c); rest_fits = q.rest_fits }
@@ -84,6 +88,7 @@ Codec-both_by {A = A} {B = B} ta fa ra tb fb rb one two = record {
       ap (both_by ra rb) regrouped ∙ rw (one.again x.0 (tb x.1 ++ rest) parts.0, (two x.0).again x.1 rest parts.1) refl;
 }
 
+-- two fields, one after the other
 pub Codec-both : {A B : Type 0} (ta : A → List ℕ) (fa : A → Bool) (ra : Reader A) (tb : B → List ℕ) (fb : B → Bool)
     (rb : Reader B)
     → Codec ta fa ra → Codec tb fb rb → Codec (λ (p : A × B). ta p.0 ++ tb p.1) (λ p. fa p.0 && fb p.1)
@@ -142,6 +147,7 @@ Codec-made {A = A} {B = B} ta fa ra to from fb back forth one =
     (λ a b fits e. let t = back a fits in subst (λ (y : B). (from y ≡ a) × IsTrue (fb y)) (same_Some (to a) b e) t)
     (λ b fits. let f = forth b fits in (ap (λ (y : B). Some y) f.0, f.1)) one
 
+-- a field that has to pass one more test
 pub Codec-only : {A : Type 0} (ta : A → List ℕ) (fa : A → Bool) (ra : Reader A) (test : A → Bool)
     → Codec ta fa ra → Codec ta (λ a. test a && fa a) (only test ra)
 Codec-only {A = A} ta fa ra test one = record {
@@ -158,6 +164,7 @@ Codec-only {A = A} ta fa ra test one = record {
 
 -- ---- this many
 
+-- a list of this many items, each of which passes the test
 abbrev pub are_many : {A : Type 0} → (A → Bool) → ℕ → List A → Bool
 are_many fa n xs = eqb (length xs) n && list_all fa xs
 
@@ -192,6 +199,7 @@ many_again ta fa ra one (x ∷ xs) rest fits =
     ap (many_at ra (suc (length xs))) regrouped
     ∙ rw (one.again x (flat_map ta xs ++ rest) parts.0, many_again ta fa ra one xs rest parts.1) refl
 
+-- a field, this many times
 pub Codec-many : {A : Type 0} (ta : A → List ℕ) (fa : A → Bool) (ra : Reader A) → Codec ta fa ra → (n : ℕ)
     → Codec (flat_map ta) (are_many fa n) (many_at ra n)
 Codec-many {A = A} ta fa ra one n = record {
@@ -214,6 +222,7 @@ Codec-counted ta fa ra tn fn rn count one =
     (λ n xs fits. eqb-true (length xs) n (and_parts (eqb (length xs) n) (list_all fa xs) fits).0) count
     (Codec-many ta fa ra one)
 
+-- items that all pass the test are such a list, of as many as they are
 pub are_many_of : {A : Type 0} (fa : A → Bool) (xs : List A) → IsTrue (list_all fa xs)
     → IsTrue (are_many fa (length xs) xs)
 are_many_of fa xs fits = and_from (eqb (length xs) (length xs)) (list_all fa xs) (eq-eqb (length xs) (length xs) refl)
@@ -221,6 +230,7 @@ are_many_of fa xs fits = and_from (eqb (length xs) (length xs)) (list_all fa xs)
 
 -- ---- the whole of the bytes
 
+-- what is read to the end of the bytes is spelled by them, and passes the test
 pub whole_takes : {A : Type 0} (ta : A → List ℕ) (fa : A → Bool) (ra : Reader A) → Codec ta fa ra
     → (bytes : List ℕ) (x : A) → IsBytes bytes → whole ra bytes ≡ Some x → (bytes ≡ ta x) × IsTrue (fa x)
 whole_takes {A = A} ta fa ra one bytes x fits e =
@@ -231,6 +241,7 @@ whole_takes {A = A} ta fa ra one bytes x fits e =
     let all : bytes ≡ ta a.0.0 = first.0.parts ∙ ap (λ (r : List ℕ). ta a.0.0 ++ r) nothing ∙ append-nil (ta a.0.0) in
     subst (λ (y : A). (bytes ≡ ta y) × IsTrue (fa y)) (same_Some a.0.0 x g.1) (all, first.1)
 
+-- a value that passes the test is read again from its spelling alone
 pub whole_again : {A : Type 0} (ta : A → List ℕ) (fa : A → Bool) (ra : Reader A) → Codec ta fa ra
     → (x : A) → IsTrue (fa x) → whole ra (ta x) ≡ Some x
 whole_again ta fa ra one x fits =

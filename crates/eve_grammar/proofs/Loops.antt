@@ -1,6 +1,6 @@
 -- Loops that read and keep no values.
-use Rattle.std.proofs.Common.{◌≡◌, ℕ, suc, ◌-◌, ◌+◌, ◌≤◌, ◌<◌, true, false, leb, List, Option, Some, None, refl, sym, ap, ◌∙◌}
-use Rattle.std.proofs.Common.{arith}
+use Rattle.std.proofs.Common.{◌≡◌, ℕ, suc, ◌-◌, ◌+◌, ◌≤◌, ◌<◌, true, false, leb, List, Option, Some, None, refl, sym}
+use Rattle.std.proofs.Common.{ap, ◌∙◌, arith}
 use Rattle.std.proofs.lemmas.Bool.{le-leb}
 use Rattle.eve_grammar.specs.Reading.{◌>>=◌, Reader, number_at, restore_at, versioned_at}
 use Rattle.eve_grammar.specs.Scanning.{total_at, rest_at, rising_at, saved_at}

@@ -336,8 +336,8 @@ versioned_long bytes le =
 versioned_short : (bytes : List ℕ) → IsBytes bytes → length bytes < 16 → versioned_at bytes ≡ None
 unfolding versioned_at
 versioned_short bytes fits lt =
-    rw (too_short 16 versioned_text is_fielded versioned_fields_at Codec-versioned_fields versioned_length bytes fits lt)
-    refl
+    let none = too_short 16 versioned_text is_fielded versioned_fields_at Codec-versioned_fields versioned_length in
+    rw (none bytes fits lt) refl
 
 pub versioned_is : (bytes : List ℕ) → IsBytes bytes → versioned_at bytes ≡ cond (ltb (length bytes) 16) None
     (versioned_if bytes)

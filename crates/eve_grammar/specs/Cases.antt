@@ -12,8 +12,16 @@ customer_ann = record { name = codes "ann"; saving = pos 0; checking = pos 0 }
 -- one of each, and no batch
 abbrev pub empty_run : Trace
 empty_run = record {
-  head =
-      record { version = 1; replicas = 1; verifiers = 1; quorum = 1; window = 1; workers = 1; customers = 1; batches = 0 };
+  head = record {
+    version = 1;
+    replicas = 1;
+    verifiers = 1;
+    quorum = 1;
+    window = 1;
+    workers = 1;
+    customers = 1;
+    batches = 0;
+  };
   customers = customer_ann ∷ [];
   batches = [];
   sections = [] ∷ [];
@@ -37,8 +45,16 @@ token =
 -- a batch that deposits 500, executed, committed and voted for
 abbrev pub deposit_committed : Trace
 deposit_committed = record {
-  head =
-      record { version = 1; replicas = 1; verifiers = 1; quorum = 1; window = 1; workers = 1; customers = 1; batches = 1 };
+  head = record {
+    version = 1;
+    replicas = 1;
+    verifiers = 1;
+    quorum = 1;
+    window = 1;
+    workers = 1;
+    customers = 1;
+    batches = 1;
+  };
   customers = customer_ann ∷ [];
   batches = record {
     sizes = 1 ∷ [];

@@ -1,9 +1,10 @@
 -- The kinds of frames, by the byte that their frames begin with. docs/TRACE.md, "Frames".
 use Rattle.std.specs.Prelude.{◌≢◌, ℕ}
 use Rattle.eve_grammar.specs.declared.frame_kind.FrameKind.{FrameKind}
-use Rattle.eve_grammar.specs.declared.frame_kind.TheConstants.{CUSTOMER_FRAME, BATCH_FRAME, REPLICA_FRAME, ATTEMPT_FRAME}
-use Rattle.eve_grammar.specs.declared.frame_kind.TheConstants.{ACCESS_FRAME, COMMIT_FRAME, ROLLBACK_FRAME, TRANSFER_FRAME}
-use Rattle.eve_grammar.specs.declared.frame_kind.TheConstants.{VERIFIER_FRAME, VOTE_FRAME, SENT_FRAME, END_FRAME}
+use Rattle.eve_grammar.specs.declared.frame_kind.TheConstants.{CUSTOMER_FRAME, BATCH_FRAME, REPLICA_FRAME}
+use Rattle.eve_grammar.specs.declared.frame_kind.TheConstants.{ATTEMPT_FRAME, ACCESS_FRAME, COMMIT_FRAME}
+use Rattle.eve_grammar.specs.declared.frame_kind.TheConstants.{ROLLBACK_FRAME, TRANSFER_FRAME, VERIFIER_FRAME}
+use Rattle.eve_grammar.specs.declared.frame_kind.TheConstants.{VOTE_FRAME, SENT_FRAME, END_FRAME}
 use Rattle.eve_grammar.specs.declared.frame_kind.FrameKind.TheVariants as of
 
 -- the first byte of a frame of the kind

@@ -22,9 +22,10 @@ use Rattle.eve_grammar.specs.Frames.{OfTransfer, OfVerifier, OfVote, OfSent, End
 use Rattle.eve_grammar.specs.declared.limits.TheConstants.{MOST_REQUESTS, MOST_ENTRIES}
 use Rattle.eve_grammar.specs.declared.frame_kind.TheConstants.{CUSTOMER_FRAME, BATCH_FRAME, REPLICA_FRAME}
 use Rattle.eve_grammar.specs.declared.frame_kind.TheConstants.{ATTEMPT_FRAME, ACCESS_FRAME, COMMIT_FRAME}
-use Rattle.eve_grammar.specs.declared.frame_kind.TheConstants.{ROLLBACK_FRAME, TRANSFER_FRAME, VERIFIER_FRAME, VOTE_FRAME}
-use Rattle.eve_grammar.specs.declared.frame_kind.TheConstants.{SENT_FRAME, END_FRAME}
-use Rattle.eve_grammar.specs.Limits.{is_between, is_entry, is_restore, is_rising, is_versioned, are_no_debts, is_head, row_count}
+use Rattle.eve_grammar.specs.declared.frame_kind.TheConstants.{ROLLBACK_FRAME, TRANSFER_FRAME, VERIFIER_FRAME}
+use Rattle.eve_grammar.specs.declared.frame_kind.TheConstants.{VOTE_FRAME, SENT_FRAME, END_FRAME}
+use Rattle.eve_grammar.specs.Limits.{is_between, is_entry, is_restore, is_rising, is_versioned, are_no_debts, is_head}
+use Rattle.eve_grammar.specs.Limits.{row_count}
 use Rattle.eve_grammar.specs.declared.head.Head.{Head}
 use Rattle.eve_grammar.specs.declared.restore.Restore.{Restore}
 use Rattle.eve_grammar.specs.declared.place.Place.{Place}
@@ -342,7 +343,8 @@ sent_of replicas batches =
 unfoldable pub body_of : Head → Place → ℕ → List ℕ → Option Frame
 body_of h p kind body =
     if kind == CUSTOMER_FRAME then (customer_of body >>= λ c. Some (OfCustomer c))
-    else if kind == BATCH_FRAME then (batch_of body >>= λ b. if b.0 == p.batches + 1 then Some (OfBatch b.0 b.1) else None)
+    else if kind == BATCH_FRAME
+    then (batch_of body >>= λ b. if b.0 == p.batches + 1 then Some (OfBatch b.0 b.1) else None)
     else if kind == REPLICA_FRAME then (number_of body >>= λ n. if n == p.replicas then Some (OfReplica n) else None)
     else if kind == ATTEMPT_FRAME then (attempt_of body >>= λ a. Some (OfAttempt a))
     else if kind == ACCESS_FRAME then (access_of (row_count h) body >>= λ x. Some (OfAccess x))

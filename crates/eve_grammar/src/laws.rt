@@ -59,7 +59,8 @@ pub fn each_run_is_one_trace()
 pub fn transfers_are_read_again()
     ensures takes { (rows : ℕ) (body : List ℕ) (x : Transfer) → IsBytes body → transfer_of rows body ≡ Some x
         → (body ≡ transfer_text x) × IsTrue (is_transfer rows x) }
-    ensures again { (rows : ℕ) (x : Transfer) → IsTrue (is_transfer rows x) → transfer_of rows (transfer_text x) ≡ Some x }
+    ensures again { (rows : ℕ) (x : Transfer) → IsTrue (is_transfer rows x)
+        → transfer_of rows (transfer_text x) ≡ Some x }
 {}
 
 /// The parts of a trace that bytes spell lie within their limits, and such parts, of at most `MOST_BYTES` bytes, are

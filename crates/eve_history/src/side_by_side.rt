@@ -1,7 +1,7 @@
 //! The attempts of a section, with their certificates and access records judged side by side.
 
 ghost use Rattle.std.specs.Prelude.{◌≡◌, ◌<◌, ◌∷◌, ◌++◌, [], ℕ, List, IsTrue, IfOk, IfSome, Some, length, map};
-ghost use Rattle.std.specs.Prelude.{◌*◌, ◌+◌, ◌≤◌, OnOk, Ok, take, slice_index_or};
+ghost use Rattle.std.specs.Prelude.{◌*◌, ◌+◌, OnOk, Ok, take, slice_index_or};
 ghost use Rattle.std.specs.List.{AllByRecursion};
 ghost use Rattle.eve_grammar.specs.Trace.{Attempt, Step as StepValue, Trace as TraceValue};
 ghost use Rattle.eve_grammar.specs.Spelling.{steps_at};

@@ -1,4 +1,5 @@
-//! The words of lines: frames, requests, rows, entries, replies and tokens as text, in a fixed array and without memory.
+//! The words of lines: frames, requests, rows, entries, replies and tokens as text, in a fixed array and without
+//! memory.
 #![tactic(auto)]
 
 mod access;

@@ -1,6 +1,6 @@
 -- Records of requests that took effect: what their entries say by themselves is enough for them to fit.
-use Rattle.std.proofs.Common.{◌≡◌, ℕ, ℤ, pos, ◌+ℤ◌, ◌-ℤ◌, ◌==◌, int_lt, Bool, false, true, cond, ◌&&◌, is_some, List, []}
-use Rattle.std.proofs.Common.{◌∷◌, map, length, Option, Some, refl, sym, subst, ap, ap₂, ◌∙◌}
+use Rattle.std.proofs.Common.{◌≡◌, ℕ, ℤ, pos, ◌+ℤ◌, ◌-ℤ◌, ◌==◌, int_lt, Bool, false, true, cond, ◌&&◌, is_some, List}
+use Rattle.std.proofs.Common.{[], ◌∷◌, map, length, Option, Some, refl, sym, subst, ap, ap₂, ◌∙◌}
 use Rattle.std.proofs.lemmas.Bool.{cond-true, cond-false}
 use Rattle.std.proofs.lemmas.List.{length-map}
 use Rattle.eve_accounts.specs.Money.{is_balance}
@@ -98,7 +98,8 @@ module _ (names : List (List ℕ)) where
       done_fits (TransactSaving name amount) ((saving_row c, Write) ∷ []) (s ∷ []) reply
       (record { reply = Done; effects = written after ∷ [] })
       (one_known (λ d. (saving_row d, Write) ∷ []) c (customer_named names name) e) refl
-      (ap (λ (z : ℤ). Some (cond (int_lt z (pos 0)) (abort_after Insufficient seen) (done_within seen z (written z ∷ [])))) (sym is)
+      (ap (λ (z : ℤ). Some (cond (int_lt z (pos 0)) (abort_after Insufficient seen)
+      (done_within seen z (written z ∷ [])))) (sym is)
       ∙ ap Some (cond-false (int_lt after (pos 0)) _ _ good ∙ within seen after (written after ∷ []) range))
       told (ap (λ (x : Entry). x ∷ []) (noted_entry (saving_row c, Write) s (written after) is_s))
 

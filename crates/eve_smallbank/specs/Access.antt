@@ -1,7 +1,7 @@
 -- What a request reads and writes, row by row, and what fits it.
 -- docs/MODEL.md, "Bank", "Entries", "A record fits its request".
 use Rattle.std.specs.Prelude.{◌≡◌, ℕ, ℤ, pos, ◌+◌, ◌==◌, Bool, true, false, ◌&&◌, if◌then◌else◌, List, [], ◌∷◌, map}
-use Rattle.std.specs.Prelude.{filter, slice_index_or, Option, fold, unwrap_or, option_map}
+use Rattle.std.specs.Prelude.{filter, slice_index_or, fold, unwrap_or, option_map}
 use Rattle.std.specs.List.{AllByRecursion}
 use Rattle.std.specs.FinMap.{empty, insert}
 use Rattle.eve_accounts.specs.Names.{customer_named}

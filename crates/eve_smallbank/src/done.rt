@@ -2,7 +2,7 @@
 //!
 //! A yes says that the record fits. A no says nothing: `fits` tells.
 
-ghost use Rattle.std.specs.Prelude.{◌≡◌, IsTrue, [], ◌∷◌};
+ghost use Rattle.std.specs.Prelude.{IsTrue, [], ◌∷◌};
 ghost use Rattle.eve_accounts.specs.Money.{is_balance};
 ghost use Rattle.eve_smallbank.specs.SmallBank.{Balance, DepositChecking, TransactSaving, Amalgamate, WriteCheck};
 ghost use Rattle.eve_smallbank.specs.Access.{Fits};

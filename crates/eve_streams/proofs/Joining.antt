@@ -6,7 +6,7 @@ use Rattle.std.specs.Io.KnownBytes.{Appends}
 use Rattle.std.proofs.KnownBytes.{Appends-trans}
 use Rattle.eve_streams.specs.Front.{AppendsFront}
 
--- a front, and then a front of the rest
+-- where a front of bytes was appended, and then a front of the rest, one longer front was
 pub Appends-further : (a b c : Option (List ℕ)) (at n : ℕ) (bytes : List ℕ) → n ≤ length bytes - at
     → Appends a b (take at bytes) → Appends b c (take n (take (length bytes - at) (drop at bytes)))
     → Appends a c (take (at + n) bytes)
@@ -15,7 +15,7 @@ Appends-further a b c at n bytes fits first second =
     ap (λ l. take at bytes ++ l) (take-take n (length bytes - at) (drop at bytes) fits) ∙ sym (take-add at n bytes) in
     subst (Appends a c) joined (Appends-trans a b c _ _ first second)
 
--- all of xs, and then a front of ys
+-- where all of xs was appended, and then a front of ys, a front of both together was
 pub AppendsFront-after : (a b c : Option (List ℕ)) (xs ys : List ℕ) → Appends a b xs → AppendsFront b c ys
     → AppendsFront a c (xs ++ ys)
 AppendsFront-after a b c xs ys first second = record {
@@ -26,7 +26,7 @@ AppendsFront-after a b c xs ys first second = record {
       subst (Appends a c) joined (Appends-trans a b c _ _ first second.appended);
 }
 
--- a front of xs is one of xs and what follows
+-- a front of xs is one of xs with ys behind it
 pub AppendsFront-more : (a b : Option (List ℕ)) (xs ys : List ℕ) → AppendsFront a b xs → AppendsFront a b (xs ++ ys)
 AppendsFront-more a b xs ys front = record {
   count = front.count;

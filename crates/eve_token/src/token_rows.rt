@@ -23,9 +23,9 @@ enum Kept {
 /// The balances of all rows, of which tokens are made: as they are in version 1 of the trace, by a Merkle tree that is
 /// kept over them in version 2.
 ///
-/// docs/TRACE.md, "Token" and "Merkle token". A write hashes nothing. In version 2 a token hashes once each node above a
-/// row that was written since the last one, so rows of which no token is asked for are never hashed. Contracts see the
-/// version and the balances in cents (`TokenRows` of the specs).
+/// docs/TRACE.md, "Token" and "Merkle token". A write hashes nothing. In version 2 a token hashes once each node above
+/// a row that was written since the last one, so rows of which no token is asked for are never hashed. Contracts see
+/// the version and the balances in cents (`TokenRows` of the specs).
 #[derive(Drop)]
 pub struct TokenRows {
     kept: Kept,

@@ -1,6 +1,6 @@
 -- Runs of frames of one kind.
-use Rattle.std.proofs.Common.{◌≡◌, ℕ, ◌+◌, ◌-◌, ◌<◌, Bool, true, List, [], ◌∷◌, ◌++◌, length, take, drop, Option, Some, None}
-use Rattle.std.proofs.Common.{is_some, refl, sym, ap, subst, ◌∙◌, append_assoc, arith}
+use Rattle.std.proofs.Common.{◌≡◌, ℕ, ◌+◌, ◌-◌, ◌<◌, Bool, true, List, [], ◌∷◌, ◌++◌, length, take, drop, Option, Some}
+use Rattle.std.proofs.Common.{None, is_some, refl, sym, ap, subst, ◌∙◌, append_assoc, arith}
 use Rattle.std.specs.Prelude.{IsTrue, All}
 use Rattle.std.specs.Option.{option_map}
 use Rattle.std.proofs.lemmas.Bool.Decides.{nat_tests}
@@ -18,7 +18,7 @@ use Rattle.eve_views.specs.declared.reached.Reached.{Reached}
 use Rattle.eve_views.specs.declared.starts.Starts.{Starts}
 use Rattle.eve_views.specs.Indexing.{KeptFrame}
 use Rattle.eve_views.specs.Places.{accesses_in, place_after}
-use Rattle.eve_views.specs.Runs.{Finds, GoesOn}
+use Rattle.eve_views.specs.Runs.{Finds, ReadsOn}
 use Rattle.eve_views.specs.SideBySide.{IsRightFrame, AreRightFrames, IsWalkedUnjudged, WalksOn}
 use Rattle.eve_views.specs.Starting.{noted}
 use Rattle.eve_views.specs.Walk.{IsFrontOf}
@@ -74,19 +74,20 @@ sent_noted p n s e = rw e refl
 
 -- what is found is the next frame
 pub found_step : (before after : Reached) (bytes : List ℕ) (from at : ℕ) (offsets more : List ℕ) (kind len : ℕ)
-    → IsTrue (is_head before.head) → IsBytes bytes → GoesOn bytes from at before after offsets more
-    → Finds after.head (take (length bytes - at) (drop at bytes)) kind len → is_allowed after.head after.place kind ≡ true
+    → IsTrue (is_head before.head) → IsBytes bytes → ReadsOn bytes from at before after offsets more
+    → Finds after.head (take (length bytes - at) (drop at bytes)) kind len
+    → is_allowed after.head after.place kind ≡ true
     → Step before.head after.place bytes at (record { kind = kind; len = len; accesses = 0 })
 found_step before after bytes from at offsets more kind len right fits goes finds allowed =
     step_here before.head after.head after.place bytes at (record { kind = kind; len = len; accesses = 0 }) right fits
     goes.within goes.head (finds after.place allowed)
 
 pub goes_further : (before after next : Reached) (bytes : List ℕ) (from at : ℕ) (offsets more : List ℕ) (kind len : ℕ)
-    → IsTrue (is_head before.head) → GoesOn bytes from at before after offsets more
+    → IsTrue (is_head before.head) → ReadsOn bytes from at before after offsets more
     → Step before.head after.place bytes at (record { kind = kind; len = len; accesses = 0 })
     → next.head ≡ after.head → next.place ≡ place_after after.place kind 0
     → ((s : Starts) → noted s after.place kind (length more) ≡ s)
-    → GoesOn bytes from (at + len) before next offsets (more ++ at ∷ [])
+    → ReadsOn bytes from (at + len) before next offsets (more ++ at ∷ [])
 goes_further before after next bytes from at offsets more kind len right goes step head place plain =
     let k : KeptFrame = record { kind = kind; len = len; accesses = 0 } in
     record {
@@ -107,7 +108,7 @@ goes_further before after next bytes from at offsets more kind len right goes st
 -- ---- the walk
 
 pub goes_walking : (h : Head) (bytes : List ℕ) (from to : ℕ) (before after : Reached) (offsets more : List ℕ)
-    (s : Starts) → before.head ≡ h → GoesOn bytes from to before after offsets more
+    (s : Starts) → before.head ≡ h → ReadsOn bytes from to before after offsets more
     → Walking h bytes from before.place offsets s → Walking h bytes to after.place more s
 goes_walking h bytes from to before after offsets more s same goes w =
     subst (λ (g : Head). Walking g bytes to after.place more s) same
@@ -120,7 +121,7 @@ all_front P (x ∷ xs) ys all =
 
 -- the walk that leaves bodies unjudged goes on over frames that it judged
 pub unjudged_on : (h : Head) (bytes : List ℕ) (w v : Progress) → IsWalkedUnjudged h bytes w
-    → GoesOn bytes w.at v.at w.reached v.reached w.offsets.items v.offsets.items → v.starts ≡ w.starts
+    → ReadsOn bytes w.at v.at w.reached v.reached w.offsets.items v.offsets.items → v.starts ≡ w.starts
     → IsWalkedUnjudged h bytes v
 unjudged_on h bytes w v before goes same = record {
   head = goes.head ∙ before.head;
@@ -136,7 +137,7 @@ unjudged_on h bytes w v before goes same = record {
 
 -- and the frames that it had found stand in front
 pub walks_further : (first w v : Progress) (bytes : List ℕ) → WalksOn first w
-    → GoesOn bytes w.at v.at w.reached v.reached w.offsets.items v.offsets.items → WalksOn first v
+    → ReadsOn bytes w.at v.at w.reached v.reached w.offsets.items v.offsets.items → WalksOn first v
 walks_further first w v bytes one goes = record {
   more = one.more ++ goes.added;
   offsets = goes.offsets_is ∙ ap (λ (xs : List ℕ). xs ++ goes.added) one.offsets

@@ -26,7 +26,8 @@ use Rattle.eve_grammar.specs.declared.head.TheConstants.{HEADER_LEN}
 -- 32 bytes or more, no more than a trace may have, and as many as the header says
 abbrev pub is_sized : List ℕ → Bool
 is_sized bytes =
-    nat_le HEADER_LEN (length bytes) && (nat_le (length bytes) MOST_BYTES && (big_number 8 (drop 24 bytes) == length bytes))
+    nat_le HEADER_LEN (length bytes)
+    && (nat_le (length bytes) MOST_BYTES && (big_number 8 (drop 24 bytes) == length bytes))
 
 -- the first six bytes are those of a trace
 abbrev pub has_magic : List ℕ → Bool

@@ -34,7 +34,8 @@ answer_in (Err c) = Err c
 -- what is kept of a frame that was taken from the front of these bytes
 abbrev pub kept : List ℕ → Result (Frame × List ℕ) Code → Result KeptFrame Code
 kept bytes (Ok x) =
-    Ok (record { kind = slice_index bytes 0; len = FRAME_HEAD_LEN + big_number 4 (drop 1 bytes); accesses = accesses_in x.0 })
+    let len = FRAME_HEAD_LEN + big_number 4 (drop 1 bytes) in
+    Ok (record { kind = slice_index bytes 0; len = len; accesses = accesses_in x.0 })
 kept bytes (Err c) = Err c
 
 -- where each frame begins, the first one's byte offset being given

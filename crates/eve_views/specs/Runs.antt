@@ -17,7 +17,7 @@ Finds h bytes kind len =
     → Ok (record { kind = kind; len = len; accesses = 0 }) ≡ kept bytes (frame_at h p bytes)
 
 -- the walk goes on from one byte to the other over frames that begin no parts; their offsets come behind those before
-pub record GoesOn (bytes : List ℕ) (from to : ℕ) (before after : Reached) (offsets more : List ℕ) : Type 0 where
+pub record ReadsOn (bytes : List ℕ) (from to : ℕ) (before after : Reached) (offsets more : List ℕ) : Type 0 where
   pub head : after.head ≡ before.head
   pub on : from ≤ to
   pub within : to ≤ length bytes

@@ -12,8 +12,8 @@ use Rattle.eve_grammar.specs.declared.head.TheConstants.{HEADER_LEN}
 abbrev pub LiesBetween : ℕ → ℕ → ℕ → ℕ → Type 0
 LiesBetween from to at many = (from ≤ at) × (at + many ≤ to)
 
--- One part stands after another: customers, batches, sections, votes and replies sent. Each customer, batch, step, access
--- record, vote and reply sent lies in its part, as a whole.
+-- One part stands after another: customers, batches, sections, votes and replies sent. Each customer, batch, step,
+-- access record, vote and reply sent lies in its part, as a whole.
 pub record StandInOrder (t : Trace) : Type 0 where
   pub customers : AllByRecursion
       (λ c. LiesBetween HEADER_LEN (batches_start t) c.0 (length (customer_text c.1))) (customers_at t)

@@ -21,7 +21,8 @@ with_rest rest None = Err code.Body
 abbrev pub inside : Head → Place → List ℕ → Result (Frame × List ℕ) Code
 inside h p bytes =
     let len = big_number 4 (drop 1 bytes) in
-    with_rest (drop len (drop FRAME_HEAD_LEN bytes)) (body_of h p (slice_index bytes 0) (take len (drop FRAME_HEAD_LEN bytes)))
+    with_rest (drop len (drop FRAME_HEAD_LEN bytes))
+    (body_of h p (slice_index bytes 0) (take len (drop FRAME_HEAD_LEN bytes)))
 
 -- the frame at the front of the bytes, or what is wrong there
 unfoldable pub frame_at : Head → Place → List ℕ → Result (Frame × List ℕ) Code

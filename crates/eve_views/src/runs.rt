@@ -2,7 +2,7 @@
 
 ghost use Rattle.std.specs.Prelude.{◌≤◌, length, IsTrue, IfOk, IfSome};
 ghost use Rattle.eve_grammar.specs.Limits.{is_head};
-ghost use Rattle.eve_views.specs.Runs.{Finds, GoesOn};
+ghost use Rattle.eve_views.specs.Runs.{Finds, ReadsOn};
 ghost use Rattle.eve_grammar.specs.declared.frame_kind.TheConstants.{ACCESS_FRAME, SENT_FRAME};
 
 use crate::reached::Reached;
@@ -53,7 +53,8 @@ pub fn pass_accesses(
     requires limits { IsTrue (is_head reached.old.head) }
     requires length { length bytes.now ≤ MOST_BYTES }
     requires within { from ≤ length bytes.now }
-    ensures { IfOk result (λ to. GoesOn bytes.now from to reached.old reached.new offsets.old.items offsets.new.items) }
+    ensures { IfOk result
+        (λ to. ReadsOn bytes.now from to reached.old reached.new offsets.old.items offsets.new.items) }
 {
     let mut at = from;
     if !reached.allows(FrameKind::Access) {
@@ -83,7 +84,8 @@ pub fn pass_sent(
     requires limits { IsTrue (is_head reached.now.head) }
     requires length { length bytes.now ≤ MOST_BYTES }
     requires within { from ≤ length bytes.now }
-    ensures { IfOk result (λ to. GoesOn bytes.now from to reached.now reached.now offsets.old.items offsets.new.items) }
+    ensures { IfOk result
+        (λ to. ReadsOn bytes.now from to reached.now reached.now offsets.old.items offsets.new.items) }
 {
     let mut at = from;
     if !reached.place.sending || !reached.allows(FrameKind::Sent) {

@@ -50,7 +50,8 @@ batch_there (CustomerLine c ∷ before) a follows = cc
 batch_there (BatchLine ∷ before) a follows = omega (arith, length-append (listed_in before) ([] ∷ []))
 batch_there (RequestLine b ∷ before) a follows = push_last_some (listed_in before) b
 
-pub batches_counted : (format : ℕ) (before : List Line) → AreRightLines format before → length (listed_in before) ≡ batches_in before
+pub batches_counted : (format : ℕ) (before : List Line) → AreRightLines format before
+    → length (listed_in before) ≡ batches_in before
 batches_counted format [] right = refl
 batches_counted format (HeadLine d ∷ before) right = batches_counted format before right.1
 batches_counted format (CustomerLine c ∷ before) right = batches_counted format before right.1

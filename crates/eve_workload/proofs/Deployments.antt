@@ -13,7 +13,8 @@ use Rattle.eve_workload.specs.Workload.{Workload, IsWorkload, head_with, head_as
 -- ---- right headers
 
 -- the header of a workload's trace is right where its version is known
-pub head_right : (w : Workload) → IsWorkload w → 1 ≤ w.format → w.format ≤ NEWEST_VERSION → IsTrue (is_head (head_asked w))
+pub head_right : (w : Workload) → IsWorkload w → 1 ≤ w.format → w.format ≤ NEWEST_VERSION
+    → IsTrue (is_head (head_asked w))
 head_right w is some known =
     let limits : HasHeadLimits (head_with 1 w.deployment 1 0) =
     head_has_limits (head_with 1 w.deployment 1 0) is.deployment in

@@ -41,7 +41,8 @@ follows_fewer format b (m ∷ c) s t right right' fewer same =
     elim (cases_lt (length b) (length c)) [
       | inl less ↦ follows_fewer format b c s (line_text m ++ t) right right'.1 less here
       | inr most ↦
-          let equal = same_lines format format b c s (line_text m ++ t) right right'.1 (let n = most in omega arith) here in
+          let as_many : length b ≡ length c = (let n = most in omega arith) in
+          let equal = same_lines format format b c s (line_text m ++ t) right right'.1 as_many here in
           (m, t, equal.1, subst (λ x. IsRightBehind format x m) (sym equal.0) right'.0)
     ]
 

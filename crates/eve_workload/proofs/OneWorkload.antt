@@ -1,6 +1,6 @@
 -- A text is of at most one workload in a format.
-use Rattle.std.proofs.Common.{◌≡◌, ◌<◌, List, [], ◌∷◌, ◌++◌, map, length, Some, inl, inr, refl, sym, ap, subst, ◌∙◌, arith}
-use Rattle.std.proofs.Common.{length-append, append_assoc}
+use Rattle.std.proofs.Common.{◌≡◌, ◌<◌, List, [], ◌∷◌, ◌++◌, map, length, Some, inl, inr, refl, sym, ap, subst, ◌∙◌}
+use Rattle.std.proofs.Common.{arith, length-append, append_assoc}
 use Rattle.std.specs.List.{flat_map}
 use Rattle.std.proofs.lemmas.Bool.{cases_order}
 use Rattle.std.proofs.lemmas.List.{append-nil}
@@ -116,8 +116,8 @@ one_workload w v is is' format same =
           ]
     ] in
     let lines : onto [] (lines_of w) ≡ onto [] (lines_of v) =
-    (same_lines w.format v.format (lines_back w is) (lines_back v is') [] [] (back_right w is).0 (back_right v is').0 count
-    (sym (back_text w is) ∙ same ∙ back_text v is')).0 in
+    (same_lines w.format v.format (lines_back w is) (lines_back v is') [] [] (back_right w is).0 (back_right v is').0
+    count (sym (back_text w is) ∙ same ∙ back_text v is')).0 in
     let deployment : w.deployment ≡ v.deployment =
     (let e = sym (deployment_is w) ∙ ap deployment_in lines ∙ deployment_is v in cc) in
     let customers : w.customers ≡ v.customers = sym (customers_are w) ∙ ap customers_in lines ∙ customers_are v in

@@ -1,7 +1,7 @@
 -- A text that is read line by line.
 use Rattle.std.proofs.Common.{◌≡◌, ◌≢◌, ℕ, ◌+◌, ◌-◌, ◌*◌, ◌<◌, ◌≤◌, Bool, true, false, IsTrue, List, [], ◌∷◌}
-use Rattle.std.proofs.Common.{◌++◌, length, take, drop, get_or, Some, None, refl, sym, ap, subst, ◌∙◌, arith, length-append}
-use Rattle.std.proofs.Common.{take-add}
+use Rattle.std.proofs.Common.{◌++◌, length, take, drop, get_or, Some, None, refl, sym, ap, subst, ◌∙◌, arith}
+use Rattle.std.proofs.Common.{length-append, take-add}
 use Rattle.std.proofs.lemmas.Bool.{ltb-true, false≢true}
 use Rattle.std.proofs.lemmas.List.{length-map, take-append-drop, length-drop, get_or-drop, take_all}
 use Rattle.eve_grammar.specs.Trace.{Asked}
@@ -42,7 +42,8 @@ request_in_batch (RequestLine b ∷ before) a follows = refl
 
 room_of : (format : ℕ) (before : List Line) → AreRightLines format before → Room before
 room_of format [] right = record { all = omega arith; here = λ no. absurd (false≢true no) }
-room_of format (HeadLine d ∷ before) right = record { all = (room_of format before right.1).all; here = λ no. absurd (false≢true no) }
+room_of format (HeadLine d ∷ before) right =
+    record { all = (room_of format before right.1).all; here = λ no. absurd (false≢true no) }
 room_of format (CustomerLine c ∷ before) right =
     record { all = (room_of format before right.1).all; here = λ no. absurd (false≢true no) }
 room_of format (BatchLine ∷ before) right =

@@ -141,8 +141,8 @@ batches_right format before (part ∷ parts) right closed all few apart =
       new = tt;
     } in
     let inside : List Line = onto (BatchLine ∷ before) (map RequestLine part) in
-    let inside_right = requests_right format (BatchLine ∷ before) part (requests_of parts) (opened, right) (λ a. refl) listed.1
-    (let most = leb-true (length part) 256 count.1 in omega arith) apart in
+    let inside_right = requests_right format (BatchLine ∷ before) part (requests_of parts) (opened, right) (λ a. refl)
+    listed.1 (let most = leb-true (length part) 256 count.1 in omega arith) apart in
     let inside_closed = some_closed (BatchLine ∷ before) part (leb-true 1 (length part) count.0) in
     let rest = batches_right format inside parts inside_right inside_closed both.1
     (omega (arith, requests_no_batches (BatchLine ∷ before) part))

@@ -36,8 +36,8 @@ lines-push_last part (next ∷ parts) a =
     ap (λ rest. batch_lines part ++ rest) (lines-push_last next parts a)
     ∙ sym (append_assoc (batch_lines part) (flat_map batch_lines (next ∷ parts)) (RequestLine a ∷ []))
 
-no_batches : (format : ℕ) (before : List Line) (c : Customer) → AreRightLines format before → IsTrue (may_follow before (CustomerLine c))
-    → listed_in before ≡ []
+no_batches : (format : ℕ) (before : List Line) (c : Customer) → AreRightLines format before
+    → IsTrue (may_follow before (CustomerLine c)) → listed_in before ≡ []
 no_batches format [] c right follows = cc
 no_batches format (HeadLine d ∷ []) c right follows = refl
 no_batches format (HeadLine d ∷ (HeadLine e ∷ before)) c right follows = let wrong = right.0.follows in cc
@@ -112,16 +112,19 @@ text_so format (RequestLine a ∷ before) right =
 
 -- ---- limits
 
-pub deployment_there : (format : ℕ) (before : List Line) → AreRightLines format before → 1 ≤ length before → (e : Deployment)
-    × (deployment_in before ≡ Some e) × IsTrue (is_deployment e)
+pub deployment_there : (format : ℕ) (before : List Line) → AreRightLines format before → 1 ≤ length before
+    → (e : Deployment) × (deployment_in before ≡ Some e) × IsTrue (is_deployment e)
 deployment_there format [] right some = absurd (omega arith)
 deployment_there format (HeadLine d ∷ before) right some = (d, refl, right.0.ranges)
 deployment_there format (CustomerLine c ∷ []) right some = absurd (false≢true right.0.follows)
-deployment_there format (CustomerLine c ∷ (line ∷ before)) right some = deployment_there format (line ∷ before) right.1 (omega arith)
+deployment_there format (CustomerLine c ∷ (line ∷ before)) right some =
+    deployment_there format (line ∷ before) right.1 (omega arith)
 deployment_there format (BatchLine ∷ []) right some = absurd (false≢true right.0.follows)
-deployment_there format (BatchLine ∷ (line ∷ before)) right some = deployment_there format (line ∷ before) right.1 (omega arith)
+deployment_there format (BatchLine ∷ (line ∷ before)) right some =
+    deployment_there format (line ∷ before) right.1 (omega arith)
 deployment_there format (RequestLine a ∷ []) right some = absurd (false≢true right.0.follows)
-deployment_there format (RequestLine a ∷ (line ∷ before)) right some = deployment_there format (line ∷ before) right.1 (omega arith)
+deployment_there format (RequestLine a ∷ (line ∷ before)) right some =
+    deployment_there format (line ∷ before) right.1 (omega arith)
 
 -- whether a line after the head is there
 abbrev past_head : List Line → Bool
@@ -149,8 +152,10 @@ customers_there : (format : ℕ) (before : List Line) → AreRightLines format b
     → 1 ≤ length (customers_in before)
 customers_there format [] right past = absurd (false≢true past)
 customers_there format (HeadLine d ∷ before) right past = absurd (false≢true past)
-customers_there format (CustomerLine c ∷ before) right past = omega (arith, length-append (customers_in before) (c ∷ []))
-customers_there format (BatchLine ∷ before) right past = customers_there format before right.1 (past_batch before right.0.follows)
+customers_there format (CustomerLine c ∷ before) right past =
+    omega (arith, length-append (customers_in before) (c ∷ []))
+customers_there format (BatchLine ∷ before) right past =
+    customers_there format before right.1 (past_batch before right.0.follows)
 customers_there format (RequestLine a ∷ before) right past =
     customers_there format before right.1 (past_request before a right.0.follows)
 
@@ -167,7 +172,8 @@ all_push : {A : Type 0} (p : A → Bool) (xs : List A) (x : A) → IsTrue (list_
 all_push p xs x all here = list_all-append p xs (x ∷ [])
     ∙ and_from (list_all p xs) (p x && true) all (and_from (p x) true here refl)
 
-pub customers_right : (format : ℕ) (before : List Line) → AreRightLines format before → IsTrue (list_all is_customer (customers_in before))
+pub customers_right : (format : ℕ) (before : List Line) → AreRightLines format before
+    → IsTrue (list_all is_customer (customers_in before))
 customers_right format [] right = refl
 customers_right format (HeadLine d ∷ before) right = customers_right format before right.1
 customers_right format (CustomerLine c ∷ before) right = all_push is_customer (customers_in before) c
@@ -175,13 +181,14 @@ customers_right format (CustomerLine c ∷ before) right = all_push is_customer 
 customers_right format (BatchLine ∷ before) right = customers_right format before right.1
 customers_right format (RequestLine a ∷ before) right = customers_right format before right.1
 
-requests_right : (format : ℕ) (before : List Line) → AreRightLines format before → IsTrue (list_all is_asked (requests_in before))
+requests_right : (format : ℕ) (before : List Line) → AreRightLines format before
+    → IsTrue (list_all is_asked (requests_in before))
 requests_right format [] right = refl
 requests_right format (HeadLine d ∷ before) right = requests_right format before right.1
 requests_right format (CustomerLine c ∷ before) right = requests_right format before right.1
 requests_right format (BatchLine ∷ before) right = requests_right format before right.1
-requests_right format (RequestLine a ∷ before) right = all_push is_asked (requests_in before) a (requests_right format before right.1)
-    right.0.ranges
+requests_right format (RequestLine a ∷ before) right = all_push is_asked (requests_in before) a
+    (requests_right format before right.1) right.0.ranges
 
 apart_push : {A : Type 0} (xs : List A) (x : A) → AllPairs (λ a b. a ≢ b) xs → ¬ Contains xs x
     → AllPairs (λ a b. a ≢ b) (xs ++ x ∷ [])
@@ -278,8 +285,8 @@ last_len_snoc [] = refl
 last_len_snoc (part ∷ []) = refl
 last_len_snoc (part ∷ next ∷ parts) = last_len_snoc (next ∷ parts)
 
-last_counts : (format : ℕ) (before : List Line) → AreRightLines format before → in_batch before ≡ true → last_len (listed_in before)
-    ≡ last_requests before
+last_counts : (format : ℕ) (before : List Line) → AreRightLines format before → in_batch before ≡ true
+    → last_len (listed_in before) ≡ last_requests before
 last_counts format [] right inside = absurd (false≢true inside)
 last_counts format (HeadLine d ∷ before) right inside = absurd (false≢true inside)
 last_counts format (CustomerLine c ∷ before) right inside = absurd (false≢true inside)
@@ -339,7 +346,8 @@ ends_closed (RequestLine a ∷ before) ends = refl
 batches_listed : (format : ℕ) (before : List Line) → AreRightLines format before → may_end before ≡ true
     → IsTrue (list_all is_listed (listed_in before))
 batches_listed format before right ends =
-    all_listed (listed_in before) ((are_some format before right).closed (ends_closed before ends)) (are_few format before right)
+    all_listed (listed_in before) ((are_some format before right).closed (ends_closed before ends))
+    (are_few format before right)
     (asked_parts (listed_in before) (ap (list_all is_asked) (batches_flat before) ∙ requests_right format before right))
 
 -- ---- the workload of lines
@@ -359,7 +367,8 @@ workload_right format d before right ends ranges = record {
   batches = batches_listed format before right ends;
   names = names_apart format before right;
   request_ids =
-      subst (λ rs. AllPairs (λ p q. p ≢ q) (map request_id rs)) (sym (batches_flat before)) (ids_apart format before right);
+      subst (λ rs. AllPairs (λ p q. p ≢ q) (map request_id rs)) (sym (batches_flat before))
+      (ids_apart format before right);
 }
 
 some_lines : (before : List Line) → may_end before ≡ true → 1 ≤ length before

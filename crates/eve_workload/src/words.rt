@@ -1,6 +1,6 @@
 //! Words of a line.
 
-ghost use Rattle.std.specs.Prelude.{◌≡◌, ◌≢◌, ◌↔◌, ℕ, ◌-◌, ◌<◌, ◌≤◌, true, false, List, ◌++◌, length, slice_index};
+ghost use Rattle.std.specs.Prelude.{◌≡◌, ◌≢◌, ◌↔◌, ℕ, ◌-◌, ◌<◌, ◌≤◌, List, ◌++◌, length, slice_index};
 ghost use Rattle.std.specs.Prelude.{IfSome, IfNone, IsTrue, vec_capacity};
 ghost use Rattle.std.specs.List.{list_all};
 ghost use Rattle.eve_workload.specs.Lines.{text_of_words};

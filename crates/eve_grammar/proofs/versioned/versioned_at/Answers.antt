@@ -9,7 +9,8 @@ pub returns-in_default : goal.returns-in_default
 returns-in_default c = rw (versioned_is c.args.bytes.now (λ i. omega (arith, c.type_inv.bytes i))) (search rules)
 
 pub returns-then-version-gt-MOST_VERSIONS : goal.returns-then-version-gt-MOST_VERSIONS
-returns-then-version-gt-MOST_VERSIONS c = rw (versioned_is c.args.bytes.now (λ i. omega (arith, c.type_inv.bytes i))) (search rules)
+returns-then-version-gt-MOST_VERSIONS c =
+    rw (versioned_is c.args.bytes.now (λ i. omega (arith, c.type_inv.bytes i))) (search rules)
 
 pub returns : goal.returns
 returns c = rw (versioned_is c.args.bytes.now (λ i. omega (arith, c.type_inv.bytes i))) (search rules)

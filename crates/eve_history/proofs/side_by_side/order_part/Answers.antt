@@ -19,5 +19,6 @@ returns c =
     part_many (length mets) c.args.size c.args.i from to c.part_at-own.ensures.from c.part_at-own.ensures.to in
     subst (λ (xs : List (ℕ × Attempt)). IfOk c.order_stretch.result
     (λ o. IfSome o (λ records. AreOrdered t xs records.items)))
-    (part_met t c.args.e c.args.size (c.args.i * c.args.size) from (to - from) mets c.part_at-own.ensures.from many c.requires.all)
+    (part_met t c.args.e c.args.size (c.args.i * c.args.size) from (to - from) mets c.part_at-own.ensures.from many
+    c.requires.all)
     c.order_stretch.ensures

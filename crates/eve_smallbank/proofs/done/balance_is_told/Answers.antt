@@ -13,6 +13,7 @@ returns c number =
     c.is_same.ensures.0 c.if-not-is_same.false ∙ ap Total (search rules) in
     balance_fits c.args.names.now.items c.args.name.now c.customer-customer.result c.args.reply s k
     (c.is_number.ensures.0 number) total
-    (subst (λ (row : ℕ). HasEffect row s (only_read s.seen)) c.saving.ensures (c.is_read.ensures c.if-not-is_read.false))
+    (subst (λ (row : ℕ). HasEffect row s (only_read s.seen)) c.saving.ensures
+    (c.is_read.ensures c.if-not-is_read.false))
     (subst (λ (row : ℕ). HasEffect row k (only_read k.seen)) c.checking.ensures
     (c.is_read-2.ensures c.if-not-is_read-2.false))

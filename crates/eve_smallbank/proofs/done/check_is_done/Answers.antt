@@ -18,7 +18,8 @@ returns c number =
     (c.is_number.ensures.0 number)
     (sym below ∙ c.if-is_below.false)
     (c.is_same.ensures.0 c.if-not-is_same.false) is
-    (subst (λ (row : ℕ). HasEffect row s (only_read s.seen)) c.saving.ensures (c.is_read.ensures c.if-not-is_read.false))
+    (subst (λ (row : ℕ). HasEffect row s (only_read s.seen)) c.saving.ensures
+    (c.is_read.ensures c.if-not-is_read.false))
     (subst (λ (row : ℕ). HasEffect row k (written after)) c.checking.ensures
     (c.is_written.ensures.effect c.if-not-is_written.false))
     (c.is_written.ensures.range c.if-not-is_written.false)

@@ -1,5 +1,5 @@
 use Rattle.std.proofs.Common.{◌+◌, ℕ, List, refl, sym, subst, arith}
-use Rattle.eve_views.specs.Runs.{GoesOn}
+use Rattle.eve_views.specs.Runs.{ReadsOn}
 use Rattle.eve_views.proofs.RunLaws.{found_step, goes_further, access_again}
 use Rattle.eve_views.proofs.runs.pass_accesses.Goals as goal
 
@@ -22,7 +22,7 @@ frames-preserved c =
     c.args.offsets.now.items c.frames.offsets.items 18 c.in-Some.len c.requires.limits c.frames.invariant.goes s
     c.pass.ensures.head c.pass.ensures.place (λ t. refl) in
     record {
-      goes = subst (λ (xs : List ℕ). GoesOn c.args.bytes.now c.args.from (c.frames.at + c.in-Some.len)
+      goes = subst (λ (xs : List ℕ). ReadsOn c.args.bytes.now c.args.from (c.frames.at + c.in-Some.len)
           c.args.reached.now c.pass.new.self c.args.offsets.now.items xs) (sym c.in_ok-push.ensures.items) goes;
       allowed = λ more. access_again before.head c.pass.new.self.head before.place c.pass.new.self.place
           c.pass.ensures.head c.pass.ensures.place allowed more;

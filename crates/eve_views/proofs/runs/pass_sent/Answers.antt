@@ -1,5 +1,5 @@
 use Rattle.std.proofs.Common.{◌+◌, ℕ, List, length, refl, sym, subst, arith}
-use Rattle.eve_views.specs.Runs.{GoesOn}
+use Rattle.eve_views.specs.Runs.{ReadsOn}
 use Rattle.eve_views.proofs.RunLaws.{found_step, goes_further, sent_again, sent_noted}
 use Rattle.eve_views.proofs.runs.pass_sent.Goals as goal
 
@@ -14,7 +14,7 @@ frames-preserved c =
     c.frames.offsets.items 48 c.in-Some.len c.requires.limits i.goes s refl (sym (sent_again reached.place i.sending))
     (λ t. sent_noted reached.place (length c.frames.offsets.items) t i.sending) in
     record {
-      goes = subst (λ (xs : List ℕ). GoesOn c.args.bytes.now c.args.from (c.frames.at + c.in-Some.len) reached reached
+      goes = subst (λ (xs : List ℕ). ReadsOn c.args.bytes.now c.args.from (c.frames.at + c.in-Some.len) reached reached
           c.args.offsets.now.items xs) (sym c.in_ok-push.ensures.items) goes;
       allowed = i.allowed;
       sending = i.sending;
