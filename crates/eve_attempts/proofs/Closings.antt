@@ -95,8 +95,9 @@ module _ (front : AttemptFront) (b : Batch) (touched : List Touched) (records : 
   pub some_replies : 0 < length t.replies.items
   some_replies = let some = some_requests b right in let many = noted.many in omega (arith, replies_many)
 
-  pub is_attempt_of : (version : ℕ) (balances : List ℤ) (token : List ℕ) → front.seq ≤ 65535 → IsTrue (is_number 4 front.view)
-      → IsTrue (is_token token) → token ≡ token_of version front.seq balances t.replies.items
+  pub is_attempt_of : (version : ℕ) (balances : List ℤ) (token : List ℕ) → front.seq ≤ 65535
+      → IsTrue (is_number 4 front.view) → IsTrue (is_token token)
+      → token ≡ token_of version front.seq balances t.replies.items
       → IsAttemptOf front version rows balances records (records_in records t.order.items) (attempt_of front t token)
   is_attempt_of version balances token seq view is tells = record {
     seq = refl;

@@ -51,6 +51,15 @@ goes_more P xs k x goes is holds = record {
   rest = λ h. (subst (AllByRecursion P) is (goes.rest h)).1;
 }
 
+-- past the end nothing is left
+pub goes_on : {A : Type 0} (P : A → Type 0) (xs : List A) (k : ℕ) → Goes P xs k → length xs ≤ k → Goes P xs (k + 1)
+goes_on P xs k goes past =
+    let same : drop k xs ≡ drop (k + 1) xs = drop_all k xs past ∙ sym (drop_all (k + 1) xs (omega (arith, past))) in
+    record {
+      all = λ h. goes.all (subst (AllByRecursion P) (sym same) h);
+      rest = λ h. subst (AllByRecursion P) same (goes.rest h);
+    }
+
 pub goes_stop : {A : Type 0} (P : A → Type 0) (xs : List A) (k : ℕ) (x : A) → Goes P xs k → drop k xs
     ≡ x ∷ drop (k + 1) xs → (P x → ⊥) → Decides false (AllByRecursion P xs)
 goes_stop P xs k x goes is fails =

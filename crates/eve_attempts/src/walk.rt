@@ -46,8 +46,11 @@ fn write_all(rows: &mut Rows, entries: &UpToThree<Entry>, written: &mut Vec<Entr
     ensures len { vec_len written.new ≤ vec_len written.old + length entries.now }
     ensures capacity { vec_capacity written.new ≡ vec_capacity written.old }
 {
-    for place in 0..entries.len() {
-        write_one(rows, &entries.at(place), written);
+    let count = entries.len();
+    for place in 0..3 {
+        if place < count {
+            write_one(rows, &entries.at(place), written);
+        }
     }
 }
 
@@ -71,11 +74,12 @@ pub fn write_along(
     ensures as_many { length rows.new.rows.balances ≡ length rows.old.rows.balances }
     ensures versions { length rows.new.rows.versions ≡ length rows.old.rows.versions }
     ensures version { rows.new.version ≡ rows.old.version }
-    ensures table { OnTrue result
-        (table_of_rows rows.new.rows ≡ table_after_records (table_of_rows rows.old.rows) (records_in records.now order.now)) }
+    ensures table { OnTrue result (table_of_rows rows.new.rows
+        ≡ table_after_records (table_of_rows rows.old.rows) (records_in records.now order.now)) }
     ensures written { OnTrue result (written.new.items ≡ writes_along (records_in records.now order.now)) }
     ensures right { OnTrue result (IsTrue (list_all (is_write_in (length rows.new.rows.balances)) written.new.items)) }
-    ensures undone { OnTrue result (values_before (table_of_rows rows.new.rows) written.new.items ≡ table_of_rows rows.old.rows) }
+    ensures undone { OnTrue result
+        (values_before (table_of_rows rows.new.rows) written.new.items ≡ table_of_rows rows.old.rows) }
     ensures kept { OnFalse result (rows.new ≡ rows.old) }
 {
     for key in order {

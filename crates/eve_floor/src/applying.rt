@@ -67,17 +67,22 @@ pub fn applied<R: Wait, G: Gate>(
     let mut first = floor.stripes[span.first].lock(rt);
     if span.first == span.last {
         let tick = ticket(rt, tickets, drawer, task.index, gate)?;
-        return Ok(apply(&mut first, task.request, task.reached, task.stamp(tick))?);
+        let made = apply(&mut first, task.request, task.reached, task.stamp(tick));
+        drop(first);
+        return Ok(made?);
     }
     let mut last = floor.stripes[span.last].lock(rt);
     let tick = ticket(rt, tickets, drawer, task.index, gate)?;
-    Ok(apply_two(
+    let made = apply_two(
         &mut first,
         &mut last,
         task.request,
         task.reached,
         task.stamp(tick),
-    )?)
+    );
+    drop(last);
+    drop(first);
+    Ok(made?)
 }
 
 /// Applies a task that is refused before it touches a row. It takes no lock.

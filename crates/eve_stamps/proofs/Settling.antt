@@ -1,11 +1,9 @@
 -- What write after write makes of rows.
-use Rattle.std.proofs.Common.{◌≡◌, ℕ, zero, suc, ◌+◌, ◌++◌, Bool, true, false, cond, IsTrue, List, [], ◌∷◌}
+use Rattle.std.proofs.Common.{◌≡◌, ℕ, zero, suc, ◌+◌, cond, IsTrue, List, [], ◌∷◌}
 use Rattle.std.proofs.Common.{take, drop, filter, length, slice_get, get_or, Some, refl, sym, subst, ap, ◌∙◌, ◌≤◌, ◌<◌}
 use Rattle.std.proofs.Common.{arith}
 use Rattle.std.specs.List.{AllByRecursion}
-use Rattle.std.proofs.lemmas.List.{length-append}
 use Rattle.std.proofs.lemmas.Bool.{le-leb, le-ltb}
-use Rattle.std.proofs.lemmas.List.Elements.{filter-append}
 use Rattle.eve_smallbank.specs.declared.entry.Entry.{Entry}
 use Rattle.eve_smallbank.specs.Chain.{Table, table_after}
 use Rattle.eve_smallbank.proofs.Chains.{table_after-append}
@@ -129,18 +127,3 @@ rest_is_after first js tick now [] j s some is less = absurd (omega arith)
 rest_is_after first js tick now (k ∷ rest) j s some is less =
     settling_end first js tick now (k ∷ rest) s
     (all_after tick k rest (subst (λ (i : Journaled). tick < i.tick) is less) s.ticks)
-
--- one item more of those that pass
-pub filter_more : {A : Type 0} (p : A → Bool) (xs : List A) (i : ℕ) (x : A) (kept next : List A) → slice_get xs i
-    ≡ Some x → kept ≡ filter p (take i xs) → next ≡ kept ++ cond (p x) (x ∷ []) []
-    → next ≡ filter p (take (i + 1) xs)
-filter_more {A} p xs i x kept next at so more =
-    more ∙ ap (λ (ys : List A). ys ++ cond (p x) (x ∷ []) []) so
-    ∙ sym (ap (filter p) (take_one_more xs i x at) ∙ filter-append p (take i xs) (x ∷ []))
-
-pub one_longer : {A : Type 0} (b : Bool) (x : A) (kept next : List A) (i : ℕ) → length kept ≤ i
-    → next ≡ kept ++ cond b (x ∷ []) [] → length next ≤ i + 1
-one_longer {A} true x kept next i few more =
-    omega (arith, length-append kept (x ∷ []), ap (λ (ys : List A). length ys) more)
-one_longer {A} false x kept next i few more = let none : List A =
-    [] in omega (arith, length-append kept none, ap (λ (ys : List A). length ys) more)

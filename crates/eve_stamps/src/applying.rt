@@ -1,7 +1,7 @@
 //! Requests applied to the stripes that are lent to them.
 
 ghost use Rattle.std.specs.Prelude.{◌≡◌, ◌<◌, ◌≤◌, ◌+◌, ℕ, Bool, List, IsTrue, IfSome, IfOk, OnOk, OnErr, ◌&&◌};
-ghost use Rattle.std.specs.Prelude.{not, map, if◌then◌else◌, [], ◌∷◌, ◌++◌, length};
+ghost use Rattle.std.specs.Prelude.{map, if◌then◌else◌, [], ◌∷◌, ◌++◌, length};
 ghost use Rattle.std.specs.List.{AllByRecursion};
 ghost use Rattle.std.specs.VecDeque.{deque_len, deque_capacity};
 ghost use Rattle.eve_smallbank.specs.SmallBank.{plain};
@@ -64,7 +64,7 @@ pub fn apply(
         &mut stripe.journal,
         stripe.greatest,
         stamp.tick,
-        entries,
+        &entries,
     );
     stripe.greatest = Some(stamp.tick);
     Ok(AccessRecord::new(stamp, reply, entries))
@@ -123,7 +123,7 @@ pub fn apply_two(
         &mut first.journal,
         first.greatest,
         stamp.tick,
-        within,
+        &within,
     );
     first.greatest = Some(stamp.tick);
     note(
@@ -132,7 +132,7 @@ pub fn apply_two(
         &mut second.journal,
         second.greatest,
         stamp.tick,
-        outside,
+        &outside,
     );
     second.greatest = Some(stamp.tick);
     Ok(AccessRecord::new(stamp, reply, entries))
@@ -173,18 +173,21 @@ fn note(
     journal: &mut VecDeque<Journaled>,
     greatest: Option<u64>,
     tick: u64,
-    entries: UpToThree<Entry>,
+    entries: &UpToThree<Entry>,
 )
     requires held { IsHeldStripe base.now rows.old journal.old.items greatest }
     requires room { deque_len journal.old + 1 ≤ deque_capacity journal.old }
     requires above { IsTrue (is_above tick greatest) }
     requires noted { AllByRecursion (CanBeNoted (has_row (stripe_held base.now journal.old.items greatest))
-        (rows_now (stripe_held base.now journal.old.items greatest))) entries }
+        (rows_now (stripe_held base.now journal.old.items greatest))) entries.now }
     ensures held { IsHeldStripe base.now rows.new journal.new.items (Some tick) }
-    ensures journal { journal.new.items ≡ journal.old.items ++ record { tick = tick; entries = entries } ∷ [] }
+    ensures journal { journal.new.items ≡ journal.old.items ++ record { tick = tick; entries = entries.now } ∷ [] }
 {
-    write(rows, &entries);
-    journal.push_back_reserved(Journaled { tick, entries });
+    write(rows, entries);
+    journal.push_back_reserved(Journaled {
+        tick,
+        entries: *entries,
+    });
 }
 
 /// The rows as they are now, where all lie in the stripe.
@@ -221,14 +224,26 @@ fn seen_in_two(
 ) -> Option<UpToThree<HeldRow>>
     ensures { result ≡ seen_of (has_row_in_two first.now second.now) (rows_in_two first.now second.now) rows.now }
 {
-    let mut seen = UpToThree::new();
-    for place in 0..rows.len() {
-        let Some(held) = see_in_two(first, second, rows.at(place).0) else {
-            return None;
-        };
-        seen.push(held);
+    let count = rows.len();
+    if count == 0 {
+        return Some(UpToThree::new());
     }
-    Some(seen)
+    let Some(one) = see_in_two(first, second, rows.at(0).0) else {
+        return None;
+    };
+    if count == 1 {
+        return Some(UpToThree::one(one));
+    }
+    let Some(two) = see_in_two(first, second, rows.at(1).0) else {
+        return None;
+    };
+    if count == 2 {
+        return Some(UpToThree::two(one, two));
+    }
+    let Some(three) = see_in_two(first, second, rows.at(2).0) else {
+        return None;
+    };
+    Some(UpToThree::three(one, two, three))
 }
 
 fn see_in_two(first: &Stripe, second: &Stripe, row: Row) -> Option<HeldRow>
@@ -280,30 +295,58 @@ fn split(stripe: &Stripe, entries: &UpToThree<Entry>) -> (UpToThree<Entry>, UpTo
     ensures within { result.0 ≡ entries_within stripe.now entries.now }
     ensures outside { result.1 ≡ entries_outside stripe.now entries.now }
 {
-    let mut within = UpToThree::new();
-    let mut outside = UpToThree::new();
-    for place in 0..entries.len() {
-        put(stripe, &entries.at(place), &mut within, &mut outside);
+    match entries.len() {
+        0 => (UpToThree::new(), UpToThree::new()),
+        1 => split_one(stripe, entries.at(0)),
+        2 => split_two(stripe, entries.at(0), entries.at(1)),
+        _ => split_three(stripe, entries.at(0), entries.at(1), entries.at(2)),
     }
-    (within, outside)
 }
 
-/// Appends the entry to the list that it belongs to.
-fn put(
-    stripe: &Stripe,
-    entry: &Entry,
-    within: &mut UpToThree<Entry>,
-    outside: &mut UpToThree<Entry>,
-)
-    requires room_within { length within.old < 3 }
-    requires room_outside { length outside.old < 3 }
-    ensures within { within.new ≡ within.old ++ (if has_row stripe.now entry.now.row then entry.now ∷ [] else []) }
-    ensures outside { outside.new
-        ≡ outside.old ++ (if not (has_row stripe.now entry.now.row) then entry.now ∷ [] else []) }
+fn split_one(stripe: &Stripe, one: Entry) -> (UpToThree<Entry>, UpToThree<Entry>)
+    ensures within { result.0 ≡ entries_within stripe.now (one ∷ []) }
+    ensures outside { result.1 ≡ entries_outside stripe.now (one ∷ []) }
 {
-    if stripe.has(entry.row) {
-        within.push(*entry);
+    if stripe.has(one.row) {
+        (UpToThree::one(one), UpToThree::new())
     } else {
-        outside.push(*entry);
+        (UpToThree::new(), UpToThree::one(one))
+    }
+}
+
+fn split_two(stripe: &Stripe, one: Entry, two: Entry) -> (UpToThree<Entry>, UpToThree<Entry>)
+    ensures within { result.0 ≡ entries_within stripe.now (one ∷ two ∷ []) }
+    ensures outside { result.1 ≡ entries_outside stripe.now (one ∷ two ∷ []) }
+{
+    match (stripe.has(one.row), stripe.has(two.row)) {
+        (true, true) => (UpToThree::two(one, two), UpToThree::new()),
+        (true, false) => (UpToThree::one(one), UpToThree::one(two)),
+        (false, true) => (UpToThree::one(two), UpToThree::one(one)),
+        (false, false) => (UpToThree::new(), UpToThree::two(one, two)),
+    }
+}
+
+fn split_three(
+    stripe: &Stripe,
+    one: Entry,
+    two: Entry,
+    three: Entry,
+) -> (UpToThree<Entry>, UpToThree<Entry>)
+    ensures within { result.0 ≡ entries_within stripe.now (one ∷ two ∷ three ∷ []) }
+    ensures outside { result.1 ≡ entries_outside stripe.now (one ∷ two ∷ three ∷ []) }
+{
+    match (
+        stripe.has(one.row),
+        stripe.has(two.row),
+        stripe.has(three.row),
+    ) {
+        (true, true, true) => (UpToThree::three(one, two, three), UpToThree::new()),
+        (true, true, false) => (UpToThree::two(one, two), UpToThree::one(three)),
+        (true, false, true) => (UpToThree::two(one, three), UpToThree::one(two)),
+        (true, false, false) => (UpToThree::one(one), UpToThree::two(two, three)),
+        (false, true, true) => (UpToThree::two(two, three), UpToThree::one(one)),
+        (false, true, false) => (UpToThree::one(two), UpToThree::two(one, three)),
+        (false, false, true) => (UpToThree::one(three), UpToThree::two(one, two)),
+        (false, false, false) => (UpToThree::new(), UpToThree::three(one, two, three)),
     }
 }

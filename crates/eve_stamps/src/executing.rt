@@ -42,11 +42,12 @@ pub fn executed(
 fn values_in(seen: &UpToThree<HeldRow>) -> [Cents; 3]
     ensures { take (length seen.now) result ≡ map (λ r. r.value) seen.now }
 {
-    let mut values = [Cents::ZERO; 3];
-    for place in 0..seen.len() {
-        values[place] = seen.at(place).value;
+    match seen.len() {
+        0 => [Cents::ZERO; 3],
+        1 => [seen.at(0).value, Cents::ZERO, Cents::ZERO],
+        2 => [seen.at(0).value, seen.at(1).value, Cents::ZERO],
+        _ => [seen.at(0).value, seen.at(1).value, seen.at(2).value],
     }
-    values
 }
 
 /// An entry for each row.

@@ -41,8 +41,11 @@ pub fn write(rows: &mut [HeldRow], entries: &UpToThree<Entry>)
     requires entries { AllByRecursion (IsEntryIn rows.old) entries.now }
     ensures { rows.new ≡ rows_in_table (table_after (table_in rows.old) entries.now) rows.old }
 {
-    for place in 0..entries.len() {
-        write_one(rows, &entries.at(place));
+    let count = entries.len();
+    for place in 0..3 {
+        if place < count {
+            write_one(rows, &entries.at(place));
+        }
     }
 }
 

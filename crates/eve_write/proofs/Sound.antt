@@ -9,7 +9,8 @@ use Rattle.std.proofs.lemmas.List.{length-map}
 use Rattle.std.proofs.lemmas.List.Folds.{list_all-map}
 use Rattle.eve_grammar.specs.Trace.{head_of}
 use Rattle.eve_grammar.specs.Limits.{is_number, is_head, row_count, is_customer, is_batch, is_attempt}
-use Rattle.eve_grammar.specs.Limits.{is_access, is_rising, is_restore, are_no_debts, is_versioned, is_step, is_of_version}
+use Rattle.eve_grammar.specs.Limits.{is_access, is_rising, is_restore, are_no_debts, is_versioned, is_step}
+use Rattle.eve_grammar.specs.Limits.{is_of_version}
 use Rattle.eve_grammar.specs.Limits.{is_vote, is_sent}
 use Rattle.eve_write.specs.declared.step.Step as code
 use Rattle.eve_write.specs.declared.step.Step.TheVariants.{Attempt, Commit, Rollback, Transfer}
@@ -79,8 +80,8 @@ AreWritable-from_spelling p spelled =
     record {
       customers = sym (list_all-map is_customer customer p.customers.items) ∙ limits.customers;
       batches = sym (list_all-map is_batch batch p.batches.items) ∙ limits.batches;
-      sections = sections_fit (row_count (head_of (trace p))) (omega (arith, few_customers (head_of (trace p)) limits.head))
-          p.sections.items limits.sections;
+      sections = sections_fit (row_count (head_of (trace p)))
+          (omega (arith, few_customers (head_of (trace p)) limits.head)) p.sections.items limits.sections;
       verifiers = spelled.tokens;
       few_batches = omega (arith, head.few_batches, length-map p.batches.items batch);
       few_sections = omega (arith, head.few_replicas, length-map p.sections.items section);
@@ -112,8 +113,8 @@ module _ {X : Type 0} (p q : X → Bool) where
       → IsTrue (list_all (λ v. list_all p v.items) xs) × IsTrue (list_all (λ v. list_all q v.items) xs)
   vecs_split [] right = (refl, refl)
   vecs_split (v ∷ xs) right =
-      let a = and_parts (list_all (λ x. p x && q x) v.items) (list_all (λ v. list_all (λ x. p x && q x) v.items) xs) right
-      in
+      let a =
+      and_parts (list_all (λ x. p x && q x) v.items) (list_all (λ v. list_all (λ x. p x && q x) v.items) xs) right in
       let b = items_split v.items a.0 in
       let r = vecs_split xs a.1 in (
         and_from (list_all p v.items) (list_all (λ v. list_all p v.items) xs) b.0 r.0,

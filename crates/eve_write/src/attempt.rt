@@ -15,7 +15,7 @@ ghost use Rattle.eve_write.specs.Writing.{Puts, Writes};
 use crate::access_list::{AccessList, write_accesses};
 use crate::fields::{byte, indexes_fit, put_indexes, put_replies};
 use crate::pieces::{put, send};
-use crate::right::{Judge, all_right, row_count};
+use crate::right::{all_right, row_count};
 use arrayvec::ArrayVec;
 use eve_grammar::{ATTEMPT_FRAME, FRAME_HEAD_LEN, Head, MOST_REQUESTS, token_fits};
 use eve_smallbank::Reply;

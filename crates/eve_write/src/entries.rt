@@ -23,8 +23,9 @@ fn is_entry(entry: &Entry, rows: usize) -> bool
 pub fn are_entries(entries: &UpToThree<Entry>, rows: usize) -> bool
     ensures { result ≡ list_all (is_entry rows) entries.now }
 {
-    for place in 0..entries.len() {
-        if !is_entry(&entries.at(place), rows) {
+    let count = entries.len();
+    for place in 0..3 {
+        if place < count && !is_entry(&entries.at(place), rows) {
             return false;
         }
     }

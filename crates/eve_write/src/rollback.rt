@@ -1,6 +1,6 @@
 //! Rollbacks and their frames.
 
-ghost use Rattle.std.specs.Prelude.{◌≡◌, ◌≤◌, ◌∷◌, ◌++◌, map, length};
+ghost use Rattle.std.specs.Prelude.{◌≡◌, ◌≤◌, ◌∷◌, ◌++◌, length};
 ghost use Rattle.byteorder.specs.Endian.{big_bytes};
 ghost use Rattle.eve_grammar.specs.Frames.{OfRollback};
 ghost use Rattle.eve_grammar.specs.Spelling.{body_text, frame_text};
@@ -8,7 +8,7 @@ ghost use Rattle.eve_grammar.specs.Limits.{row_count, is_rising, is_rollback};
 ghost use Rattle.eve_write.specs.Data.{rollback as plain};
 ghost use Rattle.eve_write.specs.Writing.{Writes};
 
-use crate::right::{Judge, all_right};
+use crate::right::all_right;
 use crate::short::write_short;
 use crate::spell::send_texts;
 use eve_grammar::{Head, MOST_ROWS, ROLLBACK_FRAME, Restore};

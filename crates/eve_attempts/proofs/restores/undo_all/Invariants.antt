@@ -7,7 +7,8 @@ invariant-loop-end l = record {
   within : l.end ≤ length l.opened;
   as_many : length l.rows.rows.balances ≡ length l.initial.rows.rows.balances;
   version : l.rows.version ≡ l.initial.rows.version;
-  table : table_of_rows l.rows.rows ≡ values_before (table_of_rows l.initial.rows.rows) (writes_in (drop l.end l.opened));
+  table : table_of_rows l.rows.rows
+      ≡ values_before (table_of_rows l.initial.rows.rows) (writes_in (drop l.end l.opened));
 }
 
 abbrev pub decreases-loop-end : goal.decreases-loop-end

@@ -57,11 +57,12 @@ loop-key-init c = record {
 pub returns-then-not-are_seen-clause-seen : goal.returns-then-not-are_seen-clause-seen
 returns-then-not-are_seen-clause-seen c =
     let all = records_in c.args.records.now c.args.order.now in
-    walking_stop (table_of_rows c.args.rows.now.rows) all (table_of_rows c.loop-key.rows.rows) c.index-records-key.result
-    (records_in c.args.records.now (drop (c.loop-key.key-index + 1) c.args.order.now)) c.loop-key.written.items
+    walking_stop (table_of_rows c.args.rows.now.rows) all (table_of_rows c.loop-key.rows.rows)
+    c.index-records-key.result (records_in c.args.records.now (drop (c.loop-key.key-index + 1) c.args.order.now))
+    c.loop-key.written.items
     (walking_at c.args.records.now c.args.order.now c.loop-key.key-index c.index-records-key.result c.requires.there
-    c.loop-key-test.true c.index-records-key.is (table_of_rows c.args.rows.now.rows) all (table_of_rows c.loop-key.rows.rows)
-    c.loop-key.written.items c.loop-key.invariant.walking)
+    c.loop-key-test.true c.index-records-key.is (table_of_rows c.args.rows.now.rows) all
+    (table_of_rows c.loop-key.rows.rows) c.loop-key.written.items c.loop-key.invariant.walking)
     (λ seen. fails_by c.are_seen.result c.are_seen.ensures c.if-not-are_seen.true
     (subst (AllByRecursion (Sees (table_of_rows c.loop-key.rows.rows))) (sym c.entries-entries.ensures) seen))
 
@@ -92,7 +93,8 @@ loop-key-preserved c =
           (walking_at c.args.records.now c.args.order.now c.loop-key.key-index c.index-records-key.result
           c.requires.there c.loop-key-test.true c.index-records-key.is (table_of_rows c.args.rows.now.rows) all
           (table_of_rows c.loop-key.rows.rows) c.loop-key.written.items c.loop-key.invariant.walking)
-          seen (c.write_all.ensures.table ∙ ap (table_after (table_of_rows c.loop-key.rows.rows)) c.entries-entries.ensures)
+          seen
+          (c.write_all.ensures.table ∙ ap (table_after (table_of_rows c.loop-key.rows.rows)) c.entries-entries.ensures)
           (c.write_all.ensures.written
           ∙ ap (λ (es : List Entry). c.loop-key.written.items ++ writes_among es) c.entries-entries.ensures);
       as_many = c.write_all.ensures.as_many ∙ c.loop-key.invariant.as_many;
@@ -109,9 +111,10 @@ returns c =
     let none : records_in c.args.records.now (drop c.loop-key.key-index c.args.order.now) ≡ [] =
     ap (records_in c.args.records.now) (drop_all c.loop-key.key-index c.args.order.now c.loop-key-test.false) in
     let all = records_in c.args.records.now c.args.order.now in
-    let w : Walking (table_of_rows c.args.rows.now.rows) all (table_of_rows c.loop-key.rows.rows) [] c.loop-key.written.items =
-    subst (λ (rest : List Applied). Walking (table_of_rows c.args.rows.now.rows) all (table_of_rows c.loop-key.rows.rows) rest
-    c.loop-key.written.items) none c.loop-key.invariant.walking in
+    let w : Walking (table_of_rows c.args.rows.now.rows) all (table_of_rows c.loop-key.rows.rows) []
+    c.loop-key.written.items =
+    subst (λ (rest : List Applied). Walking (table_of_rows c.args.rows.now.rows) all
+    (table_of_rows c.loop-key.rows.rows) rest c.loop-key.written.items) none c.loop-key.invariant.walking in
     record {
       seen = ((λ _. w.from tt), (λ _. refl));
       as_many = c.loop-key.invariant.as_many;

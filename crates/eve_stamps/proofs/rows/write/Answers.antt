@@ -1,9 +1,11 @@
-use Rattle.std.proofs.Common.{sym, subst, take}
+use Rattle.std.proofs.Common.{◌≤◌, ◌+◌, ◌∙◌, length, sym, ap, subst, take, arith}
+use Rattle.std.proofs.lemmas.List.{take_all}
 use Rattle.eve_smallbank.specs.Chain.{table_after}
 use Rattle.eve_grammar.proofs.Lists.{all-slice_get}
-use Rattle.eve_stamps.specs.Stripes.{table_in, RowsRise, IsEntryIn}
+use Rattle.eve_stamps.specs.Stripes.{table_in, rows_in_table, RowsRise, IsEntryIn}
 use Rattle.eve_stamps.proofs.RowLaws.{rows_in_table-self, RowsRise-rows}
 use Rattle.eve_stamps.proofs.Settling.{still_in, write_more}
+use Rattle.eve_stamps.proofs.rows.write.Goals.{then-place-count, else-place-count}
 use Rattle.eve_stamps.proofs.rows.write.Goals as goal
 
 pub loop-place-init : goal.loop-place-init
@@ -25,5 +27,17 @@ write_one-requires-clause-entry c =
 
 pub loop-place-preserved : goal.loop-place-preserved
 loop-place-preserved c =
-    write_more c.args.rows.now c.loop-place.rows c.write_one.new.rows c.args.entries.now c.loop-place.place c.at.result
-    c.requires.entries c.at.ensures c.loop-place.invariant c.write_one.ensures
+    let rows = c.args.rows.now in
+    let entries = c.args.entries.now in
+    let place = c.loop-place.place in
+    elim c.if-place-count.branch [
+      | then-place-count w ↦
+          w.rows-is
+          ∙ write_more rows c.loop-place.rows w.write_one.new.rows entries place w.at.result c.requires.entries
+          w.at.ensures c.loop-place.invariant w.write_one.ensures
+      | else-place-count w ↦
+          let past : length entries ≤ place = omega (arith, c.len-count.ensures.len, w.if-place-count.false) in
+          w.rows-is ∙ c.loop-place.invariant
+          ∙ ap (λ es. rows_in_table (table_after (table_in rows) es) rows)
+          (take_all place entries past ∙ sym (take_all (place + 1) entries (omega (arith, past))))
+    ]

@@ -16,7 +16,8 @@ use Rattle.eve_attempts.specs.KeptRows.{KeptRows}
 use Rattle.eve_attempts.proofs.Takings.{length_order, order_rises, one_with}
 use Rattle.eve_attempts.proofs.TableLaws.{table_after_records-writes, table_after_records-executed, seen_chained}
 use Rattle.eve_attempts.proofs.TableLaws.{chained_seen}
-use Rattle.eve_attempts.proofs.Closings.{attempt_of, is_attempt_of, kept_as, with_open, with_kept, kept_so, some_replies}
+use Rattle.eve_attempts.proofs.Closings.{attempt_of, is_attempt_of, kept_as, with_open, with_kept, kept_so}
+use Rattle.eve_attempts.proofs.Closings.{some_replies}
 use Rattle.eve_attempts.proofs.Closings.{one_more_open, committed_stays}
 use Rattle.eve_attempts.proofs.Closings.{ledger_further}
 use Rattle.eve_attempts.proofs.ledger.Ledger.close.Goals as goal
@@ -73,8 +74,9 @@ invariant_of-self-2 c =
     ap (λ (l : Ledger). l.committed + 1 + length l.opened) c.self.view_is in
     let many : length s.opened ≡ length c.args.self.now.opened = ap (λ (l : Ledger). length l.opened) c.self.view_is in
     let most : s.window ≡ c.args.self.now.window = ap (λ (l : Ledger). l.window) c.self.view_is in
-    subst (λ (k : KeptRows). IsLedger (with_kept s k c.push_reserved.new.self.items)) (sym (kept_so c.token-token.new.self c.write_along.new.rows
-    c.self.inside.rows.version c.token-token.ensures.same c.if-not-write_along.ensures.version))
+    subst (λ (k : KeptRows). IsLedger (with_kept s k c.push_reserved.new.self.items))
+    (sym (kept_so c.token-token.new.self c.write_along.new.rows c.self.inside.rows.version c.token-token.ensures.same
+    c.if-not-write_along.ensures.version))
     (ledger_further s new o rows is c.if-not-write_along.ensures.as_many
     c.if-not-write_along.ensures.undone c.self.invariant (omega (arith, c.requires.seq, c.requires.last))
     (omega (arith, c.requires.room))

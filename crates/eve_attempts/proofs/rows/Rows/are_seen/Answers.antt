@@ -4,7 +4,9 @@ use Rattle.eve_grammar.specs.Limits.{is_entry}
 use Rattle.eve_grammar.proofs.Grouping.{all_at}
 use Rattle.eve_grammar.proofs.Lists.{drop_here}
 use Rattle.eve_attempts.specs.Ledgers.{table_of_rows}
-use Rattle.eve_attempts.proofs.Listing.{goes_start, goes_more, goes_stop, goes_end, fails_by}
+use Rattle.eve_attempts.proofs.Listing.{goes_start, goes_more, goes_on, goes_stop, goes_end, fails_by}
+use Rattle.eve_attempts.proofs.rows.Rows.are_seen.Goals.{else-place-count-via-then-place-count+else-not-is_seen}
+use Rattle.eve_attempts.proofs.rows.Rows.are_seen.Goals.{else-place-count-via-else-place-count}
 use Rattle.eve_attempts.proofs.rows.Rows.are_seen.Goals as goal
 
 pub is_seen-requires : goal.is_seen-requires
@@ -23,11 +25,17 @@ returns-then-not-is_seen c =
 
 pub loop-place-preserved : goal.loop-place-preserved
 loop-place-preserved c =
-    goes_more (Sees (table_of_rows c.args.self.now.rows)) c.args.entries.now c.loop-place.place c.at.result
-    c.loop-place.invariant
-    (drop_here c.args.entries.now c.loop-place.place c.at.result c.at.ensures)
-    (c.is_seen.ensures.0 c.if-not-is_seen.false)
+    let entries = c.args.entries.now in
+    let place = c.loop-place.place in
+    elim c.else-place-count.branch [
+      | else-place-count-via-then-place-count+else-not-is_seen w ↦
+          goes_more (Sees (table_of_rows c.args.self.now.rows)) entries place w.at.result c.loop-place.invariant
+          (drop_here entries place w.at.result w.at.ensures) (w.is_seen.ensures.0 w.if-not-is_seen.false)
+      | else-place-count-via-else-place-count w ↦
+          goes_on (Sees (table_of_rows c.args.self.now.rows)) entries place c.loop-place.invariant
+          (omega (arith, c.len-count.ensures.len, w.if-place-count.false))
+    ]
 
 pub returns : goal.returns
-returns c = goes_end (Sees (table_of_rows c.args.self.now.rows)) c.args.entries.now c.loop-place.place c.loop-place.invariant
-    (omega (arith, c.len-place-end.ensures.len))
+returns c = goes_end (Sees (table_of_rows c.args.self.now.rows)) c.args.entries.now c.loop-place.place
+    c.loop-place.invariant (omega arith)
