@@ -6,7 +6,8 @@ use Rattle.std.proofs.lemmas.Bool.{cases_lt}
 use Rattle.std.proofs.lemmas.List.{drop_all, drop_more, get_or-map, append-nil}
 use Rattle.std.proofs.lemmas.Option.{slice_get_cases, slice_get_within, get_or_from_slice_get}
 use Rattle.eve_smallbank.specs.declared.request.Reply.{Reply}
-use Rattle.eve_grammar.specs.Trace.{Asked, Batch, Attempt, Attempts, Commit, Commits, Rollback, RollsBack, Step, Sent, TakesOver}
+use Rattle.eve_grammar.specs.Trace.{Asked, Batch, Attempt, Attempts, Commit, Commits, Rollback, RollsBack, Step, Sent}
+use Rattle.eve_grammar.specs.Trace.{TakesOver}
 use Rattle.eve_grammar.specs.Trace.{Transfer}
 use Rattle.eve_write.specs.declared.step.Step as code
 use Rattle.eve_write.specs.Data.{section, step}

@@ -36,7 +36,8 @@ commits_that seq old new next due =
     (commits_now seq (section old.steps) next.commit (omega arith))
 
 -- a live replica commits the batch that is next where all stand
-pub all_commit : (p : RunPlan) (at : Standing) (votes : List Vote) (token : List ℕ) (seq : ℕ) (was servers : List Server)
+pub all_commit : (p : RunPlan) (at : Standing) (votes : List Vote) (token : List ℕ) (seq : ℕ)
+    (was servers : List Server)
     → All (Serves p at votes) was → seq ≡ at.committed + 1
     → AreAllOn (λ old new. is_some_of token (next_token old) ≡ true → CommitsNext old new) was servers
     → AreAllOn (λ old new. is_some_of token (next_token old) ≡ true → commits_batch seq (section new.steps) ≡ true) was

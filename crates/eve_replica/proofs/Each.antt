@@ -9,6 +9,7 @@ use Rattle.std.proofs.lemmas.List.{get_or-set_same, get_or-set_other, get_or_def
 use Rattle.eve_grammar.specs.Trace.{Step}
 use Rattle.eve_write.specs.Data.{section}
 use Rattle.eve_replica.specs.declared.server.Server.{Server}
+pub use Rattle.eve_replica.specs.Serving.{AreAllOn}
 use Rattle.eve_replica.specs.Serving.{sections_in}
 
 -- Of these replicas each below this number has become what it should, and the others are as they were.
@@ -17,11 +18,6 @@ pub record AreOn (Becomes : Server → Server → Type 0) (was : List Server) (n
     pub many : length servers ≡ length was
     pub gone : (k : ℕ) (d : Server) → k < number → Becomes (get_or was k d) (get_or servers k d)
     pub left : (k : ℕ) (d : Server) → number ≤ k → get_or servers k d ≡ get_or was k d
-
--- each has
-pub record AreAllOn (Becomes : Server → Server → Type 0) (was servers : List Server) : Type 0 where
-  pub many : length servers ≡ length was
-  pub each : (k : ℕ) (d : Server) → k < length servers → Becomes (get_or was k d) (get_or servers k d)
 
 pub none_on : (Becomes : Server → Server → Type 0) (servers : List Server) → AreOn Becomes servers 0 servers
 none_on Becomes servers =

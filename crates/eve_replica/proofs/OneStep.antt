@@ -474,7 +474,8 @@ rolled_back_in_view old new r made =
     subst AreOfItsView (sym made.changed) (All-nil (λ (o : Opened). o.view ≡ old.view + 1))
 
 -- who awaits a decision in version 1 has an attempt open
-pub some_open : (missing opened version : ℕ) → (0 < missing → version ≡ 2) → 0 < opened + missing → version ≡ 1 → 0 < opened
+pub some_open : (missing opened version : ℕ) → (0 < missing → version ≡ 2) → 0 < opened + missing → version ≡ 1
+    → 0 < opened
 some_open zero opened version two awaits one = omega arith
 some_open (suc n) opened version two awaits one = absurd (let is = two (omega arith) in omega arith)
 

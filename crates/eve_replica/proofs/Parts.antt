@@ -130,7 +130,8 @@ spelled p h plan mixed at led servers given head right named customers batches m
         batches = subst (λ bs. IsTrue (list_all is_batch bs)) (sym batches) (batches_fit plan.names mixed mix);
         sections = subst (Fit (2 * (head_of (trace p)).customers)) (sym sections)
             (subst (λ n. Fit n (map (λ s. section s.steps) servers)) rows (sections_fit plan at led servers serve));
-        kinds = subst (λ (ss : List (List Step)). IsTrue (list_all (list_all (is_of_version p.version)) ss)) (sym sections)
+        kinds = subst (λ (ss : List (List Step)). IsTrue (list_all (list_all (is_of_version p.version)) ss))
+            (sym sections)
             (kinds_fit p.version plan at led servers version serve);
         votes = subst (λ n. IsTrue (list_all (list_all (is_vote n)) (trace p).verifiers)) (sym many)
             (votes_fit (length mixed) given p.verifiers.items votes each);

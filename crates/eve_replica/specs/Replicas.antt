@@ -40,8 +40,8 @@ ClosesSome front old new b a = (records : List Applied) × ClosesNoted front old
 abbrev pub front_of : Ledger → ℕ → Bool → AttemptFront
 front_of s view serial = record { seq = s.committed + 1 + length s.opened; view = view; serial = serial }
 
--- The replica wasn't broken, and records that its workers noted were closed to the attempt: all that holds of an attempt
--- that is closed holds of it, however its threads ran.
+-- The replica wasn't broken, and records that its workers noted were closed to the attempt: all that holds of an
+-- attempt that is closed holds of it, however its threads ran.
 abbrev pub Attempts : ℕ → Bool → Replica → Replica → Batch → Attempt → Type 0
 Attempts view serial old new b a = (old.is_broken ≡ false) × ClosesSome (front_of old.ledger view serial) old new b a
 

@@ -2,7 +2,7 @@
 use Rattle.std.specs.Prelude.{◌≡◌, ◌≢◌, ℕ, ℤ, ◌+◌, ◌-◌, ◌*◌, ◌<◌, ◌≤◌, ◌⊎◌, Bool, true, false}
 use Rattle.std.specs.Prelude.{if◌then◌else◌}
 use Rattle.std.specs.Prelude.{All, IsTrue, List, [], ◌∷◌, ◌++◌, length, map, slice_get, vec_len, Option, Some, None}
-use Rattle.std.specs.Prelude.{option_map, min}
+use Rattle.std.specs.Prelude.{option_map, min, get_or}
 use Rattle.std.specs.Prelude.{Vec}
 use Rattle.std.specs.declared.alloc.Global.{Global}
 use Rattle.std.specs.List.{AllByRecursion, count_by, list_all}
@@ -19,6 +19,8 @@ use Rattle.eve_write.specs.declared.step.Step as code
 use Rattle.eve_write.specs.declared.vote.VoteData.{VoteData}
 use Rattle.eve_write.specs.declared.sent.SentData.{SentData}
 use Rattle.eve_workload.specs.declared.mixer.MixedBatch.{MixedBatch}
+use Rattle.eve_stamps.specs.Applied.{Applied}
+use Rattle.eve_replica_crew.specs.Recording.{AreNotedOf}
 use Rattle.eve_replica.specs.Replicas.{Replica}
 use Rattle.eve_replica.specs.Deciding.{is_some_of, token_given_up, AreUndecided}
 use Rattle.eve_replica.specs.Sections.{RunPlan, GoesThrough, AreVotesOf, place_due, commit_vote, rollback_vote}
@@ -136,8 +138,8 @@ pub record MissesRightly (s : Server) : Type 0 where
   pub version : 0 < s.missing → s.replica.ledger.version ≡ 2
   pub none_open : 0 < s.missing → s.replica.ledger.opened ≡ []
 
--- A replica of a run by this plan. It isn't broken; all that it did lies within the limits, is what its account went
--- through, on these votes, and goes window by window; in version 2 it is live; where it is live it stands here, and
+-- A replica of a run by this plan. It isn't broken. All that it did lies within the limits, is what its account went
+-- through, on these votes, and goes window by window. In version 2 it is live. Where it is live it stands here, and
 -- where it stopped it has committed less.
 pub record Serves (p : RunPlan) (at : Standing) (votes : List Vote) (s : Server) : Type 0 where
   pub names : s.replica.names ≡ p.names
@@ -212,12 +214,12 @@ AreBatchesFrom batches place window =
 abbrev pub IsLeft : List Batch → Standing → Type 0
 IsLeft batches at = 0 < at.opened → at.committed < length batches
 
--- A replica went on: its names, its rows, its version and how many attempts it may have open stay; it isn't broken if
--- it wasn't; the steps that it added reach a batch each where the move is to reach one, and else none; all that it did
--- lies within the limits if it did before, and is what its account went through where the batches of the window are
--- due, and goes on window by window where this may come now; what it gave up stays, but for the views that it comes to;
--- if it is still live it did so on these votes, and stands this much further, and else on none; where it is live no
--- more its account stays, and where it stands, and the next of these votes says why it stopped, if it did by this move.
+-- A replica went on. Its names, its rows, its version and how many attempts it may have open stay. It isn't broken if
+-- it wasn't. The steps that it added reach a batch each where the move is to reach one, and else none. All that it did
+-- lies within the limits if it did before. It is what its account went through where the batches of the window are due,
+-- and goes on window by window where this may come now. What it gave up stays, but for the views that it comes to. If
+-- it is still live it did so on these votes, and stands this much further, and else on none. Where it is live no more
+-- its account stays, and where it stands. The next of these votes says why it stopped, if it did by this move.
 pub record GoesOn (m : Move) (old new : Server) : Type 0 where
   pub names : new.replica.names ≡ old.replica.names
   pub rows : ledger_rows new.replica.ledger ≡ ledger_rows old.replica.ledger
@@ -320,10 +322,10 @@ sections_in servers = map (λ s. section s.steps) servers
 abbrev pub live_in : List Server → ℕ
 live_in servers = count_by (λ s. s.is_live) servers
 
--- The state of a run by this plan, which begins with nothing open, in version 1 or 2: its batches are the plan's, and
--- were looked up among its names; each replica is one of this run, and each live one stands where the run does; more
--- than half of them are live; each batch so far was committed by more than half of all; what was taken over is what the
--- lowest-numbered of these had committed; what was rolled back wasn't decided; every vote so far lies within the
+-- The state of a run by this plan, which begins with nothing open, in version 1 or 2. Its batches are the plan's, and
+-- were looked up among its names. Each replica is one of this run, and each live one stands where the run does. More
+-- than half of them are live. Each batch so far was committed by more than half of all. What was taken over is what the
+-- lowest-numbered of these had committed. What was rolled back wasn't decided. Every vote so far lies within the
 -- limits.
 pub record IsUnderWay (p : RunPlan) (d : RunState) : Type 0 where
   pub begun : p.first.opened ≡ []
@@ -362,3 +364,49 @@ abbrev pub AttemptsAll : List MixedBatch → Replica → Vec code.Step Global �
 AttemptsAll window old before new after =
     GoesOn (attempt_move (length window) (map (λ m. plain m.batch) window)) (server_with old before)
     (server_with new after)
+
+-- a list has something for each place below this number, which is right for it
+pub record AreFor {A : Type 0} (IsRight : ℕ → A → Type 0) (many : ℕ) (all : List A) : Type 0 where
+  pub lists : length all ≡ many
+  pub each : (k : ℕ) (e : A) → k < many → IsRight k (get_or all k e)
+
+-- what was noted of the batch at this place of the window
+abbrev pub IsNotedAt : List (List ℕ) → List MixedBatch → ℕ → Vec Applied Global → Type 0
+IsNotedAt names window k records = (m : MixedBatch) → AreNotedOf names (plain (get_or window k m).batch) records.items
+
+-- what was noted of each batch of the window
+abbrev pub AreAllNoted : List (List ℕ) → List MixedBatch → List (Vec Applied Global) → Type 0
+AreAllNoted names window noted = AreFor (IsNotedAt names window) (length window) noted
+
+-- ---- a window of attempts of all replicas
+
+-- The window is due to a replica of a run: if it is live, it may attempt the batches, and it misses none.
+pub record IsDueTo (window : List MixedBatch) (s : Server) : Type 0 where
+  pub may : s.is_live ≡ true → MayAttemptAll s.replica window
+  pub none_missing : s.is_live ≡ true → s.missing ≡ 0
+
+-- A replica went on by attempts of all of them, if it is live, and else it stays.
+abbrev pub AttemptsIfLive : List MixedBatch → Server → Server → Type 0
+AttemptsIfLive window old new =
+    GoesOn (attempt_move (length window) (map (λ m. plain m.batch) window)) old new × (new.is_live ≡ old.is_live)
+
+-- The same, where no fault broke it.
+abbrev pub AttemptsUnbroken : List MixedBatch → Server → Server → Type 0
+AttemptsUnbroken window old new = new.replica.is_broken ≡ false → AttemptsIfLive window old new
+
+-- what was noted by a replica, if it is live
+abbrev pub HasNoted : List MixedBatch → Server → Vec (Vec Applied Global) Global → Type 0
+HasNoted window s noted = s.is_live ≡ true → AreAllNoted s.replica.names window noted.items
+
+-- what was noted by the replica at this place
+abbrev pub HasNotedAt : List MixedBatch → List Server → ℕ → Vec (Vec Applied Global) Global → Type 0
+HasNotedAt window servers k noted = (s : Server) → HasNoted window (get_or servers k s) noted
+
+-- what was noted by each
+abbrev pub HaveNoted : List MixedBatch → List Server → List (Vec (Vec Applied Global) Global) → Type 0
+HaveNoted window servers all = AreFor (HasNotedAt window servers) (length servers) all
+
+-- each replica has become what it should
+pub record AreAllOn (Becomes : Server → Server → Type 0) (was servers : List Server) : Type 0 where
+  pub many : length servers ≡ length was
+  pub each : (k : ℕ) (d : Server) → k < length servers → Becomes (get_or was k d) (get_or servers k d)

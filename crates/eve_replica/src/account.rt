@@ -32,6 +32,8 @@ pub(crate) struct Account<'n> {
     // of each open attempt the greatest tick of its records, where this replica's workers ran it
     pub settles: Vec<Option<u64>>,
     pub is_broken: bool,
+    // why the last attempt that failed did
+    pub fault: Option<AttemptFault>,
 }
 
 impl<'n> Model for Account<'n> {
@@ -73,6 +75,7 @@ impl<'n> Account<'n> {
             ledger,
             settles,
             is_broken: false,
+            fault: None,
         })
     }
 
@@ -115,12 +118,18 @@ impl<'n> Account<'n> {
         }
     }
 
+    /// Why the last attempt that failed did; `Broken` where none has.
+    pub(crate) fn fault(&self) -> AttemptFault {
+        self.fault.unwrap_or(AttemptFault::Broken)
+    }
+
     /// Breaks the replica, and returns the fault.
     pub(crate) fn broken_by(&mut self, why: AttemptFault) -> AttemptFault
         ensures broken { self.new ≡ record self.old { is_broken = true } }
         ensures why { result ≡ why }
     {
         self.is_broken = true;
+        self.fault = Some(why);
         why
     }
 

@@ -10,6 +10,7 @@ mod run_state;
 mod running;
 mod sending;
 mod server;
+mod side_by_side;
 mod standing;
 mod votes;
 

@@ -14,13 +14,13 @@ ghost use Rattle.eve_attempts.specs.Discarding.{RollsBack};
 ghost use Rattle.eve_attempts.specs.TakingOver.{IsStateOf, TakesOver};
 ghost use Rattle.eve_replica.specs.Replicas.{Attempts, AttemptsDue, FailsAttempt, ClosesThese, ClosesOwn};
 ghost use Rattle.eve_replica.specs.Replicas.{IsDue, IsFirstOpen, CommitsFirst, KeepsCrew};
-ghost use Rattle.eve_replica.specs.Serving.{IsRightMixed, MayAttemptAll, AttemptsAll};
+ghost use Rattle.eve_replica.specs.Serving.{IsRightMixed, MayAttemptAll, AttemptsAll, AreAllNoted};
 ghost use Rattle.eve_replica_crew.specs.FirstWorkers.{StaysAt};
 ghost use Rattle.eve_replica_crew.specs.Parts.{assigned_batches};
 ghost use Rattle.eve_replica_crew.specs.Sharing.{IsRightAssignment};
 
 use crate::account::Account;
-use crate::attempting::{fault_told, lead_each, run_and_close};
+use crate::attempting::{close_each, fault_told, keep_each, lead_each, run_and_close};
 use crate::fault::{AttemptFault, CloseFault, CommitFault, TransferFault};
 use eve_accounts::{Balances, Names};
 use eve_attempts::{AttemptFront, CloseFault as Unclosed};
@@ -36,6 +36,9 @@ use std::alloc::{AllocError, Global};
 use std::marker::Model;
 use std::sync::Wait;
 use std::thread::Threads;
+
+// from this many customers on, hashing the balances takes longer than starting a thread
+const MANY_CUSTOMERS: usize = 512;
 
 /// One replica: rows in stripes that its workers lock, and its own account of these rows, by which what the workers
 /// noted becomes an attempt or is refused.
@@ -231,8 +234,8 @@ impl<'n> Replica<'n> {
     }
 
     /// Runs the batches of a window, which are the next, by the workers of a replica that isn't broken, and makes an
-    /// attempt of what they noted of each while the other workers run the next. A fault breaks the replica; the attempts
-    /// before it stay open.
+    /// attempt of what they noted of each while the other workers run the next. A fault breaks the replica; the
+    /// attempts before it stay open.
     pub(crate) fn attempt_window<R: Threads + Wait + Sync, G: Gate>(
         &mut self,
         rt: &R,
@@ -275,6 +278,77 @@ impl<'n> Replica<'n> {
             Ok((Err(None), told)) => Err(account.broken_by(fault_told(told))),
             Err(_) => Err(account.broken_by(AttemptFault::Memory)),
         }
+    }
+
+    /// Runs the batches of a window, which are the next, by the workers of a replica that isn't broken, and returns
+    /// what they noted of each. A fault breaks the replica.
+    pub(crate) fn execute_window<R: Threads + Wait + Sync, G: Gate>(
+        &mut self,
+        rt: &R,
+        alloc: Global,
+        window: &[MixedBatch],
+        gate: &G,
+    ) -> Result<Vec<Vec<AccessRecord>>, AttemptFault>
+        requires mixed { All (IsRightMixed self.old.names) window.now }
+        ensures noted { IfOk result (λ noted. AreAllNoted self.old.names window.now noted.items) }
+        ensures same { OnOk result (self.new ≡ self.old) }
+        ensures broken { OnErr result (self.new.is_broken ≡ true) }
+    {
+        let workers = self.workers.many();
+        let serial = self.is_next_serial();
+        let Ok(assignments) = assignments_of(alloc, &self.floor, workers, window, serial) else {
+            return Err(self.account.broken_by(AttemptFault::Memory));
+        };
+        let mut noted = Vec::new(alloc);
+        let kept = &mut noted;
+        let mut own = |lead: &mut Lead| -> Result<(), Option<AttemptFault>>
+            requires { (kept.now.items ≡ []) × (lead.old.left ≡ map (λ m. plain m.batch) window.now) }
+            ensures lead { StaysAt lead.old lead.new }
+            ensures noted { OnOk result (AreAllNoted lead.old.names window.entry.now kept.exit.now.items) }
+        { keep_each(rt, alloc, lead, kept, window, gate) };
+        let ran = run_batches(
+            rt,
+            alloc,
+            &self.floor,
+            &mut self.workers,
+            assignments.as_slice(),
+            gate,
+            &mut own,
+        );
+        match ran {
+            Ok((Ok(()), _)) => Ok(noted),
+            Ok((Err(Some(why)), _)) => Err(self.account.broken_by(why)),
+            Ok((Err(None), told)) => Err(self.account.broken_by(fault_told(told))),
+            Err(_) => Err(self.account.broken_by(AttemptFault::Memory)),
+        }
+    }
+
+    /// Makes attempts of what was noted of the batches of a window, which are the next. A fault breaks the replica; the
+    /// attempts before it stay open.
+    pub(crate) fn close_window(
+        &mut self,
+        alloc: Global,
+        steps: &mut Vec<Step>,
+        window: &[MixedBatch],
+        noted: &[Vec<AccessRecord>],
+    ) -> Result<(), AttemptFault>
+        requires due { MayAttemptAll self.old window.now }
+        requires noted { AreAllNoted self.old.names window.now noted.now }
+        ensures on { OnOk result (AttemptsAll window.now self.old steps.old self.new steps.new) }
+        ensures broken { OnErr result (self.new.is_broken ≡ true) }
+    {
+        close_each(alloc, &mut self.account, steps, window, noted)
+    }
+
+    /// Whether threads gain time where several replicas make their attempts side by side: where there are workers to
+    /// take part, or many balances to hash. It says only in which order things are done.
+    pub(crate) fn closes_slowly(&self) -> bool {
+        self.workers.many() > 1 || self.account.names.len() >= MANY_CUSTOMERS
+    }
+
+    /// Why the last attempt that failed did; `Broken` where none has.
+    pub(crate) fn fault(&self) -> AttemptFault {
+        self.account.fault()
     }
 
     /// Makes an attempt of records that a caller took, and opens it.
@@ -392,7 +466,8 @@ fn assignments_of<'b>(
     requires workers { (1 ≤ workers) × (workers ≤ MOST_WORKERS) }
     requires mixed { All (IsRightMixed floor.now) window.now }
     ensures right { IfOk result (λ assignments. All (IsRightAssignment floor.now workers) assignments.items) }
-    ensures batches { IfOk result (λ assignments. assigned_batches assignments.items ≡ map (λ m. plain m.batch) window.now) }
+    ensures batches { IfOk result (λ assignments. assigned_batches assignments.items
+        ≡ map (λ m. plain m.batch) window.now) }
 {
     let mut assignments = Vec::with_capacity(alloc, window.len())?;
     let mut is_serial = serial;

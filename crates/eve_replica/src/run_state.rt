@@ -21,6 +21,7 @@ ghost use Rattle.eve_grammar.specs.Limits.{is_transfer};
 
 use crate::fault::{AttemptFault, RunFault};
 use crate::server::Server;
+use crate::side_by_side::attempt_each;
 use crate::standing::{MOST_VIEWS, Standing};
 use crate::votes::{vote_for_commit, vote_for_rollback};
 use eve_grammar::{Head, MOST_BATCHES, TransferData};
@@ -152,7 +153,7 @@ impl<'n, 'b> RunState<'n, 'b> {
     }
 }
 
-/// Each live replica, one after another, attempts the batches of the window, which are the next from where they stand.
+/// Each live replica attempts the batches of the window, which are the next from where they stand (`attempt_each`).
 fn attempt_all<R: Threads + Wait + Sync, G: Gate>(
     rt: &R,
     alloc: Global,
@@ -175,14 +176,7 @@ fn attempt_all<R: Threads + Wait + Sync, G: Gate>(
         → AreTakenIn p (sections_in servers.old) → OnOk result (AreTakenIn p (sections_in servers.new)) }
     ensures undecided { AreUndecided (sections_in servers.old) → OnOk result (AreUndecided (sections_in servers.new)) }
 {
-    for server in servers.iter_mut() {
-        if !server.is_live {
-            continue;
-        }
-        server
-            .replica
-            .attempt_window(rt, alloc, &mut server.steps, window, gate)?;
-    }
+    attempt_each(rt, alloc, servers, window, gate)?;
     Ok(())
 }
 
@@ -227,7 +221,8 @@ fn commit_all(servers: &mut [Server], seq: u32, token: [u8; 32]) -> Result<(), A
     requires { (p : RunPlan) × (at : Standing) × (votes : List Vote) × All (Serves p at votes) servers.old
         × (p.first.version ≡ 1) × (seq ≡ at.committed + 1) × (0 < at.opened) }
     ensures serve { (p : RunPlan) (at : Standing) (votes : List Vote) → All (Serves p at votes) servers.old
-        → IsLeft p.batches at → OnOk result (All (Serves p (after_commit at) (votes ++ (commit_move token).votes at)) servers.new) }
+        → IsLeft p.batches at → OnOk result (All (Serves p (after_commit at)
+        (votes ++ (commit_move token).votes at)) servers.new) }
     ensures live { OnOk result (live_in servers.new ≡ count_with token servers.old) }
     ensures committed { IsDecision (Some token) servers.old → AreCommittedByMost (seq - 1) (sections_in servers.old)
         → OnOk result (AreCommittedByMost seq (sections_in servers.new)) }
@@ -347,7 +342,8 @@ fn roll_back_all(servers: &mut [Server], alloc: Global) -> Result<(), AllocError
     requires { (p : RunPlan) × (at : Standing) × (votes : List Vote) × All (Serves p at votes) servers.old
         × (at.view < MOST_VIEWS) × (0 < at.opened) }
     ensures serve { (p : RunPlan) (at : Standing) (votes : List Vote) → All (Serves p at votes) servers.old
-        → IsLeft p.batches at → OnOk result (All (Serves p (after_rollback at) (votes ++ rollback_move.votes at)) servers.new) }
+        → IsLeft p.batches at → OnOk result (All (Serves p (after_rollback at)
+        (votes ++ rollback_move.votes at)) servers.new) }
     ensures live { OnOk result (live_in servers.new ≡ live_in servers.old) }
     ensures committed { (n : ℕ) → AreCommittedByMost n (sections_in servers.old)
         → OnOk result (AreCommittedByMost n (sections_in servers.new)) }

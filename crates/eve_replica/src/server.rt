@@ -12,16 +12,21 @@ ghost use Rattle.eve_write.specs.Data.{section, step as plain};
 ghost use Rattle.eve_replica.specs.Deciding.{is_some_of};
 ghost use Rattle.eve_replica.specs.Sections.{RunPlan};
 ghost use Rattle.eve_replica.specs.Serving.{AreRightSteps, GoesOn, GivesUpNext};
+ghost use Rattle.eve_replica.specs.Serving.{AreAllNoted, AttemptsIfLive, AttemptsUnbroken, HasNoted, IsDueTo};
 ghost use Rattle.eve_replica.specs.Serving.{commit_move, rollback_move};
 ghost use Rattle.eve_replica.specs.Serving.{next_token, standing_of, CommitsNext, IsLentBy, MayTakeOver, MissesRightly};
 
 use crate::attempting::add_step;
-use crate::fault::RunFault;
+use crate::fault::{AttemptFault, RunFault};
 use crate::replica::Replica;
 use eve_grammar::{Head, TransferData};
+use eve_recorder::Gate;
+use eve_stamps::AccessRecord;
+use eve_workload::MixedBatch;
 use eve_write::{Step, commit_fits, is_right_transfer};
 use std::alloc::{AllocError, Global};
-use std::sync::Arc;
+use std::sync::{Arc, Wait};
+use std::thread::Threads;
 
 /// A replica of a run, with what it did so far, and whether it goes on.
 #[derive(Drop)]
@@ -34,6 +39,69 @@ pub(crate) struct Server<'n> {
 }
 
 impl<'n> Server<'n> {
+    /// Attempts the batches of a window, which are the next, where the replica is live. A fault breaks it.
+    pub(crate) fn attempt<R: Threads + Wait + Sync, G: Gate>(
+        &mut self,
+        rt: &R,
+        alloc: Global,
+        window: &[MixedBatch],
+        gate: &G,
+    ) -> Result<(), AttemptFault>
+        requires due { IsDueTo window.now self.old }
+        ensures on { OnOk result (AttemptsIfLive window.now self.old self.new) }
+    {
+        if !self.is_live {
+            return Ok(());
+        }
+        self.replica
+            .attempt_window(rt, alloc, &mut self.steps, window, gate)?;
+        Ok(())
+    }
+
+    /// Runs the batches of a window, which are the next, by the workers of the replica, where it is live. Returns what
+    /// was noted of each. A fault breaks the replica.
+    pub(crate) fn execute<R: Threads + Wait + Sync, G: Gate>(
+        &mut self,
+        rt: &R,
+        alloc: Global,
+        window: &[MixedBatch],
+        gate: &G,
+    ) -> Result<Vec<Vec<AccessRecord>>, AttemptFault>
+        requires due { IsDueTo window.now self.old }
+        ensures same { OnOk result (self.new ≡ self.old) }
+        ensures noted { IfOk result (λ noted. HasNoted window.now self.old noted) }
+    {
+        if !self.is_live {
+            return Ok(Vec::new(alloc));
+        }
+        let noted = self.replica.execute_window(rt, alloc, window, gate)?;
+        Ok(noted)
+    }
+
+    /// Makes attempts of what was noted of the batches of a window, which are the next, where the replica is live. It
+    /// is broken then, if one failed.
+    pub(crate) fn close(
+        &mut self,
+        alloc: Global,
+        window: &[MixedBatch],
+        noted: &[Vec<AccessRecord>],
+    )
+        requires due { IsDueTo window.now self.old }
+        requires noted { self.old.is_live ≡ true → AreAllNoted self.old.replica.names window.now noted.now }
+        ensures on { AttemptsUnbroken window.now self.old self.new }
+    {
+        if !self.is_live {
+            return;
+        }
+        let end = self
+            .replica
+            .close_window(alloc, &mut self.steps, window, noted);
+        match end {
+            Ok(()) => {}
+            Err(_) => {}
+        }
+    }
+
     /// The token of the first open attempt, where the replica is live.
     pub(crate) fn next_token(&self) -> Option<[u8; 32]>
         ensures is { result ≡ next_token self.now }

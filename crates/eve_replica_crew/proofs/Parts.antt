@@ -1,5 +1,6 @@
 -- The batches that are left of the first worker's parts, pushed and popped.
-use Rattle.std.proofs.Common.{◌≡◌, ℕ, ◌+◌, ◌<◌, List, [], ◌∷◌, ◌++◌, length, get_or, drop, map, reverse, refl, sym, ap, ◌∙◌}
+use Rattle.std.proofs.Common.{◌≡◌, ℕ, ◌+◌, ◌<◌, List, [], ◌∷◌, ◌++◌, length, get_or, drop, map, reverse, refl, sym}
+use Rattle.std.proofs.Common.{ap, ◌∙◌}
 use Rattle.std.proofs.Common.{◌≤◌, subst, take}
 use Rattle.std.proofs.lemmas.List.{drop_all, drop_more, get_or-map, length-map, map-append, reverse-append, take_more}
 use Rattle.std.proofs.lemmas.List.Elements.{All-push}
@@ -8,10 +9,12 @@ use Rattle.eve_write.specs.Data.{batch as plain}
 use Rattle.eve_replica_crew.specs.declared.assignment.Assignment.{Assignment}
 use Rattle.eve_replica_crew.specs.declared.room.Room.{Room}
 use Rattle.eve_replica_crew.specs.declared.part.LeadPart.{LeadPart}
-use Rattle.eve_replica_crew.specs.Parts.{AddsPart, AreOver, batch_of_part, batches_left, assigned_batches, names_of_part}
+use Rattle.eve_replica_crew.specs.Parts.{AddsPart, AreOver, batch_of_part, batches_left, assigned_batches}
+use Rattle.eve_replica_crew.specs.Parts.{names_of_part}
 
 -- the last part is that of the batch that is next
-pub left_push : (parts : List LeadPart) (p : LeadPart) → batches_left (parts ++ p ∷ []) ≡ batch_of_part p ∷ batches_left parts
+pub left_push : (parts : List LeadPart) (p : LeadPart) → batches_left
+    (parts ++ p ∷ []) ≡ batch_of_part p ∷ batches_left parts
 left_push parts p =
     ap (λ (bs : List Batch). reverse bs) (map-append batch_of_part parts (p ∷ []))
     ∙ reverse-append (map batch_of_part parts) (batch_of_part p ∷ [])
@@ -43,7 +46,8 @@ pub none_left : (bs : List Batch) (n : ℕ) → length bs ≤ n → batches_left
 none_left bs n all = sym (drop_all n bs all)
 
 -- the batch at this place among those of assignments
-pub assignment_at : (assignments : List Assignment) (assignment : Assignment) (place : ℕ) → place < length assignments → assignment ≡ get_or assignments place assignment
+pub assignment_at : (assignments : List Assignment) (assignment : Assignment) (place : ℕ)
+    → place < length assignments → assignment ≡ get_or assignments place assignment
     → get_or (assigned_batches assignments) place (plain assignment.batch.now) ≡ plain assignment.batch.now
 assignment_at assignments assignment place there is =
     get_or-map (λ (l : Assignment). plain l.batch.now) assignments place assignment (plain assignment.batch.now) there
@@ -61,8 +65,10 @@ room_at rooms room place there is =
     ∙ sym (get_or-map (λ (r : Room). r.assignment) rooms place room room.assignment there)
 
 -- one more room, of the assignment after those that have one
-pub assignments_more : (rooms : List Room) (room : Room) (assignments : List Assignment) (assignment : Assignment) (i : ℕ) → i < length assignments
-    → assignment ≡ get_or assignments i assignment → room.assignment ≡ assignment → map (λ (r : Room). r.assignment) rooms ≡ take i assignments
+pub assignments_more : (rooms : List Room) (room : Room) (assignments : List Assignment) (assignment : Assignment)
+    (i : ℕ) → i < length assignments
+    → assignment ≡ get_or assignments i assignment → room.assignment ≡ assignment → map
+    (λ (r : Room). r.assignment) rooms ≡ take i assignments
     → map (λ (r : Room). r.assignment) (rooms ++ room ∷ []) ≡ take (i + 1) assignments
 assignments_more rooms room assignments assignment i there is own all =
     map-append (λ (r : Room). r.assignment) rooms (room ∷ [])

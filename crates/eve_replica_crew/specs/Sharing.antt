@@ -66,8 +66,8 @@ AreSeatingsOf rooms [] = ⊤
 AreSeatingsOf [] (s ∷ seatings) = ⊥
 AreSeatingsOf (r ∷ rooms) (s ∷ seatings) = IsSeatingOf r s × AreSeatingsOf rooms seatings
 
--- the seats of the first worker's part in a batch: the taker's at the recorder that is shared, with nothing taken on it,
--- and one at the tickets of claims
+-- the seats of the first worker's part in a batch: the taker's at the recorder that is shared, with nothing taken on
+-- it, and one at the tickets of claims
 abbrev pub IsTakeable : SharedBatch → Taker → Drawer → Type 0
 IsTakeable s taker claims =
     IsSet s × (taker.recorder ≡ s.recorder.now.recorder) × (taker.taken ≡ []) × (claims.tickets ≡ s.claims.now)

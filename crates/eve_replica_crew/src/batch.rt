@@ -32,8 +32,8 @@ use std::thread::Threads;
 /// lowest worker that has one.
 ///
 /// Each worker has one thread for all batches. The first worker's is the caller's: `own` is called in it once, with
-/// that worker, and runs its parts by `Lead::next`. The workers are lent the last of the seats at the tickets of ticks, and
-/// give them back whatever happens. Memory for what they note is asked for before the first request runs.
+/// that worker, and runs its parts by `Lead::next`. The workers are lent the last of the seats at the tickets of
+/// ticks, and give them back whatever happens. Memory for what they note is asked for before the first request runs.
 pub fn run_batches<R: Threads + Wait + Sync, G: Gate, A, F: FnMut(&mut Lead<'_>) -> A>(
     rt: &R,
     alloc: Global,
@@ -77,7 +77,8 @@ fn furnish_all<'b>(
     assignments: &[Assignment<'b>],
     pool: &mut RecorderPool,
 ) -> Result<(Vec<Room<'b>>, Vec<Seating>), AllocError>
-    requires assignments { (names : List (List ℕ)) × (workers : ℕ) × All (IsRightAssignment names workers) assignments.now }
+    requires assignments { (names : List (List ℕ)) × (workers : ℕ) × All
+        (IsRightAssignment names workers) assignments.now }
     ensures rooms { (names : List (List ℕ)) (workers : ℕ) → All (IsRightAssignment names workers) assignments.now
         → IfOk result (λ r. All (IsRightRoom names workers) r.0.items) }
     ensures assignments { IfOk result (λ r. map (λ x. x.assignment) r.0.items ≡ assignments.now) }

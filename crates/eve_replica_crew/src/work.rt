@@ -107,8 +107,8 @@ fn fault_in(own: Option<GivenUp>) -> Option<ExecFault> {
 }
 
 /// Claims requests of a batch that the first worker shares and runs them, as `claim_and_run` does, keeps their records,
-/// and takes what the others noted, once all is noted. The error is the worker's own fault, or none where another worker
-/// gave a request up.
+/// and takes what the others noted, once all is noted. The error is the worker's own fault, or none where another
+/// worker gave a request up.
 fn run_shared<R: Wait, G: Gate>(
     rt: &R,
     ticks: &Tickets,

@@ -13,7 +13,8 @@ use Rattle.eve_replica.proofs.replica.assignments_of.Goals as goal
 pub loop-mixed-preserved : goal.loop-mixed-preserved
 loop-mixed-preserved c = record {
   right = subst (All (IsRightAssignment c.args.floor.now c.args.workers)) (sym c.push_reserved.ensures.items)
-      (All-push (IsRightAssignment c.args.floor.now c.args.workers) c.loop-mixed.assignments.items c.assignment_of.result
+      (All-push (IsRightAssignment c.args.floor.now c.args.workers) c.loop-mixed.assignments.items
+      c.assignment_of.result
       c.loop-mixed.invariant.right c.assignment_of.ensures.right);
   many = omega (arith, c.loop-mixed.invariant.many, c.push_reserved.ensures.len);
   room = omega (arith, c.loop-mixed.invariant.room, c.push_reserved.ensures.capacity);

@@ -35,7 +35,8 @@ loop-seating-init c =
       batches = ap batches_left none
           ∙ none_left (assigned_batches given) (vec_len c.args.seatings)
           (omega (arith, as_many given, many, c.requires.all));
-      over = subst (AreOver c.args.floor.now) (sym none) (All-nil (λ (p : LeadPart). names_of_part p ≡ c.args.floor.now));
+      over = subst (AreOver c.args.floor.now) (sym none) (All-nil
+          (λ (p : LeadPart). names_of_part p ≡ c.args.floor.now));
     }
 
 pub loop-seating-preserved : goal.loop-seating-preserved

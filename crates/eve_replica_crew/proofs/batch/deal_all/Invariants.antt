@@ -9,7 +9,8 @@ invariant-loop-seating l = record {
   few : vec_len l.seatings ≤ length l.rooms;
   workers : vec_len l.parts.others + 1 ≡ l.workers;
   room : vec_len l.parts.lead + vec_len l.seatings ≤ vec_capacity l.parts.lead;
-  batches : batches_left l.parts.lead.items ≡ drop (vec_len l.seatings) (assigned_batches (map (λ r. r.assignment) l.rooms));
+  batches : batches_left l.parts.lead.items ≡ drop (vec_len l.seatings) (assigned_batches
+      (map (λ r. r.assignment) l.rooms));
   over : AreOver l.floor l.parts.lead.items;
 }
 

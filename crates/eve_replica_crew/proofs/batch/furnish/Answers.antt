@@ -16,6 +16,7 @@ returns-clause-seating c =
           (fresh_noters recorder c.args.assignment.now.crew (omega arith) all);
       taker = ap (λ (p : Places). p.taker) fresh;
       claims = ap (λ (d : Drawers). d.tickets) c.in_ok-claims.ensures.fresh;
-      there = subst (AreThere c.args.assignment.now.crew) (sym (ap (λ (d : Drawers). d.places) c.in_ok-claims.ensures.fresh))
+      there = subst (AreThere c.args.assignment.now.crew) (sym (ap
+          (λ (d : Drawers). d.places) c.in_ok-claims.ensures.fresh))
           (fresh_there c.in_ok-claims.claims c.args.assignment.now.crew c.in_ok-claims.ensures.seats (omega arith));
     }

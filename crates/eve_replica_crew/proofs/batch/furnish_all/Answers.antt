@@ -20,13 +20,16 @@ loop-assignment-preserved c = record {
       (sym c.push_reserved.ensures.items)
       (subst (AreSeatingsOf (c.loop-assignment.rooms.items ++ c.in_ok-room.room ∷ []))
       (sym c.push_reserved-in-loop-assignment.ensures.items)
-      (seatings_push c.loop-assignment.rooms.items c.loop-assignment.seatings.items c.in_ok-room.room c.in_ok-room.seating
+      (seatings_push c.loop-assignment.rooms.items c.loop-assignment.seatings.items c.in_ok-room.room
+      c.in_ok-room.seating
       (grind (arith, common_steps)) c.loop-assignment.invariant.seats c.in_ok-room.ensures.seating));
   all = grind (arith, common_steps);
   room = grind (arith, common_steps);
   seat_room = grind (arith, common_steps);
-  assignments = subst (λ (rooms : List Room). map (λ r. r.assignment) rooms ≡ take (c.loop-assignment.assignment-index + 1) c.args.assignments.now)
+  assignments = subst (λ (rooms : List Room). map (λ r. r.assignment) rooms
+      ≡ take (c.loop-assignment.assignment-index + 1) c.args.assignments.now)
       (sym c.push_reserved.ensures.items)
-      (assignments_more c.loop-assignment.rooms.items c.in_ok-room.room c.args.assignments.now c.assignment-item.result c.loop-assignment.assignment-index
+      (assignments_more c.loop-assignment.rooms.items c.in_ok-room.room c.args.assignments.now
+      c.assignment-item.result c.loop-assignment.assignment-index
       (omega arith) c.assignment-item.is c.in_ok-room.ensures.assignment c.loop-assignment.invariant.assignments);
 }

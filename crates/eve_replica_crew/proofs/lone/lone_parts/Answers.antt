@@ -18,7 +18,8 @@ loop-left-init c =
       room = grind (arith, common_steps);
       batches = ap batches_left none
           ∙ none_left (assigned_batches given) (length given) (omega (arith, as_many given));
-      over = subst (AreOver c.args.floor.now) (sym none) (All-nil (λ (p : LeadPart). names_of_part p ≡ c.args.floor.now));
+      over = subst (AreOver c.args.floor.now) (sym none) (All-nil
+          (λ (p : LeadPart). names_of_part p ≡ c.args.floor.now));
     }
 
 pub loop-left-preserved : goal.loop-left-preserved
@@ -28,7 +29,8 @@ loop-left-preserved c =
     let was = c.loop-left.invariant in
     let old : List LeadPart = c.loop-left.parts.lead.items in
     let new : List LeadPart = c.push_reserved.new.self.items in
-    let adds : AddsPart c.args.floor.now (plain one.batch.now) old new = adds_by old new _ c.push_reserved.ensures.items in
+    let adds : AddsPart c.args.floor.now
+    (plain one.batch.now) old new = adds_by old new _ c.push_reserved.ensures.items in
     record {
       many = omega (arith, c.push_reserved.ensures.len, was.many);
       none = was.none;

@@ -1,0 +1,12 @@
+use Rattle.std.proofs.Common.{map}
+use Rattle.eve_write.specs.Data.{batch}
+use Rattle.eve_replica.specs.Replicas.{KeepsCrew}
+use Rattle.eve_replica.specs.Serving.{GoesOn, attempt_move, server_with}
+use Rattle.eve_replica.proofs.attempting.close_each.Given as goal
+
+abbrev pub invariant-loop-place : goal.invariant-loop-place
+invariant-loop-place l = record {
+  on : GoesOn (attempt_move l.place (map (λ m. batch m.batch) l.window)) (server_with l.fn.account l.fn.steps)
+      (server_with l.account l.steps);
+  same : KeepsCrew l.fn.account l.account;
+}
