@@ -16,12 +16,12 @@ use Rattle.eve_smallbank.specs.declared.versioned.Versioned.{Versioned}
 use Rattle.eve_smallbank.proofs.Members.{all_in}
 use Rattle.std.proofs.Math.ListN.{get_or-map}
 use Rattle.eve_history.specs.Section.{Placed, Landing, ByAttempt, ByTransfer, Skipped, came_by}
-use Rattle.eve_history.specs.SectionHistory.{ordered, history, names_of, IsRightSection, attempt_by, is_landing, is_reached}
+use Rattle.eve_history.specs.SectionHistory.{ordered, history, names_of, IsRightSection, attempt_by, is_landing}
+use Rattle.eve_history.specs.SectionHistory.{is_reached}
 use Rattle.eve_history.proofs.Finding.{get_mapped}
 use Rattle.eve_chains.specs.Visible.{taken_table, rows_after}
 use Rattle.eve_chains.specs.Committed.{values_to, bank_after}
 use Rattle.eve_chains.specs.Along.{entries_along, AreWithin}
-use Rattle.eve_chains.specs.Changes.{values_changed}
 use Rattle.eve_chains.proofs.ChangedRows.{values_same}
 use Rattle.eve_chains.proofs.CommittedBatches.{batches_within}
 use Rattle.eve_chains.proofs.Linked.{in_attempts}

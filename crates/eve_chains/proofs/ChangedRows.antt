@@ -68,7 +68,8 @@ changed_behind k row (x ∷ y ∷ cs) o c all number at =
 module _ (k row : ℕ) (cs : List Changed) (earlier : AllByRecursion (IsEarlier k row) cs) where
   -- an entry of the row
   entry_own : (o : Option ℤ) (e : Entry) (kind : Kind) → e.row ≡ row
-      → cond (is_write kind) (with_change (cs ++ change_in k row o) (record { number = k; row = e.row; value = e.after }))
+      → cond (is_write kind) (with_change (cs ++ change_in k row o)
+      (record { number = k; row = e.row; value = e.after }))
       (cs ++ change_in k row o) ≡ cs ++ change_in k row (cond (is_write kind) (Some e.after) o)
   entry_own o e Read at = refl
   entry_own o e Write at =
@@ -77,14 +78,16 @@ module _ (k row : ℕ) (cs : List Changed) (earlier : AllByRecursion (IsEarlier 
 
   along_entries : (offset taken view : ℕ) (o : Option ℤ) (es : List Entry)
       → changes_along (cs ++ change_in k row o)
-      (of_row row (map (λ e. record { offset = offset; taken = taken; view = view; number = k; commits = true; entry = e }) es))
+      (of_row row (map (λ e. record
+      { offset = offset; taken = taken; view = view; number = k; commits = true; entry = e }) es))
       ≡ cs ++ change_in k row (fold (written_next row) o es)
   along_entries offset taken view o [] = refl
   along_entries offset taken view o (e ∷ es) =
       by (e.row == row) refl (λ (last : Option ℤ). along_entries offset taken view last es)
     where
       rest : List Noted
-      rest = of_row row (map (λ e. record { offset = offset; taken = taken; view = view; number = k; commits = true; entry = e }) es)
+      rest = of_row row (map (λ e. record
+          { offset = offset; taken = taken; view = view; number = k; commits = true; entry = e }) es)
 
       here : Noted
       here = record { offset = offset; taken = taken; view = view; number = k; commits = true; entry = e }
@@ -110,7 +113,8 @@ module _ (k row : ℕ) (cs : List Changed) (earlier : AllByRecursion (IsEarlier 
   along_records taken view o [] = refl
   along_records taken view o (x ∷ xs) =
       ap (changes_along (cs ++ change_in k row o))
-      (filter-append (λ (n : Noted). n.entry.row == row) (noted_by taken view k true x) (flat_map (noted_by taken view k true) xs))
+      (filter-append (λ (n : Noted). n.entry.row == row) (noted_by taken view k true x)
+      (flat_map (noted_by taken view k true) xs))
       ∙ fold-append change_by (cs ++ change_in k row o) (of_row row (noted_by taken view k true x))
       (of_row row (flat_map (noted_by taken view k true) xs))
       ∙ ap (λ (ds : List Changed). changes_along ds (of_row row (flat_map (noted_by taken view k true) xs)))
@@ -123,7 +127,8 @@ module _ (k row : ℕ) (cs : List Changed) (earlier : AllByRecursion (IsEarlier 
   pub along_batch : (taken view : ℕ) (xs : List (ℕ × Access))
       → changes_along cs (of_row row (flat_map (noted_by taken view k true) xs))
       ≡ cs ++ change_in k row (last_written row (entries_along xs))
-  along_batch taken view xs = ap (λ (ds : List Changed). changes_along ds (of_row row (flat_map (noted_by taken view k true) xs)))
+  along_batch taken view xs = ap (λ (ds : List Changed). changes_along ds
+      (of_row row (flat_map (noted_by taken view k true) xs)))
       (sym (append-nil cs)) ∙ along_records taken view None xs
 
 -- ---- all rows, all batches
@@ -236,7 +241,8 @@ all_append P [] ys xs-all ys-all = ys-all
 all_append P (x ∷ xs) ys xs-all ys-all = (xs-all.0, all_append P xs ys xs-all.1 ys-all)
 
 -- of the batches that come before this one
-row_earlier : (k row m r : ℕ) (ess : List (List Entry)) → r < row → AllByRecursion (IsEarlier k row) (row_changes r m ess)
+row_earlier : (k row m r : ℕ) (ess : List (List Entry)) → r < row → AllByRecursion (IsEarlier k row)
+    (row_changes r m ess)
 row_earlier k row m r [] lt = tt
 row_earlier k row m r (es ∷ ess) lt =
     all_append (IsEarlier k row) (change_in m r (last_written r es)) (row_changes r (suc m) ess)
@@ -327,7 +333,8 @@ changed_inside values es (suc rows) row lt =
     (λ i. changed-append values (changes_below rows es) (change_to rows (last_written rows es)) i row)
     ∙ elim (cases_eq rows row) [
       | inl same ↦
-          ap (λ (r : ℕ). values_changed (values_changed values (changes_below r es)) (change_to r (last_written r es)) row)
+          ap (λ (r : ℕ). values_changed (values_changed values (changes_below r es))
+          (change_to r (last_written r es)) row)
           same
           ∙ change_here (values_changed values (changes_below row es)) row (last_written row es)
           ∙ ap (or_value (last_written row es)) (changed_outside values es row row (omega arith))

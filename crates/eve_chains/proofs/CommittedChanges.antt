@@ -21,8 +21,8 @@ use Rattle.eve_chains.specs.Stretches.{IsWithin, Reaches}
 use Rattle.eve_chains.specs.declared.changed.Changed.{Changed}
 use Rattle.eve_chains.specs.declared.stretch.Stretch.{Stretch}
 use Rattle.eve_chains.specs.declared.walked.Walked.{Walked}
-use Rattle.eve_chains.specs.Changes.{last_written, changes_below, with_change, change_by, changes_along, changes_of_rows}
-use Rattle.eve_chains.specs.Changes.{by_number}
+use Rattle.eve_chains.specs.Changes.{last_written, changes_below, with_change, change_by, changes_along}
+use Rattle.eve_chains.specs.Changes.{changes_of_rows, all_changes, by_number}
 use Rattle.eve_chains.specs.Numbered.{HasNumber, IsRowBelow}
 use Rattle.eve_chains.specs.Walked.{IsWalked, AreWalked}
 use Rattle.eve_chains.proofs.Linked.{AreLinked, linked_history, last_committed}
@@ -61,7 +61,8 @@ module _ (row : ℕ) where
       → filter (λ (n : Noted). n.commits) (of_row row
       (map (λ e. record { offset = offset; taken = taken; view = view; number = number; commits = b; entry = e }) es))
       ≡ cond b (of_row row
-      (map (λ e. record { offset = offset; taken = taken; view = view; number = number; commits = b; entry = e }) es)) []
+      (map (λ e. record { offset = offset; taken = taken; view = view; number = number; commits = b; entry = e })
+      es)) []
   kept_of offset taken view number true [] = refl
   kept_of offset taken view number false [] = refl
   kept_of offset taken view number true (e ∷ es) = by (e.row == row) (kept_of offset taken view number true es)
@@ -70,7 +71,8 @@ module _ (row : ℕ) where
       here = record { offset = offset; taken = taken; view = view; number = number; commits = true; entry = e }
 
       rest : List Noted
-      rest = of_row row (map (λ e. record { offset = offset; taken = taken; view = view; number = number; commits = true; entry = e }) es)
+      rest = of_row row (map (λ e. record
+          { offset = offset; taken = taken; view = view; number = number; commits = true; entry = e }) es)
 
       by : (b : Bool) → filter (λ (n : Noted). n.commits) rest ≡ rest
           → filter (λ (n : Noted). n.commits) (cond b (here ∷ rest) rest) ≡ cond b (here ∷ rest) rest
@@ -83,7 +85,8 @@ module _ (row : ℕ) where
 
       rest : List Noted
       rest = of_row row
-          (map (λ e. record { offset = offset; taken = taken; view = view; number = number; commits = false; entry = e }) es)
+          (map (λ e. record
+          { offset = offset; taken = taken; view = view; number = number; commits = false; entry = e }) es)
 
       by : (b : Bool) → filter (λ (n : Noted). n.commits) rest ≡ []
           → filter (λ (n : Noted). n.commits) (cond b (here ∷ rest) rest) ≡ []
@@ -143,7 +146,8 @@ entries_by Skipped = []
 abbrev pub entries_of_all : List Landing → List (List Entry)
 entries_of_all ls = map entries_by ls
 
-later : (m row : ℕ) (cs : List Changed) → AllByRecursion (IsEarlier m row) cs → AllByRecursion (IsEarlier (suc m) row) cs
+later : (m row : ℕ) (cs : List Changed) → AllByRecursion (IsEarlier m row) cs
+    → AllByRecursion (IsEarlier (suc m) row) cs
 later m row [] all = tt
 later m row (c ∷ cs) all =
     (elim all.0 [ inl less ↦ inl less | inr less ↦ inr (omega arith) ], later m row cs all.1)
@@ -232,7 +236,7 @@ module _ (t : Trace) (e : ℕ) (right : IsRightSection t e) where
 
   along_ranges : (rows from to : ℕ) (xs : List Stretch) (ws : List Walked) → Reaches from to xs
       → All (IsWithin rows) xs → AllZip (IsWalked t e) xs ws
-      → flat_map (λ w. w.changes.items) ws ≡ rows_changes from (to - from) batch_entries
+      → all_changes ws ≡ rows_changes from (to - from) batch_entries
   along_ranges rows from to [] [] reaches within walked =
       let none : 0 ≡ to - from = omega (arith, reaches) in
       ap (λ (n : ℕ). rows_changes from n batch_entries) none
@@ -254,7 +258,7 @@ module _ (t : Trace) (e : ℕ) (right : IsRightSection t e) where
 
   module _ (ws : List Walked) (walked : AreWalked t e (row_count (head_of t)) ws) where
     abbrev pub joined : List Changed
-    joined = flat_map (λ w. w.changes.items) ws
+    joined = all_changes ws
 
     joined_are : joined ≡ rows_changes 0 (2 * length t.customers) batch_entries
     joined_are =
@@ -301,7 +305,8 @@ last_told t e = refl
 
 -- as many numbers as the history tells
 pub landings_counted : (t : Trace) (e : ℕ) (h : SectionHistory) → IsRightSection t e
-    → ((u : Trace) (f : ℕ) → IsRightSection u f → length (section_history u f).landings ≡ (section_history u f).committed)
+    → ((u : Trace) (f : ℕ) → IsRightSection u f
+    → length (section_history u f).landings ≡ (section_history u f).committed)
     → h ≡ section_history t e → length h.landings ≡ length (history t e).landings
 landings_counted t e h right count is =
     ap (λ (v : SectionHistory). length v.landings) is ∙ count t e right ∙ last_told t e ∙ last_committed t e right

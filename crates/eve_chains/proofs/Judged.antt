@@ -361,5 +361,6 @@ pub as_told : (t : Trace) (h : SectionHistory) (o : Option ℕ) → h ≡ sectio
     → IsLeastUnfit (names_of t) (judged_of t h.replica) o
 as_told t h o is found =
     subst (λ (xs : List (ℕ × Executed)). IsLeastUnfit (names_of t) xs o)
-    (all_between (records_if_settled t) h.attempts h.fates ∙ ap (λ (k : SectionHistory). settled_records t k.attempts k.fates) is
+    (all_between (records_if_settled t) h.attempts h.fates ∙ ap
+    (λ (k : SectionHistory). settled_records t k.attempts k.fates) is
     ∙ judged_all t h.replica) found

@@ -1,22 +1,20 @@
 -- What is kept of how each number was reached gives what it changed.
-use Rattle.std.proofs.Common.{◌≡◌, ℕ, ℤ, zero, suc, ◌+◌, ◌-◌, ◌*◌, ◌<◌, ◌≤◌, Bool, true, false, List, [], ◌∷◌, ◌++◌}
-use Rattle.std.proofs.Common.{map, length, slice_get, slice_range, get_or, Option, Some, None, All, refl, sym, subst, ap, ◌∙◌, append_assoc}
+use Rattle.std.proofs.Common.{◌≡◌, ℕ, ℤ, zero, suc, ◌-◌, ◌*◌, ◌<◌, ◌≤◌, true, List, [], ◌∷◌, ◌++◌}
+use Rattle.std.proofs.Common.{map, length, slice_get, slice_range, get_or, Option, Some, None, refl, sym, subst, ap}
+use Rattle.std.proofs.Common.{◌∙◌, append_assoc}
 use Rattle.std.proofs.Common.{length-append, arith}
 use Rattle.std.specs.List.{AllByRecursion, AllZip}
 use Rattle.std.proofs.lemmas.Option.{same_Some}
-use Rattle.std.proofs.lemmas.List.{length-map}
-use Rattle.std.proofs.lemmas.List.Elements.{All-from_recursion}
 use Rattle.eve_grammar.specs.Trace.{Trace, Transfer}
-use Rattle.eve_frames.specs.Said.{transfer_said}
 use Rattle.eve_frames.specs.declared.transfer.TransferView.{TransferView}
 use Rattle.eve_history.specs.declared.landing.Landing as told
 use Rattle.eve_history.specs.declared.landing.Landing.TheVariants as landing
 use Rattle.eve_history.specs.Section.{Landing, ByAttempt, ByTransfer, Skipped, transfers_by}
-use Rattle.eve_history.specs.SectionHistory.{SectionHistory, section_history, history, IsToldOf, IsRightSection}
+use Rattle.eve_history.specs.SectionHistory.{SectionHistory, section_history, history, IsToldOf}
 use Rattle.eve_history.specs.SectionHistory.{Landed, LandedBy, LandedFrom, NotLanded, landed_from}
 use Rattle.eve_chains.specs.declared.changed.Changed.{Changed}
 use Rattle.eve_chains.specs.Changes.{change_of, from_starts, changes_below}
-use Rattle.eve_chains.specs.Landed.{transfer_at, values_said, HasRows, taken_values, change_in, changes_in, IsStateAmong}
+use Rattle.eve_chains.specs.Landed.{transfer_at, values_said, taken_values, change_in, changes_in, IsStateAmong}
 use Rattle.eve_chains.specs.Landed.{AreLandings}
 use Rattle.eve_chains.specs.Settling.{Change, Wrote, TookOverValues, Nothing, Settling, change_at, settling, is_change}
 use Rattle.eve_chains.specs.Settling.{defined}
@@ -181,7 +179,8 @@ module _ (t : Trace) (h : SectionHistory) (states : List TransferView) where
       other : (n : ℕ) → LandedFrom n ≡ NotLanded → ⊥
       other n e = cc
 
-  one_ran : (r : _) (l : told.Landing) (cs : List (ℕ × ℤ)) → IsToldOf h l (LandedBy r) → change_in states l cs ≡ Wrote cs
+  one_ran : (r : _) (l : told.Landing) (cs : List (ℕ × ℤ)) → IsToldOf h l (LandedBy r) → change_in states l cs ≡
+      Wrote cs
   one_ran r (landing.Attempt i) cs is = refl
   one_ran r (landing.Transfer i) cs is = absurd (other i is.0)
     where

@@ -53,7 +53,8 @@ ran_attempts [] = refl
 ran_attempts (p ∷ ps) = ap (λ (cs : List Came). Ran p.attempt ∷ cs) (ran_attempts ps)
 
 -- by more attempts
-pub rows_after-append : (t : Trace) (path : List Came) (attempts : List Attempt) → rows_after t (path ++ map Ran attempts)
+pub rows_after-append : (t : Trace) (path : List Came) (attempts : List Attempt) → rows_after t
+    (path ++ map Ran attempts)
     ≡ table_after_all (rows_after t path) (executions t attempts)
 rows_after-append t path attempts =
     fold-append (with_came t) (opening_table t) path (map Ran attempts)
@@ -106,7 +107,8 @@ module _ (t : Trace) (p : Placed) (right : IsRightAlone t p.attempt) (complete :
         ap (λ (x : ℕ × Access). x.1.index) is ∙ sym s.is,
       )
 
-  pub same_entries : (i : ℕ) → In i p.attempt.certificate → (record_at i).1.entries ≡ (executed_at t p.attempt i).entries
+  pub same_entries : (i : ℕ) → In i p.attempt.certificate → (record_at i).1.entries ≡
+      (executed_at t p.attempt i).entries
   unfolding record_at
   same_entries i member =
       let there_is = record_there i member in

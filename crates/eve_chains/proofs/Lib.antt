@@ -33,6 +33,7 @@ pub mod Stretches
 mod CommittedBatches
 mod Changing
 mod ByNumber
+mod RangeChanges
 mod ChangedRows
 mod CommittedChanges
 mod SettingRows

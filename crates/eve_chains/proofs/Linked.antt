@@ -1,7 +1,8 @@
 -- Public: other crates cite these lemmas. A section's landings are linked by paths: each attempt by which a number was
 -- reached stands on what came by the landings before it.
 use Rattle.std.proofs.Common.{◌≡◌, ℕ, zero, suc, ◌+◌, ◌≤◌, ◌==◌, nat_le, length, length-append, arith, ◌&&◌, List}
-use Rattle.std.proofs.Common.{[], ◌∷◌, ◌++◌, map, flat_map, take, drop, slice_get, Option, Some, None, refl, sym, subst, ap, ◌∙◌}
+use Rattle.std.proofs.Common.{[], ◌∷◌, ◌++◌, map, flat_map, take, drop, slice_get, Option, Some, None, refl, sym}
+use Rattle.std.proofs.Common.{subst, ap, ◌∙◌}
 use Rattle.std.proofs.Common.{append_assoc, append-nil, IsTrue, ◌-◌, ◌<◌, nat_lt, replicate}
 use Rattle.std.proofs.lemmas.Bool.{and_parts, eqb-true, leb-true, ltb-true}
 use Rattle.std.specs.Prelude.{⊤}

@@ -1,6 +1,7 @@
 -- What the rows have after an attempt's path is what those leave that count of the attempts before it.
 use Rattle.std.proofs.Common.{◌≡◌, ℕ, zero, suc, ◌+◌, ◌≤◌, ◌<◌, ◌==◌, Bool, true, false, cond, ◌||◌, List, [], ◌∷◌}
-use Rattle.std.proofs.Common.{◌++◌, map, fold, flat_map, length, filter, refl, sym, subst, ap, ◌∙◌, append_assoc, append-nil, arith}
+use Rattle.std.proofs.Common.{◌++◌, map, fold, flat_map, length, filter, refl, sym, subst, ap, ◌∙◌, append_assoc}
+use Rattle.std.proofs.Common.{append-nil, arith}
 use Rattle.std.proofs.Common.{IsTrue, add-zero, suc-add, add-suc, ◌-◌, get_or, length-append}
 use Rattle.std.specs.List.{AllByRecursion}
 use Rattle.std.specs.Prelude.{nat_le, nat_lt, ◌&&◌}
@@ -13,7 +14,8 @@ use Rattle.eve_grammar.specs.Trace.{Trace}
 use Rattle.eve_grammar.specs.Spelling.{steps_at}
 use Rattle.eve_grammar.proofs.Lists.{all-weaker, all-append}
 use Rattle.eve_history.specs.declared.fate.Fate.TheVariants.{Committed}
-use Rattle.eve_history.specs.Section.{Came, Ran, TookOver, Landing, ByAttempt, ByTransfer, Skipped, came_by, attempts_by}
+use Rattle.eve_history.specs.Section.{Came, Ran, TookOver, Landing, ByAttempt, ByTransfer, Skipped, came_by}
+use Rattle.eve_history.specs.Section.{attempts_by}
 use Rattle.eve_history.specs.Section.{Placed, SectionState, start, path_of, committing, next, state_after, is_right}
 use Rattle.eve_history.specs.Section.{are_right, is_due, is_right_attempt, is_right_certificate, are_right_accesses}
 use Rattle.eve_history.specs.Section.{request_count, commits_first, is_right_rollback, taking_over, is_right_transfer}
@@ -63,8 +65,8 @@ stays_in taken x = (x.taken == taken) && is_committed x.fate
 abbrev pub IsNoLater : ℕ → ℕ → Fated → Type 0
 IsNoLater taken view x = (x.taken ≤ taken) × (view_of x ≤ view)
 
--- After each attempt's path the rows have what those before it that count leave of what the rows had after as many states;
--- and none of those before it is later.
+-- After each attempt's path the rows have what those before it that count leave of what the rows had after as many
+-- states; and none of those before it is later.
 abbrev pub AreCounting : Trace → (ℕ → Table) → List Fated → List Fated → Type 0
 AreCounting t bases before [] = Unit {0}
 AreCounting t bases before (x ∷ xs) =
@@ -217,8 +219,8 @@ none_falls_at_end taken n (p ∷ ps) = none_falls_at_end taken (suc n) ps
 abbrev sure : ℕ → Placed → Fated
 sure taken p = record { placed = p; taken = taken; fate = Committed }
 
--- These attempts came, and these steps are still to come: of those behind the last state that was taken over, of all that
--- are committed, of the open and of the discarded ones.
+-- These attempts came, and these steps are still to come: of those behind the last state that was taken over, of all
+-- that are committed, of the open and of the discarded ones.
 record HasCome (taken view : ℕ) (behind done pending discarded : List Placed) (rest : List (ℕ × Step))
     (xs : List Fated) : Type 0 where
   counts : counting taken view xs ≡ map (sure taken) behind ++ opened taken 0 rest pending
@@ -264,7 +266,8 @@ counting_later : (taken up view : ℕ) (xs : List Fated) → up < view → AllBy
     → counting taken view xs ≡ filter (stays_in taken) xs
 counting_later taken up view [] less all = refl
 counting_later taken up view (x ∷ xs) less all =
-    (λ i. cond (same i) (x ∷ counting_later taken up view xs less all.1 i) (counting_later taken up view xs less all.1 i))
+    (λ i. cond (same i) (x ∷ counting_later taken up view xs less all.1 i)
+    (counting_later taken up view xs less all.1 i))
   where
     other : view_of x ≡ view → ⊥
     other e = omega (arith, all.0.1)
@@ -366,14 +369,16 @@ come_rollback taken view behind done pending discarded at r rest xs later known 
       ∙ ap (λ (ys : List Fated). done ++ all_placed ys) (none_commits taken 0 at r rest pending);
   fall = known.fall ∙ ap (λ (qs : List Placed). discarded ++ qs) (all_fall taken 0 at r rest pending)
       ∙ sym (append-nil (discarded ++ pending));
-  within = all-weaker (IsNoLater taken view) (IsNoLater taken r.view) xs (λ x h. (h.0, up (view_of x) h.1)) known.within;
+  within = all-weaker (IsNoLater taken view) (IsNoLater taken r.view) xs (λ x h. (h.0, up (view_of x) h.1))
+      known.within;
 }
   where
     up : (n : ℕ) → n ≤ view → n ≤ r.view
     up n h = omega (arith, later)
 
     stay : filter (stays_in taken) xs ≡ map (sure taken) behind ++ []
-    stay = known.stays ∙ ap (λ (ys : List Fated). map (sure taken) behind ++ ys) (none_commits taken 0 at r rest pending)
+    stay = known.stays ∙ ap (λ (ys : List Fated). map (sure taken) behind ++ ys)
+        (none_commits taken 0 at r rest pending)
 
 -- ---- a state is taken over
 
@@ -447,11 +452,13 @@ module _ (t : Trace) where
     fate = fate_in rest (length s.pending);
   }
 
-  attempt_comes : (s : SectionState) (at : ℕ) (a : Attempt) (rest : List (ℕ × Step)) → IsTrue (is_right t s (Attempts a))
+  attempt_comes : (s : SectionState) (at : ℕ) (a : Attempt) (rest : List (ℕ × Step)) → IsTrue
+      (is_right t s (Attempts a))
       → (xs : List Fated) → AreCome s ((at, Attempts a) ∷ rest) xs
       → AreCome (next s (at, Attempts a)) rest (xs ++ new s at a rest ∷ [])
   attempt_comes s at a rest right xs known =
-      come_attempt (length (states_by s.landings)) s.view (since s.landings) (attempts_by s.landings) s.pending s.discarded
+      come_attempt (length (states_by s.landings)) s.view (since s.landings) (attempts_by s.landings) s.pending
+      s.discarded
       at a rest (new s at a rest) refl (its_view s a right) refl xs known
 
   commit_comes : (s : SectionState) (at : ℕ) (c : Commit) (rest : List (ℕ × Step)) (pending : List Placed) → s.pending
@@ -460,25 +467,29 @@ module _ (t : Trace) where
   commit_comes s at c rest [] is right xs known = absurd (false≢true right)
   commit_comes s at c rest (p ∷ ps) is right xs known =
       let k = length (states_by s.landings) in
-      let now : HasCome k s.view (since s.landings ++ p ∷ []) (attempts_by s.landings ++ p ∷ []) ps s.discarded rest xs =
+      let now : HasCome k s.view (since s.landings ++ p ∷ []) (attempts_by s.landings ++ p ∷ []) ps s.discarded rest
+      xs =
       come_commit k s.view (since s.landings) (attempts_by s.landings) s.discarded p ps at c rest xs
       (subst (λ (qs : List Placed). HasCome k s.view (since s.landings) (attempts_by s.landings) qs s.discarded
       ((at, Commits c) ∷ rest) xs) is known) in
       subst (λ (m : ℕ). HasCome m s.view (since (s.landings ++ ByAttempt p ∷ []))
       (attempts_by (s.landings ++ ByAttempt p ∷ [])) ps s.discarded rest xs)
       (sym (ap (λ (xs : List (List Versioned)). length xs) (taken_more s.landings p)))
-      (subst (λ (qs : List Placed). HasCome k s.view qs (attempts_by (s.landings ++ ByAttempt p ∷ [])) ps s.discarded rest
+      (subst (λ (qs : List Placed). HasCome k s.view qs (attempts_by (s.landings ++ ByAttempt p ∷ [])) ps
+      s.discarded rest
       xs) (sym (fold-append since_next [] s.landings (ByAttempt p ∷ [])))
       (subst (λ (qs : List Placed). HasCome k s.view (since s.landings ++ p ∷ []) qs ps s.discarded rest xs)
       (sym (attempts_by_push s.landings p)) now))
 
-  rollback_comes : (s : SectionState) (at : ℕ) (r : Rollback) (rest : List (ℕ × Step)) → IsTrue (is_right_rollback t s r)
+  rollback_comes : (s : SectionState) (at : ℕ) (r : Rollback) (rest : List (ℕ × Step)) → IsTrue
+      (is_right_rollback t s r)
       → (xs : List Fated) → AreCome s ((at, RollsBack r) ∷ rest) xs → AreCome (next s (at, RollsBack r)) rest xs
   rollback_comes s at r rest right xs known =
       come_rollback (length (states_by s.landings)) s.view (since s.landings) (attempts_by s.landings) s.pending
       s.discarded at r rest xs (later_view s r right) known
 
-  transfer_comes : (s : SectionState) (at : ℕ) (x : Transfer) (rest : List (ℕ × Step)) → IsTrue (is_right_transfer t s x)
+  transfer_comes : (s : SectionState) (at : ℕ) (x : Transfer) (rest : List (ℕ × Step)) → IsTrue
+      (is_right_transfer t s x)
       → (xs : List Fated) → AreCome s ((at, TakesOver x) ∷ rest) xs → AreCome (next s (at, TakesOver x)) rest xs
   transfer_comes s at x rest right xs known =
       let k = length (states_by s.landings) in
@@ -518,14 +529,16 @@ module _ (t : Trace) where
       (ran (sym (fold-append since_next [] s.landings (ByAttempt p ∷ [])) i)))
 
   based_transfer : (bases : ℕ → Table) (s : SectionState) (at : ℕ) (x : Transfer)
-      → bases (suc (length (states_by s.landings))) ≡ taken_table x.rows → AreBased bases (next s (at, TakesOver x)).landings
+      → bases (suc (length (states_by s.landings))) ≡ taken_table x.rows → AreBased bases
+      (next s (at, TakesOver x)).landings
   based_transfer bases s at x has =
       let skipped = x.seq - (s.last + 1) in
       ap (rows_after t) (flat_map-append came_by s.landings (taking skipped at x)
       ∙ ap (λ (cs : List Came). flat_map came_by s.landings ++ cs) (came_taking skipped at x))
       ∙ fold-append (with_came t) (opening_table t) (flat_map came_by s.landings) (TookOver x.rows ∷ [])
       ∙ sym has
-      ∙ (λ i. fold (with_came t) (bases (sym (one_more_state s at x) i)) (ran (sym (none_since s.landings skipped at x) i)))
+      ∙ (λ i. fold (with_came t) (bases (sym (one_more_state s at x) i))
+      (ran (sym (none_since s.landings skipped at x) i)))
 
   -- after the path of an attempt
   based_path : (bases : ℕ → Table) (s : SectionState) → AreBased bases s.landings
@@ -668,7 +681,8 @@ module _ (t : Trace) where
   pub counting_told : (e : ℕ) → IsRightSection t e → AreCounting t (rows_of e) [] (told_of t e)
   unfolding history
   counting_told e right = come_all (rows_of e) start (steps_at t e) [] right (none_came (steps_at t e)) refl
-      (λ k. ap (λ (states : List (List Versioned)). taken_table (get_or states k [])) (states_after start (steps_at t e)))
+      (λ k. ap (λ (states : List (List Versioned)). taken_table (get_or states k []))
+      (states_after start (steps_at t e)))
 
   pub committed_told : (e : ℕ) → IsRightSection t e → all_placed (filter will_commit (told_of t e))
       ≡ attempts_by (history t e).landings

@@ -49,7 +49,8 @@ in_cut : {A : Type 0} (xs front : List A) (x : A) (back : List A) → xs ≡ fro
 in_cut xs front x back is = subst (In x) (sym is) (in_middle x front back)
 
 -- of a request's entries on distinct rows none before this one is of its row
-none_before : (at taken view number : ℕ) (commits : Bool) (row : ℕ) (before : List Entry) (e : Entry) (rest : List Entry)
+none_before : (at taken view number : ℕ) (commits : Bool) (row : ℕ) (before : List Entry) (e : Entry)
+    (rest : List Entry)
     → AreDistinct (map (λ d. d.row) (before ++ e ∷ rest)) → e.row ≡ row
     → of_row row (map (noted_entry at taken view number commits) before) ≡ []
 none_before at taken view number commits row [] e rest apart its = refl
@@ -125,13 +126,15 @@ module _ (t : Trace) (e : ℕ) (limits : HasLimits t) (right : IsRightSection t 
       → (xs : List (ℕ × Access)) (x : ℕ × Access) (zs : List (ℕ × Access)) → own y.placed ≡ xs ++ x ∷ zs
       → (row : ℕ) (n : Noted) → n.taken ≡ y.taken → n.view ≡ view_of y
       → met_by (bases_of t e row) (pair_after (bases_of t e row)
-      (of_row row (all_noted front ++ flat_map (noted_by y.taken (view_of y) (number_of y) (is_committed y.fate)) xs))) n
+      (of_row row (all_noted front ++ flat_map (noted_by y.taken (view_of y) (number_of y) (is_committed y.fate))
+      xs))) n
       ≡ visible_to t y.placed x.1.index row
   meets_must front y back is done xs x zs its row n as_many same =
       let there_is = settled_there t e limits right y (in_cut (told_of t e) front y back is) done in
       meets_visible t e limits right front y back is done xs row n as_many same
       ∙ ap (λ (table : Table). table row)
-      (left_before t y.placed (right_one t e y.placed right there_is) (complete_one t e y.placed limits there_is) xs x zs
+      (left_before t y.placed (right_one t e y.placed right there_is) (complete_one t e y.placed limits there_is) xs
+      x zs
       its)
 
   -- a fault on a row stands at some record
@@ -144,9 +147,11 @@ module _ (t : Trace) (e : ℕ) (limits : HasLimits t) (right : IsRightSection t 
       place.is in
       let b = flat_cut noted_in (filter settles (told_of t e)) a.front n a.back a.is in
       let c = filter_cut settles (told_of t e) b.earlier b.item b.later b.is in
-      let d = flat_cut (noted_by b.item.taken (view_of b.item) (number_of b.item) (is_committed b.item.fate)) (own b.item.placed) b.front n b.back
+      let d = flat_cut (noted_by b.item.taken (view_of b.item) (number_of b.item) (is_committed b.item.fate))
+      (own b.item.placed) b.front n b.back
       b.inner in
-      let m = map_cut (noted_entry d.item.0 b.item.taken (view_of b.item) (number_of b.item) (is_committed b.item.fate)) d.item.1.entries d.front n
+      let m = map_cut (noted_entry d.item.0 b.item.taken (view_of b.item) (number_of b.item)
+      (is_committed b.item.fate)) d.item.1.entries d.front n
       d.back d.inner in
       let its : n.entry.row ≡ row = eqb-true n.entry.row row a.passes in
       let same : n.entry ≡ m.item = ap (λ (k : Noted). k.entry) m.it in
@@ -154,11 +159,13 @@ module _ (t : Trace) (e : ℕ) (limits : HasLimits t) (right : IsRightSection t 
       let record_there : In d.item (own b.item.placed) =
       in_cut (own b.item.placed) d.earlier d.item d.later d.is in
       let none : of_row row d.front ≡ [] =
-      ap (of_row row) m.same ∙ none_before d.item.0 b.item.taken (view_of b.item) (number_of b.item) (is_committed b.item.fate) row m.earlier m.item
+      ap (of_row row) m.same ∙ none_before d.item.0 b.item.taken (view_of b.item) (number_of b.item)
+      (is_committed b.item.fate) row m.earlier m.item
       m.later
       (subst (λ (es : List Entry). AreDistinct (map (λ k. k.row) es)) m.is
       (apart b.item there_is c.passes d.item record_there)) (ap (λ (k : Entry). k.row) (sym same) ∙ its) in
-      let mine = flat_map (noted_by b.item.taken (view_of b.item) (number_of b.item) (is_committed b.item.fate)) d.earlier in
+      let mine = flat_map (noted_by b.item.taken (view_of b.item) (number_of b.item) (is_committed b.item.fate))
+      d.earlier in
       let all : a.front ≡ (all_noted c.front ++ mine) ++ d.front =
       b.same ∙ (λ i. flat_map noted_in (sym c.same i) ++ d.same i)
       ∙ sym (append_assoc (all_noted c.front) mine d.front) in
@@ -225,7 +232,8 @@ module _ (t : Trace) (e : ℕ) (limits : HasLimits t) (right : IsRightSection t 
         ∙ map-append (noted_entry x.0 y.taken (view_of y) (number_of y) (is_committed y.fate)) before (en ∷ rest)
 
     in_attempt : noted_in y ≡ mine ++
-        (noted_by y.taken (view_of y) (number_of y) (is_committed y.fate) x ++ flat_map (noted_by y.taken (view_of y) (number_of y) (is_committed y.fate)) zs)
+        (noted_by y.taken (view_of y) (number_of y) (is_committed y.fate) x ++ flat_map
+        (noted_by y.taken (view_of y) (number_of y) (is_committed y.fate)) zs)
     in_attempt = ap (flat_map (noted_by y.taken (view_of y) (number_of y) (is_committed y.fate))) its
         ∙ flat_map-append (noted_by y.taken (view_of y) (number_of y) (is_committed y.fate)) xs (x ∷ zs)
 
@@ -238,17 +246,22 @@ module _ (t : Trace) (e : ℕ) (limits : HasLimits t) (right : IsRightSection t 
     all_is : all_noted (told_of t e) ≡ ((all_noted front ++ mine) ++ own_before) ++ note ∷ others
     all_is =
         in_all ∙ ap (λ ns. all_noted front ++ (ns ++ all_noted back))
-        (in_attempt ∙ ap (λ ns. mine ++ (ns ++ flat_map (noted_by y.taken (view_of y) (number_of y) (is_committed y.fate)) zs)) in_record)
+        (in_attempt ∙ ap (λ ns. mine ++
+        (ns ++ flat_map (noted_by y.taken (view_of y) (number_of y) (is_committed y.fate)) zs)) in_record)
         ∙ ap (λ ns. all_noted front ++ ns)
-        (append_assoc mine ((own_before ++ note ∷ map (noted_entry x.0 y.taken (view_of y) (number_of y) (is_committed y.fate)) rest)
+        (append_assoc mine ((own_before ++ note ∷ map
+        (noted_entry x.0 y.taken (view_of y) (number_of y) (is_committed y.fate)) rest)
         ++ flat_map (noted_by y.taken (view_of y) (number_of y) (is_committed y.fate)) zs) (all_noted back))
         ∙ sym (append_assoc (all_noted front) mine
-        (((own_before ++ note ∷ map (noted_entry x.0 y.taken (view_of y) (number_of y) (is_committed y.fate)) rest) ++ flat_map
+        (((own_before ++ note ∷ map (noted_entry x.0 y.taken (view_of y) (number_of y) (is_committed y.fate)) rest)
+        ++ flat_map
         (noted_by y.taken (view_of y) (number_of y) (is_committed y.fate)) zs) ++ all_noted back))
         ∙ ap (λ ns. (all_noted front ++ mine) ++ ns)
-        (append_assoc (own_before ++ note ∷ map (noted_entry x.0 y.taken (view_of y) (number_of y) (is_committed y.fate)) rest)
+        (append_assoc (own_before ++ note ∷ map
+        (noted_entry x.0 y.taken (view_of y) (number_of y) (is_committed y.fate)) rest)
         (flat_map (noted_by y.taken (view_of y) (number_of y) (is_committed y.fate)) zs) (all_noted back)
-        ∙ append_assoc own_before (note ∷ map (noted_entry x.0 y.taken (view_of y) (number_of y) (is_committed y.fate)) rest)
+        ∙ append_assoc own_before (note ∷ map
+        (noted_entry x.0 y.taken (view_of y) (number_of y) (is_committed y.fate)) rest)
         (flat_map (noted_by y.taken (view_of y) (number_of y) (is_committed y.fate)) zs ++ all_noted back))
         ∙ sym (append_assoc (all_noted front ++ mine) own_before (note ∷ others))
 

@@ -42,7 +42,8 @@ AreRising (n ∷ ns) = AllByRecursion (IsUpTo n) ns × AreRising ns
 abbrev pub IsWithin : ℕ → ℕ → Noted → Type 0
 IsWithin taken view n = (n.taken ≤ taken) × (n.view ≤ view)
 
-pub fold_more : {A B : Type 0} (f : A → B → A) (a : A) (xs : List B) (x : B) → fold f a (xs ++ x ∷ []) ≡ f (fold f a xs) x
+pub fold_more : {A B : Type 0} (f : A → B → A) (a : A) (xs : List B) (x : B) → fold f a (xs ++ x ∷ []) ≡ f
+    (fold f a xs) x
 fold_more f a [] x = refl
 fold_more f a (y ∷ xs) x = fold_more f (f a y) xs x
 
@@ -79,7 +80,8 @@ counts_none : (up taken view most : ℕ) (ns : List Noted) → up < taken → Al
     → filter (counts taken view) ns ≡ []
 counts_none up taken view most ns less all =
     none_of (counts taken view) (IsWithin up most)
-    (λ n within. ap (λ (b : Bool). b && (n.commits || (n.view == view))) (ne_eqb n.taken taken (other n within.0))) ns all
+    (λ n within. ap (λ (b : Bool). b && (n.commits || (n.view == view))) (ne_eqb n.taken taken (other n within.0)))
+    ns all
   where
     other : (n : Noted) → n.taken ≤ up → n.taken ≡ taken → ⊥
     other n le is = omega arith

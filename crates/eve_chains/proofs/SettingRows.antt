@@ -1,5 +1,6 @@
 -- Balances in which changed rows are set one after another, and compared one after another.
-use Rattle.std.proofs.Common.{◌≡◌, ℕ, ℤ, zero, suc, ◌+◌, ◌<◌, ◌==◌, Bool, true, false, cond, ◌&&◌, List, [], ◌∷◌, ◌++◌, map}
+use Rattle.std.proofs.Common.{◌≡◌, ℕ, ℤ, zero, suc, ◌+◌, ◌<◌, ◌==◌, Bool, true, false, cond, ◌&&◌, List, [], ◌∷◌}
+use Rattle.std.proofs.Common.{◌++◌, map}
 use Rattle.std.proofs.Common.{take, drop, set, get_or, slice_get, Some, length, refl, sym, ap, ◌∙◌, inl, inr}
 use Rattle.std.proofs.Common.{take-append-drop, pos}
 use Rattle.std.specs.List.{list_all}
@@ -21,7 +22,8 @@ row_set xs row z lt = λ i r. at r i
     at : (r : ℕ) → balance_of_row (set xs row z) r ≡ cond (row == r) z (balance_of_row xs r)
     at r = elim (cases_eq row r) [
       | inl same ↦ ap (λ (k : ℕ). get_or (set xs row z) k (pos 0)) (sym same)
-          ∙ get_or-set_same xs row z (pos 0) lt ∙ ap (λ (b : Bool). cond b z (balance_of_row xs r)) (sym (eq-eqb row r same))
+          ∙ get_or-set_same xs row z (pos 0) lt ∙ ap (λ (b : Bool). cond b z (balance_of_row xs r))
+          (sym (eq-eqb row r same))
       | inr other ↦ get_or-set_other xs row r z (pos 0) (λ same. other (sym same))
           ∙ ap (λ (b : Bool). cond b z (balance_of_row xs r)) (sym (ne_eqb row r other))
     ]
@@ -32,7 +34,8 @@ module _ (cs : List Changed) (i : ℕ) (c : Changed) (lt : i < length cs) (is : 
       ∙ map-append change_of (take i cs) (c ∷ [])
 
   -- one change more is set
-  pub set_more : (values : ℕ → ℤ) (old new : List ℤ) → balance_of_row old ≡ values_changed values (map change_of (take i cs))
+  pub set_more : (values : ℕ → ℤ) (old new : List ℤ) → balance_of_row old ≡ values_changed values
+      (map change_of (take i cs))
       → c.row < length old → new ≡ set old c.row c.value
       → balance_of_row new ≡ values_changed values (map change_of (take (i + 1) cs))
   set_more values old new before there now =

@@ -74,7 +74,8 @@ all_settled : (t : Trace) (e : ℕ) (P : Attempt → Type 0) → AllByRecursion 
 unfolding history
 all_settled t e P own =
     let known = all_after P start (steps_at t e) own (record { committed = tt; pending = tt; discarded = tt }) in
-    all-append (λ p. P p.attempt) (attempts_by (history t e).landings) (history t e).discarded known.committed known.discarded
+    all-append (λ p. P p.attempt) (attempts_by (history t e).landings) (history t e).discarded known.committed
+    known.discarded
 
 -- ---- right steps
 

@@ -113,7 +113,8 @@ chain_at table f (j ∷ order) i follows member =
       | inl same ↦ subst (SeesAt table f (j ∷ order)) (eqb-true j i same)
           (subst (λ (front : List ℕ). AllByRecursion (Sees (table_after_all table (map f front))) (f j).entries)
           (sym (sees_first order j)) follows.0)
-      | inr other ↦ subst (λ (front : List ℕ). AllByRecursion (Sees (table_after_all table (map f front))) (f i).entries)
+      | inr other ↦ subst (λ (front : List ℕ). AllByRecursion (Sees (table_after_all table (map f front)))
+          (f i).entries)
           (sym (sees_later order i j other))
           (chain_at (table_after table (f j).entries) f order i follows.1 (in_rest i j order other member))
     ]

@@ -75,7 +75,8 @@ module _ {A B : Type 0} (of : B → Fate → List A) where
 
   module _ (xs : List B) (fates : List Fate) where
     pub between_joined : (from mid to : ℕ) → from ≤ mid → mid ≤ to
-        → by_fates_between of xs fates from mid ++ by_fates_between of xs fates mid to ≡ by_fates_between of xs fates from to
+        → by_fates_between of xs fates from mid ++ by_fates_between of xs fates mid to ≡ by_fates_between of xs
+        fates from to
     between_joined from mid to low high =
         let m = mid - from in
         let n = to - mid in
@@ -136,7 +137,8 @@ module _ (t : Trace) (h : SectionHistory) (names : List (List ℕ)) where
       let a = item_within h.attempts i there in
       let f = item_within h.fates i fate in
       joined from i (i + 1) least found low (omega arith) is
-      (subst (λ (xs : List _). IsLeastUnfit names xs found) (one_between (records_if_settled t) h.attempts h.fates i a.0 f.0 a.1 f.1)
+      (subst (λ (xs : List _). IsLeastUnfit names xs found)
+      (one_between (records_if_settled t) h.attempts h.fates i a.0 f.0 a.1 f.1)
       (its a.0 f.0 a.1 f.1))
 
   -- of stretches that follow one another

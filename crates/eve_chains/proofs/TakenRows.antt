@@ -1,5 +1,5 @@
 -- Each state that was taken over has all rows, and its values are the balances.
-use Rattle.std.proofs.Common.{◌≡◌, ℕ, ℤ, zero, suc, ◌+◌, ◌*◌, ◌≤◌, ◌==◌, ◌&&◌, List, [], ◌∷◌, ◌++◌, map, take, length, get_or}
+use Rattle.std.proofs.Common.{◌≡◌, ℕ, ℤ, zero, suc, ◌+◌, ◌*◌, ◌≤◌, ◌==◌, List, [], ◌∷◌, ◌++◌, map, take, length}
 use Rattle.std.proofs.Common.{slice_get, Some, pos, All, IsTrue, refl, sym, subst, ap, ◌∙◌, arith}
 use Rattle.std.specs.List.{AllByRecursion, list_all}
 use Rattle.std.proofs.lemmas.Bool.{and_parts, eqb-true}
@@ -8,18 +8,15 @@ use Rattle.std.proofs.lemmas.List.Elements.{All-from_recursion}
 use Rattle.std.proofs.lemmas.Option.{same_Some}
 use Rattle.eve_smallbank.specs.Access.{balance_of_row}
 use Rattle.eve_smallbank.specs.Chain.{values_of}
-use Rattle.eve_smallbank.specs.declared.versioned.Versioned.{Versioned}
 use Rattle.eve_grammar.specs.Trace.{Transfer, Step, Attempts, Commits, RollsBack, TakesOver, Trace, head_of}
 use Rattle.eve_grammar.specs.Spelling.{steps_at}
 use Rattle.eve_grammar.specs.Limits.{is_number, are_no_debts, is_transfer, is_step, row_count, HasLimits}
-use Rattle.eve_frames.specs.Said.{transfer_said}
 use Rattle.eve_frames.specs.declared.transfer.TransferView.{TransferView}
 use Rattle.eve_history.specs.Section.{Landing, ByAttempt, ByTransfer, Skipped, transfers_by}
 use Rattle.eve_history.specs.SectionHistory.{SectionHistory, section_history, history, IsRightSection, landing_at}
 use Rattle.eve_history.proofs.Coming.{steps_fit}
 use Rattle.eve_history.proofs.Transfers.{transfers_among, transfers_of_steps, transfers_told}
-use Rattle.eve_chains.specs.Visible.{taken_table, rows_after}
-use Rattle.eve_chains.specs.Committed.{path_to, first_rows, balances_to}
+use Rattle.eve_chains.specs.Committed.{first_rows, balances_to}
 use Rattle.eve_chains.specs.Landed.{transfer_at, HasRows}
 use Rattle.eve_chains.proofs.AdvancingBanks.{values_taken}
 use Rattle.eve_chains.proofs.Linked.{none≢some}

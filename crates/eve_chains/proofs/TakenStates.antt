@@ -1,5 +1,6 @@
 -- What a row has in a state that was taken over.
-use Rattle.std.proofs.Common.{◌≡◌, ℕ, zero, suc, ◌≤◌, List, [], ◌∷◌, map, length, get_or, slice_get, Some, pos, refl, ap}
+use Rattle.std.proofs.Common.{◌≡◌, ℕ, zero, suc, ◌≤◌, List, [], ◌∷◌, map, length, get_or, slice_get, Some, pos, refl}
+use Rattle.std.proofs.Common.{ap}
 use Rattle.std.proofs.Common.{arith}
 use Rattle.std.proofs.lemmas.Option.{same_Some}
 use Rattle.eve_smallbank.specs.declared.versioned.Versioned.{Versioned}
@@ -18,7 +19,8 @@ no_state [] k past = refl
 no_state (y ∷ xs) zero past = absurd (omega (arith, past))
 no_state (y ∷ xs) (suc k) past = no_state xs k (omega (arith, past))
 
-pub row_there : (rows : List Versioned) (row : ℕ) (v : Versioned) → slice_get rows row ≡ Some v → taken_table rows row ≡ v
+pub row_there : (rows : List Versioned) (row : ℕ) (v : Versioned) → slice_get rows row ≡ Some v → taken_table rows
+    row ≡ v
 row_there [] row v at = none≢some v at
 row_there (w ∷ rows) zero v at = same_Some w v at
 row_there (w ∷ rows) (suc row) v at = row_there rows row v at

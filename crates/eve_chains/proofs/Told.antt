@@ -1,6 +1,7 @@
 -- What is noted of the attempts that a history tells is what is noted along the section.
 use Rattle.std.proofs.Common.{◌≡◌, ℕ, zero, suc, ◌-◌, ◌<◌, ◌≤◌, ◌==◌, Bool, true, false, cond, List, [], ◌∷◌, ◌++◌, map}
-use Rattle.std.proofs.Common.{filter, flat_map, slice_get, get_or, Some, length, length-append, refl, sym, subst, ap, ◌∙◌, arith, IsTrue}
+use Rattle.std.proofs.Common.{filter, flat_map, slice_get, get_or, Some, length, length-append, refl, sym, subst, ap}
+use Rattle.std.proofs.Common.{◌∙◌, arith, IsTrue}
 use Rattle.std.specs.Prelude.{nat_lt}
 use Rattle.std.specs.List.{AllByRecursion, list_all}
 use Rattle.std.proofs.lemmas.Bool.{and_parts, ltb-true, ne_eqb}
@@ -162,10 +163,13 @@ below_along : (rows taken view number : ℕ) (commits : Bool) (xs : List (ℕ ×
     → AllByRecursion (IsRowBelow rows) (flat_map (noted_by taken view number commits) xs)
 below_along rows taken view number commits [] within = tt
 below_along rows taken view number commits (x ∷ xs) within =
-    let parts = and_parts (list_all (is_entry rows) x.1.entries) (list_all (λ y. list_all (is_entry rows) y.1.entries) xs)
+    let parts = and_parts (list_all (is_entry rows) x.1.entries)
+    (list_all (λ y. list_all (is_entry rows) y.1.entries) xs)
     within in
-    all-append (IsRowBelow rows) (noted_by taken view number commits x) (flat_map (noted_by taken view number commits) xs)
-    (below_in rows x.0 taken view number commits x.1.entries parts.0) (below_along rows taken view number commits xs parts.1)
+    all-append (IsRowBelow rows) (noted_by taken view number commits x)
+    (flat_map (noted_by taken view number commits) xs)
+    (below_in rows x.0 taken view number commits x.1.entries parts.0)
+    (below_along rows taken view number commits xs parts.1)
 
 below_gathered : (rows : ℕ) (xs : List (ℕ × Attempt)) (counts : List ℕ) (fates : List Fate)
     → AllByRecursion (IsWithin rows) xs
@@ -215,7 +219,8 @@ within_told t e h i r limits is at =
     (along (attempts_among (steps_at t e)) (within_section t e limits))) at
   where
     along : (xs : List (ℕ × Attempt)) → AllByRecursion (IsWithin (row_count (head_of t))) xs
-        → AllByRecursion (λ (q : ExecutedAttempt). AreWithin (row_count (head_of t)) q.ordered) (map executed_attempt xs)
+        → AllByRecursion (λ (q : ExecutedAttempt). AreWithin (row_count (head_of t)) q.ordered)
+        (map executed_attempt xs)
     along [] all = tt
     along (x ∷ xs) all = (all.0.within, along xs all.1)
 

@@ -171,7 +171,8 @@ module _ (e : ℕ) (bases : ℕ → Versioned) (ns : List Noted) (n : Noted) whe
         | inl last ↦ inr (record {
           at = ap (λ (k : Noted). k.offset) (sym last.1) ∙ place.holds.0;
           other = subst (λ (k : Noted). SeesAnother f.code (met_by bases (pair_after bases ns) k) k.entry) last.1
-              (subst (λ (bs : List Noted). SeesAnother f.code (met_by bases (pair_after bases bs) place.item) place.item.entry)
+              (subst (λ (bs : List Noted). SeesAnother f.code (met_by bases (pair_after bases bs) place.item)
+              place.item.entry)
               last.0 place.holds.1);
           inside = wrong.inside;
         })
@@ -413,7 +414,8 @@ each_set P xs p x there new each i d less =
     ]
 
 pub row_begun : (t : Trace) (row place : ℕ) (value : ℤ) (w : GatheredRow)
-    → ((e : ℕ) (bases : ℕ → Versioned) → bases 0 ≡ record { version = 0; value = value } → HasMet e bases [] w.walked.walk)
+    → ((e : ℕ) (bases : ℕ → Versioned) → bases 0 ≡ record { version = 0; value = value }
+    → HasMet e bases [] w.walked.walk)
     → w.walked.changes.items ≡ [] → w.notes.items ≡ [] → value ≡ opening_of t row → row ≡ place
     → (e : ℕ) → HasGathered e place (bases_of t e place) [] w
 row_begun t row place value w met none empty is same e = record {

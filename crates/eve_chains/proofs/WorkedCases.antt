@@ -18,7 +18,17 @@ asked number request = record { client = 7; number = number; request = request }
 one_batch : List Asked → ℕ → Trace
 one_batch requests size = record {
   head =
-      record { version = 1; replicas = 1; verifiers = 1; quorum = 1; window = 1; workers = 1; customers = 1; batches = 1 };
+      record {
+        version = 1;
+        replicas = 1;
+        verifiers = 1;
+        quorum = 1;
+        window = 1;
+        workers = 1;
+        customers = 1;
+        batches
+            = 1;
+      };
   customers = record { name = codes "ann"; saving = pos 0; checking = pos 0 } ∷ [];
   batches = record { sizes = size ∷ []; requests = requests } ∷ [];
   sections = [] ∷ [];

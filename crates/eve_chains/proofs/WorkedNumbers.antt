@@ -1,6 +1,7 @@
 -- A section's numbers, of which two are skipped, one is reached by a state that is taken over, and one by an attempt
 -- behind it: what an entry must see, what a row's walk meets, and the values of each number. Each line computes.
-use Rattle.std.proofs.Common.{◌≡◌, ℕ, zero, suc, ◌+◌, pos, Bool, true, false, List, [], ◌∷◌, map, flat_map, take, replicate}
+use Rattle.std.proofs.Common.{◌≡◌, ℕ, zero, suc, ◌+◌, pos, Bool, true, false, List, [], ◌∷◌, map, flat_map, take}
+use Rattle.std.proofs.Common.{replicate}
 use Rattle.std.proofs.Common.{codes, length, refl}
 use Rattle.eve_smallbank.specs.SmallBank.{DepositChecking}
 use Rattle.eve_smallbank.specs.declared.request.Reply.TheVariants.{Done}

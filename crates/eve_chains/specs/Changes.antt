@@ -1,11 +1,13 @@
 -- What batches change: for each row that a batch writes, the value after its last write.
 -- docs/MODEL.md, "Bank and replies after a committed batch".
 use Rattle.std.specs.Prelude.{ℕ, ℤ, zero, suc, ◌+◌, ◌==◌, ◌&&◌, if◌then◌else◌, List, [], ◌∷◌, ◌++◌, map, filter, fold}
-use Rattle.std.specs.Prelude.{Option, Some, None, slice_index_or, slice_range}
+use Rattle.std.specs.Prelude.{Option, Some, None, length, take, slice_index_or, slice_range}
+use Rattle.std.specs.List.{flat_map}
 use Rattle.eve_smallbank.specs.declared.entry.Entry.{Entry}
 use Rattle.eve_smallbank.specs.Access.{is_write, writes_row}
 use Rattle.eve_chains.specs.Rows.{Noted, of_row}
 use Rattle.eve_chains.specs.declared.changed.Changed.{Changed}
+use Rattle.eve_chains.specs.declared.walked.Walked.{Walked}
 
 -- ---- of entries
 
@@ -48,6 +50,16 @@ changes_along cs ns = fold change_by cs ns
 abbrev pub changes_of_rows : List Noted → ℕ → ℕ → List Changed → List Changed
 changes_of_rows ns from zero cs = cs
 changes_of_rows ns from (suc count) cs = changes_along (changes_of_rows ns from count cs) (of_row (from + count) ns)
+
+-- ---- range after range
+
+-- what ranges of rows changed
+abbrev pub all_changes : List Walked → List Changed
+all_changes ws = flat_map (λ w. w.changes.items) ws
+
+-- how many changes the ranges before this place have
+abbrev pub changes_before : List Walked → ℕ → ℕ
+changes_before ws at = length (all_changes (take at ws))
 
 -- ---- by number
 

@@ -1,6 +1,6 @@
 -- What is kept of how each number was reached, beside what its batch changed.
-use Rattle.std.specs.Prelude.{◌≡◌, ◌<◌, ◌≤◌, ℕ, ℤ, List, [], ◌∷◌, Option, Some, None, All, ⊤, length, map, slice_get, ◌-◌}
-use Rattle.std.specs.Prelude.{option_map}
+use Rattle.std.specs.Prelude.{◌≡◌, ◌<◌, ◌≤◌, ℕ, ℤ, List, [], ◌∷◌, Option, Some, None, All, ⊤, length, map, slice_get}
+use Rattle.std.specs.Prelude.{◌-◌}
 use Rattle.eve_accounts.specs.declared.limits.TheConstants.{MOST_NAMED_ROWS}
 use Rattle.eve_grammar.specs.Trace.{Transfer}
 use Rattle.eve_frames.specs.Said.{transfer_said}

@@ -23,7 +23,8 @@ use Rattle.eve_chains.specs.Unfit.{is_settled}
 abbrev pub states_by : List Landing → List (List Versioned)
 states_by landings = map (λ x. x.1.rows) (transfers_by landings)
 
--- what a row of replica e has after this many of them: the opening balance after none, and else what the last of them has
+-- what a row of replica e has after this many of them: the opening balance after none, and else what the last of them
+-- has
 abbrev pub bases_of : Trace → ℕ → ℕ → ℕ → Versioned
 bases_of t e row zero = opening_table t row
 bases_of t e row (suc k) = taken_table (slice_index_or (states_by (history t e).landings) k []) row
@@ -105,8 +106,8 @@ pub record Pair : Type 0 where
   pub committed : Versioned
   pub working : Versioned
 
--- What the row has as it is committed, where the next entry comes. Where more states were taken over, it is what the last
--- of them has, since nothing was noted of the row behind it. What it has after each is given.
+-- What the row has as it is committed, where the next entry comes. Where more states were taken over, it is what the
+-- last of them has, since nothing was noted of the row behind it. What it has after each is given.
 abbrev pub kept_by : (ℕ → Versioned) → Pair → Noted → Versioned
 kept_by bases p n = if n.taken == p.taken then p.committed else bases n.taken
 
@@ -143,8 +144,8 @@ at_first bases = record { taken = 0; view = 0; committed = bases 0; working = ba
 abbrev pub pair_after : (ℕ → Versioned) → List Noted → Pair
 pair_after bases ns = fold (next_pair bases) (at_first bases) ns
 
--- A fault of replica e at one of these entries of a row, which had this at first and after each state that was taken over:
--- the entry sees something else than the row's walk meets there.
+-- A fault of replica e at one of these entries of a row, which had this at first and after each state that was taken
+-- over: the entry sees something else than the row's walk meets there.
 pub record IsWrongOnRow (e : ℕ) (bases : ℕ → Versioned) (ns : List Noted) (f : Fault) : Type 0 where
   pub stands : SomePlace ns
       (λ before n. (n.offset ≡ f.offset) × SeesAnother f.code (met_by bases (pair_after bases before) n) n.entry)

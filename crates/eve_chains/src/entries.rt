@@ -33,8 +33,8 @@ struct Noting {
     commits: bool,
 }
 
-/// Gathers the entries of an attempt's records, in its certificate's order, each for its row, where that is one of these
-/// rows from this one on; of an open attempt none.
+/// Gathers the entries of an attempt's records, in its certificate's order, each for its row, where that is one of
+/// these rows from this one on; of an open attempt none.
 pub(crate) fn note_attempt(
     rows: &mut Vec<GatheredRow>,
     from: usize,
@@ -97,8 +97,8 @@ fn note_record(
     ensures gathered { OnOk result ((t : TraceValue) (e : ℕ) (ns : List Noted)
         → EachHasGathered t e noting.from ns rows.old.items
         → EachHasGathered t e noting.from
-        (ns ++ noted_by noting.taken noting.view noting.number noting.commits (access.now.offset, access_said access.now))
-        rows.new.items) }
+        (ns ++ noted_by noting.taken noting.view noting.number noting.commits
+        (access.now.offset, access_said access.now)) rows.new.items) }
 {
     let at = access.offset() as u32;
     for place in 0..access.len() {

@@ -110,9 +110,9 @@ pub fn balances_advance_along_the_records()
         → values_to t e (suc n) ≡ values_after (values_to t e n) (entries_along (ordered p.offset p.attempt)) }
 {}
 
-/// What the rows have after attempts is what the nearest write of each left, or else the opening balance; behind a state
-/// that was taken over, or else that state, whatever came before it. So is what each entry must see: what the nearest
-/// write left of the attempts behind any part of the path, or else what the rows had after that part.
+/// What the rows have after attempts is what the nearest write of each left, or else the opening balance; behind a
+/// state that was taken over, or else that state, whatever came before it. So is what each entry must see: what the
+/// nearest write left of the attempts behind any part of the path, or else what the rows had after that part.
 ///
 /// docs/MODEL.md, "What an entry must see".
 pub fn rows_have_what_the_nearest_writes_left()
@@ -127,8 +127,8 @@ pub fn rows_have_what_the_nearest_writes_left()
         (executed_in t p.attempt (before_index index p.attempt.certificate))) }
 {}
 
-/// What is kept of a right section gives the balances after each number, also after one that was skipped: they are those
-/// before it.
+/// What is kept of a right section gives the balances after each number, also after one that was skipped: they are
+/// those before it.
 pub fn settled_values_are_the_banks()
     ensures { (t : Trace) (e n : ℕ) → HasLimits t → IsRightSection t e → values_in (settling t e) n ≡ values_to t e n }
 {}

@@ -51,8 +51,8 @@ impl RowWalk {
         }
     }
 
-    /// Goes to where the row's next entry comes. Where another number of states was taken over, the row has what the last
-    /// of them has, whatever came before it. With a new view a rollback came, which took the open attempts back.
+    /// Goes to where the row's next entry comes. Where another number of states was taken over, the row has what the
+    /// last of them has, whatever came before it. With a new view a rollback came, which took the open attempts back.
     fn go_to(&mut self, bases: &Bases<'_, '_>, row: Row, note: &Note)
         ensures pair { pair_of self.new
             ≡ arrived_by (base_at bases.now row) (pair_of self.old) (noted_at row note.now) }

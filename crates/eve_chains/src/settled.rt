@@ -2,7 +2,7 @@
 
 ghost use Rattle.std.specs.Prelude.{◌≡◌, ◌≤◌, ◌-◌, ◌↔◌, ℕ, Some, All, IsTrue, IfOk, IfSome, length, map, slice_get};
 ghost use Rattle.std.specs.Prelude.{option_map};
-ghost use Rattle.std.specs.List.{AllZip, list_all, flat_map};
+ghost use Rattle.std.specs.List.{AllZip, list_all};
 ghost use Rattle.eve_accounts.specs.declared.limits.TheConstants.{MOST_NAMED_ROWS};
 ghost use Rattle.eve_smallbank.specs.Access.{balance_of_row};
 ghost use Rattle.eve_grammar.specs.Trace.{opening_rows, head_of};
@@ -33,8 +33,9 @@ const ROWS_A_CHANGE: usize = 2;
 
 /// The opening balances, and what each number that a replica reached changed, which give the balances after each.
 ///
-/// docs/MODEL.md, "Bank and replies after a committed batch". It takes eight bytes for each row, sixteen for each number, and
-/// sixteen for each row that a batch changed. A state that was taken over is read where it lies in the trace.
+/// docs/MODEL.md, "Bank and replies after a committed batch". It takes eight bytes for each row, sixteen for each
+/// number, and sixteen for each row that a batch changed. A state that was taken over is read where it lies in the
+/// trace.
 #[derive(Drop)]
 pub struct Settled<'a> {
     opening: Balances,
@@ -108,8 +109,7 @@ impl<'a> Settled<'a> {
         numbers_are_reached();
         let landings = landings_of(alloc, history)?;
         let transfers = transfers_of(alloc, history)?;
-        let changes = join_all(alloc, walked)?;
-        let numbered = Numbered::of(alloc, opening.len(), history.committed(), &changes)?;
+        let numbered = Numbered::of(alloc, opening.len(), history.committed(), &walked)?;
         Ok(Settled {
             opening,
             numbered,
@@ -125,8 +125,8 @@ impl<'a> Settled<'a> {
         self.numbered.count
     }
 
-    /// Whether there are balances after number n: 0 has some, and so has each number that the replica reached and didn't
-    /// skip.
+    /// Whether there are balances after number n: 0 has some, and so has each number that the replica reached and
+    /// didn't skip.
     ///
     /// docs/MODEL.md, "Bank and replies after a committed batch".
     pub fn defined(&self, n: u32) -> bool
@@ -159,7 +159,8 @@ impl<'a> Settled<'a> {
         }
     }
 
-    /// The balances after number n, in cents, which are the bank after it: the work is what the numbers up to n changed.
+    /// The balances after number n, in cents, which are the bank after it: the work is what the numbers up to n
+    /// changed.
     ///
     /// docs/MODEL.md, "Bank and replies after a committed batch".
     pub fn balances_after(&self, alloc: Global, n: u32) -> Result<Balances, AllocError>
@@ -198,8 +199,8 @@ impl<'a> Settled<'a> {
 
     /// Whether the balances after batch n, of the batches from 1 on, are those that another replica has after it.
     /// `before` says that those after the batch before are known to be the same: then only the rows are compared that
-    /// batch n changed in the one or in the other, unless comparing all balances is quicker. So they are where the one or
-    /// the other took a state over.
+    /// batch n changed in the one or in the other, unless comparing all balances is quicker. So they are where the one
+    /// or the other took a state over.
     ///
     /// docs/MODEL.md, "Bank and replies after a committed batch".
     pub fn are_same_after(
@@ -304,7 +305,8 @@ fn written(numbered: &Numbered, n: u32) -> &[Changed]
     requires one { 1 ≤ n }
     requires there { n ≤ numbered.now.count }
     requires order { (rows : ℕ) × IsInOrder rows numbered.now }
-    ensures says { slice_get (from_starts numbered.now.count numbered.now.starts.items numbered.now.changes.items) (n - 1)
+    ensures says { slice_get
+        (from_starts numbered.now.count numbered.now.starts.items numbered.now.changes.items) (n - 1)
         ≡ Some (map change_of result.now) }
     ensures rows { (rows : ℕ) → IsInOrder rows numbered.now → All (IsRowBelow rows) result.now }
 {
@@ -313,29 +315,6 @@ fn written(numbered: &Numbered, n: u32) -> &[Changed]
     prove!(from <= to);
     prove!(to <= numbered.changes.len());
     &numbered.changes[from..to]
-}
-
-/// The changes of all ranges of rows, range after range; those of a lone range as they stand.
-fn join_all(alloc: Global, mut walked: Vec<Walked>) -> Result<Vec<Changed>, AllocError>
-    ensures { IfOk result (λ changes. changes.items ≡ flat_map (λ w. w.changes.items) walked.items) }
-{
-    if walked.len() == 1 {
-        if let Some(one) = walked.pop() {
-            return Ok(one.changes);
-        }
-    }
-    join_several(alloc, &walked)
-}
-
-/// The same of several ranges.
-fn join_several(alloc: Global, walked: &[Walked]) -> Result<Vec<Changed>, AllocError>
-    ensures { IfOk result (λ changes. changes.items ≡ flat_map (λ w. w.changes.items) walked.entry.now) }
-{
-    let mut all = Vec::new(alloc);
-    for one in walked {
-        all.extend_from_slice(&one.changes)?;
-    }
-    Ok(all)
 }
 
 /// Gives each changed row its value.

@@ -28,8 +28,8 @@ use rayon::prelude::*;
 use std::alloc::{AllocError, Global};
 use std::thread::Threads;
 
-/// The fewest records whose entries are gathered before the rows are walked along them. What they note, two entries or so
-/// each, stays in a processor's own memory.
+/// The fewest records whose entries are gathered before the rows are walked along them. What they note, two entries or
+/// so each, stays in a processor's own memory.
 const LEAST_RECORDS: usize = 2048;
 
 /// In how many parts a range of rows is walked at most, since each part reads all records.
@@ -76,9 +76,9 @@ fn begin(
     Ok(rows)
 }
 
-/// Walks these rows, from this one on, along all settled attempts, some of them at a time: their entries are gathered row
-/// by row, in the section's order, and then each row is walked by itself along its own. With many rows more attempts are
-/// taken at a time, so that few lists are empty.
+/// Walks these rows, from this one on, along all settled attempts, some of them at a time: their entries are gathered
+/// row by row, in the section's order, and then each row is walked by itself along its own. With many rows more
+/// attempts are taken at a time, so that few lists are empty.
 fn walk_rows(
     rows: &mut Vec<GatheredRow>,
     from: usize,
@@ -205,8 +205,8 @@ fn walk_part(
     add_part(history, trace, start, part, &rows, walked)
 }
 
-/// A range of rows walked along all settled attempts. Of many rows some are walked at a time, so that what is gathered of
-/// them, and what each changed, takes little memory.
+/// A range of rows walked along all settled attempts. Of many rows some are walked at a time, so that what is gathered
+/// of them, and what each changed, takes little memory.
 fn walk_range(
     alloc: Global,
     history: &History<'_>,
@@ -231,8 +231,8 @@ fn walk_range(
     Ok(walked)
 }
 
-/// Each of the ranges walked, in rayon's pieces: as many threads as there are ranges, with the caller's, and of one range
-/// none is started.
+/// Each of the ranges walked, in rayon's pieces: as many threads as there are ranges, with the caller's, and of one
+/// range none is started.
 pub(crate) fn walk_all<R: Threads + Sync>(
     rt: &R,
     alloc: Global,

@@ -10,4 +10,5 @@ returns-then-number-len c =
 pub returns-else-number-len : goal.returns-else-number-len
 returns-else-number-len c =
     c.nothing.ensures
-    ∙ sym (no_row (transfer_said c.args.state.now).rows c.args.number (omega (arith, c.len.ensures, c.if-number-len.false)))
+    ∙ sym (no_row (transfer_said c.args.state.now).rows c.args.number
+    (omega (arith, c.len.ensures, c.if-number-len.false)))

@@ -71,9 +71,11 @@ returns-clause-gathered c = λ ns r taken fate at as_many its known.
     ap (λ (q : ExecutedAttempt). length q.ordered) (sym own) ∙ says.4
     ∙ ap (λ (q : ExecutedAttempt). length q.attempt.certificate) own in
     let listed : c.len-place-end.result ≡ length r.attempt.certificate = c.len-place-end.ensures.certificate
-    ∙ ap (λ (a : Attempt). length a.certificate) says.3 ∙ ap (λ (q : ExecutedAttempt). length q.attempt.certificate) own in
+    ∙ ap (λ (a : Attempt). length a.certificate) says.3
+    ∙ ap (λ (q : ExecutedAttempt). length q.attempt.certificate) own in
     let over : length r.ordered ≤ c.loop-place.place = omega (arith, many, listed, c.loop-place-test.false) in
     subst (λ (ms : List Noted). EachHasGathered t e from (ns ++ ms) rows)
-    ((λ i. flat_map (noted_by (before i) (view i) (number i) (commits i)) (take_all c.loop-place.place r.ordered over i))
+    ((λ i. flat_map (noted_by (before i) (view i) (number i) (commits i))
+    (take_all c.loop-place.place r.ordered over i))
     ∙ sym (cond-true (is_settled fate) (noted_along (r, taken) fate) [] passes))
     (c.loop-place.invariant.gathered ns r at known)

@@ -10,5 +10,6 @@ invariant-loop-place l = record {
   gathered : (ns : List Noted) (r : ExecutedAttempt) → slice_get l.history.attempts l.i ≡ Some r
       → EachHasGathered l.trace l.history.replica l.noting.from ns l.fn.rows.items
       → EachHasGathered l.trace l.history.replica l.noting.from
-      (ns ++ flat_map (noted_by l.noting.taken l.noting.view l.noting.number l.noting.commits) (take l.place r.ordered)) l.rows.items;
+      (ns ++ flat_map (noted_by l.noting.taken l.noting.view l.noting.number l.noting.commits)
+      (take l.place r.ordered)) l.rows.items;
 }

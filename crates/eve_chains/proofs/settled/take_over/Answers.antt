@@ -1,4 +1,4 @@
-use Rattle.std.proofs.Common.{◌≡◌, ℕ, ℤ, ◌+◌, ◌<◌, ◌∷◌, ◌++◌, [], List, length, map, set, take, ap, subst, sym, ◌∙◌, arith}
+use Rattle.std.proofs.Common.{◌≡◌, ℕ, ℤ, ◌+◌, ◌<◌, ◌∷◌, ◌++◌, [], List, length, map, set, take, ap, sym, ◌∙◌, arith}
 use Rattle.std.proofs.lemmas.List.{length-set, map-append, take_all, take_more_set}
 use Rattle.eve_smallbank.specs.declared.versioned.Versioned.{Versioned}
 use Rattle.eve_frames.specs.Said.{transfer_said}

@@ -1,4 +1,4 @@
-use Rattle.std.proofs.Common.{◌≡◌, ℕ, ◌<◌, ◌+◌, Some, Option, List, length, map, take, slice_get, sym, subst, ap, ◌∙◌, arith}
+use Rattle.std.proofs.Common.{◌≡◌, ℕ, ◌<◌, ◌+◌, Some, Option, length, map, take, slice_get, sym, subst, ap, ◌∙◌, arith}
 use Rattle.std.proofs.lemmas.Option.{same_Some}
 use Rattle.eve_smallbank.specs.declared.request.Reply.{Reply}
 use Rattle.eve_smallbank.specs.SmallBank.{plain}

@@ -1,4 +1,4 @@
-use Rattle.std.proofs.Common.{◌≡◌, ◌+◌, ◌-◌, ◌≤◌, ℕ, [], None, List, length, get_or, sym, subst, ap, ◌∙◌, arith}
+use Rattle.std.proofs.Common.{◌≡◌, ◌+◌, ◌-◌, ◌≤◌, ℕ, [], List, length, get_or, sym, subst, ap, ◌∙◌, arith}
 use Rattle.eve_chains.specs.Rows.{bases_of}
 use Rattle.eve_chains.specs.Rows.{Noted, told_of, all_noted, of_row}
 use Rattle.eve_chains.specs.Notes.{notes_between}
@@ -6,7 +6,7 @@ use Rattle.eve_chains.specs.Changes.{changes_along, changes_of_rows}
 use Rattle.eve_chains.specs.Walked.{HasWalked, IsFirstOnRow, IsFirstOnRows, notes_on}
 use Rattle.eve_chains.specs.declared.walked_row.GatheredRow.{GatheredRow}
 use Rattle.eve_chains.proofs.Told.{all_told}
-use Rattle.eve_chains.proofs.WalkedRows.{first_on_rows, one_on_rows, none_on_rows, rows_behind}
+use Rattle.eve_chains.proofs.WalkedRows.{first_on_rows, one_on_rows, rows_behind}
 use Rattle.eve_chains.proofs.walked.add_part.Goals as goal
 
 pub loop-row-init : goal.loop-row-init
@@ -39,7 +39,8 @@ loop-row-preserved c =
     let item : GatheredRow = c.row-item.result in
     let is : item ≡ get_or c.args.rows.now k item = c.row-item.is in
     let walked : HasWalked e (bases_of t e row) (of_row row ms) item.walked =
-    subst (λ (w : GatheredRow). HasWalked e (bases_of t e row) (of_row row ms) w.walked) (sym is) (c.requires.walked k item c.loop-row-test.true) in
+    subst (λ (w : GatheredRow). HasWalked e (bases_of t e row) (of_row row ms) w.walked) (sym is)
+    (c.requires.walked k item c.loop-row-test.true) in
     let here : IsFirstOnRow e (bases_of t e row) (notes_on t e row) item.walked.walk.first =
     subst (λ (ks : List Noted). IsFirstOnRow e (bases_of t e row) (of_row row ks) item.walked.walk.first) told
     walked.met.first in

@@ -1,5 +1,5 @@
-use Rattle.std.proofs.Common.{◌≡◌, ◌+◌, ◌++◌, ◌∷◌, ◌<◌, ℕ, ℤ, List, [], length, length-append, get_or, pos, subst, sym, ap}
-use Rattle.std.proofs.Common.{◌∙◌, arith}
+use Rattle.std.proofs.Common.{◌≡◌, ◌+◌, ◌++◌, ◌∷◌, ◌<◌, ℕ, ℤ, List, [], length, length-append, get_or, pos}
+use Rattle.std.proofs.Common.{subst, sym, ap, ◌∙◌, arith}
 use Rattle.std.proofs.lemmas.List.{get_or_default}
 use Rattle.eve_grammar.specs.Limits.{row_count}
 use Rattle.eve_grammar.specs.Trace.{head_of, opening_rows}
@@ -43,7 +43,8 @@ loop-number-preserved c =
       );
       each = λ e. subst (λ (xs : List GatheredRow). (k : ℕ) (d : GatheredRow) → k < length xs
           → HasGathered e (from + k) (bases_of t e (from + k)) [] (get_or xs k d)) (sym items)
-          (each_more (λ k w. HasGathered e (from + k) (bases_of t e (from + k)) [] w) old new (c.loop-number.invariant.each e)
+          (each_more (λ k w. HasGathered e (from + k) (bases_of t e (from + k)) [] w) old new
+          (c.loop-number.invariant.each e)
           (row_begun t i (from + length old) c.index-as_slice-number.result new c.new.ensures
           c.new-in-loop-number.ensures.items c.new-in-loop-number-2.ensures.items value place e));
     }

@@ -17,7 +17,8 @@ returns g c =
     let chain = gave.1 in
     let slice = ap (λ it. it.base.slice.now) c.map.ensures.base ∙ ap (λ it. it.slice.now) c.with_min_len.ensures.base
     ∙ c.par_iter.ensures in
-    subst (λ (R : Stretch → Walked → Type 0). IfOk c.in_ok-collect.field-0 (λ made. AllZip R c.args.ranges.now made.items))
+    subst (λ (R : Stretch → Walked → Type 0). IfOk c.in_ok-collect.field-0
+    (λ made. AllZip R c.args.ranges.now made.items))
     (λ i. IsWalked (trace i) (history i).replica)
     (collected (IsWalked f.2.now f.1.now.replica) c.args.ranges.now gave.0 c.in_ok-collect.field-0 gave.2
     (slice-AllZip chain.0 c.args.ranges.now (chain.1 ∙ slice)

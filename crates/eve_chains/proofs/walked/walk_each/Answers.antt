@@ -45,7 +45,8 @@ loop-place-preserved c =
           (behind e row c.row_at-row.result (base_at c.args.bases.now c.row_at-row.result) (bases_of t e row)
           (of_row row ns) old new at (based c.row_at-row.result ∙ ap (bases_of t e) at)
           (c.in_ok-walk_row.ensures.walked (of_row row ns))
-          (subst (HasGathered e row (bases_of t e row) (of_row row ns)) (sym c.index_mut.ensures.value) (each p old there)))
+          (subst (HasGathered e row (bases_of t e row) (of_row row ns)) (sym c.index_mut.ensures.value)
+          (each p old there)))
           c.in_ok-walk_row.ensures.none) (λ i d less other. each i d less);
       walked = λ t ns based known.
           let each = c.loop-place.invariant.gathered t ns based known in
@@ -56,7 +57,8 @@ loop-place-preserved c =
           (λ last. behind e row c.row_at-row.result (base_at c.args.bases.now c.row_at-row.result) (bases_of t e row)
           (of_row row ns) old new at (based c.row_at-row.result ∙ ap (bases_of t e) at)
           (c.in_ok-walk_row.ensures.walked (of_row row ns))
-          (subst (HasGathered e row (bases_of t e row) (of_row row ns)) (sym c.index_mut.ensures.value) (each p old there)))
+          (subst (HasGathered e row (bases_of t e row) (of_row row ns)) (sym c.index_mut.ensures.value)
+          (each p old there)))
           (λ i d less other below. done i d less (omega (arith, below, other)));
     }
 

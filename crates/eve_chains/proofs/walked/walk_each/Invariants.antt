@@ -10,9 +10,11 @@ use Rattle.eve_chains.proofs.walked.walk_each.Given as goal
 abbrev pub invariant-loop-place : goal.invariant-loop-place
 invariant-loop-place l = record {
   as_many : length l.rows.items ≡ length l.fn.rows.items;
-  gathered : (t : Trace) (ns : List Noted) → AreBasesOf t l.replica l.bases → EachHasGathered t l.replica l.from ns l.fn.rows.items
+  gathered : (t : Trace) (ns : List Noted) → AreBasesOf t l.replica l.bases
+      → EachHasGathered t l.replica l.from ns l.fn.rows.items
       → EachHasGathered t l.replica l.from ns l.rows.items;
-  walked : (t : Trace) (ns : List Noted) → AreBasesOf t l.replica l.bases → EachHasGathered t l.replica l.from ns l.fn.rows.items
+  walked : (t : Trace) (ns : List Noted) → AreBasesOf t l.replica l.bases
+      → EachHasGathered t l.replica l.from ns l.fn.rows.items
       → (place : ℕ) (d : GatheredRow) → place < length l.rows.items → place < l.place
       → HasWalked l.replica (bases_of t l.replica (l.from + place)) (of_row (l.from + place) ns)
       (slice_index_or l.rows.items place d).walked;

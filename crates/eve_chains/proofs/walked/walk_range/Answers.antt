@@ -1,4 +1,4 @@
-use Rattle.std.proofs.Common.{◌≡◌, ℕ, ◌+◌, ◌-◌, ◌≤◌, ◌<◌, [], List, drop, get_or, length, sym, subst, ap, ◌∙◌, arith}
+use Rattle.std.proofs.Common.{◌≡◌, ℕ, ◌+◌, ◌-◌, ◌<◌, [], List, drop, get_or, length, sym, subst, ap, ◌∙◌, arith}
 use Rattle.std.specs.Prelude.{All}
 use Rattle.std.proofs.lemmas.List.{drop_all, drop_more}
 use Rattle.eve_chains.specs.Changes.{changes_of_rows}
@@ -37,14 +37,17 @@ loop-part-init c =
 pub walk_part-requires-clause-behind : goal.walk_part-requires-clause-behind
 walk_part-requires-clause-behind c =
     let so = c.loop-part.invariant in
-    let next = next_part so.0 c.args.range.to c.deref-part-items.result.now c.loop-part.part-index c.loop-part-test.true so.2 in
+    let next = next_part so.0 c.args.range.to c.deref-part-items.result.now c.loop-part.part-index
+    c.loop-part-test.true so.2 in
     omega (arith, so.1, next.0)
 
 pub walk_part-requires-clause-before : goal.walk_part-requires-clause-before
 walk_part-requires-clause-before c =
     let so = c.loop-part.invariant in
-    let next = next_part so.0 c.args.range.to c.deref-part-items.result.now c.loop-part.part-index c.loop-part-test.true so.2 in
-    subst (λ (at : ℕ). IsWalked c.args.trace.now c.args.history.now.replica (record { from = c.args.range.from; to = at })
+    let next = next_part so.0 c.args.range.to c.deref-part-items.result.now c.loop-part.part-index
+    c.loop-part-test.true so.2 in
+    subst (λ (at : ℕ). IsWalked c.args.trace.now c.args.history.now.replica
+    (record { from = c.args.range.from; to = at })
     c.loop-part.walked) (sym next.0) so.3
 
 pub loop-part-preserved : goal.loop-part-preserved
@@ -67,6 +70,8 @@ returns c =
     let so = c.loop-part.invariant in
     let xs = c.deref-part-items.result.now in
     let last : so.0 ≡ c.args.range.to =
-    subst (Reaches so.0 c.args.range.to) (drop_all c.loop-part.part-index xs (omega (arith, c.loop-part-test.false))) so.2 in
-    subst (λ (at : ℕ). IsWalked c.args.trace.now c.args.history.now.replica (record { from = c.args.range.from; to = at })
+    subst (Reaches so.0 c.args.range.to)
+    (drop_all c.loop-part.part-index xs (omega (arith, c.loop-part-test.false))) so.2 in
+    subst (λ (at : ℕ). IsWalked c.args.trace.now c.args.history.now.replica
+    (record { from = c.args.range.from; to = at })
     c.loop-part.walked) last so.3

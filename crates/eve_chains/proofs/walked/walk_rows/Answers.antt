@@ -42,7 +42,8 @@ loop-i-preserved c =
     let many = c.in_ok-note_attempt.ensures.as_many ∙ c.loop-i.invariant.as_many in
     let noted : EachHasGathered t e from ns c.note_attempt.new.rows.items =
     subst (λ (ms : List Noted). EachHasGathered t e from ms c.note_attempt.new.rows.items)
-    (ap (λ (ms : List Noted). notes_between h 0 i ++ ms) (one_between noted_if_settled xs h.fates i (r.0, taken.0) fate.0
+    (ap (λ (ms : List Noted). notes_between h 0 i ++ ms)
+    (one_between noted_if_settled xs h.fates i (r.0, taken.0) fate.0
     (taken_at h.attempts h.taken i r.0 taken.0 r.1 taken.1) fate.1)
     ∙ between_joined noted_if_settled xs h.fates 0 i (i + 1) (omega arith) (omega arith))
     (c.in_ok-note_attempt.ensures.gathered (notes_between h 0 i) r.0 taken.0 fate.0 r.1 taken.1 fate.1
@@ -57,7 +58,8 @@ loop-i-preserved c =
         gathered = subst (λ (v : Vec GatheredRow Global). EachHasGathered t e from ns v.items) (sym w.rows-is)
             (subst (λ (n : ℕ). EachHasGathered t n from ns w.walk_each.new.rows.items) w.replica.ensures
             (w.in_ok-walk_each.ensures.gathered t ns (based w.replica.result w.replica.ensures)
-            (subst (λ (n : ℕ). EachHasGathered t n from ns c.note_attempt.new.rows.items) (sym w.replica.ensures) noted)));
+            (subst (λ (n : ℕ). EachHasGathered t n from ns c.note_attempt.new.rows.items) (sym w.replica.ensures)
+            noted)));
       }
       | else-enough-records w ↦ record {
         as_many = ap (λ (v : Vec GatheredRow Global). length v.items) w.rows-is ∙ many;
@@ -81,6 +83,7 @@ returns-clause-walked c =
     let noted : EachHasGathered t h.replica from ns rows =
     subst (λ (n : ℕ). EachHasGathered t h.replica from (notes_between h 0 n) rows) last c.loop-i.invariant.gathered in
     subst (λ (n : ℕ). EachHasWalked t n from ns c.walk_each-2.new.rows.items) c.replica-2.ensures
-    (c.in_ok-walk_each-2.ensures.walked t ns (are_bases t c.replica-2.result (record { opening = c.args.opening; history = c.args.history })
+    (c.in_ok-walk_each-2.ensures.walked t ns
+    (are_bases t c.replica-2.result (record { opening = c.args.opening; history = c.args.history })
     (c.requires.history ∙ ap (section_history t) (sym c.replica-2.ensures)) c.requires.opening)
     (subst (λ (n : ℕ). EachHasGathered t n from ns rows) (sym c.replica-2.ensures) noted))

@@ -30,6 +30,7 @@ loop-note-preserved c = λ ns known.
 
 pub returns : goal.returns
 returns c = λ ns known.
-    subst (λ (xs : List Note). HasWalked c.args.replica (base_at c.args.bases.now c.args.row) (ns ++ map (noted_at c.args.row) xs) c.loop-note.on)
+    subst (λ (xs : List Note). HasWalked c.args.replica (base_at c.args.bases.now c.args.row)
+    (ns ++ map (noted_at c.args.row) xs) c.loop-note.on)
     (take_all c.loop-note.note-index c.args.notes.now c.loop-note-test.false)
     (c.loop-note.invariant ns known)

@@ -1,9 +1,7 @@
-use Rattle.std.proofs.Common.{◌≡◌, ◌<◌, ◌≤◌, ◌-◌, Some, map, slice_get, length, sym, subst, ap, ◌∙◌, arith, rules}
-use Rattle.eve_accounts.specs.declared.limits.TheConstants.{MOST_NAMED_ROWS}
-use Rattle.eve_frames.specs.declared.transfer.TransferView.{TransferView}
+use Rattle.std.proofs.Common.{◌≡◌, ◌<◌, ◌-◌, Some, map, slice_get, length, sym, subst, ap, ◌∙◌, arith, rules}
 use Rattle.eve_history.specs.declared.landing.Landing.TheVariants as landing
 use Rattle.eve_chains.specs.Changes.{change_of}
-use Rattle.eve_chains.specs.Landed.{HasRows, values_said}
+use Rattle.eve_chains.specs.Landed.{HasRows}
 use Rattle.eve_chains.specs.Settling.{Settling}
 use Rattle.eve_chains.proofs.LandedChanges.{kept_counted, change_kept, wrote_kept, state_among, state_is}
 use Rattle.eve_chains.proofs.settled.Settled.change_at.Goals as goal
