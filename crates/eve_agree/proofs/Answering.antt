@@ -1,67 +1,95 @@
 -- What is answered, and by which reply.
-use Rattle.std.proofs.Common.{◌≡◌, ℕ, List, map, slice_get, Some, None}
-use Rattle.std.proofs.Common.{sym, ap, ◌∙◌}
-use Rattle.std.proofs.lemmas.Option.{same_Some, slice_get-map}
+use Rattle.std.proofs.Common.{◌≡◌, ℕ, ◌*◌, ◌==◌, List, [], map, take, drop, length, slice_get, Option, Some, None}
+use Rattle.std.proofs.Common.{false, refl, sym, ap, subst, ◌∙◌}
+use Rattle.std.specs.Prelude.{IsTrue, unwrap_or}
+use Rattle.std.specs.List.{flat_map, list_all}
+use Rattle.std.specs.Option.{is_some, option_map}
+use Rattle.std.proofs.lemmas.Bool.{and_parts}
+use Rattle.std.proofs.lemmas.Option.{slice_get-map}
 use Rattle.eve_smallbank.specs.declared.request.Reply.{Reply}
-use Rattle.eve_grammar.specs.Trace.{Attempt, Sent, Trace}
+use Rattle.eve_smallbank.specs.Spelling.{reply_text}
+use Rattle.eve_grammar.specs.declared.limits.TheConstants.{MOST_REQUESTS}
+use Rattle.eve_grammar.specs.Limits.{is_attempt, is_between, is_number, is_reply}
+use Rattle.eve_grammar.specs.Trace.{Attempt, RequestId, Sent, Trace, request_id}
 use Rattle.eve_history.specs.Section.{Placed, batch_at}
 use Rattle.eve_history.specs.SectionHistory.{ExecutedAttempt, SectionHistory}
 use Rattle.eve_history.specs.SectionHistory.{section_history, committed_at}
-use Rattle.eve_grammar.specs.Trace.{RequestId, request_id}
 use Rattle.eve_chains.proofs.Linked.{none≢some}
 use Rattle.eve_agree.specs.ByNumber.{told_at}
-use Rattle.eve_agree.proofs.ByNumber.{told_none, told_item}
+use Rattle.eve_agree.specs.Keeping.{AnswersAt, AreSpelled, replies_at}
 use Rattle.eve_agree.specs.SentReplies.{IsReplied}
-use Rattle.eve_agree.specs.Keeping.{AnswersAt}
+use Rattle.eve_agree.proofs.ByNumber.{told_item, told_same}
+use Rattle.eve_agree.proofs.SpelledReplies.{spelled_at, read_spelled}
+
+-- ---- the replies of one batch
+
+abbrev pub replies_in : Option Placed → List Reply
+replies_in o = unwrap_or (option_map (λ p. p.attempt.replies) o) []
+
+there_in : (o : Option Placed) (i : ℕ) (r : Reply) → slice_get (replies_in o) i ≡ Some r
+    → (p : Placed) × (o ≡ Some p) × (slice_get p.attempt.replies i ≡ Some r)
+there_in None i r at = none≢some r at
+there_in (Some p) i r at = (p, refl, at)
+
+none_in : (o : Option Placed) → is_some o ≡ false → replies_in o ≡ []
+none_in None gone = refl
+none_in (Some p) gone = absurd cc
+
+-- an attempt's replies fit
+pub replies_fit : (a : Attempt) → IsTrue (is_attempt a) → IsTrue (list_all is_reply a.replies)
+replies_fit a fits =
+    (and_parts (list_all is_reply a.replies) _
+    (and_parts (length a.replies == length a.certificate) _
+    (and_parts (list_all (is_number 2) a.certificate) _
+    (and_parts (is_between 1 MOST_REQUESTS (length a.certificate)) _
+    (and_parts (is_number 4 a.view) _ (and_parts (is_number 4 a.seq) _ fits).1).1).1).1).1).0
+
+-- where the replica didn't commit the batch
+pub spelled_none : (t : Trace) (e n : ℕ) (h : SectionHistory) → h ≡ section_history t e
+    → is_some (told_at h n) ≡ false → AreSpelled (replies_at t e n) []
+spelled_none t e n h is gone =
+    let none : replies_at t e n ≡ [] = none_in (committed_at t e n) (sym (told_same t e h n is) ∙ gone) in
+    subst (λ (rs : List Reply). AreSpelled rs []) (sym none) (record { is = refl; fit = refl })
+
+-- the attempt by which it did
+pub spelled_some : (t : Trace) (e n : ℕ) (h : SectionHistory) (r : ExecutedAttempt) (a : Attempt) (text : List ℕ)
+    → h ≡ section_history t e → told_at h n ≡ Some r → a ≡ r.attempt → IsTrue (list_all is_reply a.replies)
+    → text ≡ flat_map reply_text a.replies → AreSpelled (replies_at t e n) text
+spelled_some t e n h r a text is at same fits spelled =
+    let found = told_item t e h n r is at in
+    let own : replies_at t e n ≡ a.replies = ap replies_in found.1
+    ∙ ap (λ (q : ExecutedAttempt). q.attempt.replies) found.2 ∙ ap (λ (b : Attempt). b.replies) (sym same) in
+    subst (λ (rs : List Reply). AreSpelled rs text) (sym own) (record { is = spelled; fit = fits })
 
 -- ---- one reply sent
 
--- where the replica didn't commit the batch
-pub not_committed : (t : Trace) (s : Sent) (v : SectionHistory) → v ≡ section_history t s.replica
-    → told_at v s.seq ≡ None → ¬ IsReplied t s
-not_committed t s v is none replied =
-    none≢some replied.placed (sym (told_none t s.replica v s.seq is none) ∙ replied.committed)
-
--- the attempt by which it did
-pub record IsCommitted (t : Trace) (e n : ℕ) (replies : List Reply) : Type 0 where
-  placed : Placed
-  at : committed_at t e n ≡ Some placed
-  is : placed.attempt.replies ≡ replies
-
-pub is_committed : (t : Trace) (e n : ℕ) (v : SectionHistory) (r : ExecutedAttempt) (a : Attempt)
-    → v ≡ section_history t e → told_at v n ≡ Some r → a ≡ r.attempt → IsCommitted t e n a.replies
-is_committed t e n v r a is at same =
-    let s = told_item t e v n r is at in
+pub replied_from : (t : Trace) (s : Sent) (text : List ℕ) (request_ids : List RequestId) (i : ℕ)
+    → AreSpelled (replies_at t s.replica s.seq) text → request_ids ≡ map request_id (batch_at t s.seq).requests
+    → IsTrue (is_reply s.reply) → AnswersAt request_ids text s i → IsReplied t s
+replied_from t s text request_ids i spelled is fits answer =
+    let at = read_spelled (replies_at t s.replica s.seq) i s.reply spelled.fit fits
+    (ap (λ (xs : List ℕ). take 9 (drop (9 * i) xs)) (sym spelled.is) ∙ answer.reply) in
+    let found = there_in (committed_at t s.replica s.seq) i s.reply at in
     record {
-      placed = s.0;
-      at = s.1;
-      is = ap (λ (q : ExecutedAttempt). q.attempt.replies) s.2 ∙ ap (λ (b : Attempt). b.replies) (sym same);
-    }
-
-pub replied_from : (t : Trace) (s : Sent) (replies : List Reply) (request_ids : List RequestId) (i : ℕ)
-    → IsCommitted t s.replica s.seq replies → request_ids ≡ map request_id (batch_at t s.seq).requests
-    → AnswersAt request_ids replies s i → IsReplied t s
-replied_from t s replies request_ids i committed is answer =
-    record {
-      placed = committed.placed;
+      placed = found.0;
       index = i;
-      committed = committed.at;
+      committed = found.1;
       request = sym (slice_get-map request_id (batch_at t s.seq).requests i)
           ∙ ap (λ (xs : List RequestId). slice_get xs i) (sym is) ∙ answer.request_id;
-      reply = ap (λ (rs : List Reply). slice_get rs i) committed.is ∙ answer.reply;
+      reply = found.2;
     }
 
-pub answer_from : (t : Trace) (s : Sent) (replies : List Reply) (request_ids : List RequestId)
-    → IsCommitted t s.replica s.seq replies → request_ids ≡ map request_id (batch_at t s.seq).requests
-    → IsReplied t s → (i : ℕ) × AnswersAt request_ids replies s i
-answer_from t s replies request_ids committed is replied =
-    let same : replied.placed ≡ committed.placed = same_Some replied.placed committed.placed
-    (sym replied.committed ∙ committed.at) in (
+pub answer_from : (t : Trace) (s : Sent) (text : List ℕ) (request_ids : List RequestId)
+    → AreSpelled (replies_at t s.replica s.seq) text → request_ids ≡ map request_id (batch_at t s.seq).requests
+    → IsReplied t s → (i : ℕ) × AnswersAt request_ids text s i
+answer_from t s text request_ids spelled is replied =
+    let at : slice_get (replies_at t s.replica s.seq) replied.index ≡ Some s.reply =
+    ap (λ (o : Option Placed). slice_get (replies_in o) replied.index) replied.committed ∙ replied.reply in (
       replied.index,
       record {
         request_id = ap (λ (xs : List RequestId). slice_get xs replied.index) is
             ∙ slice_get-map request_id (batch_at t s.seq).requests replied.index ∙ replied.request;
-        reply = ap (λ (rs : List Reply). slice_get rs replied.index) (sym committed.is)
-            ∙ ap (λ (p : Placed). slice_get p.attempt.replies replied.index) (sym same) ∙ replied.reply;
+        reply = ap (λ (xs : List ℕ). take 9 (drop (9 * replied.index) xs)) spelled.is
+            ∙ spelled_at (replies_at t s.replica s.seq) replied.index s.reply at;
       },
     )

@@ -14,6 +14,7 @@ pub mod Restoring
 pub mod TokensInOrder
 mod Backing
 pub mod Replicas
+mod SpelledReplies
 mod Answering
 mod Reading
 pub mod Sending

@@ -151,7 +151,8 @@ pub wrong_marked : (x : Option WrongRestore) (o at : ℕ) (own its found due : M
     → IfSome x (IsFirstWrongRow own its) → IfSome x (λ w. (o ≡ at) × IsFirstWrongRow found due w)
 wrong_marked None o at own its found due e f here wrong = tt
 wrong_marked (Some w) o at own its found due e f here wrong =
-    (here, subst (λ (m : Marking). IsFirstWrongRow m due w) e (subst (λ (m : Marking). IsFirstWrongRow own m w) f wrong))
+    let its_due = subst (λ (m : Marking). IsFirstWrongRow own m w) f wrong in
+    (here, subst (λ (m : Marking). IsFirstWrongRow m due w) e its_due)
 
 pub none_wrong_marked : (x : Option WrongRestore) (o at : ℕ) (own its found due : Marking) → own ≡ found → its ≡ due
     → IfNone x (own ≡ its) → IfNone x (o ≡ at → found ≡ due)
@@ -322,7 +323,8 @@ module _ (t : Trace) (h : SectionHistory) (told : h ≡ section_history t h.repl
     come = come_rollback t h.replica o r seeks.front rest first end seeks.come;
     ahead = passed t h.replica at seeks.front (o, RollsBack r) rest first end seeks.come
         (λ w. false≢true (sym w.1
-        ∙ right_by_row (committed_rows t (state_after start seeks.front)) (open_entries t (state_after start seeks.front))
+        ∙ right_by_row (committed_rows t (state_after start seeks.front))
+        (open_entries t (state_after start seeks.front))
         r.restores rising (same w.0 ∙ marked_due)))
         seeks.ahead;
   }

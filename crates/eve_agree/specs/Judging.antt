@@ -28,8 +28,8 @@ pub record AreAfter (settled : List Settling) (n : ℕ) (all : List (List ℤ)) 
   pub each : (e : ℕ) (s : Settling) → slice_get settled e ≡ Some s → IsAfter s n (slice_index_or all e [])
 
 -- What is known of all replicas where number n is judged: their sections are right, and these are what they tell, what
--- they committed, and the balances after the number. What is kept gives the balances that a replica has; where it took a
--- state over they are the state's values.
+-- they committed, and the balances after the number. What is kept gives the balances that a replica has; where it took
+-- a state over they are the state's values.
 pub record AllStandAt (t : Trace) (hs : List SectionHistory) (settled : List Settling) (all : List (List ℤ)) (n : ℕ)
     : Type 0 where
   pub histories : hs ≡ section_histories t

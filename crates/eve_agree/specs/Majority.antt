@@ -13,8 +13,8 @@ use Rattle.eve_votes.specs.Votes.{IsDecided, IsRolledBack}
 abbrev pub SomeDecided : Trace → ℕ → ℕ → Type 0
 SomeDecided t n view = (token : List ℕ) × IsDecided t n view token
 
--- what a commit, a rollback or a transfer does was voted for by a majority: the number, view and token of the commit; that
--- the next number is rolled back in the view before; some commit of the transfer's number in its view
+-- what a commit, a rollback or a transfer does was voted for by a majority: the number, view and token of the commit;
+-- that the next number is rolled back in the view before; some commit of the transfer's number in its view
 abbrev pub IsBacked : Trace → Step → Type 0
 IsBacked t (Attempts a) = ⊤
 IsBacked t (Commits c) = IsDecided t c.seq c.view c.token

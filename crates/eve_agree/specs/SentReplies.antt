@@ -1,5 +1,5 @@
 -- Replies sent that no committed attempt gave. docs/MODEL.md, "Sent replies".
-use Rattle.std.specs.Prelude.{◌≡◌, ℕ, Some, slice_get, option_map}
+use Rattle.std.specs.Prelude.{◌≡◌, ◌<◌, ◌≤◌, ℕ, Some, length, slice_get, option_map}
 use Rattle.std.specs.List.{AllByRecursion}
 use Rattle.eve_grammar.specs.Trace.{Sent, Trace, request_id}
 use Rattle.eve_grammar.specs.Spelling.{sent_at}
@@ -25,3 +25,13 @@ AllReplied t = AllByRecursion (IsReplied t) t.sent
 abbrev pub StandsInReplies : Code → Trace → ℕ → Type 0
 StandsInReplies code.Reply t at = SomePlace (sent_at t) (λ _ s. (s.0 ≡ at) × ¬ IsReplied t s.1)
 StandsInReplies _ t at = ⊥
+
+-- the replies at these places were committed, from one place on up to another
+abbrev pub AreReplied : Trace → ℕ → ℕ → Type 0
+AreReplied t from to = (k : ℕ) (s : Sent) → from ≤ k → k < to → slice_get t.sent k ≡ Some s → IsReplied t s
+
+-- the reply at this place wasn't, and is the first such from a place on
+pub record IsFirstUnreplied (t : Trace) (from place : ℕ) : Type 0 where
+  pub there : place < length t.sent
+  pub before : AreReplied t from place
+  pub not : (s : Sent) → slice_get t.sent place ≡ Some s → ¬ IsReplied t s

@@ -2,8 +2,11 @@
 
 ghost use Rattle.std.specs.Prelude.{◌≡◌, ◌≤◌, ◌<◌, ◌-◌, ◌↔◌, ℕ, [], IsTrue, IfOk, IfErr, IfSome, IfNone, Some, None};
 ghost use Rattle.std.specs.Prelude.{length, slice_get, slice_index_or};
+ghost use Rattle.std.specs.List.{list_all};
 ghost use Rattle.std.specs.Option.{is_some};
 ghost use Rattle.eve_frames.specs.Said.{attempt_said, transfer_said};
+ghost use Rattle.eve_frames.specs.Views.{attempt_in, has_attempt_body};
+ghost use Rattle.eve_grammar.specs.Limits.{is_reply};
 ghost use Rattle.eve_views.specs.Form.{IfFound, IsLeast, HasNone, IsFaultSomewhere};
 ghost use Rattle.eve_grammar.specs.Trace.{Trace as TraceValue};
 ghost use Rattle.eve_history.specs.SectionHistory.{ExecutedAttempt, SectionHistory, section_histories};
@@ -17,10 +20,10 @@ ghost use Rattle.eve_agree.specs.Judging.{IsApart, JudgedTo, bound_of};
 use eve_accounts::Balances;
 use eve_chains::Settled;
 use eve_chains::laws::{settled_values_are_the_banks, states_are_the_balances};
+use eve_frames::laws::frames_say_what_fits;
 use eve_frames::{AttemptView, TransferView};
 use eve_history::laws::numbers_are_reached;
 use eve_history::{History, Landing, recall_all_right};
-use eve_smallbank::Reply;
 use eve_views::{CheckFault, Code, Fault, Trace};
 use std::alloc::{AllocError, Global};
 
@@ -288,15 +291,19 @@ fn first_to_commit(histories: &[History<'_>], n: u32) -> Option<usize>
     None
 }
 
-/// Whether a replica committed batch n.
-pub(crate) fn has_committed(history: &History<'_>, n: u32) -> bool
+/// Whether a replica committed batch n, of the batches from 1 on, by an attempt.
+///
+/// docs/MODEL.md, "Section state, fate". It says no of 0, and of a number that the replica reached by a state.
+pub fn has_committed(history: &History<'_>, n: u32) -> bool
     ensures { result ≡ is_some (told_at history.now n) }
 {
     1 <= n && n <= history.committed() && history.by_attempt(n)
 }
 
-/// The attempt by which a replica committed batch n.
-pub(crate) fn committed_attempt<'a>(history: &History<'a>, n: u32) -> AttemptView<'a>
+/// The attempt by which a replica committed batch n, which `has_committed` tests.
+///
+/// docs/MODEL.md, "Section state, fate".
+pub fn committed_attempt<'a>(history: &History<'a>, n: u32) -> AttemptView<'a>
     requires there { IsTrue (is_some (told_at history.now n)) }
     ensures { (r : ExecutedAttempt) × (told_at history.now n ≡ Some r) × (result.offset ≡ r.offset)
         × (attempt_said result ≡ r.attempt) }
@@ -348,22 +355,22 @@ fn is_same(
 fn have_same_replies(attempt: &AttemptView<'_>, other: &AttemptView<'_>) -> bool
     ensures { IsTrue result ↔ ((attempt_said attempt.now).replies ≡ (attempt_said other.now).replies) }
 {
-    if attempt.len() != other.len() {
-        return false;
-    }
-    for i in 0..attempt.len() {
-        let own = attempt.reply(i);
-        let its = other.reply(i);
-        if !is_reply(own, its) {
-            return false;
-        }
-    }
-    true
+    recall_replies(attempt.bytes());
+    recall_replies(other.bytes());
+    is_same_text(attempt.reply_bytes(), other.reply_bytes())
 }
 
-/// Whether two replies are the same.
-fn is_reply(own: Reply, its: Reply) -> bool
-    ensures { IsTrue result ↔ (own ≡ its) }
+/// What is true of each Attempt frame: its replies fit.
+pub(crate) fn recall_replies(frame: &[u8])
+    requires { IsTrue (has_attempt_body frame.now) }
+    ensures { IsTrue (list_all is_reply (attempt_in frame.now).replies) }
+{
+    frames_say_what_fits();
+}
+
+/// Whether two texts are the same.
+fn is_same_text(own: &[u8], its: &[u8]) -> bool
+    ensures { IsTrue result ↔ (own.now ≡ its.now) }
 {
     own == its
 }

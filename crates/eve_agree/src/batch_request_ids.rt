@@ -1,13 +1,17 @@
 //! The requests of the batch whose replies are judged.
 
-ghost use Rattle.std.specs.Prelude.{◌≡◌, ◌≤◌, ◌<◌, ◌↔◌, ℕ, IsTrue, IfSome, IfNone, length, map, take};
+ghost use Rattle.std.specs.Prelude.{◌≡◌, ◌≤◌, ◌<◌, ◌*◌, ◌↔◌, ℕ, Some, IsTrue, IfSome, IfNone};
+ghost use Rattle.std.specs.Prelude.{length, map, take, drop, slice_get};
 ghost use Rattle.eve_grammar.specs.Limits.{is_batch};
-ghost use Rattle.eve_frames.specs.Said.{attempt_said, batch_said, sent_said};
+ghost use Rattle.eve_grammar.specs.Frames.{OfSent};
+ghost use Rattle.eve_grammar.specs.Spelling.{frame_text};
+ghost use Rattle.eve_frames.specs.Said.{batch_said, sent_said};
 ghost use Rattle.eve_grammar.specs.Trace.{request_id};
 ghost use Rattle.eve_history.specs.Order.{requests_said};
 ghost use Rattle.eve_agree.specs.Keeping.{kept_ids, AnswersAt, AreOf};
 
-use eve_frames::{AttemptView, BatchView, SentView};
+use byteorder::{BigEndian, ByteOrder};
+use eve_frames::{BatchView, SentView};
 use eve_grammar::MOST_REQUESTS;
 use eve_views::Trace;
 
@@ -58,18 +62,18 @@ impl BatchRequestIds {
         }
     }
 
-    /// Whether an attempt's reply to the request that a sent reply answers is the one that was sent. The request is
-    /// looked for first after the one that was found last.
-    pub fn find(&mut self, attempt: &AttemptView<'_>, sent: &SentView<'_>) -> bool
-        requires { self.old.count ≤ MOST_REQUESTS }
+    /// Whether, of an attempt's replies, spelled in nine bytes each, that to the request which a sent reply answers is
+    /// the one that was sent. The request is looked for first after the one that was found last.
+    pub fn find(&mut self, replies: &[u8], sent: &SentView<'_>) -> bool
+        requires few { self.old.count ≤ MOST_REQUESTS }
+        requires text { sent.now.bytes.now ≡ frame_text (OfSent (sent_said sent.now)) }
         ensures answer { IsTrue result
-            ↔ ((i : ℕ) × AnswersAt (kept_ids self.old) (attempt_said attempt.now).replies
-            (sent_said sent.now) i) }
+            ↔ ((i : ℕ) × AnswersAt (kept_ids self.old) replies.now (sent_said sent.now) i) }
         ensures batch { self.new.batch ≡ self.old.batch }
         ensures count { self.new.count ≡ self.old.count }
         ensures kept { kept_ids self.new ≡ kept_ids self.old }
     {
-        match self.index_of(attempt, sent) {
+        match self.index_of(replies, sent) {
             Some(i) => {
                 self.next = i + 1;
                 true
@@ -79,20 +83,18 @@ impl BatchRequestIds {
     }
 
     /// The index at which an attempt's reply is the sent one, to the request that it answers.
-    fn index_of(&self, attempt: &AttemptView<'_>, sent: &SentView<'_>) -> Option<usize>
-        requires { self.now.count ≤ MOST_REQUESTS }
+    fn index_of(&self, replies: &[u8], sent: &SentView<'_>) -> Option<usize>
+        requires few { self.now.count ≤ MOST_REQUESTS }
+        requires text { sent.now.bytes.now ≡ frame_text (OfSent (sent_said sent.now)) }
         ensures below { IfSome result (λ i. i < MOST_REQUESTS) }
-        ensures found { IfSome result
-            (λ i. AnswersAt (kept_ids self.now) (attempt_said attempt.now).replies (sent_said sent.now) i) }
-        ensures none { IfNone result
-            ((i : ℕ) → ¬ AnswersAt (kept_ids self.now) (attempt_said attempt.now).replies
-            (sent_said sent.now) i) }
+        ensures found { IfSome result (AnswersAt (kept_ids self.now) replies.now (sent_said sent.now)) }
+        ensures none { IfNone result ((i : ℕ) → ¬ AnswersAt (kept_ids self.now) replies.now (sent_said sent.now) i) }
     {
-        if self.is_answer(attempt, sent, self.next) {
+        if self.is_answer(replies, sent, self.next) {
             return Some(self.next);
         }
         for i in 0..self.count {
-            if self.is_answer(attempt, sent, i) {
+            if self.is_answer(replies, sent, i) {
                 return Some(i);
             }
         }
@@ -100,18 +102,53 @@ impl BatchRequestIds {
     }
 
     /// Whether an attempt's reply at an index is the sent one, to the request that it answers.
-    fn is_answer(&self, attempt: &AttemptView<'_>, sent: &SentView<'_>, i: usize) -> bool
+    fn is_answer(&self, replies: &[u8], sent: &SentView<'_>, i: usize) -> bool
+        requires few { self.now.count ≤ MOST_REQUESTS }
+        requires text { sent.now.bytes.now ≡ frame_text (OfSent (sent_said sent.now)) }
+        ensures below { IsTrue result → i < MOST_REQUESTS }
+        ensures answer { IsTrue result ↔ AnswersAt (kept_ids self.now) replies.now (sent_said sent.now) i }
+    {
+        if !self.asks(sent, i) {
+            return false;
+        }
+        is_reply(replies, i, sent.bytes())
+    }
+
+    /// Whether the request at an index is the one that a sent reply answers.
+    fn asks(&self, sent: &SentView<'_>, i: usize) -> bool
         requires { self.now.count ≤ MOST_REQUESTS }
         ensures below { IsTrue result → i < MOST_REQUESTS }
-        ensures answer { IsTrue result ↔ AnswersAt (kept_ids self.now) (attempt_said attempt.now).replies
-            (sent_said sent.now) i }
+        ensures asks { IsTrue result
+            ↔ (slice_get (kept_ids self.now) i ≡ Some ((sent_said sent.now).client, (sent_said sent.now).number)) }
     {
-        if i >= self.count || i >= attempt.len() {
+        if i >= self.count {
             return false;
         }
         let (client, number) = self.items[i];
-        client == sent.client() && number == sent.number() && attempt.reply(i) == sent.reply()
+        client == sent.client() && number == sent.number()
     }
+}
+
+/// Whether, of replies that are spelled in nine bytes each, that of an index is the one of a Sent frame.
+fn is_reply(replies: &[u8], i: usize, frame: &[u8]) -> bool
+    requires few { i < MOST_REQUESTS }
+    requires frame { length frame.now ≡ 31 }
+    ensures { IsTrue result ↔ (take 9 (drop (9 * i) replies.now) ≡ drop 22 frame.now) }
+{
+    let at = 9 * i;
+    if replies.len() < at + 9 {
+        return false;
+    }
+    is_same_text(&replies[at..at + 9], &frame[22..])
+}
+
+/// Whether two texts of nine bytes are the same.
+fn is_same_text(own: &[u8], its: &[u8]) -> bool
+    requires own { length own.now ≡ 9 }
+    requires its { length its.now ≡ 9 }
+    ensures { IsTrue result ↔ (own.now ≡ its.now) }
+{
+    own[0] == its[0] && BigEndian::read_u64(&own[1..]) == BigEndian::read_u64(&its[1..])
 }
 
 /// Reads the client and the number of each request of a batch: how many there are.

@@ -2,6 +2,7 @@
 #![tactic(auto)]
 
 mod agreement;
+mod batch_replies;
 mod batch_request_ids;
 mod due_tokens;
 mod first_seen;
@@ -13,10 +14,10 @@ mod sent_replies;
 mod shown_tokens;
 mod wrong_restore;
 
-pub use agreement::equal_balances;
+pub use agreement::{committed_attempt, equal_balances, has_committed};
 pub use due_tokens::tokens;
 pub use majority::majorities;
 pub use restores::rollbacks;
-pub use sent_replies::replies;
+pub use sent_replies::{replies, replies_side_by_side};
 pub use shown_tokens::{Peer, tokens_beside};
 pub use wrong_restore::{WrongRestore, first_wrong_restore};

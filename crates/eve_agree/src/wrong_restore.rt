@@ -101,11 +101,11 @@ fn wrong_at(
     Ok(first_apart(trace, &found, &due))
 }
 
-/// The first row that a rollback restores otherwise than it must, by the byte of its frame and by the replica's history:
-/// what it restores there, and what is due.
+/// The first row that a rollback restores otherwise than it must, by the byte of its frame and by the replica's
+/// history: what it restores there, and what is due.
 ///
-/// docs/MODEL.md, "Working table, committed table" and "Evidence". It is said where no fault of records or chains stands
-/// in the replica's section, and one of restores stands at this byte. It takes two marks for each row.
+/// docs/MODEL.md, "Working table, committed table" and "Evidence". It is said where no fault of records or chains
+/// stands in the replica's section, and one of restores stands at this byte. It takes two marks for each row.
 pub fn first_wrong_restore(
     alloc: Global,
     trace: &Trace<'_>,

@@ -14,7 +14,8 @@ use Rattle.eve_agree.specs.Marking.{marking_of}
 use Rattle.eve_agree.proofs.Marking.{none_marked}
 use Rattle.eve_agree.proofs.RestoresInOrder.{HasJudged, judged_start, on_attempt, on_commit, on_transfer}
 use Rattle.eve_agree.proofs.RestoresInOrder.{on_rollback, judged_rollback, restores_fit, wrong_is_least, judged_end}
-use Rattle.eve_agree.proofs.RestoresInOrder.{right_told, section_told, within_told, attempt_told, there_told, found_told}
+use Rattle.eve_agree.proofs.RestoresInOrder.{right_told, section_told, within_told, attempt_told}
+use Rattle.eve_agree.proofs.RestoresInOrder.{there_told, found_told}
 use Rattle.eve_agree.specs.Restores.{StandsInRestores}
 use Rattle.eve_agree.proofs.restores.judge.Goals as goal
 

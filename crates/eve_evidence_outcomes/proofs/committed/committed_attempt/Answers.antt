@@ -11,4 +11,4 @@ returns-then-not-has_committed-clause-none c = λ t e is.
 
 pub returns-clause-some : goal.returns-clause-some
 returns-clause-some c = λ t e is.
-    committed_by t e c.args.n c.args.history.now c.told_attempt.result is c.told_attempt.ensures
+    committed_by t e c.args.n c.args.history.now c.committed_attempt.result is c.committed_attempt.ensures

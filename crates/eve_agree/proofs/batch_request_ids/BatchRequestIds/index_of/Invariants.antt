@@ -1,8 +1,7 @@
 use Rattle.std.proofs.Common.{ℕ, ◌<◌}
-use Rattle.eve_frames.specs.Views.{attempt_in, sent_in}
+use Rattle.eve_frames.specs.Views.{sent_in}
 use Rattle.eve_agree.specs.Keeping.{kept_ids, AnswersAt}
 use Rattle.eve_agree.proofs.batch_request_ids.BatchRequestIds.index_of.Given as goal
 
 abbrev pub invariant-loop-i : goal.invariant-loop-i
-invariant-loop-i l = (j : ℕ) → j < l.i → ¬ AnswersAt (kept_ids l.self) (attempt_in l.attempt.bytes.now).replies
-    (sent_in l.sent.bytes.now) j
+invariant-loop-i l = (j : ℕ) → j < l.i → ¬ AnswersAt (kept_ids l.self) l.replies (sent_in l.sent.bytes.now) j

@@ -14,7 +14,8 @@ loop-restored-preserved c = record {
       (subst (λ (rs : List Restore). IsTrue (list_all (is_restore (length c.args.self.now)) rs))
       c.in-Some.ensures.steps c.loop-restored.invariant.right)).1;
   marks = ap (λ (marks : Marking). marked_by marks c.next.new.self) c.note_restore.ensures.marks
-      ∙ ap (marked_by (marking_of c.loop-restored.self)) (sym c.in-Some.ensures.steps) ∙ c.loop-restored.invariant.marks;
+      ∙ ap (marked_by (marking_of c.loop-restored.self)) (sym c.in-Some.ensures.steps)
+      ∙ c.loop-restored.invariant.marks;
 }
 
 pub returns-clause-marks : goal.returns-clause-marks

@@ -1,0 +1,9 @@
+use Rattle.eve_agree.specs.SentReplies.{AreReplied}
+use Rattle.eve_agree.specs.Keeping.{AreRepliesOf}
+use Rattle.eve_agree.proofs.sent_replies.first_unreplied.Given as goal
+
+abbrev pub invariant-loop-i : goal.invariant-loop-i
+invariant-loop-i l = record {
+  replied : AreReplied l.trace l.from l.i;
+  replies : AreRepliesOf l.trace l.replies;
+}
