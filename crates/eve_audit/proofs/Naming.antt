@@ -60,7 +60,8 @@ module _ (t : Trace) (laid : IsLaidOut t) (f : Fault) where
   own_names e (of_tokens is) = inside t laid e f is.inside (token_lies t laid e f.code f.offset is.stands)
 
   common_names : IsCommonFault t f → Names t f
-  common_names (of.of_votes is) = outside t laid f is.outside (vote_fault_outside t laid.parts f.code f.offset is.stands)
+  common_names (of.of_votes is) =
+      outside t laid f is.outside (vote_fault_outside t laid.parts f.code f.offset is.stands)
   common_names (of.of_majorities is) =
       inside t laid is.0 f is.1.inside (majority_lies t laid is.0 f.code f.offset is.1.stands)
   common_names (of.of_agreement is) =

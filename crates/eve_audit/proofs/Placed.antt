@@ -2,7 +2,7 @@
 use Rattle.std.proofs.Common.{◌≡◌, ℕ, List, [], ◌∷◌, ◌++◌, None, Some, refl, ap, subst, ◌∙◌}
 use Rattle.std.specs.Prelude.{IsTrue, IsFalse, ◌≢◌, Bool, true, false, ◌&&◌, ◌||◌, ◌==◌, nat_le}
 use Rattle.eve_smallbank.specs.Access.{Fits}
-use Rattle.eve_grammar.specs.Trace.{Access, Attempt, Transfer, Step, Attempts, Commits, RollsBack, TakesOver, Trace}
+use Rattle.eve_grammar.specs.Trace.{Access, Attempt, Step, Attempts, Commits, RollsBack, TakesOver, Trace}
 use Rattle.eve_grammar.specs.Spelling.{accesses_at}
 use Rattle.eve_views.specs.Code.{phase_of}
 use Rattle.eve_views.specs.declared.fault.Code.{Code}
@@ -131,7 +131,8 @@ pub data IsPlaced (bytes : List ℕ) (f : Fault) : Type 0 where
 
 module _ (laid : (t : Trace) → IsLaidOut t) (bytes : List ℕ) (f : Fault) where
   own_placed : (t : Trace) (e : ℕ) → Spells bytes t → IsOwnFault t e f → IsPlaced bytes f
-  own_placed t e spells (of_structure is) = inside t e spells is.inside (structure_lies t (laid t) e f.code f.offset is.stands)
+  own_placed t e spells (of_structure is) =
+      inside t e spells is.inside (structure_lies t (laid t) e f.code f.offset is.stands)
       (ap is_inside (structure_phase t e f is))
   own_placed t e spells (of_records is) =
       inside t e spells is.inside (record_lies t (laid t) e f.code f.offset is.stands)
@@ -139,7 +140,8 @@ module _ (laid : (t : Trace) → IsLaidOut t) (bytes : List ℕ) (f : Fault) whe
   own_placed t e spells (of_chains is) =
       inside t e spells is.inside (chain_lies t (laid t) e f.code f.offset is.stands)
       (ap is_inside (chain_phase t e f is))
-  own_placed t e spells (of_restores is) = inside t e spells is.inside (restore_lies t (laid t) e f.code f.offset is.stands)
+  own_placed t e spells (of_restores is) =
+      inside t e spells is.inside (restore_lies t (laid t) e f.code f.offset is.stands)
       (ap is_inside (restore_phase t e f is))
   own_placed t e spells (of_tokens is) =
       inside t e spells is.inside (token_lies t (laid t) e f.code f.offset is.stands)

@@ -107,7 +107,8 @@ module _ (t : Trace) (parts : StandInOrder t) where
         → (before : List (ℕ × Access)) (item : ℕ × Access) (rest : List (ℕ × Access)) → accesses_at at a
         ≡ before ++ item ∷ rest → LiesIn t e item.0
     access_in steps_before at a steps_rest step =
-        access_within at a (at_place StepIn (steps_at t e) steps_before (at, Attempts a) steps_rest step (parts.steps e))
+        access_within at a
+        (at_place StepIn (steps_at t e) steps_before (at, Attempts a) steps_rest step (parts.steps e))
 
     pub access_of : (at : ℕ) (a : Attempt) → IsStepOf t e at (Attempts a)
         → (before : List (ℕ × Access)) (item : ℕ × Access) (rest : List (ℕ × Access)) → accesses_at at a

@@ -68,7 +68,8 @@ module _ (t : Trace) (laid : IsLaidOut t) where
 
   module _ (orders : (f : Fault) → IsFaultOutside StandsInOrders t f → f.offset ≤ length_of t) where
     own_fault_within : (e : ℕ) (f : Fault) → IsOwnFault t e f → f.offset ≤ length_of t
-    own_fault_within e f (of_structure is) = section_within e f.offset (structure_lies t laid e f.code f.offset is.stands)
+    own_fault_within e f (of_structure is) =
+        section_within e f.offset (structure_lies t laid e f.code f.offset is.stands)
     own_fault_within e f (of_records is) =
         section_within e f.offset (record_lies t laid e f.code f.offset is.stands)
     own_fault_within e f (of_chains is) =

@@ -21,7 +21,7 @@ use crate::laws::accepted_traces_are_audited;
 use crate::replicas::{Reports, judge_replicas};
 use crate::verdict::{AcceptedTrace, AuditFault, Summary, Verdict, WholeVerdict};
 use eve_accounts::Names;
-use eve_agree::{equal_balances, majorities, replies};
+use eve_agree::{equal_balances, majorities, replies_side_by_side};
 use eve_chains::Settled;
 use eve_chains::laws::requests_take_effect_once;
 use eve_grammar::MOST_AUDIT_WORKERS;
@@ -74,13 +74,15 @@ fn open<'a, R: Threads + Sync>(
     }
 }
 
-/// Judges the votes, what was committed and rolled back by them, whether the replicas agree, and the replies that were
-/// sent; or the first fault of these.
-fn judge_together(
+/// Judges the votes, what was committed and rolled back by them, whether the replicas agree, and, in up to `jobs`
+/// threads, the replies that were sent; or the first fault of these.
+fn judge_together<R: Threads + Sync>(
+    rt: &R,
     alloc: Global,
     trace: &Trace<'_>,
     histories: &[History<'_>],
     settled: &[Settled<'_>],
+    jobs: u8,
 ) -> Result<(), CheckFault>
     requires histories { histories.now ≡ section_histories trace.now }
     requires settled { settled.now ≡ settlings trace.now }
@@ -91,16 +93,17 @@ fn judge_together(
     let tally = Tally::of(alloc, trace)?;
     majorities(trace, histories, &tally)?;
     equal_balances(alloc, trace, histories, settled)?;
-    replies(trace, histories)
+    replies_side_by_side(rt, alloc, trace, histories, jobs)
 }
 
 /// A trace whose orders have no fault, with its summary and what each of its sections tells, or its first fault. What
-/// was found of the replicas isn't judged again.
+/// was found of the replicas isn't judged again. The replies that were sent are judged in up to `jobs` threads.
 fn judge_trace<'a, R: Threads + Sync>(
     rt: &R,
     alloc: Global,
     opened: Opened<'a>,
     findings: &mut [Finding<'a>],
+    jobs: u8,
 ) -> Result<AcceptedTrace<'a>, CheckFault>
     requires names { opened.names.items ≡ names_of opened.trace }
     requires orders { HasNone (IsFaultOutside StandsInOrders opened.trace) }
@@ -120,7 +123,7 @@ fn judge_trace<'a, R: Threads + Sync>(
         Ok(found) => found,
         Err(why) => return Err(why),
     };
-    match judge_together(alloc, &trace, &found.histories, &found.settled) {
+    match judge_together(rt, alloc, &trace, &found.histories, &found.settled, jobs) {
         Ok(()) => {}
         Err(why) => return Err(why),
     }
@@ -141,12 +144,14 @@ fn judge_trace<'a, R: Threads + Sync>(
     })
 }
 
-/// The verdict on the bytes that a trace was read from, where its orders have no fault.
+/// The verdict on the bytes that a trace was read from, where its orders have no fault. The replies that were sent are
+/// judged in up to `jobs` threads.
 fn verdict_on<'a, R: Threads + Sync>(
     rt: &R,
     alloc: Global,
     opened: Opened<'a>,
     findings: &mut [Finding<'a>],
+    jobs: u8,
 ) -> Result<WholeVerdict<'a>, AuditFault>
     requires names { opened.names.items ≡ names_of opened.trace }
     requires orders { HasNone (IsFaultOutside StandsInOrders opened.trace) }
@@ -159,7 +164,7 @@ fn verdict_on<'a, R: Threads + Sync>(
     faults_lie_within();
     outcomes_come_of_steps();
     accepted_traces_are_audited();
-    match judge_trace(rt, alloc, opened, findings) {
+    match judge_trace(rt, alloc, opened, findings, jobs) {
         Ok(accepted) => Ok(WholeVerdict::Yes(accepted)),
         Err(CheckFault::Found(fault)) => Ok(WholeVerdict::No(fault)),
         Err(CheckFault::Memory) => Err(AuditFault::Memory),
@@ -167,9 +172,8 @@ fn verdict_on<'a, R: Threads + Sync>(
 }
 
 /// Audits the bytes of a trace on one thread: the first fault, or yes with the summary where none stands. Where it is
-/// yes, the bytes spell a trace that is one-thread SmallBank, batch by batch, and all else that `IsAudited` says; the
-/// first fault stands within the bytes, or at their end, and names the replica in whose section it lies, if it lies in
-/// one.
+/// yes, the bytes spell a trace that is one-thread SmallBank, batch by batch, and all else that `IsAudited` says. The
+/// first fault stands within the bytes or at their end, and names the replica in whose section it lies, if any.
 ///
 /// docs/MODEL.md, "Verdict" and "The audit theorem". No recorded claim is trusted. Refused memory decides nothing. The
 /// time is linear in the trace, but for the tokens: for each batch all balances are hashed, once where the replicas
@@ -190,7 +194,7 @@ pub fn audit_one<R: Threads + Sync>(
         Err(CheckFault::Found(fault)) => return Ok(Verdict::No(fault)),
         Err(CheckFault::Memory) => return Err(AuditFault::Memory),
     };
-    let whole = verdict_on(rt, alloc, opened, &mut [])?;
+    let whole = verdict_on(rt, alloc, opened, &mut [], 1)?;
     Ok(whole.verdict())
 }
 
@@ -205,7 +209,8 @@ pub fn audit_one<R: Threads + Sync>(
 /// - Of the replicas without a fault so far, the tokens of the one that committed most batches are judged in up to
 ///   `workers` threads, or else of the next. Beside it those of the others are judged, side by side: a batch that came
 ///   to the same there isn't hashed again.
-/// - At last, once all workers have ended, the caller judges what the replicas come to together.
+/// - At last, once all workers have ended, the caller judges what the replicas come to together, and the replies that
+///   were sent in up to `workers` threads.
 ///
 /// At most `workers` threads work at once: with one worker none is started, and a replica has more than one thread
 /// where there are two workers or more to each. The caller runs a worker that can't be started, and judges a replica
@@ -231,8 +236,8 @@ pub fn audit<R: Threads + Wait + Sync, G: Gate>(
 /// Audits the bytes of a trace as `audit` does, and keeps of a yes the trace that was read and what each section tells,
 /// so that nothing is read or judged again.
 ///
-/// docs/MODEL.md, "Verdict" and "The audit theorem". It takes the time of `audit`. Where the verdict is yes, the offsets
-/// of the trace's frames and each replica's history take memory until they are dropped.
+/// docs/MODEL.md, "Verdict" and "The audit theorem". It takes the time of `audit`. Where the verdict is yes, the
+/// offsets of the trace's frames and each replica's history take memory until they are dropped.
 pub fn audit_whole<'a, R: Threads + Wait + Sync, G: Gate>(
     rt: &R,
     alloc: Global,
@@ -256,7 +261,7 @@ pub fn audit_whole<'a, R: Threads + Wait + Sync, G: Gate>(
     };
     let (trace, names) = (&opened.trace, &opened.names);
     match judge_side_by_side(rt, alloc, trace, names, workers, gate) {
-        Ok(mut findings) => verdict_on(rt, alloc, opened, findings.as_mut_slice()),
+        Ok(mut findings) => verdict_on(rt, alloc, opened, findings.as_mut_slice(), workers),
         Err(AllocError) => Err(AuditFault::Memory),
     }
 }

@@ -164,8 +164,8 @@ fn judge_all_tokens<'a, R: Threads + Sync>(
     }
 }
 
-/// Judges tokens of one replica in up to `jobs` threads, the one that committed most batches; where they aren't all due,
-/// those of the next one. Takes out the first of which they are.
+/// Judges tokens of one replica in up to `jobs` threads, the one that committed most batches; where they aren't all
+/// due, those of the next one. Takes out the first of which they are.
 fn take_due<'a, R: Threads + Sync>(
     rt: &R,
     alloc: Global,

@@ -123,7 +123,8 @@ impl<'a> Slot<'a> {
         Ok(slots)
     }
 
-    /// Judges the workers' replicas but for their tokens, each worker's in a thread of its own where one can be started.
+    /// Judges the workers' replicas but for their tokens, each worker's in a thread of its own where one can be
+    /// started.
     fn settle_shares<R: Threads + Wait + Sync, G: Gate>(
         rt: &R,
         alloc: Global,
@@ -180,8 +181,8 @@ impl<'a> Slot<'a> {
         }
     }
 
-    /// Judges a replica by itself, but for its tokens, in up to `jobs` threads, at least 1. It keeps what it finds; where
-    /// memory runs out it keeps nothing of it.
+    /// Judges a replica by itself, but for its tokens, in up to `jobs` threads, at least 1. It keeps what it finds;
+    /// where memory runs out it keeps nothing of it.
     fn settle<R: Threads + Sync>(
         &mut self,
         rt: &R,

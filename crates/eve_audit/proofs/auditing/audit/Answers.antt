@@ -3,7 +3,8 @@ use Rattle.eve_audit.specs.Verdict.{IsVerdict}
 use Rattle.eve_audit.proofs.auditing.audit.Goals as goal
 
 pub returns-clause-verdict : goal.returns-clause-verdict
-returns-clause-verdict g c = subst (IsVerdict c.args.bytes.now) (sym c.verdict.ensures) c.in_ok-audit_whole.ensures.verdict
+returns-clause-verdict g c =
+    subst (IsVerdict c.args.bytes.now) (sym c.verdict.ensures) c.in_ok-audit_whole.ensures.verdict
 
 pub returns-clause-yes : goal.returns-clause-yes
 returns-clause-yes g c = λ s is. c.in_ok-audit_whole.ensures.yes s (sym c.verdict.ensures ∙ is)

@@ -9,7 +9,7 @@ use Rattle.eve_agree.specs.SentReplies.{StandsInReplies}
 use Rattle.eve_audit.proofs.auditing.judge_together.Goals as goal
 
 pub returns-in_err-equal_balances-clause-first : goal.returns-in_err-equal_balances-clause-first
-returns-in_err-equal_balances-clause-first c =
+returns-in_err-equal_balances-clause-first g c =
     let t = c.args.trace.now in
     let found = c.in_err-equal_balances in
     let first = found_weaker (IsLeast (IsFaultSomewhere StandsInAgreement t)) (IsFirstOf (IsCommonFault t))
@@ -19,17 +19,18 @@ returns-in_err-equal_balances-clause-first c =
     search rules
 
 pub returns-clause-none : goal.returns-clause-none
-returns-clause-none c =
+returns-clause-none g c =
     let t = c.args.trace.now in
-    IfOk-weaker c.replies.result (λ _. HasNone (IsFaultOutside StandsInReplies t)) (λ _. HasNone (IsCommonFault t))
+    IfOk-weaker c.replies_side_by_side.result (λ _. HasNone (IsFaultOutside StandsInReplies t))
+    (λ _. HasNone (IsCommonFault t))
     (λ _ none. none_common t c.in_ok-tally.ensures.none c.in_ok-majorities.ensures.none
-    c.in_ok-equal_balances.ensures.none none) c.replies.ensures.none
+    c.in_ok-equal_balances.ensures.none none) c.replies_side_by_side.ensures.none
 
 pub returns-clause-first : goal.returns-clause-first
-returns-clause-first c =
+returns-clause-first g c =
     let t = c.args.trace.now in
-    IfErr-weaker c.replies.result (λ why. IfFound why (IsLeast (IsFaultOutside StandsInReplies t)))
+    IfErr-weaker c.replies_side_by_side.result (λ why. IfFound why (IsLeast (IsFaultOutside StandsInReplies t)))
     (λ why. IfFound why (IsFirstOf (IsCommonFault t)))
     (λ why found. found_weaker (IsLeast (IsFaultOutside StandsInReplies t)) (IsFirstOf (IsCommonFault t)) why
     (λ f least. reply_first t f c.in_ok-tally.ensures.none c.in_ok-majorities.ensures.none
-    c.in_ok-equal_balances.ensures.none least) found) c.replies.ensures.least
+    c.in_ok-equal_balances.ensures.none least) found) c.replies_side_by_side.ensures.least

@@ -48,7 +48,8 @@ replicas-preserved g c =
             c.match-judge_missing.kept.settled.items c.match-judge_missing.kept.committed)
             (sym (w.first-is ∙ w.first_of-first.ensures))
             (judged_more c.faults_come_one_before_another.ensures.further
-            c.faults_come_one_before_another.ensures.first t e c.replicas.first w.in-Err-Found.fault c.match-judge_missing.kept.histories.items
+            c.faults_come_one_before_another.ensures.first t e c.replicas.first w.in-Err-Found.fault
+            c.match-judge_missing.kept.histories.items
             c.match-judge_missing.kept.settled.items c.match-judge_missing.kept.committed
             c.replicas.invariant.0.found first)
             )
