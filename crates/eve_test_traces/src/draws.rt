@@ -26,8 +26,8 @@ fn shift(bytes: &mut [u8], at: usize, higher: bool) {
     }
 }
 
-/// Changes a value of the entry whose bytes begin at a place: its version, what it saw, what it left, or its row. What a
-/// read leaves stays what it saw.
+/// Changes a value of the entry whose bytes begin at a place: its version, what it saw, what it left, or its row. What
+/// a read leaves stays what it saw.
 fn change(bytes: &mut [u8], at: usize, entry: &Entry, random: &mut Pcg32) {
     let higher = random.next_u32() % 2 == 0;
     match random.next_u32() % 8 {

@@ -1,5 +1,5 @@
-//! What the rollbacks and the tokens of each replica come to, each phase by itself: where an audit would end at the first
-//! fault.
+//! What the rollbacks and the tokens of each replica come to, each phase by itself: where an audit would end at the
+//! first fault.
 
 ghost use Rattle.std.specs.Prelude.{◌≡◌, ◌<◌, length};
 ghost use Rattle.eve_history.specs.SectionHistory.{names_of};

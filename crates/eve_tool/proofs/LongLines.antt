@@ -74,8 +74,8 @@ line-stops_in_words a b c held l k front room first words = record {
 }
 
 -- it was stopped before its end
-pub line-stops_at_end : (a b c d : Option (List ℕ)) (held l k j front : List ℕ) → PutsText a b held l [] → k ≡ l ++ front
-    → PutsSome b c k j → AppendsFront c d j → StopsInLine a d held front
+pub line-stops_at_end : (a b c d : Option (List ℕ)) (held l k j front : List ℕ) → PutsText a b held l []
+    → k ≡ l ++ front → PutsSome b c k j → AppendsFront c d j → StopsInLine a d held front
 line-stops_at_end a b c d held l k j front room first words last = record {
   line = front ++ (words.text ++ line_feed);
   is = whole front words.text;
@@ -171,14 +171,16 @@ far-stops_at_end a b c held fronts i past far stops = record {
 
 -- the next was stopped
 pub far-stops : (a b c : Option (List ℕ)) (held : List ℕ) (fronts : List (List ℕ)) (i : ℕ) (front : List ℕ)
-    → slice_get fronts i ≡ Some front → StopsInLine b c held front → HoldsFar a b held fronts i → StopsInLines a c fronts
+    → slice_get fronts i ≡ Some front → StopsInLine b c held front → HoldsFar a b held fronts i
+    → StopsInLines a c fronts
 far-stops a b c held fronts i front at stops far =
     let rest = plain (drop (i + 1) fronts) in
     let next = sym (drop-next fronts i front at) in
     let with_line : AreLongLines (front ∷ drop (i + 1) fronts) (stops.line ++ rest.0) =
     (stops.line, rest.0, stops.is, rest.1, refl) in
     let joined : far.sent ++ ((held ++ stops.line) ++ rest.0) ≡ (far.sent ++ held) ++ (stops.line ++ rest.0) =
-    ap (λ l. far.sent ++ l) (append_assoc held stops.line rest.0) ∙ sym (append_assoc far.sent held (stops.line ++ rest.0))
+    ap (λ l. far.sent ++ l) (append_assoc held stops.line rest.0)
+    ∙ sym (append_assoc far.sent held (stops.line ++ rest.0))
     in
     record {
       text = (far.sent ++ held) ++ (stops.line ++ rest.0);

@@ -149,7 +149,8 @@ stop_off words h =
     let rest = argument_words eve words in
     let stop = (walk above.top.rules (names_of above) nothing_held rest).stopped in
     walk_off above.top (names_of above) refl (walk_from nothing_held) rest refl
-    (words_right above.top (names_of above) nothing_held rest (is_some (entered above stop)) (entered_fault above stop) h)
+    (words_right above.top (names_of above) nothing_held rest (is_some (entered above stop))
+    (entered_fault above stop) h)
 
 -- words without a fault are a call
 pub call_without_faults : (words : List Text) → fault_of eve words ≡ [] → call_of words

@@ -1,6 +1,6 @@
 -- Words without a fault don't lead to the subcommand `help`, which answers with help.
-use Rattle.std.proofs.Common.{◌≡◌, ℕ, Bool, true, false, not, ◌&&◌, ◌||◌, if◌then◌else◌, List, [], ◌∷◌, Option, Some, None}
-use Rattle.std.proofs.Common.{codes, fold, is_some, refl, sym, subst}
+use Rattle.std.proofs.Common.{◌≡◌, ℕ, Bool, true, false, not, ◌&&◌, ◌||◌, if◌then◌else◌, List, [], ◌∷◌}
+use Rattle.std.proofs.Common.{Option, Some, None, codes, fold, is_some, refl, sym, subst}
 use Rattle.std.specs.Str.{bytes_eq}
 use Rattle.std.proofs.lemmas.Slice.Eq.{bytes_eq-Decides}
 use Rattle.clap.specs.Kinds.{Kinds, or_else}
@@ -23,7 +23,8 @@ abbrev pub stands_off : Option (Text × List Text) → Bool
 stands_off None = true
 stands_off (Some p) = not (bytes_eq p.0 (codes "help"))
 
-plain_off : (c : List Rule) (waiting : Waiting) (word : Text) (h : Held) → keeps_off (plain_word c waiting word h).1 ≡ true
+plain_off : (c : List Rule) (waiting : Waiting) (word : Text) (h : Held)
+    → keeps_off (plain_word c waiting word h).1 ≡ true
 plain_off c idle word h = refl
 plain_off c (option id) word h = refl
 plain_off c positional word h = refl
@@ -95,8 +96,8 @@ module _ (s : Shape) (names : Names) (enabled : s.disable_help_subcommand ≡ fa
   after_off word w h (subcommand name) off keeps = keeps
   after_off word w h value off keeps = positional_off (arg_by_index s.rules w.position) word w h off
 
-  from_off : (stopped : Option (Text × List Text)) (w : Walk) (word : Text) (further : Kinds) → stands_off stopped ≡ true
-      → stands_off w.stopped ≡ true
+  from_off : (stopped : Option (Text × List Text)) (w : Walk) (word : Text) (further : Kinds)
+      → stands_off stopped ≡ true → stands_off w.stopped ≡ true
       → (if is_some stopped then [] else or_else (word_fault s names w.is_trailing w.waiting word w.held) further) ≡ []
       → stands_off (walked_from s.rules names stopped w word).stopped ≡ true
   from_off (Some p) w word further off stands right = off
@@ -118,7 +119,8 @@ module _ (s : Shape) (names : Names) (enabled : s.disable_help_subcommand ≡ fa
       (second_empty (turn_fault s names w word) _ right)
 
 -- what answers to `help` is where no such walk stops
-pub off_help : (p : Text × List Text) → stands_off (Some p) ≡ true → answers_to p.0 (codes "help", []) ≡ true → false ≡ true
+pub off_help : (p : Text × List Text) → stands_off (Some p) ≡ true → answers_to p.0 (codes "help", []) ≡ true
+    → false ≡ true
 off_help p off answers = by (bytes_eq (codes "help") p.0) refl answers
   where
     by : (b : Bool) → bytes_eq (codes "help") p.0 ≡ b → (b || false) ≡ true → false ≡ true

@@ -23,11 +23,13 @@ pub run_call : (name : Text) → call_of (name ∷ codes "run" ∷ []) ≡ Some 
 unfolding call_of faults_of clap_on_literals
 run_call name = refl
 
-pub whole_call : (name : Text) → call_of (name ∷ codes "run" ∷ codes "--mixer" ∷ codes "whole" ∷ []) ≡ Some (Run Whole One)
+pub whole_call : (name : Text)
+    → call_of (name ∷ codes "run" ∷ codes "--mixer" ∷ codes "whole" ∷ []) ≡ Some (Run Whole One)
 unfolding call_of faults_of clap_on_literals
 whole_call name = refl
 
-pub first_call : (name : Text) → call_of (name ∷ codes "run" ∷ codes "--mixer" ∷ codes "first" ∷ []) ≡ Some (Run First One)
+pub first_call : (name : Text)
+    → call_of (name ∷ codes "run" ∷ codes "--mixer" ∷ codes "first" ∷ []) ≡ Some (Run First One)
 unfolding call_of faults_of clap_on_literals
 first_call name = refl
 

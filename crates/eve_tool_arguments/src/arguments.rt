@@ -4,8 +4,9 @@ ghost use Rattle.std.specs.Prelude.{◌≡◌, ℕ, Option, false, IfOk, IfSome,
 ghost use Rattle.std.specs.String.{string_bytes};
 ghost use Rattle.clap.specs.Words.{app_of, found_of, kind_of, rule_of, shape_of, subcommand_rows_of};
 ghost use Rattle.clap.specs.Walk.{rows_of};
-ghost use Rattle.eve_tool_arguments.specs.Arguments.{Answers, HasWorkers, SaysOf, audit, eve, explain, file, file_behind};
-ghost use Rattle.eve_tool_arguments.specs.Arguments.{file_of, format, format_in, is_long, listing, long, mixer, mixer_in};
+ghost use Rattle.eve_tool_arguments.specs.Arguments.{Answers, HasWorkers, SaysOf, audit, eve, explain, file};
+ghost use Rattle.eve_tool_arguments.specs.Arguments.{file_behind, file_of, format, format_in, is_long, listing};
+ghost use Rattle.eve_tool_arguments.specs.Arguments.{long, mixer, mixer_in};
 ghost use Rattle.eve_tool_arguments.specs.Arguments.{program, run_in, run_options, run_shape, show};
 ghost use Rattle.eve_tool_arguments.specs.Arguments.{subcommand_named};
 ghost use Rattle.eve_tool_arguments.specs.Arguments.{subcommand_of_call, workers, workers_behind, workers_in};

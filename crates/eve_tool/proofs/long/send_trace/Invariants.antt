@@ -7,5 +7,6 @@ use Rattle.eve_tool.proofs.long.send_trace.Given as goal
 
 abbrev pub invariant-frames : goal.invariant-frames
 invariant-frames g l =
-    HoldsFar (g.O.Sink.written l.fn.out) (g.O.Sink.written l.out) l.line.items (long_fronts (frames_of l.trace)) (l.i + 1)
+    HoldsFar (g.O.Sink.written l.fn.out) (g.O.Sink.written l.out) l.line.items
+    (long_fronts (frames_of l.trace)) (l.i + 1)
     × (g.O.Sink.failures l.out ≡ g.O.Sink.failures l.fn.out)

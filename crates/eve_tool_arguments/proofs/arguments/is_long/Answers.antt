@@ -9,8 +9,9 @@ use Rattle.eve_tool_arguments.proofs.arguments.is_long.Goals as goal
 
 pub returns-in-Some : goal.returns-in-Some
 returns-in-Some c =
-    let found : option_map (λ s. s.now) c.get_str.result ≡ value_given (codes "long") (rows_of (found_of c.args.found.now))
-    = c.get_str.ensures ∙ first_value-rows (found_of c.args.found.now) (codes "long") in
+    let given = found_of c.args.found.now in
+    let found : option_map (λ s. s.now) c.get_str.result ≡ value_given (codes "long") (rows_of given)
+    = c.get_str.ensures ∙ first_value-rows given (codes "long") in
     c.eq.ensures
     ∙ ap (λ o. unwrap_or (option_map (λ t. bytes_eq t (codes "true")) (option_map (λ s. s.now) o)) false)
     (sym c.in-Some.is)
@@ -18,8 +19,9 @@ returns-in-Some c =
 
 pub returns-in-None : goal.returns-in-None
 returns-in-None c =
-    let found : option_map (λ s. s.now) c.get_str.result ≡ value_given (codes "long") (rows_of (found_of c.args.found.now))
-    = c.get_str.ensures ∙ first_value-rows (found_of c.args.found.now) (codes "long") in
+    let given = found_of c.args.found.now in
+    let found : option_map (λ s. s.now) c.get_str.result ≡ value_given (codes "long") (rows_of given)
+    = c.get_str.ensures ∙ first_value-rows given (codes "long") in
     ap (λ o. unwrap_or (option_map (λ t. bytes_eq t (codes "true")) (option_map (λ s. s.now) o)) false)
     (sym c.in-None.is)
     ∙ ap (λ (o : Option Text). unwrap_or (option_map (λ t. bytes_eq t (codes "true")) o) false) found
