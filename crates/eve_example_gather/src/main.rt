@@ -1,9 +1,9 @@
 //! Reads worked traces, and writes them again from parts of their own. A line of the input names the file of a trace.
 //! It is printed again, with the number of bytes and what came of the copy. That is whether `gather` writes the same
 //! bytes, refuses a limit one byte lower and parts that have no spelling, and stops where the sink fails: at each byte,
-//! and not at the call after the last. A name that ends in `.transfer` is that of a frame that is to be a Transfer of one
-//! customer: it is read row by row and written again. The last line is that of a Transfer of the most rows that there
-//! may be.
+//! and not at the call after the last. A name that ends in `.transfer` is that of a frame that is to be a Transfer of
+//! one customer: it is read row by row and written again. The last line is that of a Transfer of the most rows that
+//! there may be.
 #![tactic(auto)]
 
 mod copy;
