@@ -45,7 +45,7 @@ abbrev pub IsNoMajority : List Server → Server → Type 0
 IsNoMajority servers s =
     (token : List ℕ) → next_token s ≡ Some token → 2 * count_with token servers ≤ length servers
 
--- so many have it, no more than half of all
+-- no more than half of all have it
 pub bound : (servers : List Server) (token own : List ℕ) (count : ℕ) → Path (Option (List ℕ)) (Some own) (Some token)
     → count ≡ count_with own servers → count ≤ length servers / 2 → 2 * count_with token servers ≤ length servers
 bound servers token own count same counted few =

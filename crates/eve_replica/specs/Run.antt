@@ -50,11 +50,11 @@ pub record IsDecidedBy (batches : ℕ) (steps : List Step) (votes : List Vote) :
   pub none_later : reached_in steps ≡ batches → later ≡ []
   pub stopped : reached_in steps ≢ batches → StopsBefore steps later
 
--- A trace of a run of the workload. Numbers and customers are the workload's; the batches are, in order, the cut of
--- each of its batches; each section is that of a replica that served them; more than half of the replicas reached all
--- batches, and in format 2 all of them did; each batch was committed by more than half of all replicas; what was taken
--- over is what the lowest-numbered of these had committed; what was rolled back wasn't decided; each verifier gave the
--- votes on which the replicas took their steps; and each replica sent the replies of what it committed.
+-- A trace of a run of the workload. Numbers and customers are the workload's. The batches are, in order, the cut of
+-- each of its batches. Each section is that of a replica that served them. More than half of the replicas reached all
+-- batches, and in format 2 all of them did. Each batch was committed by more than half of all replicas. What was taken
+-- over is what the lowest-numbered of these had committed. What was rolled back wasn't decided. Each verifier gave the
+-- votes on which the replicas took their steps, and each replica sent the replies of what it committed.
 pub record IsTraceOf (w : Workload) (mixer : Mixer) (t : Trace) : Type 0 where
   pub head : t.head ≡ head_asked w
   pub customers : t.customers ≡ w.customers

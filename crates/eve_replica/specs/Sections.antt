@@ -62,8 +62,8 @@ commit_vote seq view token = record { seq = seq; view = view; choice = ForCommit
 abbrev pub rollback_vote : (seq view : ℕ) → Vote
 rollback_vote seq view = record { seq = seq; view = view; choice = ForRollback }
 
--- These are the votes on which a replica took its steps, one after another: a commit is of its batch, view and token; a
--- rollback is of the batch after the one that it goes back to, in the view before its own; a state is taken over where
+-- These are the votes on which a replica took its steps, one after another. A commit is of its batch, view and token. A
+-- rollback is of the batch after the one that it goes back to, in the view before its own. A state is taken over where
 -- its batch is committed in its view, with whatever token.
 abbrev pub AreVotesOf : List Step → List Vote → Type 0
 AreVotesOf [] votes = votes ≡ []

@@ -19,8 +19,6 @@ use Rattle.eve_write.specs.declared.step.Step as code
 use Rattle.eve_write.specs.declared.vote.VoteData.{VoteData}
 use Rattle.eve_write.specs.declared.sent.SentData.{SentData}
 use Rattle.eve_workload.specs.declared.mixer.MixedBatch.{MixedBatch}
-use Rattle.eve_stamps.specs.Applied.{Applied}
-use Rattle.eve_replica_crew.specs.Recording.{AreNotedOf}
 use Rattle.eve_replica.specs.Replicas.{Replica}
 use Rattle.eve_replica.specs.Deciding.{is_some_of, token_given_up, AreUndecided}
 use Rattle.eve_replica.specs.Sections.{RunPlan, GoesThrough, AreVotesOf, place_due, commit_vote, rollback_vote}
@@ -365,19 +363,6 @@ AttemptsAll window old before new after =
     GoesOn (attempt_move (length window) (map (λ m. plain m.batch) window)) (server_with old before)
     (server_with new after)
 
--- a list has something for each place below this number, which is right for it
-pub record AreFor {A : Type 0} (IsRight : ℕ → A → Type 0) (many : ℕ) (all : List A) : Type 0 where
-  pub lists : length all ≡ many
-  pub each : (k : ℕ) (e : A) → k < many → IsRight k (get_or all k e)
-
--- what was noted of the batch at this place of the window
-abbrev pub IsNotedAt : List (List ℕ) → List MixedBatch → ℕ → Vec Applied Global → Type 0
-IsNotedAt names window k records = (m : MixedBatch) → AreNotedOf names (plain (get_or window k m).batch) records.items
-
--- what was noted of each batch of the window
-abbrev pub AreAllNoted : List (List ℕ) → List MixedBatch → List (Vec Applied Global) → Type 0
-AreAllNoted names window noted = AreFor (IsNotedAt names window) (length window) noted
-
 -- ---- a window of attempts of all replicas
 
 -- The window is due to a replica of a run: if it is live, it may attempt the batches, and it misses none.
@@ -393,18 +378,6 @@ AttemptsIfLive window old new =
 -- The same, where no fault broke it.
 abbrev pub AttemptsUnbroken : List MixedBatch → Server → Server → Type 0
 AttemptsUnbroken window old new = new.replica.is_broken ≡ false → AttemptsIfLive window old new
-
--- what was noted by a replica, if it is live
-abbrev pub HasNoted : List MixedBatch → Server → Vec (Vec Applied Global) Global → Type 0
-HasNoted window s noted = s.is_live ≡ true → AreAllNoted s.replica.names window noted.items
-
--- what was noted by the replica at this place
-abbrev pub HasNotedAt : List MixedBatch → List Server → ℕ → Vec (Vec Applied Global) Global → Type 0
-HasNotedAt window servers k noted = (s : Server) → HasNoted window (get_or servers k s) noted
-
--- what was noted by each
-abbrev pub HaveNoted : List MixedBatch → List Server → List (Vec (Vec Applied Global) Global) → Type 0
-HaveNoted window servers all = AreFor (HasNotedAt window servers) (length servers) all
 
 -- each replica has become what it should
 pub record AreAllOn (Becomes : Server → Server → Type 0) (was servers : List Server) : Type 0 where

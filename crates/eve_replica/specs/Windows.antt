@@ -17,7 +17,7 @@ window_with window left opened =
     record { left = left; due = if opened == 0 then min window left else 0; opened = opened }
 
 -- From this state on the steps go window by window: all attempts of a window are made, and then its batches are reached
--- one after another, or what is left of them is rolled back together; the next window begins where none is open any
+-- one after another, or what is left of them is rolled back together. The next window begins where none is open any
 -- more. The steps end where no attempt is due: after the last attempt of a window, or later.
 abbrev pub GoByWindows : (window : ℕ) → WindowState → List Step → Type 0
 GoByWindows window at [] = at.due ≡ 0

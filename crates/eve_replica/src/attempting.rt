@@ -1,21 +1,16 @@
 //! Attempts made while a replica's workers run.
 
-ghost use Rattle.std.specs.Prelude.{◌≡◌, ◌+◌, ◌≤◌, true, false, ℕ, List, [], ◌∷◌, ◌++◌, All, length, map};
+ghost use Rattle.std.specs.Prelude.{◌≡◌, ◌+◌, true, false, ℕ, List, [], ◌∷◌, ◌++◌, map};
 ghost use Rattle.std.specs.Prelude.{IsTrue, IfOk, IfErr, IfSome, OnOk, OnErr};
 ghost use Rattle.std.specs.List.{list_all};
 ghost use Rattle.eve_grammar.specs.Limits.{is_step};
 ghost use Rattle.eve_write.specs.Data.{attempt, batch as plain_batch, section, step as plain};
 ghost use Rattle.eve_grammar.specs.Trace.{Batch};
 ghost use Rattle.eve_replica_crew.specs.FirstWorkers.{StaysAt};
-ghost use Rattle.eve_replica_crew.specs.Parts.{assigned_batches};
 ghost use Rattle.eve_replica_crew.specs.Recording.{AreNotedOf};
 ghost use Rattle.eve_replica_crew.specs.Sharing.{IsRightAssignment};
 ghost use Rattle.eve_replica.specs.Replicas.{AttemptsDue, FailsAttempt, GivesUp, KeepsCrew, MayAttempt};
 ghost use Rattle.eve_replica.specs.Serving.{AreDue, GoesOn, IsRightMixed, MayAttemptAll, AttemptsAll, attempt_move};
-ghost use Rattle.eve_replica.specs.Serving.{AreAllNoted};
-ghost use Rattle.eve_stamps.specs.Applied.{Applied};
-ghost use Rattle.std.specs.Prelude.{Vec};
-ghost use Rattle.std.specs.declared.alloc.Global.{Global};
 ghost use Rattle.eve_replica.specs.Serving.{server_with};
 ghost use Rattle.eve_replica.specs.Replicas.{IsFresh};
 ghost use Rattle.eve_replica.specs.RunFaults.{attempt_fault_of};
@@ -128,68 +123,6 @@ pub(crate) fn lead_each<R: Wait, G: Gate>(
             Ok(()) => {}
             Err(why) => return Err(Some(why)),
         }
-    }
-    Ok(())
-}
-
-/// The first worker runs its part in each batch of the window, and what was noted of each is kept. An error comes with
-/// a fault where memory runs out, and without one where a worker gave a request up.
-pub(crate) fn keep_each<R: Wait, G: Gate>(
-    rt: &R,
-    alloc: Global,
-    lead: &mut Lead<'_>,
-    noted: &mut Vec<Vec<AccessRecord>>,
-    window: &[MixedBatch],
-    gate: &G,
-) -> Result<(), Option<AttemptFault>>
-    requires none { noted.old.items ≡ [] }
-    requires left { lead.old.left ≡ map (λ m. plain_batch m.batch) window.now }
-    ensures lead { StaysAt lead.old lead.new }
-    ensures noted { OnOk result (AreAllNoted lead.old.names window.now noted.new.items) }
-{
-    for place in 0..window.len() {
-        if !lead.next(rt, gate) {
-            return Err(None);
-        }
-        match keep(alloc, noted, lead.records()) {
-            Ok(()) => {}
-            Err(_) => return Err(Some(AttemptFault::Memory)),
-        }
-    }
-    Ok(())
-}
-
-/// Keeps what was noted of one more batch.
-fn keep(
-    alloc: Global,
-    noted: &mut Vec<Vec<AccessRecord>>,
-    records: &[AccessRecord],
-) -> Result<(), AllocError>
-    ensures { OnOk result ((kept : Vec Applied Global) × (kept.items ≡ records.now)
-        × (noted.new.items ≡ noted.old.items ++ kept ∷ [])) }
-{
-    let kept = records.to_vec(alloc)?;
-    noted.push(kept)?;
-    Ok(())
-}
-
-/// Makes an attempt of what was noted of each batch of the window. A fault has broken the replica.
-pub(crate) fn close_each(
-    alloc: Global,
-    account: &mut Account<'_>,
-    steps: &mut Vec<Step>,
-    window: &[MixedBatch],
-    noted: &[Vec<AccessRecord>],
-) -> Result<(), AttemptFault>
-    requires due { MayAttemptAll account.old window.now }
-    requires noted { AreAllNoted account.old.names window.now noted.now }
-    ensures on { OnOk result (AttemptsAll window.now account.old steps.old account.new steps.new) }
-    ensures broken { OnErr result (account.new.is_broken ≡ true) }
-    ensures same { KeepsCrew account.old account.new }
-{
-    for place in 0..window.len() {
-        let records = noted[place].as_slice();
-        add_attempt(alloc, account, steps, &window[place], records)?;
     }
     Ok(())
 }

@@ -1,8 +1,8 @@
 //! Replicas.
 
 ghost use Rattle.std.specs.Prelude.{◌≡◌, ◌+◌, ◌-◌, ◌*◌, ◌^◌, ◌<◌, ◌≤◌, ◌↔◌, ◌⊎◌, true, false, Err, Some, All, length};
-ghost use Rattle.std.specs.Prelude.{vec_len, option_map, slice_get};
-ghost use Rattle.std.specs.Prelude.{IsTrue, IfOk, IfErr, IfSome, IfNone, OnOk, OnErr, IsOk, Contains, [], map};
+ghost use Rattle.std.specs.Prelude.{option_map, slice_get};
+ghost use Rattle.std.specs.Prelude.{IsTrue, IfOk, IfErr, IfSome, OnOk, OnErr, IsOk, map};
 ghost use Rattle.eve_grammar.specs.Bodies.{transfer as plain_state};
 ghost use Rattle.eve_grammar.specs.Limits.{is_batch};
 ghost use Rattle.eve_write.specs.Data.{batch as plain, attempt, commit, rollback};
@@ -12,15 +12,15 @@ ghost use Rattle.eve_attempts.specs.Ledgers.{ledger_rows, opening};
 ghost use Rattle.eve_attempts.specs.Closing.{touched_in_batch, AreMismatched};
 ghost use Rattle.eve_attempts.specs.Discarding.{RollsBack};
 ghost use Rattle.eve_attempts.specs.TakingOver.{IsStateOf, TakesOver};
-ghost use Rattle.eve_replica.specs.Replicas.{Attempts, AttemptsDue, FailsAttempt, ClosesThese, ClosesOwn};
+ghost use Rattle.eve_replica.specs.Replicas.{Attempts, FailsAttempt, ClosesOwn};
 ghost use Rattle.eve_replica.specs.Replicas.{IsDue, IsFirstOpen, CommitsFirst, KeepsCrew};
-ghost use Rattle.eve_replica.specs.Serving.{IsRightMixed, MayAttemptAll, AttemptsAll, AreAllNoted};
+ghost use Rattle.eve_replica.specs.Serving.{IsRightMixed, MayAttemptAll, AttemptsAll};
 ghost use Rattle.eve_replica_crew.specs.FirstWorkers.{StaysAt};
 ghost use Rattle.eve_replica_crew.specs.Parts.{assigned_batches};
 ghost use Rattle.eve_replica_crew.specs.Sharing.{IsRightAssignment};
 
 use crate::account::Account;
-use crate::attempting::{close_each, fault_told, keep_each, lead_each, run_and_close};
+use crate::attempting::{fault_told, lead_each, run_and_close};
 use crate::fault::{AttemptFault, CloseFault, CommitFault, TransferFault};
 use eve_accounts::{Balances, Names};
 use eve_attempts::{AttemptFront, CloseFault as Unclosed};
@@ -36,9 +36,6 @@ use std::alloc::{AllocError, Global};
 use std::marker::Model;
 use std::sync::Wait;
 use std::thread::Threads;
-
-// from this many customers on, hashing the balances takes longer than starting a thread
-const MANY_CUSTOMERS: usize = 512;
 
 /// One replica: rows in stripes that its workers lock, and its own account of these rows, by which what the workers
 /// noted becomes an attempt or is refused.
@@ -280,70 +277,18 @@ impl<'n> Replica<'n> {
         }
     }
 
-    /// Runs the batches of a window, which are the next, by the workers of a replica that isn't broken, and returns
-    /// what they noted of each. A fault breaks the replica.
-    pub(crate) fn execute_window<R: Threads + Wait + Sync, G: Gate>(
-        &mut self,
-        rt: &R,
-        alloc: Global,
-        window: &[MixedBatch],
-        gate: &G,
-    ) -> Result<Vec<Vec<AccessRecord>>, AttemptFault>
-        requires mixed { All (IsRightMixed self.old.names) window.now }
-        ensures noted { IfOk result (λ noted. AreAllNoted self.old.names window.now noted.items) }
-        ensures same { OnOk result (self.new ≡ self.old) }
-        ensures broken { OnErr result (self.new.is_broken ≡ true) }
+    /// How many workers it has.
+    pub(crate) fn workers(&self) -> u8
+        ensures { result ≡ self.now.ledger.workers }
     {
-        let workers = self.workers.many();
-        let serial = self.is_next_serial();
-        let Ok(assignments) = assignments_of(alloc, &self.floor, workers, window, serial) else {
-            return Err(self.account.broken_by(AttemptFault::Memory));
-        };
-        let mut noted = Vec::new(alloc);
-        let kept = &mut noted;
-        let mut own = |lead: &mut Lead| -> Result<(), Option<AttemptFault>>
-            requires { (kept.now.items ≡ []) × (lead.old.left ≡ map (λ m. plain m.batch) window.now) }
-            ensures lead { StaysAt lead.old lead.new }
-            ensures noted { OnOk result (AreAllNoted lead.old.names window.entry.now kept.exit.now.items) }
-        { keep_each(rt, alloc, lead, kept, window, gate) };
-        let ran = run_batches(
-            rt,
-            alloc,
-            &self.floor,
-            &mut self.workers,
-            assignments.as_slice(),
-            gate,
-            &mut own,
-        );
-        match ran {
-            Ok((Ok(()), _)) => Ok(noted),
-            Ok((Err(Some(why)), _)) => Err(self.account.broken_by(why)),
-            Ok((Err(None), told)) => Err(self.account.broken_by(fault_told(told))),
-            Err(_) => Err(self.account.broken_by(AttemptFault::Memory)),
-        }
+        self.workers.many()
     }
 
-    /// Makes attempts of what was noted of the batches of a window, which are the next. A fault breaks the replica; the
-    /// attempts before it stay open.
-    pub(crate) fn close_window(
-        &mut self,
-        alloc: Global,
-        steps: &mut Vec<Step>,
-        window: &[MixedBatch],
-        noted: &[Vec<AccessRecord>],
-    ) -> Result<(), AttemptFault>
-        requires due { MayAttemptAll self.old window.now }
-        requires noted { AreAllNoted self.old.names window.now noted.now }
-        ensures on { OnOk result (AttemptsAll window.now self.old steps.old self.new steps.new) }
-        ensures broken { OnErr result (self.new.is_broken ≡ true) }
+    /// How many customers there are.
+    pub(crate) fn customers(&self) -> usize
+        ensures { result ≡ length self.now.names }
     {
-        close_each(alloc, &mut self.account, steps, window, noted)
-    }
-
-    /// Whether threads gain time where several replicas make their attempts side by side: where there are workers to
-    /// take part, or many balances to hash. It says only in which order things are done.
-    pub(crate) fn closes_slowly(&self) -> bool {
-        self.workers.many() > 1 || self.account.names.len() >= MANY_CUSTOMERS
+        self.account.names.len()
     }
 
     /// Why the last attempt that failed did; `Broken` where none has.

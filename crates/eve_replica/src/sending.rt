@@ -28,11 +28,25 @@ pub(crate) fn replies_of(
     ensures sent { IfOk result (λ replies. map plain replies.items
         ≡ sent_from_on (map (λ m. batch m.batch) batches.now) 0 (map (λ s. section s.steps) servers.now)) }
 {
-    let mut replies = Vec::new(alloc);
+    let mut replies = Vec::with_capacity(alloc, count_replies(servers))?;
     for place in 0..servers.len() {
         send_section(alloc, &mut replies, place as u8, servers, batches)?;
     }
     Ok(replies)
+}
+
+/// How many replies the attempts of the replicas have, as room for those that are sent: an attempt that isn't committed
+/// sends none.
+fn count_replies(servers: &[Server]) -> usize {
+    let mut count = 0usize;
+    for server in servers {
+        for step in server.steps.as_slice() {
+            if let Step::Attempt(attempt) = step {
+                count = count.saturating_add(attempt.replies.len());
+            }
+        }
+    }
+    count
 }
 
 /// The replies to each batch that the replica at this place committed.

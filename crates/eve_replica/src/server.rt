@@ -1,7 +1,7 @@
 //! Replicas of a run, with what they did.
 
 ghost use Rattle.std.specs.Prelude.{◌≡◌, true, false, ◌+◌, ◌-◌, ◌<◌, ◌^◌, [], ◌∷◌, ◌++◌, IsTrue, IsSome};
-ghost use Rattle.std.specs.Prelude.{OnOk, length};
+ghost use Rattle.std.specs.Prelude.{OnOk, OnErr, length};
 ghost use Rattle.std.specs.Prelude.{◌≢◌, ◌*◌, ℕ, List, IfOk};
 ghost use Rattle.std.specs.Arc.{arc_value};
 ghost use Rattle.eve_grammar.specs.Bodies.{transfer};
@@ -12,7 +12,7 @@ ghost use Rattle.eve_write.specs.Data.{section, step as plain};
 ghost use Rattle.eve_replica.specs.Deciding.{is_some_of};
 ghost use Rattle.eve_replica.specs.Sections.{RunPlan};
 ghost use Rattle.eve_replica.specs.Serving.{AreRightSteps, GoesOn, GivesUpNext};
-ghost use Rattle.eve_replica.specs.Serving.{AreAllNoted, AttemptsIfLive, AttemptsUnbroken, HasNoted, IsDueTo};
+ghost use Rattle.eve_replica.specs.Serving.{AttemptsIfLive, AttemptsUnbroken, IsDueTo};
 ghost use Rattle.eve_replica.specs.Serving.{commit_move, rollback_move};
 ghost use Rattle.eve_replica.specs.Serving.{next_token, standing_of, CommitsNext, IsLentBy, MayTakeOver, MissesRightly};
 
@@ -21,7 +21,6 @@ use crate::fault::{AttemptFault, RunFault};
 use crate::replica::Replica;
 use eve_grammar::{Head, TransferData};
 use eve_recorder::Gate;
-use eve_stamps::AccessRecord;
 use eve_workload::MixedBatch;
 use eve_write::{Step, commit_fits, is_right_transfer};
 use std::alloc::{AllocError, Global};
@@ -49,6 +48,7 @@ impl<'n> Server<'n> {
     ) -> Result<(), AttemptFault>
         requires due { IsDueTo window.now self.old }
         ensures on { OnOk result (AttemptsIfLive window.now self.old self.new) }
+        ensures broken { OnErr result (self.new.replica.is_broken ≡ true) }
     {
         if !self.is_live {
             return Ok(());
@@ -58,45 +58,18 @@ impl<'n> Server<'n> {
         Ok(())
     }
 
-    /// Runs the batches of a window, which are the next, by the workers of the replica, where it is live. Returns what
-    /// was noted of each. A fault breaks the replica.
-    pub(crate) fn execute<R: Threads + Wait + Sync, G: Gate>(
+    /// The same, of a replica that others go on beside: the fault is told once all have ended.
+    pub(crate) fn attempt_or_break<R: Threads + Wait + Sync, G: Gate>(
         &mut self,
         rt: &R,
         alloc: Global,
         window: &[MixedBatch],
         gate: &G,
-    ) -> Result<Vec<Vec<AccessRecord>>, AttemptFault>
-        requires due { IsDueTo window.now self.old }
-        ensures same { OnOk result (self.new ≡ self.old) }
-        ensures noted { IfOk result (λ noted. HasNoted window.now self.old noted) }
-    {
-        if !self.is_live {
-            return Ok(Vec::new(alloc));
-        }
-        let noted = self.replica.execute_window(rt, alloc, window, gate)?;
-        Ok(noted)
-    }
-
-    /// Makes attempts of what was noted of the batches of a window, which are the next, where the replica is live. It
-    /// is broken then, if one failed.
-    pub(crate) fn close(
-        &mut self,
-        alloc: Global,
-        window: &[MixedBatch],
-        noted: &[Vec<AccessRecord>],
     )
         requires due { IsDueTo window.now self.old }
-        requires noted { self.old.is_live ≡ true → AreAllNoted self.old.replica.names window.now noted.now }
         ensures on { AttemptsUnbroken window.now self.old self.new }
     {
-        if !self.is_live {
-            return;
-        }
-        let end = self
-            .replica
-            .close_window(alloc, &mut self.steps, window, noted);
-        match end {
+        match self.attempt(rt, alloc, window, gate) {
             Ok(()) => {}
             Err(_) => {}
         }

@@ -1,28 +1,29 @@
 //! Windows that are attempted by several replicas.
 
-ghost use Rattle.std.specs.Prelude.{◌≡◌, ◌<◌, false, All, IfOk, OnOk, length, get_or};
-ghost use Rattle.std.specs.Prelude.{Vec};
-ghost use Rattle.std.specs.declared.alloc.Global.{Global};
-ghost use Rattle.eve_stamps.specs.Applied.{Applied};
-ghost use Rattle.eve_replica.specs.Serving.{AreAllOn, AttemptsIfLive, AttemptsUnbroken, HasNoted, HaveNoted, IsDueTo};
+ghost use Rattle.std.specs.Prelude.{◌≡◌, ◌≤◌, false, All, OnOk};
+ghost use Rattle.std.specs.Thread.{IsSync};
+ghost use Rattle.eve_replica.specs.Serving.{AreAllOn, AttemptsIfLive, AttemptsUnbroken, IsDueTo};
 
 use crate::fault::AttemptFault;
+use crate::replica::Replica;
 use crate::server::Server;
 use eve_recorder::Gate;
-use eve_stamps::AccessRecord;
 use eve_workload::MixedBatch;
 use std::alloc::Global;
 use std::sync::Wait;
 use std::thread;
 use std::thread::Threads;
 
-/// What was noted of each batch of a window.
-type Noted = Vec<Vec<AccessRecord>>;
+/// The least work of a replica on a window that is worth a thread, in requests.
+const LEAST_WORK: usize = 256;
+
+/// How many customers' balances are hashed in about the time of a request.
+const CUSTOMERS_A_REQUEST: usize = 4;
 
 /// Each live replica attempts the batches of the window, which are the next from where they stand.
 ///
-/// The workers of one replica after another run them. Where it takes long to make attempts of what was noted, several
-/// replicas make them side by side once all batches are run; else each makes them while its workers run the next batch.
+/// Where the window is long several replicas attempt it side by side, each with its own workers; else one after
+/// another. An attempt hangs on nothing of another replica, so no trace tells which way it was.
 pub(crate) fn attempt_each<R: Threads + Wait + Sync, G: Gate>(
     rt: &R,
     alloc: Global,
@@ -33,26 +34,39 @@ pub(crate) fn attempt_each<R: Threads + Wait + Sync, G: Gate>(
     requires due { All (IsDueTo window.now) servers.old }
     ensures on { OnOk result (AreAllOn (AttemptsIfLive window.now) servers.old servers.new) }
 {
-    if !are_slow(servers) {
+    let threads = threads_for(servers, window);
+    if threads < 2 {
         return attempt_in_turn(rt, alloc, servers, window, gate);
     }
-    let noted = execute_all(rt, alloc, servers, window, gate)?;
-    close_all(rt, alloc, servers, window, noted.as_slice());
+    attempt_side_by_side(rt, alloc, servers, threads, window, gate);
     first_fault(servers)
 }
 
-/// Whether it takes two live replicas or more long to make attempts.
-fn are_slow(servers: &[Server]) -> bool {
-    let mut is_one = false;
-    for server in servers {
-        if server.is_live && server.replica.closes_slowly() {
-            if is_one {
-                return true;
-            }
-            is_one = true;
-        }
+/// In how many threads the replicas attempt the window: in one, where it takes each replica less time than starting a
+/// thread. Workers have threads of their own, so with several of them fewer replicas go side by side.
+fn threads_for(servers: &[Server], window: &[MixedBatch]) -> usize
+    ensures { 1 ≤ result }
+{
+    if servers.len() < 2 || work_of(&servers[0].replica, window) < LEAST_WORK {
+        return 1;
     }
-    false
+    match servers[0].replica.workers() {
+        1 => 8,
+        2 | 3 => 4,
+        _ => 2,
+    }
+}
+
+/// How long the window takes a replica, in requests.
+fn work_of(replica: &Replica<'_>, window: &[MixedBatch]) -> usize {
+    let hashing = replica.customers() / CUSTOMERS_A_REQUEST;
+    let mut work = 0usize;
+    for mixed in window {
+        work = work
+            .saturating_add(hashing)
+            .saturating_add(mixed.batch.requests.len());
+    }
+    work
 }
 
 /// Each live replica, one after another, attempts the batches of the window.
@@ -72,53 +86,28 @@ fn attempt_in_turn<R: Threads + Wait + Sync, G: Gate>(
     Ok(())
 }
 
-/// The workers of each live replica, one after another, run the batches of the window. Returns what was noted, nothing
-/// of a replica that isn't live.
-fn execute_all<R: Threads + Wait + Sync, G: Gate>(
+/// Each live replica attempts the batches of the window, in up to this many threads. A replica whose attempt failed is
+/// broken.
+fn attempt_side_by_side<R: Threads + Wait + Sync, G: Gate>(
     rt: &R,
     alloc: Global,
     servers: &mut [Server],
+    threads: usize,
     window: &[MixedBatch],
     gate: &G,
-) -> Result<Vec<Noted>, AttemptFault>
-    requires due { All (IsDueTo window.now) servers.old }
-    ensures same { OnOk result (servers.new ≡ servers.old) }
-    ensures noted { IfOk result (λ all. HaveNoted window.now servers.old all.items) }
-{
-    let Ok(mut all) = Vec::with_capacity(alloc, servers.len()) else {
-        return Err(AttemptFault::Memory);
-    };
-    for server in servers.iter_mut() {
-        let noted = server.execute(rt, alloc, window, gate)?;
-        all.push_reserved(noted);
-    }
-    Ok(all)
-}
-
-/// Each live replica makes its attempts of what was noted, in a thread of its own where one can be made. A replica
-/// whose attempt failed is broken.
-fn close_all<R: Threads + Wait + Sync>(
-    rt: &R,
-    alloc: Global,
-    servers: &mut [Server],
-    window: &[MixedBatch],
-    noted: &[Noted],
 )
+    requires threads { 1 ≤ threads }
     requires due { All (IsDueTo window.now) servers.old }
-    requires noted { HaveNoted window.now servers.old noted.now }
     ensures { AreAllOn (AttemptsUnbroken window.now) servers.old servers.new }
 {
-    let threads = servers.len().max(1);
     thread::for_each_mut(
         rt,
         servers,
         threads,
-        &|number: usize, server: &mut Server|
-            requires { (number < length noted.now) × IsDueTo window.now server.old
-                × ((e : Vec (Vec Applied Global) Global)
-                → HasNoted window.now server.old (get_or noted.now number e)) }
+        &|_: usize, server: &mut Server|
+            requires { IsSync R.row × IsSync G.row × IsDueTo window.now server.old }
             ensures { AttemptsUnbroken window.entry.now server.old server.new }
-        { server.close(alloc, window, noted[number].as_slice()) },
+        { server.attempt_or_break(rt, alloc, window, gate) },
     );
 }
 

@@ -94,8 +94,8 @@ const KNOT: u64 = 5;
 /// could be faster else. In the order of the list both are held until the check has entered, so that one worker runs
 /// all the rest.
 ///
-/// Attempts come one after another, so that they are told apart by counting entries: the first have a turn each, and
-/// those after the last turn aren't held.
+/// Attempts of small windows come one after another, so that they are told apart by counting entries: the first have a
+/// turn each, and those after the last turn aren't held.
 #[derive(Drop)]
 pub struct KnotGate {
     turns: [Turn; MOST_HELD],
