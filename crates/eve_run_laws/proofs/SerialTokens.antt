@@ -106,7 +106,7 @@ module _ (names : List (List ℕ)) where
 
 -- ---- the listed order
 
--- so many numbers from n on, one after another
+-- the given number of numbers from n on, one after another
 abbrev count_on : ℕ → ℕ → List ℕ
 count_on n zero = []
 count_on n (suc many) = n ∷ count_on (suc n) many
@@ -147,7 +147,7 @@ replies_listed b n before (x ∷ rest) (r ∷ rs) at many counts replies =
 
 -- ---- the token
 
--- the token of the batch after so many, run as it lists its requests from these balances
+-- the token of the batch after number `committed`, run as it lists its requests from these balances
 abbrev pub serial_token : RunPlan → ℕ → List ℤ → List ℕ
 serial_token p committed balances =
     let requests = listed (slice_index_or p.batches committed no_batch) in

@@ -96,7 +96,7 @@ explained-front a b c bytes line status audits first more = record {
   written = AppendsFront-after a b c line more.text first more.sent;
 }
 
--- ---- bytes of which only so many were read
+-- ---- bytes of which only a front was read
 
 -- a number of bytes that no trace has is enough to say what is to be said of all of them
 pub Explains-cut : (limit : ℕ) (bytes text : List ℕ) (status : ℕ) → 2 ^ 30 ≤ limit
