@@ -9,8 +9,8 @@
 //! again, and below it what audits by 1, 3 and 16 workers say of the trace, and of what is changed in it.
 //!
 //! Every other line is a trial: what fails, the file that is read, and the arguments of the call. It is printed again,
-//! and below it what came of it. That is the number of the call or byte at which something failed, from the first to the
-//! last that came to the same, the exit status, what stood on out, and what was said on the error stream.
+//! and below it what came of it. That is the number of the call or byte at which something failed, from the first to
+//! the last that came to the same, the exit status, what stood on out, and what was said on the error stream.
 //!
 //! - `nothing`: nothing fails, and all that is said stands below
 //! - `read`, `write`: the first read or write of a byte fails, or the second, and so on until none does

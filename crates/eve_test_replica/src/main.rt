@@ -1,6 +1,6 @@
 //! Replicas and whole runs whose threads are held by gates. Each line of the input names a case, of which one line is
-//! printed. Of calls of a replica it says what isn't as it is due, of a run what each replica did and the verdict on its
-//! trace, or the verdict alone where what they did hangs on the schedule. What is printed hangs on no schedule.
+//! printed. Of calls of a replica it says what isn't as it is due, of a run what each replica did and the verdict on
+//! its trace, or the verdict alone where what they did hangs on the schedule. What is printed hangs on no schedule.
 #![tactic(auto)]
 
 ghost use Rattle.std.specs.Prelude.{◌≤◌, IfOk};
