@@ -18,8 +18,8 @@ pub record Rows : Type 0 where
   pub versions : List ℕ
   pub balances : List ℤ
 
--- The version of the trace, by which tokens are made; the rows as they are now; the open attempts, in order; the view,
--- the last committed number, and whether no attempt came since a rollback; how many workers there are, and how many
+-- The version of the trace, by which tokens are made. The rows as they are now; the open attempts, in order. The view,
+-- the last committed number, and whether no attempt came since a rollback. How many workers there are, and how many
 -- attempts may be open.
 pub record Ledger : Type 0 where
   pub version : ℕ

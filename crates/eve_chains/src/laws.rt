@@ -28,9 +28,10 @@ ghost use Rattle.eve_chains.specs.Along.{entries_along};
 ghost use Rattle.eve_chains.specs.Settling.{settling, values_in, defined};
 
 /// Rows can be judged each by itself: in a right section whose settled records fit, the faults of chains are exactly
-/// those that the walks of single rows meet, each along the row's own entries and with no other row in sight, from what
-/// the row has at first and after each state that was taken over; and where no walk meets one, the settled attempts are
-/// sound.
+/// those that the walks of single rows meet. Where no walk meets one, the settled attempts are sound.
+///
+/// A walk goes along one row's entries, with no other row in sight, from what the row has at first and after each state
+/// that was taken over.
 ///
 /// docs/MODEL.md, "What an entry must see".
 pub fn rows_are_judged_by_themselves()

@@ -529,7 +529,7 @@ pub enum Evidence<'a> {
     TwoVotes {
         first: u64,
     },
-    /// F71: the two least views that are decided, of so many verifiers.
+    /// F71: the two least views that are decided, and how many verifiers there are.
     TwoDecisions {
         first: ToldDecision,
         second: ToldDecision,

@@ -13,7 +13,7 @@ use Rattle.eve_evidence.specs.declared.evidence.Evidence.TheVariants as shown
 abbrev pub decided_of : ToldDecision → Decided
 decided_of d = record { view = d.view; token = d.token; votes = d.votes }
 
--- the two least views in which the batch is decided, of so many verifiers
+-- the two least views in which the batch is decided, and how many verifiers there are
 pub record AreFirstDecisions (t : Trace) (n : ℕ) (first second : ToldDecision) (verifiers : ℕ) : Type 0 where
   pub first_is : IsNextDecision t n 0 (decided_of first)
   pub second_is : IsNextDecision t n (first.view + 1) (decided_of second)

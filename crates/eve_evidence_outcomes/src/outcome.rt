@@ -139,8 +139,10 @@ fn at_number<'a>(
 }
 
 /// The evidence of an attempt whose outcome isn't that of the lowest-numbered replica that committed its batch, by the
-/// replica's number from 0 and the byte of its frame: that replica and its attempt, and the first row whose balance
-/// differs after the batch, or else the first request, by its index, whose reply does.
+/// replica's number from 0 and the byte of its frame.
+///
+/// It has that replica and its attempt, and the first row whose balance differs after the batch, or else the first
+/// request, by its index, whose reply does.
 ///
 /// docs/MODEL.md, "Agreement" and "Evidence". The histories and what they settled are those of all replicas, in their
 /// order. It takes the balances of two replicas.

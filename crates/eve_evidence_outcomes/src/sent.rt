@@ -142,9 +142,10 @@ fn at_sent<'a>(
     }
 }
 
-/// The evidence of a reply that was sent and not committed, by the byte of its frame: that its batch has no such
-/// request, or that its replica didn't commit the batch by an attempt, or the request with the reply sent and the one
-/// committed.
+/// The evidence of a reply that was sent and not committed, by the byte of its frame.
+///
+/// It says that the reply's batch has no such request, or that its replica didn't commit the batch by an attempt, or it
+/// has the request with the reply sent and the one committed.
 ///
 /// docs/MODEL.md, "Sent replies" and "Evidence". It takes no memory. One pass over the replies sent, up to that frame,
 /// and one over its batch. The histories are those of all replicas, in their order.

@@ -178,8 +178,10 @@ fn at_number<'a>(
 }
 
 /// The evidence of a state that was taken over and isn't the one that was committed, by the replica's number from 0 and
-/// the byte of its frame: that no replica committed the batch by an attempt, or the lowest-numbered that did and the
-/// first row whose balance differs.
+/// the byte of its frame.
+///
+/// It says that no replica committed the batch by an attempt, or names the lowest-numbered that did and the first row
+/// whose balance differs.
 ///
 /// docs/MODEL.md, "Agreement" and "Evidence". The histories and what they settled are those of all replicas, in their
 /// order. It takes the balances of two replicas.

@@ -121,7 +121,7 @@ landed_in rs (landing.Attempt place) = LandedBy (executed_attempt_at rs place)
 landed_in rs (landing.Transfer i) = LandedFrom i
 landed_in rs landing.Skipped = NotLanded
 
--- the attempt or the state by which a number was reached is one of so many
+-- the attempt or the state by which a number was reached is one of those that there are
 abbrev pub IsLandingAmong : ℕ → ℕ → told.Landing → Type 0
 IsLandingAmong attempts transfers (landing.Attempt place) = place < attempts
 IsLandingAmong attempts transfers (landing.Transfer i) = i < transfers

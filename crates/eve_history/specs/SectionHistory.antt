@@ -81,9 +81,9 @@ is_by_attempt (LandedBy r) = true
 is_by_attempt (LandedFrom i) = false
 is_by_attempt NotLanded = false
 
--- Whose section it is, and whether each of its steps is right; the last number reached; its attempts in the order of
--- their frames, what became of each, and how many states were taken over before it; how each number from 1 on was
--- reached; its rollbacks, and the states that were taken over, with the offsets of their frames.
+-- Whose section it is, and whether each of its steps is right; the last number reached. Its attempts in the order of
+-- their frames, what became of each, and how many states were taken over before it. How each number from 1 on was
+-- reached. Its rollbacks, and the states that were taken over, with the offsets of their frames.
 pub record SectionHistory : Type 0 where
   pub replica : ℕ
   pub right : Bool

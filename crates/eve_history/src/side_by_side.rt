@@ -156,8 +156,8 @@ fn order_stretch(alloc: Global, trace: &Trace<'_>, mets: &[MetAttempt<'_, '_>]) 
     Ok(Some(records))
 }
 
-/// The access records of the i-th part of the attempts of a replica's section, which were met, where each part has so
-/// many.
+/// The access records of the i-th part of the attempts of a replica's section, which were met, where each part has
+/// `size` of them.
 fn order_part(
     alloc: Global,
     trace: &Trace<'_>,

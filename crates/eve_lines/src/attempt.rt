@@ -65,7 +65,7 @@ impl<'a> AttemptWords<'a> {
         put_token(line, self.attempt.token());
     }
 
-    /// Appends part number `part`, from 0, of an attempt at so many requests.
+    /// Appends part number `part`, from 0, of an attempt at `count` requests.
     fn put_part(&self, line: &mut Line, part: usize, count: usize)
         requires room { array_vec_len line.old + LONGEST_PART ≤ LINE_ROOM }
         requires placed { count ≤ length (attempt_in self.now.attempt.bytes.now).certificate }

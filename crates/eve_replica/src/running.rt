@@ -37,8 +37,8 @@ use std::thread::Threads;
 /// docs/TRACE.md, "The deployment's procedure". The trace is of the version that is the workload's format, 1 or 2. The
 /// gate is entered before each execution, with the request's index; in a long window several replicas enter it at once.
 /// It fails with `Memory` where memory runs out, with `Broken` where a replica fails otherwise, or where some batch
-/// isn't committed after two windows for each batch. In format 2 it also fails with `TooLong`, where the states that are
-/// taken over would alone fill a trace. May wait for other threads.
+/// isn't committed after two windows for each batch. In format 2 it also fails with `TooLong`, where the states that
+/// are taken over would alone fill a trace. May wait for other threads.
 pub fn run<R: Threads + Wait + Sync, G: Gate>(
     rt: &R,
     alloc: Global,

@@ -1,6 +1,6 @@
 //! Stripes, schedules, recorders and tickets, through their public calls. Each line of the input names a case, of which
-//! one line is printed: how many things were as they are due, or the first that wasn't. `random-events COUNT` draws so
-//! many batches with lists of events, and compares each step with a schedule written as lists.
+//! one line is printed: how many things were as they are due, or the first that wasn't. `random-events COUNT` draws
+//! COUNT batches with lists of events, and compares each step with a schedule written as lists.
 //!
 //! A call that is refused memory is made once more, so that what is printed stays the same whichever request is
 //! refused.

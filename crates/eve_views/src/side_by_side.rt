@@ -217,9 +217,10 @@ fn judge_to_end<R: Threads + Sync>(
     Ok(judge_behind(rt, head, bytes, on, count, threads))
 }
 
-/// Up to which byte the caller walks while the other threads judge the batches, which end at this byte: with two
-/// threads to the end, else so far that the others judge what was found up to there about as long as the caller walks
-/// on from there.
+/// Up to which byte the caller walks while the other threads judge the batches, which end at this byte.
+///
+/// With two threads that is the end. With more, the others judge what was found up to there about as long as the caller
+/// walks on from there.
 fn first_stop(at: usize, end: usize, threads: usize) -> usize {
     if threads < 3 || end <= at {
         return usize::MAX;
@@ -231,8 +232,8 @@ fn first_stop(at: usize, end: usize, threads: usize) -> usize {
 /// threads; nothing where anything is wrong.
 ///
 /// The caller walks over the customers and the batches, which have most bytes in few frames. The other threads judge
-/// their bodies while the caller walks on; where there are three threads or more they judge what it found then while it
-/// walks to the end. Then all of them judge the bodies that are left.
+/// their bodies while the caller walks on. Where there are three threads or more, they then judge what it found while
+/// it walks to the end. All of them judge the bodies that are left.
 fn index_judged<R: Threads + Sync>(
     rt: &R,
     alloc: Global,
@@ -259,9 +260,10 @@ fn index_judged<R: Threads + Sync>(
     judge_to_end(rt, alloc, head, bytes, on, count, threads)
 }
 
-/// Finds the frames after a header, with the bodies of batches, attempts, access records and transfers judged in as
-/// many threads as there are jobs, or in fewer where a thread would have too little; nothing where anything is wrong,
-/// or where one thread is enough.
+/// Finds the frames after a header, with the bodies of batches, attempts, access records and transfers judged in
+/// threads; nothing where anything is wrong, or where one thread is enough.
+///
+/// There are as many threads as jobs, or fewer where a thread would have too little.
 fn index_by_threads<R: Threads + Sync>(
     rt: &R,
     alloc: Global,

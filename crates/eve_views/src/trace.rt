@@ -75,8 +75,8 @@ impl<'a> Trace<'a> {
     /// Reads a trace as `read` does, with up to `jobs` jobs: the same trace, or the same fault.
     ///
     /// docs/TRACE.md, "Faults of form". With two jobs or more the bodies of batches, attempts, access records and
-    /// transfers are judged side by side, in as many threads at most, and in no more than the trace has whole 64 KiB;
-    /// the caller is one of these threads, and finds the frames of the sections while the others judge the batches.
+    /// transfers are judged side by side, in as many threads at most, and in no more than the trace has whole 64 KiB.
+    /// The caller is one of these threads, and finds the frames of the sections while the others judge the batches.
     /// Only where a fault stands there is another pass over the bytes, by the caller, up to the first fault. With one
     /// job, or in a trace of less than 128 KiB, no thread is started, and it is read as `read` does. Refused memory
     /// decides nothing.
