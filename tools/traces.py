@@ -17,8 +17,8 @@ def reply(code, value=0):
 class Head:
     """The numbers of the header, but the total."""
 
-    def __init__(self, replicas=1, verifiers=1, quorum=1, customers=1, batches=0, version=1, window=1):
-        self.fields = version, replicas, verifiers, quorum, window, 1, customers, batches
+    def __init__(self, replicas=1, verifiers=1, quorum=1, customers=1, batches=0, version=1, window=1, workers=1):
+        self.fields = version, replicas, verifiers, quorum, window, workers, customers, batches
 
     def text(self, total):
         return b"EVESBK" + struct.pack(">HBBBBB3xIIQ", *self.fields, total)
@@ -37,9 +37,8 @@ def attempt(seq, view, serial, order, replies, token):
     return frame(0x11, head + b"".join(replies) + token)
 
 
-def access(place, index, entries):
-    """A record of worker 0."""
-    return frame(0x12, struct.pack(">BHHB", 0, place, index, len(entries)) + b"".join(entries))
+def access(place, index, entries, worker=0):
+    return frame(0x12, struct.pack(">BHHB", worker, place, index, len(entries)) + b"".join(entries))
 
 
 def commit(seq, view, token):
