@@ -1,7 +1,7 @@
 """A second judge of traces, for `compare-judges`.
 
-It is written by docs/TRACE.md, docs/MODEL.md and docs/FAULTS.md, shares nothing with the auditor, and does everything
-in the plainest way: whole lists, tables of all rows, one replica after another. Nothing of it is proved.
+It has the rules of docs/TRACE.md, docs/MODEL.md and docs/FAULTS.md, shares nothing with the auditor, and does
+everything in the plainest way: whole lists, tables of all rows, one replica after another. Nothing of it is proved.
 """
 import hashlib
 from collections import Counter, defaultdict
