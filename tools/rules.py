@@ -1,15 +1,17 @@
-"""A second judge of traces, for `compare-judges`.
+"""The rules of traces in Python: a second judge, for `compare-verdicts`.
 
 It has the rules of docs/TRACE.md, docs/MODEL.md and docs/FAULTS.md, shares nothing with the auditor, and does
 everything in the plainest way: whole lists, tables of all rows, one replica after another. Nothing of it is proved.
 """
-import hashlib
 from collections import Counter, defaultdict
 from types import SimpleNamespace as Record
 
-MONEY, AMOUNT, VERSION = 10 ** 15, 10 ** 12, 2 ** 40
+import traces
+from traces import BAD_AMOUNT, DONE, NO_NAME, RANGE, SHORT, TOTAL
+from traces import LIMIT as MONEY
+
+AMOUNT, VERSION = 10 ** 12, 2 ** 40
 BALANCE, DEPOSIT, TRANSACT, AMALGAMATE, CHECK = range(1, 6)
-DONE, TOTAL, NO_NAME, BAD_AMOUNT, SHORT, RANGE = range(6)
 READ, WRITE = 0, 1
 COMMITTED, DISCARDED, OPEN = "committed", "discarded", "open"
 CUSTOMER, BATCH, REPLICA, ATTEMPT, ACCESS, COMMIT, ROLLBACK, TRANSFER = 0x01, 0x02, 0x10, 0x11, 0x12, 0x13, 0x14, 0x15
@@ -270,7 +272,6 @@ def judge_structure(trace, e):
                     raise Fault(23, it.offset, e)
                 met.add(it.index)
                 places[it.worker] += 1
-            step.by_index = {it.index: it for it in step.records}
             opened.append(step)
             is_serial_due = False
         elif step.kind == COMMIT:
@@ -341,30 +342,19 @@ def is_right_record(names, request, record, reply):
 
 # ---- a replica by itself
 
-def hashed(data):
-    return hashlib.sha256(data).digest()
-
-
-def root(leaves):
-    level = [hashed(b"\0" + number.to_bytes(4, "big") + it) for number, it in enumerate(leaves)]
-    while len(level) > 1:
-        level = [hashed(b"\1" + b"".join(level[i:i + 2])) if i + 1 < len(level) else level[i]
-                 for i in range(0, len(level), 2)]
-    return level[0]
-
-
 def token(version, seq, balances, replies):
     balances = [it.to_bytes(8, "big", signed=True) for it in balances]
-    replies = [bytes([code]) + value.to_bytes(8, "big", signed=True) for code, value in replies]
+    replies = [traces.reply(*it) for it in replies]
     if version == 1:
-        return hashed(b"EVESB1" + seq.to_bytes(4, "big") + b"".join(balances + replies))
-    return hashed(b"EVESB2" + seq.to_bytes(4, "big") + root(balances) + root(replies))
+        return traces.token_1(seq, b"".join(balances), replies)
+    return traces.token_2(seq, traces.Tree(balances), replies)
 
 
 def write(table, attempt, judge=None):
     """Writes an attempt's entries to a table of rows, in its certificate's order."""
+    by_index = {it.index: it for it in attempt.records}
     for index in attempt.order:
-        record = attempt.by_index[index]
+        record = by_index[index]
         for it in record.entries:
             if judge:
                 judge(record, it, table[it.row])
