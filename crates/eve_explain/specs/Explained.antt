@@ -61,9 +61,8 @@ is_of_orders code.SameName = true
 is_of_orders code.SameRequest = true
 is_of_orders _ = false
 
--- The evidence of a fault in a trace, by its code. It is of what stands twice; along the section that the fault names;
--- of restores; of a token. Or it is of votes, and of a majority that is missing; of an outcome, and of a state that was
--- taken over; of a reply that was sent.
+-- What the evidence of a fault tells, by the fault's code: of a fault of orders both places where one thing stands, of
+-- any other what its own definition asks.
 pub record IsEvidence (t : Trace) (f : Fault) (evidence : Evidence) : Type 0 where
   pub twice : IsTrue (is_of_orders f.code) → TellsTwice t f evidence
   pub along : IsTrue (is_told_along f.code) → (e : ℕ) → f.replica ≡ Some e → TellsAlong f.code t e f.offset evidence
