@@ -28,15 +28,21 @@ use rayon::prelude::*;
 use std::alloc::{AllocError, Global};
 use std::thread::Threads;
 
-/// The fewest records whose entries are gathered before the rows are walked along them. What they note, two entries or
-/// so each, stays in a processor's own memory.
-const LEAST_RECORDS: usize = 2048;
+/// The fewest entries after which the rows are walked along those of them that were gathered, which stay in a
+/// processor's own memory.
+const LEAST_ENTRIES: usize = 4096;
 
 /// In how many parts a range of rows is walked at most, since each part reads all records.
 const MOST_PARTS: u8 = 4;
 
 /// The fewest rows of a part but the last.
-const LEAST_ROWS: usize = 2048;
+const LEAST_ROWS: usize = 4096;
+
+/// How many bytes of the trace there are for each change of a row, about: a write, with its share of the frames.
+const BYTES_A_CHANGE: usize = 64;
+
+/// For how many changes of a row there is room at first, at most.
+const MOST_ROOM: usize = 32;
 
 /// What the walks of a range of rows give.
 #[derive(Drop)]
@@ -47,12 +53,20 @@ pub struct Walked {
     pub changes: Vec<Changed>,
 }
 
-/// The rows of a range with their opening balances, before any entry.
+/// For how many changes of each row there is room at first: for as many as there are if all rows change alike, so that
+/// few lists grow.
+fn room_of(trace: &Trace<'_>, rows: usize) -> usize {
+    let sections = usize::from(trace.section_count()).max(1);
+    (trace.bytes().len() / BYTES_A_CHANGE / sections / rows.max(1)).min(MOST_ROOM)
+}
+
+/// The rows of a range with their opening balances, before any entry, each with this much room for its changes.
 fn begin(
     alloc: Global,
     trace: &Trace<'_>,
     opening: &Balances,
     range: Stretch,
+    room: usize,
 ) -> Result<Vec<GatheredRow>, AllocError>
     requires opening { opening.now ≡ opening_rows trace.now.customers }
     requires within { IsWithin (row_count (head_of trace.now)) range }
@@ -65,10 +79,11 @@ fn begin(
     prove!(to <= opening.len());
     let mut rows = Vec::with_capacity(alloc, to - from)?;
     for number in from..to {
+        let changes = Vec::with_capacity(alloc, room)?;
         rows.push(GatheredRow {
             walked: WalkedRow {
                 walk: RowWalk::new(opening.as_slice()[number]),
-                changes: Vec::new(alloc),
+                changes,
             },
             notes: Vec::new(alloc),
         })?;
@@ -78,7 +93,8 @@ fn begin(
 
 /// Walks these rows, from this one on, along all settled attempts, some of them at a time: their entries are gathered
 /// row by row, in the section's order, and then each row is walked by itself along its own. With many rows more
-/// attempts are taken at a time, so that few lists are empty.
+/// attempts are taken at a time, so that few lists are empty. An attempt's entries are counted before they are gathered:
+/// that asks for all its records at once, where gathering would wait for one after the other.
 fn walk_rows(
     rows: &mut Vec<GatheredRow>,
     from: usize,
@@ -96,18 +112,29 @@ fn walk_rows(
 {
     trace.recall_limits();
     let bases = Bases { opening, history };
-    let enough = rows.len().max(LEAST_RECORDS);
-    let mut records = 0usize;
+    let enough = rows.len().saturating_mul(2).max(LEAST_ENTRIES);
+    let mut entries = 0usize;
     for i in 0..history.attempts() {
+        entries = entries.saturating_add(count_entries(history, i));
         note_attempt(rows, from, history, trace, i)?;
-        records = records.saturating_add(history.attempt(i).len());
-        if enough <= records {
+        if enough <= entries {
             walk_each(rows, from, history.replica(), &bases)?;
-            records = 0;
+            entries = 0;
         }
     }
     walk_each(rows, from, history.replica(), &bases)?;
     Ok(())
+}
+
+/// How many entries an attempt's records have.
+fn count_entries(history: &History<'_>, i: usize) -> usize
+    requires { i < length history.now.attempts }
+{
+    let mut count = 0usize;
+    for place in 0..history.attempt(i).len() {
+        count = count.saturating_add(history.ordered(i, place).len());
+    }
+    count
 }
 
 /// Walks each of these rows, from this one on, by itself along its gathered entries.
@@ -200,7 +227,8 @@ fn walk_part(
     requires before { IsWalked trace.now history.now.replica (record { from = start; to = part.from }) walked.old }
     ensures { OnOk result (IsWalked trace.now history.now.replica (record { from = start; to = part.to }) walked.new) }
 {
-    let mut rows = begin(alloc, trace, opening, part)?;
+    let room = room_of(trace, opening.len());
+    let mut rows = begin(alloc, trace, opening, part, room)?;
     walk_rows(&mut rows, part.from, history, trace, opening)?;
     add_part(history, trace, start, part, &rows, walked)
 }

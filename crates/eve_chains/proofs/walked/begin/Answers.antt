@@ -24,8 +24,8 @@ loop-number-preserved c =
     let i = c.loop-number.number in
     let old = c.loop-number.rows.items in
     let new : GatheredRow = record {
-      walked = record { walk = c.new.result; changes = c.new-in-loop-number.result };
-      notes = c.new-in-loop-number-2.result;
+      walked = record { walk = c.new.result; changes = c.in_ok-changes.changes };
+      notes = c.new-in-loop-number.result;
     } in
     let below : i < row_count (head_of t) = omega (arith, c.loop-number-test.true, c.requires.within.there) in
     let rows : List ℤ = opening_rows t.customers in
@@ -46,5 +46,5 @@ loop-number-preserved c =
           (each_more (λ k w. HasGathered e (from + k) (bases_of t e (from + k)) [] w) old new
           (c.loop-number.invariant.each e)
           (row_begun t i (from + length old) c.index-as_slice-number.result new c.new.ensures
-          c.new-in-loop-number.ensures.items c.new-in-loop-number-2.ensures.items value place e));
+          c.in_ok-changes.ensures.items c.new-in-loop-number.ensures.items value place e));
     }

@@ -10,7 +10,7 @@ use Rattle.eve_chains.specs.declared.walked_row.GatheredRow.{GatheredRow}
 use Rattle.eve_chains.proofs.Stretches.{none_between, one_between, between_joined}
 use Rattle.eve_chains.proofs.Told.{as_many_taken, taken_at, are_bases, within_told}
 use Rattle.eve_chains.proofs.walked.walk_rows.Goals as goal
-use Rattle.eve_chains.proofs.walked.walk_rows.Goals.{then-enough-records+in_ok-walk_each, else-enough-records}
+use Rattle.eve_chains.proofs.walked.walk_rows.Goals.{then-enough-entries+in_ok-walk_each, else-enough-entries}
 
 pub loop-i-init : goal.loop-i-init
 loop-i-init c = record {
@@ -51,8 +51,8 @@ loop-i-preserved c =
     let b : Bases = record { opening = c.args.opening; history = c.args.history } in
     let based : (n : ℕ) → n ≡ e → AreBasesOf t n b = λ n is. are_bases t n b
     (c.requires.history ∙ ap (section_history t) (sym is)) c.requires.opening in
-    elim c.if-enough-records.branch [
-      | then-enough-records+in_ok-walk_each w ↦ record {
+    elim c.if-enough-entries.branch [
+      | then-enough-entries+in_ok-walk_each w ↦ record {
         as_many = ap (λ (v : Vec GatheredRow Global). length v.items) w.rows-is ∙ w.in_ok-walk_each.ensures.as_many
             ∙ many;
         gathered = subst (λ (v : Vec GatheredRow Global). EachHasGathered t e from ns v.items) (sym w.rows-is)
@@ -61,7 +61,7 @@ loop-i-preserved c =
             (subst (λ (n : ℕ). EachHasGathered t n from ns c.note_attempt.new.rows.items) (sym w.replica.ensures)
             noted)));
       }
-      | else-enough-records w ↦ record {
+      | else-enough-entries w ↦ record {
         as_many = ap (λ (v : Vec GatheredRow Global). length v.items) w.rows-is ∙ many;
         gathered = subst (λ (v : Vec GatheredRow Global). EachHasGathered t e from ns v.items) (sym w.rows-is) noted;
       }
