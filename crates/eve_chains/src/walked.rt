@@ -93,8 +93,8 @@ fn begin(
 
 /// Walks these rows, from this one on, along all settled attempts, some of them at a time: their entries are gathered
 /// row by row, in the section's order, and then each row is walked by itself along its own. With many rows more
-/// attempts are taken at a time, so that few lists are empty. An attempt's entries are counted before they are gathered:
-/// that asks for all its records at once, where gathering would wait for one after the other.
+/// attempts are taken at a time, so that few lists are empty. Each attempt's entries are counted first: so memory is
+/// asked for all its records at once, where gathering would wait for one after the other.
 fn walk_rows(
     rows: &mut Vec<GatheredRow>,
     from: usize,
