@@ -7,7 +7,7 @@ use Rattle.std.specs.List.{list_all}
 use Rattle.std.proofs.lemmas.Bool.{and_parts}
 use Rattle.std.proofs.lemmas.Option.{same_Some}
 use Rattle.std.proofs.lemmas.Grind.{flat_map-append}
-use Rattle.std.proofs.lemmas.List.{get_or-set_other, length-drop, length-set, map-append, take_more}
+use Rattle.std.proofs.lemmas.List.{get_or-set_other, length-drop, length-set, map-append}
 use Rattle.eve_smallbank.specs.declared.entry.Entry.{Entry}
 use Rattle.eve_grammar.specs.Trace.{Access, Trace}
 use Rattle.eve_grammar.specs.Frames.{Frame, frames_of}
@@ -25,11 +25,8 @@ use Rattle.std.proofs.lemmas.List.Elements.{filter-append}
 use Rattle.eve_grammar.proofs.Lists.{filter_kept, filter_dropped}
 use Rattle.eve_chains.specs.Rows.{Noted, of_row}
 use Rattle.eve_chains.specs.Rows.{bases_of}
-use Rattle.eve_smallbank.specs.declared.versioned.Versioned.{Versioned}
-use Rattle.eve_chains.specs.Notes.{noted_at}
-use Rattle.eve_chains.specs.Walked.{HasWalked, HasGathered, EachHasGathered}
-use Rattle.eve_chains.specs.declared.note.Note.{Note}
-use Rattle.eve_chains.specs.declared.walked_row.GatheredRow.{GatheredRow}
+use Rattle.eve_chains.specs.Walked.{HasWalked, EachHasWalked}
+use Rattle.eve_chains.specs.declared.walked_row.WalkedRow.{WalkedRow}
 
 -- an entry of another row is none of a row's
 other_same : (row : ℕ) (ns : List Noted) (n : Noted) → n.entry.row ≢ row → of_row row (ns ++ n ∷ []) ≡ of_row row ns
@@ -47,58 +44,33 @@ own_more row ns n own =
     ∙ ap (λ (ms : List Noted). of_row row ns ++ ms)
     (filter_kept (λ (m : Noted). m.entry.row == row) n [] (eq-eqb n.entry.row row own))
 
--- a row with one entry more in its list
-pub gathered_more : (e row : ℕ) (v : ℕ → Versioned) (ns : List Noted) (n : Noted) (note : Note) (u w : GatheredRow)
-    → w.walked ≡ u.walked → w.notes.items ≡ u.notes.items ++ note ∷ [] → row ≡ n.entry.row
-    → noted_at n.entry.row note ≡ n → HasGathered e row v ns u → HasGathered e row v (ns ++ n ∷ []) w
-gathered_more e row v ns n note u w same pushed own is known = record {
-  before = known.before;
-  whole = ap (λ (xs : List Note). known.before ++ map f xs) pushed
-      ∙ ap (λ (ms : List Noted). known.before ++ ms) (map-append f u.notes.items (note ∷ []))
-      ∙ sym (append_assoc known.before (map f u.notes.items) (f note ∷ []))
-      ∙ (λ i. known.whole i ++ (ap (λ (r : ℕ). noted_at r note) own ∙ is) i ∷ []);
-  walked = subst (HasWalked e v known.before) (sym same) known.walked;
-}
-  where
-    f : Note → Noted
-    f = noted_at row
-
--- and with none left in it
-pub all_walked : (e row : ℕ) (v : ℕ → Versioned) (ns : List Noted) (w : GatheredRow) → HasWalked e v ns w.walked
-    → w.notes.items ≡ [] → HasGathered e row v ns w
-all_walked e row v ns w walked none = record {
-  before = ns;
-  whole = ap (λ (xs : List Note). ns ++ map (noted_at row) xs) none ∙ append-nil ns;
-  walked = walked;
-}
-
-module _ (t : Trace) (e from : ℕ) (ns : List Noted) (n : Noted) (ws : List GatheredRow) where
+module _ (t : Trace) (e from : ℕ) (ns : List Noted) (n : Noted) (ws : List WalkedRow) where
   -- none of the rows is the entry's
-  pub passed_over : ((place : ℕ) → place < length ws → from + place ≢ n.entry.row) → EachHasGathered t e from ns ws
-      → EachHasGathered t e from (ns ++ n ∷ []) ws
+  pub passed_over : ((place : ℕ) → place < length ws → from + place ≢ n.entry.row) → EachHasWalked t e from ns ws
+      → EachHasWalked t e from (ns ++ n ∷ []) ws
   passed_over apart known place d less =
-      subst (λ (ms : List Noted). HasGathered e (from + place) (bases_of t e (from + place)) ms (get_or ws place d))
+      subst (λ (ms : List Noted). HasWalked e (bases_of t e (from + place)) ms (get_or ws place d))
       (sym (other_same (from + place) ns n (λ same. apart place less (sym same)))) (known place d less)
 
-  -- the row at this place has the entry in its list
-  pub entry_gathered : (place : ℕ) (w : GatheredRow) → place < length ws → from + place ≡ n.entry.row
-      → HasGathered e (from + place) (bases_of t e (from + place)) (of_row (from + place) ns ++ n ∷ []) w
-      → EachHasGathered t e from ns ws → EachHasGathered t e from (ns ++ n ∷ []) (set ws place w)
-  entry_gathered place w there own more known i d less =
+  -- the row at this place meets the entry
+  pub entry_met : (place : ℕ) (w : WalkedRow) → place < length ws → from + place ≡ n.entry.row
+      → HasWalked e (bases_of t e (from + place)) (of_row (from + place) ns ++ n ∷ []) w
+      → EachHasWalked t e from ns ws → EachHasWalked t e from (ns ++ n ∷ []) (set ws place w)
+  entry_met place w there own more known i d less =
       elim (cases_eq i place) [
         | inl same ↦ subst (After i) (sym (get_or-set_at ws place i w d same there))
             (subst (λ (k : ℕ). After k w) (sym same) here)
         | inr other ↦ subst (After i) (sym (get_or-set_other ws place i w d other))
-            (subst (λ (ms : List Noted). HasGathered e (from + i) (bases_of t e (from + i)) ms (get_or ws i d))
+            (subst (λ (ms : List Noted). HasWalked e (bases_of t e (from + i)) ms (get_or ws i d))
             (sym (other_same (from + i) ns n (λ same. other (apart same))))
             (known i d (subst (λ (m : ℕ). i < m) (length-set ws place w) less)))
       ]
     where
-      After : ℕ → GatheredRow → Type 0
-      After k x = HasGathered e (from + k) (bases_of t e (from + k)) (of_row (from + k) (ns ++ n ∷ [])) x
+      After : ℕ → WalkedRow → Type 0
+      After k x = HasWalked e (bases_of t e (from + k)) (of_row (from + k) (ns ++ n ∷ [])) x
 
       here : After place w
-      here = subst (λ (ms : List Noted). HasGathered e (from + place) (bases_of t e (from + place)) ms w)
+      here = subst (λ (ms : List Noted). HasWalked e (bases_of t e (from + place)) ms w)
           (sym (own_more (from + place) ns n (sym own))) more
 
       apart : n.entry.row ≡ from + i → i ≡ place
@@ -123,15 +95,6 @@ one_more f ns xs k x at =
     append_assoc ns (map f (take k xs)) (f x ∷ [])
     ∙ ap (λ (ms : List Noted). ns ++ ms)
     (sym (ap (map f) (take_one_more xs k x at) ∙ map-append f (take k xs) (x ∷ [])))
-
--- the same of an item that was read at its place
-pub one_more_at : {A : Type 0} (f : A → Noted) (ns : List Noted) (xs : List A) (k : ℕ) (x : A) → k < length xs
-    → x ≡ get_or xs k x → (ns ++ map f (take k xs)) ++ f x ∷ [] ≡ ns ++ map f (take (k + 1) xs)
-one_more_at {A} f ns xs k x within is =
-    append_assoc ns (map f (take k xs)) (f x ∷ [])
-    ∙ ap (λ (ms : List Noted). ns ++ ms)
-    (sym (ap (map f) (take_more xs k x within ∙ ap (λ (y : A). take k xs ++ y ∷ []) (sym is))
-    ∙ map-append f (take k xs) (x ∷ [])))
 
 -- and of one list more
 pub list_more : {A : Type 0} (f : A → List Noted) (ns : List Noted) (xs : List A) (k : ℕ) (x : A)

@@ -21,7 +21,7 @@ use Rattle.eve_chains.specs.Visible.{opening_of}
 use Rattle.eve_chains.specs.Along.{SeesAnother, fault_if}
 use Rattle.eve_chains.specs.Rows.{bases_of}
 use Rattle.eve_chains.specs.Rows.{Noted, of_row, met_by, next_pair, pair_after, at_first, IsWrongOnRow, EachSees}
-use Rattle.std.proofs.Common.{get_or, map, set}
+use Rattle.std.proofs.Common.{get_or, set}
 use Rattle.std.specs.List.{AllByRecursion}
 use Rattle.std.proofs.Common.{◌==◌, ◌&&◌}
 use Rattle.std.proofs.lemmas.Bool.{eqb-true, ne_eqb}
@@ -32,9 +32,8 @@ use Rattle.eve_chains.specs.declared.changed.Changed.{Changed}
 use Rattle.eve_chains.specs.Stretches.{IsWithin, Reaches, AreStretches}
 use Rattle.eve_chains.specs.Walked.{IsFirstOrNone, IsMismatch, IsFirstOnRow, IsWrongOnSome, IsFirstOnRows}
 use Rattle.std.proofs.lemmas.List.Elements.{All-nil, All-cons}
-use Rattle.eve_chains.specs.Walked.{IsWalked, AreWalked, notes_on, HasMet, HasGathered}
-use Rattle.eve_chains.specs.Notes.{noted_at}
-use Rattle.eve_chains.specs.declared.walked_row.GatheredRow.{GatheredRow}
+use Rattle.eve_chains.specs.Walked.{IsWalked, AreWalked, notes_on, HasMet, HasWalked}
+use Rattle.eve_chains.specs.declared.walked_row.WalkedRow.{WalkedRow}
 use Rattle.std.proofs.Common.{ℤ}
 use Rattle.eve_chains.specs.declared.stretch.Stretch.{Stretch}
 use Rattle.eve_chains.specs.declared.walked.Walked.{Walked}
@@ -413,19 +412,14 @@ each_set P xs p x there new each i d less =
           (each i d (subst (λ (m : ℕ). i < m) (length-set xs p x) less) other)
     ]
 
-pub row_begun : (t : Trace) (row place : ℕ) (value : ℤ) (w : GatheredRow)
-    → ((e : ℕ) (bases : ℕ → Versioned) → bases 0 ≡ record { version = 0; value = value }
-    → HasMet e bases [] w.walked.walk)
-    → w.walked.changes.items ≡ [] → w.notes.items ≡ [] → value ≡ opening_of t row → row ≡ place
-    → (e : ℕ) → HasGathered e place (bases_of t e place) [] w
-row_begun t row place value w met none empty is same e = record {
-  before = [];
-  whole = ap (map (noted_at place)) empty;
-  walked = record {
-    met = met e (bases_of t e place)
-        (λ i. record { version = 0; value = ((ap (opening_of t) (sym same)) ∙ sym is) i });
-    changes = none;
-  };
+pub row_begun : (t : Trace) (row place : ℕ) (value : ℤ) (w : WalkedRow)
+    → ((e : ℕ) (bases : ℕ → Versioned) → bases 0 ≡ record { version = 0; value = value } → HasMet e bases [] w.walk)
+    → w.changes.items ≡ [] → value ≡ opening_of t row → row ≡ place
+    → (e : ℕ) → HasWalked e (bases_of t e place) [] w
+row_begun t row place value w met none is same e = record {
+  met = met e (bases_of t e place)
+      (λ i. record { version = 0; value = ((ap (opening_of t) (sym same)) ∙ sym is) i });
+  changes = none;
 }
 
 -- ---- one range of all rows

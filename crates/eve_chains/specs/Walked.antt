@@ -1,5 +1,5 @@
 -- Rows walked, each by itself: the first fault, and what the batches change. docs/MODEL.md, "What an entry must see".
-use Rattle.std.specs.Prelude.{◌≡◌, ◌≢◌, ℕ, ◌+◌, ◌-◌, ◌<◌, ◌≤◌, ◌++◌, List, [], Option, Some, None, length, map}
+use Rattle.std.specs.Prelude.{◌≡◌, ◌≢◌, ℕ, ◌+◌, ◌-◌, ◌<◌, ◌≤◌, List, [], Option, Some, None, length}
 use Rattle.std.specs.Prelude.{slice_index_or}
 use Rattle.std.specs.List.{AllZip}
 use Rattle.eve_smallbank.specs.declared.entry.Entry.{Entry}
@@ -11,12 +11,10 @@ use Rattle.eve_views.specs.declared.fault.Fault.{Fault}
 use Rattle.eve_views.specs.Form.{IsLeast, HasNone}
 use Rattle.eve_chains.specs.Rows.{bases_of}
 use Rattle.eve_chains.specs.Rows.{Noted, Pair, told_of, all_noted, of_row, pair_after, IsWrongOnRow, EachSees}
-use Rattle.eve_chains.specs.Notes.{noted_at}
 use Rattle.eve_chains.specs.Changes.{changes_along, changes_of_rows}
 use Rattle.eve_chains.specs.Stretches.{AreStretches}
 use Rattle.eve_chains.specs.declared.stretch.Stretch.{Stretch}
 use Rattle.eve_chains.specs.declared.row_walk.RowWalk.{RowWalk}
-use Rattle.eve_chains.specs.declared.walked_row.GatheredRow.{GatheredRow}
 use Rattle.eve_chains.specs.declared.walked_row.WalkedRow.{WalkedRow}
 use Rattle.eve_chains.specs.declared.walked.Walked.{Walked}
 
@@ -52,24 +50,12 @@ pub record HasWalked (e : ℕ) (bases : ℕ → Versioned) (ns : List Noted) (w 
   pub met : HasMet e bases ns w.walk
   pub changes : w.changes.items ≡ changes_along [] ns
 
--- of these entries of the row with this number, the first are walked along, and the others lie gathered
-pub record HasGathered (e row : ℕ) (bases : ℕ → Versioned) (ns : List Noted) (w : GatheredRow) : Type 0 where
-  pub before : List Noted
-  pub whole : before ++ map (noted_at row) w.notes.items ≡ ns
-  pub walked : HasWalked e bases before w.walked
-
 -- ---- rows from one on
 
--- each of these rows, the first of which has this number, has its own of these entries, walked along or gathered
-abbrev pub EachHasGathered : Trace → ℕ → ℕ → List Noted → List GatheredRow → Type 0
-EachHasGathered t e from ns ws = (place : ℕ) (d : GatheredRow) → place < length ws
-    → HasGathered e (from + place) (bases_of t e (from + place)) (of_row (from + place) ns)
-    (slice_index_or ws place d)
-
--- each of them is walked along its own of these entries
-abbrev pub EachHasWalked : Trace → ℕ → ℕ → List Noted → List GatheredRow → Type 0
-EachHasWalked t e from ns ws = (place : ℕ) (d : GatheredRow) → place < length ws
-    → HasWalked e (bases_of t e (from + place)) (of_row (from + place) ns) (slice_index_or ws place d).walked
+-- each of these rows, the first of which has this number, is walked along its own of these entries
+abbrev pub EachHasWalked : Trace → ℕ → ℕ → List Noted → List WalkedRow → Type 0
+EachHasWalked t e from ns ws = (place : ℕ) (d : WalkedRow) → place < length ws
+    → HasWalked e (bases_of t e (from + place)) (of_row (from + place) ns) (slice_index_or ws place d)
 
 -- the place of a row among the given number of rows from one on, if it is one of them
 abbrev pub IsPlaceAmong : ℕ → ℕ → ℕ → Option ℕ → Type 0

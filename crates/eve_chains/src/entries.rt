@@ -1,4 +1,4 @@
-//! The entries of attempts, gathered for the walks of their rows.
+//! The entries of attempts, each met by its row's walk.
 
 ghost use Rattle.std.specs.Prelude.{◌≡◌, ◌<◌, ◌^◌, ◌++◌, ◌∷◌, [], ℕ, List, IsTrue, OnOk, Some, length, slice_get};
 ghost use Rattle.std.specs.List.{list_all};
@@ -8,13 +8,15 @@ ghost use Rattle.eve_grammar.specs.Trace.{Trace as TraceValue, head_of};
 ghost use Rattle.eve_history.specs.declared.fate.Fate.{Fate as FateValue};
 ghost use Rattle.eve_history.specs.SectionHistory.{ExecutedAttempt, section_history, is_committed};
 ghost use Rattle.eve_chains.specs.Along.{AreWithin};
+ghost use Rattle.eve_chains.specs.Bases.{AreBasesOf};
 ghost use Rattle.eve_chains.specs.Rows.{Noted, noted_by};
 ghost use Rattle.eve_chains.specs.Notes.{noted_if_settled};
-ghost use Rattle.eve_chains.specs.Walked.{EachHasGathered, IsPlaceAmong};
+ghost use Rattle.eve_chains.specs.Walked.{EachHasWalked, IsPlaceAmong};
 
+use crate::bases::Bases;
 use crate::note::Note;
 use crate::unfit::is_settled;
-use crate::walked_row::GatheredRow;
+use crate::walked_row::WalkedRow;
 use eve_accounts::Row;
 use eve_frames::AccessView;
 use eve_history::{Fate, History};
@@ -22,37 +24,40 @@ use eve_smallbank::Entry;
 use eve_views::Trace;
 use std::alloc::AllocError;
 
-/// What all entries of an attempt have, and for which rows they are gathered.
+/// What all entries of an attempt have, and of which rows they are met.
 #[derive(Clone, Copy)]
 struct Noting {
     /// The number of the first row.
     from: usize,
+    replica: u8,
     taken: u32,
     view: u32,
     number: u32,
     commits: bool,
 }
 
-/// Gathers the entries of an attempt's records, in its certificate's order, each for its row, where that is one of
-/// these rows from this one on; of an open attempt none.
-pub(crate) fn note_attempt(
-    rows: &mut Vec<GatheredRow>,
+/// Has the entries of an attempt's records met, in its certificate's order, each by its row's walk, where that is one
+/// of these rows from this one on; of an open attempt none.
+pub(crate) fn walk_attempt(
+    rows: &mut Vec<WalkedRow>,
     from: usize,
     history: &History<'_>,
     trace: &Trace<'_>,
+    bases: &Bases<'_, '_>,
     i: usize,
 ) -> Result<(), AllocError>
     requires history { history.now ≡ section_history trace.now history.now.replica }
+    requires bases { AreBasesOf trace.now history.now.replica bases.now }
     requires attempt { i < length history.now.attempts }
     requires fate { i < length history.now.fates }
     requires within { (r : ExecutedAttempt) → slice_get history.now.attempts i ≡ Some r
         → AreWithin (row_count (head_of trace.now)) r.ordered }
     ensures as_many { OnOk result (length rows.new.items ≡ length rows.old.items) }
-    ensures gathered { OnOk result ((ns : List Noted) (r : ExecutedAttempt) (taken : ℕ) (fate : FateValue)
+    ensures walked { OnOk result ((ns : List Noted) (r : ExecutedAttempt) (taken : ℕ) (fate : FateValue)
         → slice_get history.now.attempts i ≡ Some r → slice_get history.now.taken i ≡ Some taken
         → slice_get history.now.fates i ≡ Some fate
-        → EachHasGathered trace.now history.now.replica from ns rows.old.items
-        → EachHasGathered trace.now history.now.replica from (ns ++ noted_if_settled (r, taken) fate) rows.new.items) }
+        → EachHasWalked trace.now history.now.replica from ns rows.old.items
+        → EachHasWalked trace.now history.now.replica from (ns ++ noted_if_settled (r, taken) fate) rows.new.items) }
 {
     let _bytes = trace.bytes();
     let fate = history.fate(i);
@@ -62,6 +67,7 @@ pub(crate) fn note_attempt(
     let attempt = history.attempt(i);
     let noting = Noting {
         from,
+        replica: history.replica(),
         taken: history.taken_before(i),
         view: attempt.view(),
         number: attempt.seq(),
@@ -69,7 +75,7 @@ pub(crate) fn note_attempt(
     };
     for place in 0..attempt.len() {
         let access = history.ordered(i, place);
-        note_record(rows, noting, &access)?;
+        walk_record(rows, noting, bases, &access)?;
     }
     Ok(())
 }
@@ -85,40 +91,42 @@ fn is_committed(fate: Fate) -> bool
     }
 }
 
-/// Gathers the entries of a record.
-fn note_record(
-    rows: &mut Vec<GatheredRow>,
+/// Has the entries of a record met.
+fn walk_record(
+    rows: &mut Vec<WalkedRow>,
     noting: Noting,
+    bases: &Bases<'_, '_>,
     access: &AccessView<'_>,
 ) -> Result<(), AllocError>
     requires offset { access.now.offset < 2 ^ 32 }
     requires within { (count : ℕ) × IsTrue (list_all (is_entry count) (access_said access.now).entries) }
     ensures as_many { OnOk result (length rows.new.items ≡ length rows.old.items) }
-    ensures gathered { OnOk result ((t : TraceValue) (e : ℕ) (ns : List Noted)
-        → EachHasGathered t e noting.from ns rows.old.items
-        → EachHasGathered t e noting.from
+    ensures walked { OnOk result ((t : TraceValue) (ns : List Noted) → AreBasesOf t noting.replica bases.now
+        → EachHasWalked t noting.replica noting.from ns rows.old.items
+        → EachHasWalked t noting.replica noting.from
         (ns ++ noted_by noting.taken noting.view noting.number noting.commits
         (access.now.offset, access_said access.now)) rows.new.items) }
 {
     let at = access.offset() as u32;
     for place in 0..access.len() {
-        note_entry(rows, noting, at, &access.entry(place))?;
+        walk_entry(rows, noting, bases, at, &access.entry(place))?;
     }
     Ok(())
 }
 
-/// Gathers an entry, behind those of its row, where that is one of the rows.
-fn note_entry(
-    rows: &mut Vec<GatheredRow>,
+/// Has an entry met by its row's walk, where that is one of the rows.
+fn walk_entry(
+    rows: &mut Vec<WalkedRow>,
     noting: Noting,
+    bases: &Bases<'_, '_>,
     at: u32,
     entry: &Entry,
 ) -> Result<(), AllocError>
     requires { (count : ℕ) × IsTrue (is_entry count entry.now) }
     ensures as_many { OnOk result (length rows.new.items ≡ length rows.old.items) }
-    ensures gathered { OnOk result ((t : TraceValue) (e : ℕ) (ns : List Noted)
-        → EachHasGathered t e noting.from ns rows.old.items
-        → EachHasGathered t e noting.from (ns ++ record {
+    ensures walked { OnOk result ((t : TraceValue) (ns : List Noted) → AreBasesOf t noting.replica bases.now
+        → EachHasWalked t noting.replica noting.from ns rows.old.items
+        → EachHasWalked t noting.replica noting.from (ns ++ record {
           offset = at;
           taken = noting.taken;
           view = noting.view;
@@ -141,7 +149,7 @@ fn note_entry(
         commits: noting.commits,
         kind: entry.kind,
     };
-    rows[place].notes.push(note)?;
+    rows[place].meet(noting.replica, bases, entry.row, &note)?;
     Ok(())
 }
 

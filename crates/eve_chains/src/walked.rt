@@ -12,25 +12,21 @@ ghost use Rattle.eve_chains.specs.Bases.{AreBasesOf};
 ghost use Rattle.eve_chains.specs.Notes.{notes_between};
 ghost use Rattle.eve_chains.specs.Rows.{Noted};
 ghost use Rattle.eve_chains.specs.Stretches.{IsWithin};
-ghost use Rattle.eve_chains.specs.Walked.{EachHasGathered, EachHasWalked, IsWalked, AreWalked};
+ghost use Rattle.eve_chains.specs.Walked.{EachHasWalked, IsWalked, AreWalked};
 ghost use Rattle.eve_chains.specs.declared.walked.Walked.{Walked as WalkedValue};
 
 use crate::bases::Bases;
 use crate::changed::Changed;
-use crate::entries::note_attempt;
+use crate::entries::walk_attempt;
 use crate::row_walk::RowWalk;
 use crate::stretch::Stretch;
-use crate::walked_row::{GatheredRow, WalkedRow, walk_row};
+use crate::walked_row::WalkedRow;
 use eve_accounts::{Balances, Row};
 use eve_history::History;
 use eve_views::{Fault, Trace, first_of};
 use rayon::prelude::*;
 use std::alloc::{AllocError, Global};
 use std::thread::Threads;
-
-/// The fewest entries after which the rows are walked along those of them that were gathered, which stay in a
-/// processor's own memory.
-const LEAST_ENTRIES: usize = 4096;
 
 /// In how many parts a range of rows is walked at most, since each part reads all records.
 const MOST_PARTS: u8 = 4;
@@ -67,11 +63,11 @@ fn begin(
     opening: &Balances,
     range: Stretch,
     room: usize,
-) -> Result<Vec<GatheredRow>, AllocError>
+) -> Result<Vec<WalkedRow>, AllocError>
     requires opening { opening.now ≡ opening_rows trace.now.customers }
     requires within { IsWithin (row_count (head_of trace.now)) range }
     ensures as_many { IfOk result (λ rows. length rows.items ≡ range.to - range.from) }
-    ensures gathered { IfOk result (λ rows. (e : ℕ) → EachHasGathered trace.now e range.from [] rows.items) }
+    ensures begun { IfOk result (λ rows. (e : ℕ) → EachHasWalked trace.now e range.from [] rows.items) }
 {
     let from = range.from;
     let to = range.to;
@@ -80,23 +76,18 @@ fn begin(
     let mut rows = Vec::with_capacity(alloc, to - from)?;
     for number in from..to {
         let changes = Vec::with_capacity(alloc, room)?;
-        rows.push(GatheredRow {
-            walked: WalkedRow {
-                walk: RowWalk::new(opening.as_slice()[number]),
-                changes,
-            },
-            notes: Vec::new(alloc),
+        rows.push(WalkedRow {
+            walk: RowWalk::new(opening.as_slice()[number]),
+            changes,
         })?;
     }
     Ok(rows)
 }
 
-/// Walks these rows, from this one on, along all settled attempts, some of them at a time: their entries are gathered
-/// row by row, in the section's order, and then each row is walked by itself along its own. With many rows more
-/// attempts are taken at a time, so that few lists are empty. Each attempt's entries are counted first: so memory is
-/// asked for all its records at once, where gathering would wait for one after the other.
+/// Walks these rows, from this one on, along all settled attempts: each entry is met by its row's walk, which knows of
+/// no other row.
 fn walk_rows(
-    rows: &mut Vec<GatheredRow>,
+    rows: &mut Vec<WalkedRow>,
     from: usize,
     history: &History<'_>,
     trace: &Trace<'_>,
@@ -104,56 +95,15 @@ fn walk_rows(
 ) -> Result<(), AllocError>
     requires history { history.now ≡ section_history trace.now history.now.replica }
     requires opening { opening.now ≡ opening_rows trace.now.customers }
-    requires rows { from + length rows.old.items ≤ row_count (head_of trace.now) }
-    requires begun { EachHasGathered trace.now history.now.replica from [] rows.old.items }
+    requires begun { EachHasWalked trace.now history.now.replica from [] rows.old.items }
     ensures as_many { OnOk result (length rows.new.items ≡ length rows.old.items) }
     ensures walked { OnOk result (EachHasWalked trace.now history.now.replica from
         (notes_between history.now 0 (length history.now.attempts)) rows.new.items) }
 {
     trace.recall_limits();
     let bases = Bases { opening, history };
-    let enough = rows.len().saturating_mul(2).max(LEAST_ENTRIES);
-    let mut entries = 0usize;
     for i in 0..history.attempts() {
-        entries = entries.saturating_add(count_entries(history, i));
-        note_attempt(rows, from, history, trace, i)?;
-        if enough <= entries {
-            walk_each(rows, from, history.replica(), &bases)?;
-            entries = 0;
-        }
-    }
-    walk_each(rows, from, history.replica(), &bases)?;
-    Ok(())
-}
-
-/// How many entries an attempt's records have.
-fn count_entries(history: &History<'_>, i: usize) -> usize
-    requires { i < length history.now.attempts }
-{
-    let mut count = 0usize;
-    for place in 0..history.attempt(i).len() {
-        count = count.saturating_add(history.ordered(i, place).len());
-    }
-    count
-}
-
-/// Walks each of these rows, from this one on, by itself along its gathered entries.
-fn walk_each(
-    rows: &mut Vec<GatheredRow>,
-    from: usize,
-    replica: u8,
-    bases: &Bases<'_, '_>,
-) -> Result<(), AllocError>
-    requires { from + length rows.old.items ≤ MOST_NAMED_ROWS }
-    ensures as_many { OnOk result (length rows.new.items ≡ length rows.old.items) }
-    ensures gathered { OnOk result ((t : TraceValue) (ns : List Noted) → AreBasesOf t replica bases.now
-        → EachHasGathered t replica from ns rows.old.items → EachHasGathered t replica from ns rows.new.items) }
-    ensures walked { OnOk result ((t : TraceValue) (ns : List Noted) → AreBasesOf t replica bases.now
-        → EachHasGathered t replica from ns rows.old.items → EachHasWalked t replica from ns rows.new.items) }
-{
-    for place in 0..rows.len() {
-        let row = row_at((from + place) as u32);
-        walk_row(&mut rows[place], replica, bases, row)?;
+        walk_attempt(rows, from, history, trace, &bases, i)?;
     }
     Ok(())
 }
@@ -172,10 +122,10 @@ pub(crate) fn row_at(number: u32) -> Row
 }
 
 /// How many changes of these rows there are.
-fn count_changes(rows: &[GatheredRow]) -> usize {
+fn count_changes(rows: &[WalkedRow]) -> usize {
     let mut count = 0usize;
     for row in rows {
-        count = count.saturating_add(row.walked.changes.len());
+        count = count.saturating_add(row.changes.len());
     }
     count
 }
@@ -186,7 +136,7 @@ fn add_part(
     trace: &Trace<'_>,
     start: usize,
     part: Stretch,
-    rows: &[GatheredRow],
+    rows: &[WalkedRow],
     walked: &mut Walked,
 ) -> Result<(), AllocError>
     requires history { history.now ≡ section_history trace.now history.now.replica }
@@ -204,8 +154,8 @@ fn add_part(
     let _part = part;
     walked.changes.reserve(count_changes(rows))?;
     for row in rows {
-        walked.first = first_of(walked.first, row.walked.walk.first);
-        walked.changes.extend_from_slice(&row.walked.changes)?;
+        walked.first = first_of(walked.first, row.walk.first);
+        walked.changes.extend_from_slice(&row.changes)?;
     }
     Ok(())
 }
@@ -233,8 +183,8 @@ fn walk_part(
     add_part(history, trace, start, part, &rows, walked)
 }
 
-/// A range of rows walked along all settled attempts. Of many rows some are walked at a time, so that what is gathered
-/// of them, and what each changed, takes little memory.
+/// A range of rows walked along all settled attempts. Of many rows some are walked at a time, so that their walks stay
+/// in a processor's own memory, and what each changed takes little.
 fn walk_range(
     alloc: Global,
     history: &History<'_>,

@@ -1,11 +1,11 @@
-//! One row walked by itself along what is gathered of it.
+//! One row walked by itself, and what the batches changed of it.
 
-ghost use Rattle.std.specs.Prelude.{◌≡◌, ◌++◌, ◌∷◌, [], OnOk, List, map};
+ghost use Rattle.std.specs.Prelude.{◌≡◌, ◌++◌, ◌∷◌, [], OnOk, List};
 ghost use Rattle.eve_chains.specs.Bases.{base_at};
 ghost use Rattle.eve_chains.specs.Rows.{Noted};
 ghost use Rattle.eve_chains.specs.Notes.{noted_at};
 ghost use Rattle.eve_chains.specs.Changes.{changes_along};
-ghost use Rattle.eve_chains.specs.Walked.{HasWalked, HasGathered};
+ghost use Rattle.eve_chains.specs.Walked.{HasWalked};
 
 use crate::bases::Bases;
 use crate::changed::{Changed, add_change};
@@ -23,32 +23,23 @@ pub struct WalkedRow {
     pub changes: Vec<Changed>,
 }
 
-/// A row with its next entries, gathered for its walk.
-#[derive(Drop)]
-pub struct GatheredRow {
-    /// The row, walked so far.
-    pub walked: WalkedRow,
-    /// Its entries from there on, in the section's order.
-    pub notes: Vec<Note>,
-}
-
-/// Goes on along these notes to the end, also where something is wrong: the first fault needn't be the first that the
-/// walk meets.
-fn walk_notes(
-    on: &mut WalkedRow,
-    replica: u8,
-    bases: &Bases<'_, '_>,
-    row: Row,
-    notes: &[Note],
-) -> Result<(), AllocError>
-    ensures { OnOk result ((ns : List Noted) → HasWalked replica (base_at bases.now row) ns on.old
-        → HasWalked replica (base_at bases.now row) (ns ++ map (noted_at row) notes.now) on.new) }
-{
-    for note in notes {
-        on.walk.meet(replica, bases, row, note);
-        note_change(&mut on.changes, row, note)?;
+impl WalkedRow {
+    /// The row's next entry met, and what it changes noted, also where something is wrong: the first fault needn't be
+    /// the first that the walk meets.
+    pub(crate) fn meet(
+        &mut self,
+        replica: u8,
+        bases: &Bases<'_, '_>,
+        row: Row,
+        note: &Note,
+    ) -> Result<(), AllocError>
+        ensures { OnOk result ((ns : List Noted) → HasWalked replica (base_at bases.now row) ns self.old
+            → HasWalked replica (base_at bases.now row) (ns ++ noted_at row note.now ∷ []) self.new) }
+    {
+        self.walk.meet(replica, bases, row, note);
+        note_change(&mut self.changes, row, note)?;
+        Ok(())
     }
-    Ok(())
 }
 
 /// Adds what a note changes, where it is a write of an attempt that is committed.
@@ -65,21 +56,5 @@ fn note_change(changes: &mut Vec<Changed>, row: Row, note: &Note) -> Result<(), 
             },
         )?;
     }
-    Ok(())
-}
-
-/// Walks a row along its gathered entries, and empties their list, whose room is used again.
-pub(crate) fn walk_row(
-    on: &mut GatheredRow,
-    replica: u8,
-    bases: &Bases<'_, '_>,
-    row: Row,
-) -> Result<(), AllocError>
-    ensures walked { OnOk result ((ns : List Noted) → HasGathered replica row (base_at bases.now row) ns on.old
-        → HasWalked replica (base_at bases.now row) ns on.new.walked) }
-    ensures none { OnOk result (on.new.notes.items ≡ []) }
-{
-    walk_notes(&mut on.walked, replica, bases, row, &on.notes)?;
-    on.notes.clear();
     Ok(())
 }

@@ -4,7 +4,7 @@ use Rattle.eve_chains.specs.Rows.{Noted, told_of, all_noted, of_row}
 use Rattle.eve_chains.specs.Notes.{notes_between}
 use Rattle.eve_chains.specs.Changes.{changes_along, changes_of_rows}
 use Rattle.eve_chains.specs.Walked.{HasWalked, IsFirstOnRow, IsFirstOnRows, notes_on}
-use Rattle.eve_chains.specs.declared.walked_row.GatheredRow.{GatheredRow}
+use Rattle.eve_chains.specs.declared.walked_row.WalkedRow.{WalkedRow}
 use Rattle.eve_chains.proofs.Told.{all_told}
 use Rattle.eve_chains.proofs.WalkedRows.{first_on_rows, one_on_rows, rows_behind}
 use Rattle.eve_chains.proofs.walked.add_part.Goals as goal
@@ -36,13 +36,13 @@ loop-row-preserved c =
     let ns = all_noted (told_of t e) in
     let ms = notes_between h 0 (length h.attempts) in
     let told : ms ≡ ns = all_told t h c.requires.history in
-    let item : GatheredRow = c.row-item.result in
+    let item : WalkedRow = c.row-item.result in
     let is : item ≡ get_or c.args.rows.now k item = c.row-item.is in
-    let walked : HasWalked e (bases_of t e row) (of_row row ms) item.walked =
-    subst (λ (w : GatheredRow). HasWalked e (bases_of t e row) (of_row row ms) w.walked) (sym is)
+    let walked : HasWalked e (bases_of t e row) (of_row row ms) item =
+    subst (λ (w : WalkedRow). HasWalked e (bases_of t e row) (of_row row ms) w) (sym is)
     (c.requires.walked k item c.loop-row-test.true) in
-    let here : IsFirstOnRow e (bases_of t e row) (notes_on t e row) item.walked.walk.first =
-    subst (λ (ks : List Noted). IsFirstOnRow e (bases_of t e row) (of_row row ks) item.walked.walk.first) told
+    let here : IsFirstOnRow e (bases_of t e row) (notes_on t e row) item.walk.first =
+    subst (λ (ks : List Noted). IsFirstOnRow e (bases_of t e row) (of_row row ks) item.walk.first) told
     walked.met.first in
     let next : row + 1 ≡ from + (k + 1) = omega arith in
     let low : start ≤ row = omega (arith, c.requires.behind) in
@@ -52,8 +52,8 @@ loop-row-preserved c =
     record {
       first = subst (λ (n : ℕ). IsFirstOnRows t e start n c.first_of-walked.result) next
           (subst (IsFirstOnRows t e start (row + 1)) (sym c.first_of-walked.ensures)
-          (first_on_rows t e start row (row + 1) c.loop-row.walked.first item.walked.walk.first low high
-          c.loop-row.invariant.first (one_on_rows t e row item.walked.walk.first here)));
+          (first_on_rows t e start row (row + 1) c.loop-row.walked.first item.walk.first low high
+          c.loop-row.invariant.first (one_on_rows t e row item.walk.first here)));
       changes = c.in_ok-extend_from_slice.ensures.items
           ∙ rows_behind ns ms start count c.loop-row.walked.changes.items c.deref.result.now told
           c.loop-row.invariant.changes

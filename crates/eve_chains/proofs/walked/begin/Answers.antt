@@ -6,8 +6,8 @@ use Rattle.eve_grammar.specs.Trace.{head_of, opening_rows}
 use Rattle.eve_grammar.proofs.OpeningRows.{length-opening_rows}
 use Rattle.eve_chains.specs.Visible.{opening_of}
 use Rattle.eve_chains.specs.Rows.{bases_of}
-use Rattle.eve_chains.specs.Walked.{HasGathered}
-use Rattle.eve_chains.specs.declared.walked_row.GatheredRow.{GatheredRow}
+use Rattle.eve_chains.specs.Walked.{HasWalked}
+use Rattle.eve_chains.specs.declared.walked_row.WalkedRow.{WalkedRow}
 use Rattle.eve_chains.proofs.WalkedRows.{each_more, row_begun}
 use Rattle.eve_chains.proofs.walked.begin.Goals as goal
 
@@ -23,10 +23,7 @@ loop-number-preserved c =
     let from = c.args.range.from in
     let i = c.loop-number.number in
     let old = c.loop-number.rows.items in
-    let new : GatheredRow = record {
-      walked = record { walk = c.new.result; changes = c.in_ok-changes.changes };
-      notes = c.new-in-loop-number.result;
-    } in
+    let new : WalkedRow = record { walk = c.new.result; changes = c.in_ok-changes.changes } in
     let below : i < row_count (head_of t) = omega (arith, c.loop-number-test.true, c.requires.within.there) in
     let rows : List ℤ = opening_rows t.customers in
     let there : i < length rows = subst (λ (n : ℕ). i < n) (sym (length-opening_rows t.customers)) below in
@@ -41,10 +38,10 @@ loop-number-preserved c =
         c.loop-number.invariant.as_many,
         c.loop-number.auto.number,
       );
-      each = λ e. subst (λ (xs : List GatheredRow). (k : ℕ) (d : GatheredRow) → k < length xs
-          → HasGathered e (from + k) (bases_of t e (from + k)) [] (get_or xs k d)) (sym items)
-          (each_more (λ k w. HasGathered e (from + k) (bases_of t e (from + k)) [] w) old new
+      each = λ e. subst (λ (xs : List WalkedRow). (k : ℕ) (d : WalkedRow) → k < length xs
+          → HasWalked e (bases_of t e (from + k)) [] (get_or xs k d)) (sym items)
+          (each_more (λ k w. HasWalked e (bases_of t e (from + k)) [] w) old new
           (c.loop-number.invariant.each e)
           (row_begun t i (from + length old) c.index-as_slice-number.result new c.new.ensures
-          c.in_ok-changes.ensures.items c.new-in-loop-number.ensures.items value place e));
+          c.in_ok-changes.ensures.items value place e));
     }

@@ -3,12 +3,12 @@ use Rattle.std.proofs.lemmas.List.{take_all}
 use Rattle.eve_smallbank.specs.declared.entry.Entry.{Entry}
 use Rattle.eve_frames.specs.Said.{access_said}
 use Rattle.eve_chains.specs.Rows.{Noted}
-use Rattle.eve_chains.specs.Walked.{EachHasGathered}
+use Rattle.eve_chains.specs.Walked.{EachHasWalked}
 use Rattle.eve_chains.proofs.ByRow.{entry_within, one_more}
-use Rattle.eve_chains.proofs.entries.note_record.Goals as goal
+use Rattle.eve_chains.proofs.entries.walk_record.Goals as goal
 
-pub note_entry-requires : goal.note_entry-requires
-note_entry-requires c = (
+pub walk_entry-requires : goal.walk_entry-requires
+walk_entry-requires c = (
   c.requires.within.0,
   entry_within c.requires.within.0 (access_said c.args.access.now).entries c.loop-place.place c.entry.result
       c.requires.within.1 c.entry.ensures,
@@ -16,11 +16,11 @@ note_entry-requires c = (
 
 pub loop-place-preserved : goal.loop-place-preserved
 loop-place-preserved c =
-    let rows = c.note_entry.new.rows.items in
+    let rows = c.walk_entry.new.rows.items in
     let es = (access_said c.args.access.now).entries in
     record {
-      as_many = c.in_ok-note_entry.ensures.as_many ∙ c.loop-place.invariant.as_many;
-      gathered = λ t e ns known.
+      as_many = c.in_ok-walk_entry.ensures.as_many ∙ c.loop-place.invariant.as_many;
+      walked = λ t ns based known.
           let f : Entry → Noted = λ x. record {
             offset = c.args.access.now.offset;
             taken = c.args.noting.taken;
@@ -30,9 +30,9 @@ loop-place-preserved c =
             entry = x;
           } in
           let before = ns ++ map f (take c.loop-place.place es) in
-          subst (λ (ms : List Noted). EachHasGathered t e c.args.noting.from ms rows)
+          subst (λ (ms : List Noted). EachHasWalked t c.args.noting.replica c.args.noting.from ms rows)
           (one_more f ns es c.loop-place.place c.entry.result c.entry.ensures)
-          (subst (λ (at : ℕ). EachHasGathered t e c.args.noting.from (before ++ record {
+          (subst (λ (at : ℕ). EachHasWalked t c.args.noting.replica c.args.noting.from (before ++ record {
             offset = at;
             taken = c.args.noting.taken;
             view = c.args.noting.view;
@@ -40,12 +40,12 @@ loop-place-preserved c =
             commits = c.args.noting.commits;
             entry = c.entry.result;
           } ∷ []) rows) c.offset-at.ensures
-          (c.in_ok-note_entry.ensures.gathered t e before (c.loop-place.invariant.gathered t e ns known)));
+          (c.in_ok-walk_entry.ensures.walked t before based (c.loop-place.invariant.walked t ns based known)));
     }
 
-pub returns-clause-gathered : goal.returns-clause-gathered
-returns-clause-gathered c = λ t e ns known.
-    subst (λ (es : List Entry). EachHasGathered t e c.args.noting.from
+pub returns-clause-walked : goal.returns-clause-walked
+returns-clause-walked c = λ t ns based known.
+    subst (λ (es : List Entry). EachHasWalked t c.args.noting.replica c.args.noting.from
     (ns ++ map (λ (x : Entry). record {
       offset = c.args.access.now.offset;
       taken = c.args.noting.taken;
@@ -56,4 +56,4 @@ returns-clause-gathered c = λ t e ns known.
     }) es) c.loop-place.rows.items)
     (take_all c.loop-place.place (access_said c.args.access.now).entries
     (omega (arith, c.loop-place-test.false, c.len-place-end.ensures.len)))
-    (c.loop-place.invariant.gathered t e ns known)
+    (c.loop-place.invariant.walked t ns based known)

@@ -1,4 +1,4 @@
-use Rattle.std.proofs.Common.{◌≡◌, ◌≤◌, ◌++◌, List, length, flat_map, take, slice_get, [], true, subst, sym, ap, ◌∙◌}
+use Rattle.std.proofs.Common.{◌≡◌, ◌≤◌, ◌++◌, ℕ, List, length, flat_map, take, slice_get, [], true, subst, sym, ap, ◌∙◌}
 use Rattle.std.proofs.Common.{arith}
 use Rattle.std.proofs.lemmas.Bool.{cond-true}
 use Rattle.std.proofs.lemmas.List.{take_all}
@@ -10,22 +10,23 @@ use Rattle.eve_views.specs.Lent.{HasBytesAt}
 use Rattle.eve_frames.specs.Said.{access_said}
 use Rattle.eve_history.specs.SectionHistory.{ExecutedAttempt, is_committed}
 use Rattle.eve_chains.specs.Along.{said_at}
+use Rattle.eve_chains.specs.Bases.{AreBasesOf}
 use Rattle.eve_chains.specs.Rows.{Noted, noted_by}
 use Rattle.eve_chains.specs.Unfit.{is_settled}
 use Rattle.eve_chains.specs.Notes.{noted_along}
-use Rattle.eve_chains.specs.Walked.{EachHasGathered}
+use Rattle.eve_chains.specs.Walked.{EachHasWalked}
 use Rattle.eve_chains.proofs.ByRow.{record_within, list_more, offset_small}
-use Rattle.eve_chains.proofs.entries.note_attempt.Goals as goal
+use Rattle.eve_chains.proofs.entries.walk_attempt.Goals as goal
 
-pub note_record-requires-clause-offset : goal.note_record-requires-clause-offset
-note_record-requires-clause-offset c =
+pub walk_record-requires-clause-offset : goal.walk_record-requires-clause-offset
+walk_record-requires-clause-offset c =
     offset_small _ c.args.trace.now c.ordered-access.result.offset (OfAccess (access_said c.ordered-access.result))
     c.bytes-bytes.ensures
     (subst (HasBytesAt c.args.trace.now c.ordered-access.result.offset) c.ordered-access.ensures.text
     (c.ordered-access.ensures.stands c.args.trace.now c.args.history.now.replica c.requires.history))
 
-pub note_record-requires-clause-within : goal.note_record-requires-clause-within
-note_record-requires-clause-within c =
+pub walk_record-requires-clause-within : goal.walk_record-requires-clause-within
+walk_record-requires-clause-within c =
     let says = c.ordered-access.ensures.says in
     let rows = row_count (head_of c.args.trace.now) in (
       rows,
@@ -35,22 +36,27 @@ note_record-requires-clause-within c =
 
 pub loop-place-preserved : goal.loop-place-preserved
 loop-place-preserved c = record {
-  as_many = c.in_ok-note_record.ensures.as_many ∙ c.loop-place.invariant.as_many;
-  gathered = λ ns r at known.
+  as_many = c.in_ok-walk_record.ensures.as_many ∙ c.loop-place.invariant.as_many;
+  walked = λ ns r at known.
       let t = c.args.trace.now in
       let e = c.args.history.now.replica in
       let says = c.ordered-access.ensures.says in
       let own : says.0 ≡ r = same_Some says.0 r (sym says.1 ∙ at) in
       let f = noted_by c.taken_before.result c.view.result c.seq.result c.is_committed.result in
-      subst (λ (ms : List Noted). EachHasGathered t e c.args.from ms c.note_record.new.rows.items)
+      subst (λ (ms : List Noted). EachHasWalked t e c.args.from ms c.walk_record.new.rows.items)
       (list_more f ns r.ordered c.loop-place.place (said_at c.ordered-access.result)
       (ap (λ (q : ExecutedAttempt). slice_get q.ordered c.loop-place.place) (sym own) ∙ says.2))
-      (c.in_ok-note_record.ensures.gathered t e (ns ++ flat_map f (take c.loop-place.place r.ordered))
-      (c.loop-place.invariant.gathered ns r at known));
+      (subst (λ (n : ℕ). EachHasWalked t n c.args.from
+      ((ns ++ flat_map f (take c.loop-place.place r.ordered)) ++ f (said_at c.ordered-access.result))
+      c.walk_record.new.rows.items) c.replica.ensures
+      (c.in_ok-walk_record.ensures.walked t (ns ++ flat_map f (take c.loop-place.place r.ordered))
+      (subst (λ (n : ℕ). AreBasesOf t n c.args.bases.now) (sym c.replica.ensures) c.requires.bases)
+      (subst (λ (n : ℕ). EachHasWalked t n c.args.from (ns ++ flat_map f (take c.loop-place.place r.ordered))
+      c.loop-place.rows.items) (sym c.replica.ensures) (c.loop-place.invariant.walked ns r at known))));
 }
 
-pub returns-clause-gathered : goal.returns-clause-gathered
-returns-clause-gathered c = λ ns r taken fate at as_many its known.
+pub returns-clause-walked : goal.returns-clause-walked
+returns-clause-walked c = λ ns r taken fate at as_many its known.
     let t = c.args.trace.now in
     let e = c.args.history.now.replica in
     let from = c.args.from in
@@ -74,8 +80,8 @@ returns-clause-gathered c = λ ns r taken fate at as_many its known.
     ∙ ap (λ (a : Attempt). length a.certificate) says.3
     ∙ ap (λ (q : ExecutedAttempt). length q.attempt.certificate) own in
     let over : length r.ordered ≤ c.loop-place.place = omega (arith, many, listed, c.loop-place-test.false) in
-    subst (λ (ms : List Noted). EachHasGathered t e from (ns ++ ms) rows)
+    subst (λ (ms : List Noted). EachHasWalked t e from (ns ++ ms) rows)
     ((λ i. flat_map (noted_by (before i) (view i) (number i) (commits i))
     (take_all c.loop-place.place r.ordered over i))
     ∙ sym (cond-true (is_settled fate) (noted_along (r, taken) fate) [] passes))
-    (c.loop-place.invariant.gathered ns r at known)
+    (c.loop-place.invariant.walked ns r at known)
