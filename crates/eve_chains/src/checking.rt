@@ -95,9 +95,9 @@ fn chains(history: &History<'_>, trace: &Trace<'_>, first: Option<Fault>) -> Res
 ///
 /// docs/MODEL.md, "A record fits its request", "What an entry must see" and "Faults". Each record is judged by itself,
 /// in stretches of attempts; then each row is walked by itself along its own entries, in the attempts' order, in ranges
-/// of rows. Both go in as many threads as there are jobs at most, from 1 on; with one job none is started. What is found
-/// doesn't depend on which ends first. Refused memory decides nothing. The time is linear in the entries; each range,
-/// and each part of one with many rows, reads all entries, and passes over those of other rows.
+/// of rows. Both go in as many threads as there are jobs at most, from 1 on; with one job none is started. What is
+/// found doesn't depend on which ends first. Refused memory decides nothing. The time is linear in the entries; each
+/// range, and each part of one with many rows, reads all entries, and passes over those of other rows.
 pub fn check<'a, R: Threads + Sync>(
     rt: &R,
     alloc: Global,

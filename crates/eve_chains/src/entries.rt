@@ -24,7 +24,7 @@ use eve_smallbank::Entry;
 use eve_views::Trace;
 use std::alloc::AllocError;
 
-/// What all entries of an attempt have, and of which rows they are met.
+/// What all entries of an attempt have, and for which rows they are noted.
 #[derive(Clone, Copy)]
 struct Noting {
     /// The number of the first row.
@@ -36,8 +36,8 @@ struct Noting {
     commits: bool,
 }
 
-/// Has the entries of an attempt's records met, in its certificate's order, each by its row's walk, where that is one
-/// of these rows from this one on; of an open attempt none.
+/// Leads these rows, from this one on, along an attempt: each entry of its records, in its certificate's order, is met
+/// by its row's walk, where that is one of them; of an open attempt none.
 pub(crate) fn walk_attempt(
     rows: &mut Vec<WalkedRow>,
     from: usize,
@@ -91,7 +91,7 @@ fn is_committed(fate: Fate) -> bool
     }
 }
 
-/// Has the entries of a record met.
+/// Leads the rows along a record.
 fn walk_record(
     rows: &mut Vec<WalkedRow>,
     noting: Noting,
@@ -114,7 +114,7 @@ fn walk_record(
     Ok(())
 }
 
-/// Has an entry met by its row's walk, where that is one of the rows.
+/// Has an entry met by its row's walk, where that is one of the rows: no other row's walk learns of it.
 fn walk_entry(
     rows: &mut Vec<WalkedRow>,
     noting: Noting,
