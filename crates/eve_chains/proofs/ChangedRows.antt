@@ -277,13 +277,13 @@ one_of_row rows count m r (es ∷ ess) row one there =
     (one_of_change rows count m r (last_written r es) row one (omega (arith, there)))
     (one_of_row rows count (suc m) r ess row (omega arith) (omega (arith, there)))
 
-pub ones_of_rows : (rows : ℕ) (ess : List (List Entry)) (n : ℕ) → n ≤ rows
-    → AllByRecursion (IsOneOf rows (length ess)) (rows_changes 0 n ess)
-ones_of_rows rows ess zero le = tt
-ones_of_rows rows ess (suc n) le =
-    all_append (IsOneOf rows (length ess)) (rows_changes 0 n ess) (row_changes (0 + n) 1 ess)
-    (ones_of_rows rows ess n (omega arith))
-    (one_of_row rows (length ess) 1 (0 + n) ess (omega arith) (omega arith) (omega arith))
+pub ones_of_rows : (rows from : ℕ) (ess : List (List Entry)) (n : ℕ) → from + n ≤ rows
+    → AllByRecursion (IsOneOf rows (length ess)) (rows_changes from n ess)
+ones_of_rows rows from ess zero le = tt
+ones_of_rows rows from ess (suc n) le =
+    all_append (IsOneOf rows (length ess)) (rows_changes from n ess) (row_changes (from + n) 1 ess)
+    (ones_of_rows rows from ess n (omega arith))
+    (one_of_row rows (length ess) 1 (from + n) ess (omega arith) (omega arith) (omega arith))
 
 -- ---- values
 

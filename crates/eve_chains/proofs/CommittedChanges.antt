@@ -1,5 +1,5 @@
 -- What the walks of all rows give, put together by number, is what a replica's committed batches change.
-use Rattle.std.proofs.Common.{◌≡◌, ℕ, ℤ, zero, suc, ◌+◌, ◌-◌, ◌*◌, ◌≤◌, ◌==◌, Bool, true, false, cond, ◌&&◌, List}
+use Rattle.std.proofs.Common.{◌≡◌, ℕ, ℤ, zero, suc, ◌+◌, ◌-◌, ◌*◌, ◌<◌, ◌≤◌, ◌==◌, Bool, true, false, cond, ◌&&◌, List}
 use Rattle.std.proofs.Common.{[], ◌∷◌, ◌++◌, map, length, filter, append_assoc, append-nil, refl, sym, subst, ap}
 use Rattle.std.proofs.Common.{◌∙◌, arith, All, inl, inr, length-append, Option, Some, None}
 use Rattle.std.specs.List.{AllByRecursion, AllZip, flat_map}
@@ -20,11 +20,14 @@ use Rattle.eve_chains.specs.Rows.{Fated, Noted, told_of, noted_by, all_noted, of
 use Rattle.eve_chains.specs.Stretches.{IsWithin, Reaches}
 use Rattle.eve_chains.specs.declared.changed.Changed.{Changed}
 use Rattle.eve_chains.specs.declared.stretch.Stretch.{Stretch}
+use Rattle.eve_chains.specs.declared.numbered.Numbered.{Numbered}
 use Rattle.eve_chains.specs.declared.walked.Walked.{Walked}
 use Rattle.eve_chains.specs.Changes.{last_written, changes_below, with_change, change_by, changes_along}
-use Rattle.eve_chains.specs.Changes.{changes_of_rows, all_changes, by_number}
-use Rattle.eve_chains.specs.Numbered.{HasNumber, IsRowBelow}
-use Rattle.eve_chains.specs.Walked.{IsWalked, AreWalked}
+use Rattle.eve_chains.specs.Changes.{changes_of_rows, of_number, by_number, changes_at, changes_in_ranges}
+use Rattle.eve_chains.specs.Changes.{ranges_by_number}
+use Rattle.eve_chains.specs.Numbered.{HasNumber, IsRowBelow, ReachesNumber}
+use Rattle.eve_chains.specs.Walked.{IsWalked, IsOfRange, AreOfRanges, reached}
+use Rattle.eve_chains.proofs.ByNumber.{of_number-append}
 use Rattle.eve_chains.proofs.Linked.{AreLinked, linked_history, last_committed}
 use Rattle.eve_chains.proofs.Paths.{all_placed, will_commit, committed_told}
 use Rattle.eve_chains.proofs.ChangedRows.{IsEarlier, change_in, row_changes, rows_changes, rows_more, rows_earlier}
@@ -234,70 +237,98 @@ module _ (t : Trace) (e : ℕ) (right : IsRightSection t e) where
         reach_le rows x.to to xs reaches.1 (All-tail (IsWithin rows) x xs within),
       )
 
-  along_ranges : (rows from to : ℕ) (xs : List Stretch) (ws : List Walked) → Reaches from to xs
-      → All (IsWithin rows) xs → AllZip (IsWalked t e) xs ws
-      → all_changes ws ≡ rows_changes from (to - from) batch_entries
-  along_ranges rows from to [] [] reaches within walked =
+  -- what ranges of rows changed of a number is what all of them did
+  along_ranges : (m rows from to : ℕ) (xs : List Stretch) (ns : List Numbered) → m < reached t e → Reaches from to xs
+      → All (IsWithin rows) xs → AllZip (IsOfRange t e) xs ns
+      → changes_in_ranges m ns ≡ of_number (m + 1) (rows_changes from (to - from) batch_entries)
+  along_ranges m rows from to [] [] lt reaches within each =
       let none : 0 ≡ to - from = omega (arith, reaches) in
-      ap (λ (n : ℕ). rows_changes from n batch_entries) none
-  along_ranges rows from to [] (w ∷ ws) reaches within walked = absurd walked
-  along_ranges rows from to (x ∷ xs) [] reaches within walked = absurd walked
-  along_ranges rows from to (x ∷ xs) (w ∷ ws) reaches within walked =
+      ap (λ (n : ℕ). of_number (m + 1) (rows_changes from n batch_entries)) none
+  along_ranges m rows from to [] (n ∷ ns) lt reaches within each = absurd each
+  along_ranges m rows from to (x ∷ xs) [] lt reaches within each = absurd each
+  along_ranges m rows from to (x ∷ xs) (n ∷ ns) lt reaches within each =
       let rest = All-tail (IsWithin rows) x xs within in
       let rising : x.from ≤ x.to = (All-head (IsWithin rows) x xs within).rising in
       let on : x.to ≤ to = reach_le rows x.to to xs reaches.1 rest in
-      let own : w.changes.items ≡ rows_changes x.from (x.to - x.from) batch_entries =
-      walked.0.changes ∙ along_rows x.from (x.to - x.from) in
+      let here = rows_changes x.from (x.to - x.from) batch_entries in
+      let own : changes_at m n ≡ of_number (m + 1) here =
+      each.0.changes m lt ∙ ap (of_number (m + 1)) (along_rows x.from (x.to - x.from)) in
       let end : x.to ≡ x.from + (x.to - x.from) = omega (arith, rising) in
       let all : x.to - x.from + (to - x.to) ≡ to - from = omega (arith, rising, on, reaches.0) in
-      (λ i. own i ++ along_ranges rows x.to to xs ws reaches.1 rest walked.1 i)
-      ∙ ap (λ (r : ℕ). rows_changes x.from (x.to - x.from) batch_entries ++ rows_changes r (to - x.to) batch_entries)
-      end
+      (λ i. own i ++ along_ranges m rows x.to to xs ns lt reaches.1 rest each.1 i)
+      ∙ sym (of_number-append (m + 1) here (rows_changes x.to (to - x.to) batch_entries))
+      ∙ ap (of_number (m + 1)) (ap (λ (r : ℕ). here ++ rows_changes r (to - x.to) batch_entries) end
       ∙ sym (rows_more x.from (x.to - x.from) (to - x.to) batch_entries)
-      ∙ (λ i. rows_changes (reaches.0 i) (all i) batch_entries)
+      ∙ (λ i. rows_changes (reaches.0 i) (all i) batch_entries))
 
-  module _ (ws : List Walked) (walked : AreWalked t e (row_count (head_of t)) ws) where
-    abbrev pub joined : List Changed
-    joined = all_changes ws
+  counted : length batch_entries ≡ reached t e
+  counted = length-map (history t e).landings _
 
-    joined_are : joined ≡ rows_changes 0 (2 * length t.customers) batch_entries
-    joined_are =
-        let all : 2 * length t.customers - 0 ≡ 2 * length t.customers = omega arith in
-        along_ranges (2 * length t.customers) 0 (2 * length t.customers) walked.ranges ws walked.cut.reaches
-        walked.cut.within walked.each ∙ ap (λ (n : ℕ). rows_changes 0 n batch_entries) all
+  -- ---- one range
 
-    counted : length batch_entries ≡ length (history t e).landings
-    counted = length-map (history t e).landings _
-
-    ones : AllByRecursion (IsOneOf (2 * length t.customers) (length (history t e).landings)) joined
-    ones = subst (AllByRecursion (IsOneOf (2 * length t.customers) (length (history t e).landings))) (sym joined_are)
+  module _ (x : Stretch) (w : Walked) (within : IsWithin (row_count (head_of t)) x) (walked : IsWalked t e x w) where
+    ones : AllByRecursion (IsOneOf (2 * length t.customers) (reached t e)) w.changes.items
+    ones =
+        let are : w.changes.items ≡ rows_changes x.from (x.to - x.from) batch_entries =
+        walked.changes ∙ along_rows x.from (x.to - x.from) in
+        subst (AllByRecursion (IsOneOf (2 * length t.customers) (reached t e))) (sym are)
         (subst (λ (n : ℕ). AllByRecursion (IsOneOf (2 * length t.customers) n)
-        (rows_changes 0 (2 * length t.customers) batch_entries)) counted
-        (ones_of_rows (2 * length t.customers) batch_entries (2 * length t.customers) (omega arith)))
+        (rows_changes x.from (x.to - x.from) batch_entries)) counted
+        (ones_of_rows (2 * length t.customers) x.from batch_entries (x.to - x.from)
+        (omega (arith, within.rising, within.there))))
 
-    weaker : {A : Type 0} (P Q : A → Type 0) → ((x : A) → P x → Q x) → (xs : List A) → AllByRecursion P xs
-        → AllByRecursion Q xs
+    weaker : {A : Type 0} (P Q : A → Type 0) → ((y : A) → P y → Q y) → (ys : List A) → AllByRecursion P ys
+        → AllByRecursion Q ys
     weaker P Q step [] all = tt
-    weaker P Q step (x ∷ xs) all = (step x all.0, weaker P Q step xs all.1)
+    weaker P Q step (y ∷ ys) all = (step y all.0, weaker P Q step ys all.1)
 
-    pub joined_numbers : All (HasNumber (length (history t e).landings)) joined
-    joined_numbers = All-from_recursion (HasNumber (length (history t e).landings)) joined
-        (weaker (IsOneOf (2 * length t.customers) (length (history t e).landings))
-        (HasNumber (length (history t e).landings)) (λ x is. record { one = is.one; there = is.there }) joined ones)
+    pub range_numbers : All (HasNumber (reached t e)) w.changes.items
+    range_numbers = All-from_recursion (HasNumber (reached t e)) w.changes.items
+        (weaker (IsOneOf (2 * length t.customers) (reached t e)) (HasNumber (reached t e))
+        (λ y is. record { one = is.one; there = is.there }) w.changes.items ones)
 
-    pub joined_below : All (IsRowBelow (2 * length t.customers)) joined
-    joined_below = All-from_recursion (IsRowBelow (2 * length t.customers)) joined
-        (weaker (IsOneOf (2 * length t.customers) (length (history t e).landings)) (IsRowBelow (2 * length t.customers))
-        (λ x is. is.row) joined ones)
+    pub range_below : All (IsRowBelow (2 * length t.customers)) w.changes.items
+    range_below = All-from_recursion (IsRowBelow (2 * length t.customers)) w.changes.items
+        (weaker (IsOneOf (2 * length t.customers) (reached t e)) (IsRowBelow (2 * length t.customers))
+        (λ y is. is.row) w.changes.items ones)
+
+  -- ---- all of them
+
+  module _ (ns : List Numbered) (are : AreOfRanges t e (row_count (head_of t)) ns) where
+    abbrev rows : ℕ
+    rows = 2 * length t.customers
+
+    numbered : (n : ℕ) → n ≤ reached t e → ranges_by_number n ns ≡ by_number n (rows_changes 0 rows batch_entries)
+    numbered zero le = refl
+    numbered (suc n) le =
+        let one : n + 1 ≡ suc n = omega arith in
+        let all : rows - 0 ≡ rows = omega arith in
+        let own : changes_in_ranges n ns ≡ of_number (suc n) (rows_changes 0 rows batch_entries) =
+        along_ranges n rows 0 rows are.ranges ns (omega arith) are.cut.reaches are.cut.within are.each
+        ∙ (λ i. of_number (one i) (rows_changes 0 (all i) batch_entries)) in
+        λ i. numbered n (omega arith) i ++ own i ∷ []
 
     -- what the rows' walks give is what the attempts wrote by which numbers were reached
-    pub joined_by_number : by_number (length (history t e).landings) joined
-        ≡ map (changes_below (2 * length t.customers)) batch_entries
-    joined_by_number =
-        (λ i. by_number (sym counted i) (joined_are i))
-        ∙ numbers_are (2 * length t.customers) batch_entries (length batch_entries) (omega arith)
-        ∙ ap (map (changes_below (2 * length t.customers)))
-        (take_all (length batch_entries) batch_entries (omega arith))
+    pub ranges_are : ranges_by_number (reached t e) ns ≡ map (changes_below rows) batch_entries
+    ranges_are =
+        numbered (reached t e) (omega arith)
+        ∙ ap (λ (n : ℕ). by_number n (rows_changes 0 rows batch_entries)) (sym counted)
+        ∙ numbers_are rows batch_entries (length batch_entries) (omega arith)
+        ∙ ap (map (changes_below rows)) (take_all (length batch_entries) batch_entries (omega arith))
+
+-- each range has all numbers that were reached
+pub ranges_reach : (t : Trace) (e : ℕ) (ns : List Numbered) → AreOfRanges t e (row_count (head_of t)) ns
+    → All (ReachesNumber (2 * length t.customers) (reached t e)) ns
+ranges_reach t e ns are = All-from_recursion (ReachesNumber (2 * length t.customers) (reached t e)) ns
+    (each are.ranges ns are.each)
+  where
+    each : (xs : List Stretch) (ms : List Numbered) → AllZip (IsOfRange t e) xs ms
+        → AllByRecursion (ReachesNumber (2 * length t.customers) (reached t e)) ms
+    each [] [] all = tt
+    each [] (m ∷ ms) all = absurd all
+    each (x ∷ xs) [] all = absurd all
+    each (x ∷ xs) (m ∷ ms) all =
+        (record { order = all.0.order; there = omega (arith, all.0.count) }, each xs ms all.1)
 
 last_told : (t : Trace) (e : ℕ) → (section_history t e).committed ≡ (history t e).last
 unfolding section_history history

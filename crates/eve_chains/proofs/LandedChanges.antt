@@ -1,6 +1,6 @@
 -- What is kept of how each number was reached gives what it changed.
 use Rattle.std.proofs.Common.{◌≡◌, ℕ, ℤ, zero, suc, ◌-◌, ◌*◌, ◌<◌, ◌≤◌, true, List, [], ◌∷◌, ◌++◌}
-use Rattle.std.proofs.Common.{map, length, slice_get, slice_range, get_or, Option, Some, None, refl, sym, subst, ap}
+use Rattle.std.proofs.Common.{map, length, slice_get, get_or, Option, Some, None, refl, sym, subst, ap}
 use Rattle.std.proofs.Common.{◌∙◌, append_assoc}
 use Rattle.std.proofs.Common.{length-append, arith}
 use Rattle.std.specs.List.{AllByRecursion, AllZip}
@@ -12,13 +12,13 @@ use Rattle.eve_history.specs.declared.landing.Landing.TheVariants as landing
 use Rattle.eve_history.specs.Section.{Landing, ByAttempt, ByTransfer, Skipped, transfers_by}
 use Rattle.eve_history.specs.SectionHistory.{SectionHistory, section_history, history, IsToldOf}
 use Rattle.eve_history.specs.SectionHistory.{Landed, LandedBy, LandedFrom, NotLanded, landed_from}
-use Rattle.eve_chains.specs.declared.changed.Changed.{Changed}
-use Rattle.eve_chains.specs.Changes.{change_of, from_starts, changes_below}
+use Rattle.eve_chains.specs.declared.numbered.Numbered.{Numbered}
+use Rattle.eve_chains.specs.Changes.{changes_below, changes_in_ranges, ranges_by_number}
 use Rattle.eve_chains.specs.Landed.{transfer_at, values_said, taken_values, change_in, changes_in, IsStateAmong}
 use Rattle.eve_chains.specs.Landed.{AreLandings}
 use Rattle.eve_chains.specs.Settling.{Change, Wrote, TookOverValues, Nothing, Settling, change_at, settling, is_change}
 use Rattle.eve_chains.specs.Settling.{defined}
-use Rattle.eve_chains.proofs.ByNumber.{starts_counted, starts_at}
+use Rattle.eve_chains.proofs.ByNumber.{ranges_counted, ranges_at}
 use Rattle.eve_chains.proofs.CommittedChanges.{entries_by, entries_of_all}
 use Rattle.eve_chains.proofs.Linked.{none≢some}
 
@@ -53,32 +53,19 @@ at_place (y ∷ xs) zero x lt is = ap Some (sym is)
 at_place (y ∷ xs) (suc i) x lt is = at_place xs i x (omega (arith, lt)) is
 
 -- what is kept of a number
-pub change_kept : (rows count : ℕ) (states : List TransferView) (ls : List told.Landing) (starts : List ℕ)
-    (all : List Changed) (n : ℕ) (l k : told.Landing) → AreLandings rows count states ls → n < count → l ≡ get_or ls n l
-    → l ≡ k → slice_get (changes_in states ls (from_starts count starts all)) n
-    ≡ Some (change_in states k (map change_of (slice_range all (get_or starts n 0) (get_or starts (suc n) 0))))
-change_kept rows count states ls starts all n l k known lt is same =
-    let own = map change_of (slice_range all (get_or starts n 0) (get_or starts (suc n) 0)) in
-    change_found states ls (from_starts count starts all) n l own
-    (at_place ls n l (omega (arith, lt, known.many)) is) (starts_at count starts all n lt)
-    ∙ ap (λ (x : told.Landing). Some (change_in states x own)) same
+pub change_kept : (rows count : ℕ) (states : List TransferView) (ls : List told.Landing) (xs : List Numbered) (n : ℕ)
+    (l k : told.Landing) → AreLandings rows count states ls → n < count → l ≡ get_or ls n l → l ≡ k
+    → slice_get (changes_in states ls (ranges_by_number count xs)) n
+    ≡ Some (change_in states k (changes_in_ranges n xs))
+change_kept rows count states ls xs n l k known lt is same =
+    change_found states ls (ranges_by_number count xs) n l (changes_in_ranges n xs)
+    (at_place ls n l (omega (arith, lt, known.many)) is) (ranges_at count xs n lt)
+    ∙ ap (λ (x : told.Landing). Some (change_in states x (changes_in_ranges n xs))) same
 
--- and of its batch, where it was reached by an attempt
-pub wrote_kept : (rows count : ℕ) (states : List TransferView) (ls : List told.Landing) (starts : List ℕ)
-    (all : List Changed) (n : ℕ) (l k : told.Landing) (cs : List (ℕ × ℤ)) → AreLandings rows count states ls → n < count
-    → l ≡ get_or ls n l → l ≡ k → slice_get (from_starts count starts all) n ≡ Some cs
-    → slice_get (changes_in states ls (from_starts count starts all)) n ≡ Some (change_in states k cs)
-wrote_kept rows count states ls starts all n l k cs known lt is same wrote =
-    change_found states ls (from_starts count starts all) n l cs
-    (at_place ls n l (omega (arith, lt, known.many)) is) wrote
-    ∙ ap (λ (x : told.Landing). Some (change_in states x cs)) same
-
-pub kept_counted : (rows count : ℕ) (states : List TransferView) (ls : List told.Landing) (starts : List ℕ)
-    (all : List Changed) → AreLandings rows count states ls
-    → length (changes_in states ls (from_starts count starts all)) ≡ count
-kept_counted rows count states ls starts all known =
-    changes_counted states ls (from_starts count starts all) (known.many ∙ sym (starts_counted count starts all))
-    ∙ known.many
+pub kept_counted : (rows count : ℕ) (states : List TransferView) (ls : List told.Landing) (xs : List Numbered)
+    → AreLandings rows count states ls → length (changes_in states ls (ranges_by_number count xs)) ≡ count
+kept_counted rows count states ls xs known =
+    changes_counted states ls (ranges_by_number count xs) (known.many ∙ sym (ranges_counted count xs)) ∙ known.many
 
 -- a state by which a number was reached is there
 pub state_among : (rows count : ℕ) (states : List TransferView) (ls : List told.Landing) (n i : ℕ) (l : told.Landing)

@@ -3,6 +3,7 @@ mod TakenStates
 mod Told
 mod ByRow
 mod WalkedRows
+mod Shares
 mod Collecting
 mod JudgedRows
 mod Paths
@@ -33,7 +34,6 @@ pub mod Stretches
 mod CommittedBatches
 mod Changing
 mod ByNumber
-mod RangeChanges
 mod ChangedRows
 mod CommittedChanges
 mod SettingRows

@@ -1,8 +1,10 @@
 -- Balances in which changed rows are set one after another, and compared one after another.
-use Rattle.std.proofs.Common.{◌≡◌, ℕ, ℤ, zero, suc, ◌+◌, ◌<◌, ◌==◌, Bool, true, false, cond, ◌&&◌, List, [], ◌∷◌}
+use Rattle.std.proofs.Common.{◌≡◌, ℕ, ℤ, zero, suc, ◌+◌, ◌<◌, ◌≤◌, ◌==◌, Bool, true, false, cond, ◌&&◌, List, [], ◌∷◌}
 use Rattle.std.proofs.Common.{◌++◌, map}
-use Rattle.std.proofs.Common.{take, drop, set, get_or, slice_get, Some, length, refl, sym, ap, ◌∙◌, inl, inr}
-use Rattle.std.proofs.Common.{take-append-drop, pos}
+use Rattle.std.proofs.Common.{take, drop, set, get_or, slice_get, Some, length, refl, sym, ap, ◌∙◌, inl, inr, arith}
+use Rattle.std.proofs.Common.{take-append-drop, append-nil, pos}
+use Rattle.std.specs.Prelude.{All}
+use Rattle.std.proofs.lemmas.Grind.{flat_map-append}
 use Rattle.std.specs.List.{list_all}
 use Rattle.std.proofs.lemmas.Bool.{cases_eq, eq-eqb, ne_eqb}
 use Rattle.std.proofs.lemmas.List.{map-append, take_more, get_or-set_same, get_or-set_other}
@@ -11,8 +13,13 @@ use Rattle.std.proofs.lemmas.Option.{same_Some}
 use Rattle.std.proofs.lemmas.List.Sums.{fold-append}
 use Rattle.eve_smallbank.specs.Access.{balance_of_row}
 use Rattle.eve_chains.specs.declared.changed.Changed.{Changed}
-use Rattle.eve_chains.specs.Changes.{change_of, values_changed}
-use Rattle.eve_chains.specs.Numbered.{is_same_where_changed}
+use Rattle.eve_chains.specs.declared.numbered.Numbered.{Numbered}
+use Rattle.eve_chains.specs.Changes.{change_of, changes_at, changes_in_ranges, values_changed}
+use Rattle.eve_chains.specs.Numbered.{ReachesNumber, is_same_where_changed}
+
+and-false : (t : Bool) → t && false ≡ false
+and-false true = refl
+and-false false = refl
 
 -- one row is set
 row_set : (xs : List ℤ) (row : ℕ) (z : ℤ) → row < length xs
@@ -69,10 +76,55 @@ module _ (cs : List Changed) (i : ℕ) (c : Changed) (lt : i < length cs) (is : 
         (list_all-append (is_same_where_changed b d) (map change_of (take i cs)) (change_of c ∷ [])
         ∙ ap (λ (t : Bool). list_all (is_same_where_changed b d) (map change_of (take i cs)) && (t && true)) other
         ∙ and-false (list_all (is_same_where_changed b d) (map change_of (take i cs))))
-      where
-        and-false : (t : Bool) → t && false ≡ false
-        and-false true = refl
-        and-false false = refl
+
+-- ---- range after range
+
+-- ranges that reach a number reach those before it
+pub reach_fewer : (rows count n : ℕ) (xs : List Numbered) → All (ReachesNumber rows count) xs → n ≤ count
+    → All (ReachesNumber rows n) xs
+reach_fewer rows count n xs all le i d lt =
+    let own = all i d lt in record { order = own.order; there = omega (arith, own.there, le) }
+
+module _ (n : ℕ) (xs : List Numbered) (i : ℕ) (x : Numbered) (lt : i < length xs) (is : x ≡ get_or xs i x) where
+  range_more : changes_in_ranges n (take (i + 1) xs) ≡ changes_in_ranges n (take i xs) ++ changes_at n x
+  range_more = ap (changes_in_ranges n) (take_more xs i x lt ∙ ap (λ (y : Numbered). take i xs ++ y ∷ []) (sym is))
+      ∙ flat_map-append (changes_at n) (take i xs) (x ∷ [])
+      ∙ ap (λ (cs : List (ℕ × ℤ)). changes_in_ranges n (take i xs) ++ cs) (append-nil (changes_at n x))
+
+  -- the rows of one range more are set
+  pub range_set : (values old new : ℕ → ℤ) (cs : List (ℕ × ℤ))
+      → old ≡ values_changed values (changes_in_ranges n (take i xs)) → cs ≡ changes_at n x → new ≡ values_changed old
+      cs
+      → new ≡ values_changed values (changes_in_ranges n (take (i + 1) xs))
+  range_set values old new cs before own now =
+      now ∙ (λ k. values_changed (before k) (own k))
+      ∙ sym (ap (values_changed values) range_more
+      ∙ fold-append (λ now c r. cond (c.0 == r) c.1 (now r)) values (changes_in_ranges n (take i xs)) (changes_at n x))
+
+  module _ (b d : List ℤ) (cs : List (ℕ × ℤ)) (own : cs ≡ changes_at n x) where
+    -- those of one more are the same
+    pub range_same : list_all (is_same_where_changed b d) (changes_in_ranges n (take i xs)) ≡ true
+        → list_all (is_same_where_changed b d) cs ≡ true
+        → list_all (is_same_where_changed b d) (changes_in_ranges n (take (i + 1) xs)) ≡ true
+    range_same before same =
+        ap (list_all (is_same_where_changed b d)) range_more
+        ∙ list_all-append (is_same_where_changed b d) (changes_in_ranges n (take i xs)) (changes_at n x)
+        ∙ (λ k. before k && (ap (list_all (is_same_where_changed b d)) (sym own) ∙ same) k)
+
+    -- those of one aren't
+    pub range_other : list_all (is_same_where_changed b d) cs ≡ false
+        → list_all (is_same_where_changed b d) (changes_in_ranges n xs) ≡ false
+    range_other other =
+        let f = is_same_where_changed b d in
+        let front = changes_in_ranges n (take i xs) in
+        let back = changes_in_ranges n (drop (i + 1) xs) in
+        ap (λ (ys : List Numbered). list_all f (changes_in_ranges n ys)) (sym (take-append-drop (i + 1) xs))
+        ∙ ap (list_all f) (flat_map-append (changes_at n) (take (i + 1) xs) (drop (i + 1) xs)
+        ∙ ap (λ (ys : List (ℕ × ℤ)). ys ++ back) range_more)
+        ∙ list_all-append f (front ++ changes_at n x) back
+        ∙ ap (λ (t : Bool). t && list_all f back)
+        (list_all-append f front (changes_at n x)
+        ∙ ap (λ (t : Bool). list_all f front && t) (ap (list_all f) (sym own) ∙ other) ∙ and-false (list_all f front))
 
 -- what is lent of a row
 pub lent_is : (xs : List ℤ) (row : ℕ) (z : ℤ) → slice_get xs row ≡ Some z → balance_of_row xs row ≡ z

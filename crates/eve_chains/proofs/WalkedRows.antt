@@ -32,11 +32,11 @@ use Rattle.eve_chains.specs.declared.changed.Changed.{Changed}
 use Rattle.eve_chains.specs.Stretches.{IsWithin, Reaches, AreStretches}
 use Rattle.eve_chains.specs.Walked.{IsFirstOrNone, IsMismatch, IsFirstOnRow, IsWrongOnSome, IsFirstOnRows}
 use Rattle.std.proofs.lemmas.List.Elements.{All-nil, All-cons}
-use Rattle.eve_chains.specs.Walked.{IsWalked, AreWalked, notes_on, HasMet, HasWalked}
+use Rattle.eve_chains.specs.Walked.{IsOfRange, AreOfRanges, notes_on, HasMet, HasWalked}
 use Rattle.eve_chains.specs.declared.walked_row.WalkedRow.{WalkedRow}
 use Rattle.std.proofs.Common.{ℤ}
 use Rattle.eve_chains.specs.declared.stretch.Stretch.{Stretch}
-use Rattle.eve_chains.specs.declared.walked.Walked.{Walked}
+use Rattle.eve_chains.specs.declared.numbered.Numbered.{Numbered}
 use Rattle.eve_chains.proofs.AlongLaws.{before_up, not_before_up, split_last}
 use Rattle.eve_chains.proofs.RowWalks.{fold_more}
 
@@ -264,23 +264,27 @@ module _ (t : Trace) (e : ℕ) where
       lt_or : (row : ℕ) → (row < mid) ⊎ (mid ≤ row)
       lt_or row = cases_lt row mid
 
+  -- the first of each range
+  abbrev pub IsFirstOfRange : Stretch → Option Fault → Type 0
+  IsFirstOfRange x first = IsFirstOnRows t e x.from x.to first
+
   -- of ranges that follow one another
-  first_along : (from last : ℕ) (xs : List Stretch) (ws : List Walked) (first : Option Fault)
-      → AllZip (IsWalked t e) xs ws → Reaches from last xs → All (IsWithin last) xs → IsFirstOnRows t e 0 from first
-      → IsFirstOnRows t e 0 last (fold (λ now w. first_of now w.first) first ws)
+  first_along : (from last : ℕ) (xs : List Stretch) (fs : List (Option Fault)) (first : Option Fault)
+      → AllZip IsFirstOfRange xs fs → Reaches from last xs → All (IsWithin last) xs → IsFirstOnRows t e 0 from first
+      → IsFirstOnRows t e 0 last (fold first_of first fs)
   first_along from last [] [] first each reaches within is =
       subst (λ (n : ℕ). IsFirstOnRows t e 0 n first) reaches is
-  first_along from last [] (w ∷ ws) first each reaches within is = absurd each
+  first_along from last [] (f ∷ fs) first each reaches within is = absurd each
   first_along from last (x ∷ xs) [] first each reaches within is = absurd each
-  first_along from last (x ∷ xs) (w ∷ ws) first each reaches within is =
-      first_along x.to last xs ws (first_of first w.first) each.1 reaches.1
+  first_along from last (x ∷ xs) (f ∷ fs) first each reaches within is =
+      first_along x.to last xs fs (first_of first f) each.1 reaches.1
       (λ i d less. within (suc i) d (omega arith))
-      (first_on_rows 0 x.from x.to first w.first (omega arith) (within 0 x (omega arith)).rising
-      (subst (λ (n : ℕ). IsFirstOnRows t e 0 n first) (sym reaches.0) is) each.0.first)
+      (first_on_rows 0 x.from x.to first f (omega arith) (within 0 x (omega arith)).rising
+      (subst (λ (n : ℕ). IsFirstOnRows t e 0 n first) (sym reaches.0) is) each.0)
 
-  pub first_of_ranges : (rows : ℕ) (xs : List Stretch) (ws : List Walked) → AllZip (IsWalked t e) xs ws
-      → AreStretches rows xs → IsFirstOnRows t e 0 rows (fold (λ now w. first_of now w.first) None ws)
-  first_of_ranges rows xs ws each cut = first_along 0 rows xs ws None each cut.reaches cut.within (none_on_rows 0)
+  pub first_of_ranges : (rows : ℕ) (xs : List Stretch) (fs : List (Option Fault)) → AllZip IsFirstOfRange xs fs
+      → AreStretches rows xs → IsFirstOnRows t e 0 rows (fold first_of None fs)
+  first_of_ranges rows xs fs each cut = first_along 0 rows xs fs None each cut.reaches cut.within (none_on_rows 0)
 
 -- ---- changes
 
@@ -424,9 +428,9 @@ row_begun t row place value w met none is same e = record {
 
 -- ---- one range of all rows
 
-pub walked_alone : (t : Trace) (e rows : ℕ) (w : Walked) → IsWalked t e (record { from = 0; to = rows }) w
-    → AreWalked t e rows (w ∷ [])
-walked_alone t e rows w is = record {
+pub range_alone : (t : Trace) (e rows : ℕ) (n : Numbered) → IsOfRange t e (record { from = 0; to = rows }) n
+    → AreOfRanges t e rows (n ∷ [])
+range_alone t e rows n is = record {
   ranges = record { from = 0; to = rows } ∷ [];
   cut = record {
     reaches = (refl, refl);

@@ -1,13 +1,13 @@
 -- What batches change: for each row that a batch writes, the value after its last write.
 -- docs/MODEL.md, "Bank and replies after a committed batch".
 use Rattle.std.specs.Prelude.{ℕ, ℤ, zero, suc, ◌+◌, ◌==◌, ◌&&◌, if◌then◌else◌, List, [], ◌∷◌, ◌++◌, map, filter, fold}
-use Rattle.std.specs.Prelude.{Option, Some, None, length, take, slice_index_or, slice_range}
+use Rattle.std.specs.Prelude.{Option, Some, None, slice_index_or, slice_range}
 use Rattle.std.specs.List.{flat_map}
 use Rattle.eve_smallbank.specs.declared.entry.Entry.{Entry}
 use Rattle.eve_smallbank.specs.Access.{is_write, writes_row}
 use Rattle.eve_chains.specs.Rows.{Noted, of_row}
 use Rattle.eve_chains.specs.declared.changed.Changed.{Changed}
-use Rattle.eve_chains.specs.declared.walked.Walked.{Walked}
+use Rattle.eve_chains.specs.declared.numbered.Numbered.{Numbered}
 
 -- ---- of entries
 
@@ -51,16 +51,6 @@ abbrev pub changes_of_rows : List Noted → ℕ → ℕ → List Changed → Lis
 changes_of_rows ns from zero cs = cs
 changes_of_rows ns from (suc count) cs = changes_along (changes_of_rows ns from count cs) (of_row (from + count) ns)
 
--- ---- range after range
-
--- what ranges of rows changed
-abbrev pub all_changes : List Walked → List Changed
-all_changes ws = flat_map (λ w. w.changes.items) ws
-
--- how many changes the ranges before this place have
-abbrev pub changes_before : List Walked → ℕ → ℕ
-changes_before ws at = length (all_changes (take at ws))
-
 -- ---- by number
 
 -- a change without the number of its batch
@@ -76,8 +66,18 @@ abbrev pub by_number : ℕ → List Changed → List (List (ℕ × ℤ))
 by_number zero cs = []
 by_number (suc n) cs = by_number n cs ++ of_number (suc n) cs ∷ []
 
--- the same of changes that stand batch after batch, each batch's from its start on
-abbrev pub from_starts : ℕ → List ℕ → List Changed → List (List (ℕ × ℤ))
-from_starts zero starts cs = []
-from_starts (suc n) starts cs = from_starts n starts cs
-    ++ map change_of (slice_range cs (slice_index_or starts n 0) (slice_index_or starts (suc n) 0)) ∷ []
+-- those of batch n + 1 where they stand batch after batch
+abbrev pub changes_at : ℕ → Numbered → List (ℕ × ℤ)
+changes_at n x = map change_of
+    (slice_range x.changes.items (slice_index_or x.starts.items n 0) (slice_index_or x.starts.items (suc n) 0))
+
+-- ---- range after range
+
+-- those of batch n + 1 in ranges of rows
+abbrev pub changes_in_ranges : ℕ → List Numbered → List (ℕ × ℤ)
+changes_in_ranges n xs = flat_map (changes_at n) xs
+
+-- those of each of the first n batches
+abbrev pub ranges_by_number : ℕ → List Numbered → List (List (ℕ × ℤ))
+ranges_by_number zero xs = []
+ranges_by_number (suc n) xs = ranges_by_number n xs ++ changes_in_ranges n xs ∷ []

@@ -7,8 +7,8 @@ use Rattle.eve_frames.specs.Said.{transfer_said}
 use Rattle.eve_frames.specs.declared.transfer.TransferView.{TransferView}
 use Rattle.eve_history.specs.declared.landing.Landing as told
 use Rattle.eve_history.specs.declared.landing.Landing.TheVariants as landing
-use Rattle.eve_chains.specs.Changes.{change_of}
-use Rattle.eve_chains.specs.Numbered.{IsRowBelow}
+use Rattle.eve_chains.specs.Changes.{changes_in_ranges}
+use Rattle.eve_chains.specs.Numbered.{ReachesNumber}
 use Rattle.eve_chains.specs.Settling.{Change, Wrote, TookOverValues, Nothing, Settling}
 use Rattle.eve_chains.specs.declared.settled.Change as met
 use Rattle.eve_chains.specs.declared.settled.Change.TheVariants as change
@@ -60,17 +60,17 @@ pub record AreLandings (rows count : ℕ) (states : List TransferView) (ls : Lis
 
 -- ---- one number
 
--- what a call says that a number changed
-abbrev pub change_said : met.Change → Change
-change_said (change.Wrote changes) = Wrote (map change_of changes.now)
-change_said (change.TookOver v) = TookOverValues (values_said v)
-change_said change.Nothing = Nothing
+-- what a call says that number n changed
+abbrev pub change_said : ℕ → met.Change → Change
+change_said n (change.Wrote ranges) = Wrote (changes_in_ranges (n - 1) ranges.now)
+change_said n (change.TookOver v) = TookOverValues (values_said v)
+change_said n change.Nothing = Nothing
 
 -- it is of the rows below this number: of some, of all, or of none
-abbrev pub IsOfRows : ℕ → met.Change → Type 0
-IsOfRows rows (change.Wrote changes) = All (IsRowBelow rows) changes.now
-IsOfRows rows (change.TookOver v) = HasRows rows v × (rows ≤ MOST_NAMED_ROWS)
-IsOfRows rows change.Nothing = ⊤
+abbrev pub IsOfRows : ℕ → ℕ → met.Change → Type 0
+IsOfRows rows n (change.Wrote ranges) = All (ReachesNumber rows n) ranges.now
+IsOfRows rows n (change.TookOver v) = HasRows rows v × (rows ≤ MOST_NAMED_ROWS)
+IsOfRows rows n change.Nothing = ⊤
 
 -- the rows that a number changed, each with its value, where it isn't all of them
 abbrev pub some_rows : Change → Option (List (ℕ × ℤ))

@@ -2,6 +2,7 @@ pub mod Rows
 pub mod Bases
 pub mod Notes
 pub mod Looked
+pub mod Judged
 pub mod Changes
 pub mod Numbered
 pub mod Walked

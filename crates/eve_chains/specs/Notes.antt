@@ -5,6 +5,8 @@ use Rattle.eve_history.specs.declared.fate.Fate.{Fate}
 use Rattle.eve_history.specs.SectionHistory.{ExecutedAttempt, SectionHistory, is_committed}
 use Rattle.eve_chains.specs.Unfit.{is_settled, by_fates_between}
 use Rattle.eve_chains.specs.Rows.{Noted, noted_by}
+use Rattle.eve_smallbank.specs.declared.entry.Entry.{Entry}
+use Rattle.eve_chains.specs.declared.entries.Noting.{Noting}
 use Rattle.eve_chains.specs.declared.note.Note.{Note}
 
 -- a note of this row, as the row's walk meets it
@@ -16,6 +18,17 @@ noted_at row n = record {
   number = n.number;
   commits = n.commits;
   entry = record { version = n.version; seen = n.seen; after = n.after; row = row; kind = n.kind };
+}
+
+-- what is noted of an entry of a record at this offset
+abbrev pub noted_of : Noting → ℕ → Entry → Noted
+noted_of x at e = record {
+  offset = at;
+  taken = x.taken;
+  view = x.view;
+  number = x.number;
+  commits = x.commits;
+  entry = e;
 }
 
 -- ---- of attempts, by what becomes of them

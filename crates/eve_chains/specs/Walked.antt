@@ -4,19 +4,23 @@ use Rattle.std.specs.Prelude.{slice_index_or}
 use Rattle.std.specs.List.{AllZip}
 use Rattle.eve_smallbank.specs.declared.entry.Entry.{Entry}
 use Rattle.eve_smallbank.specs.declared.versioned.Versioned.{Versioned}
-use Rattle.eve_grammar.specs.Trace.{Trace}
+use Rattle.eve_grammar.specs.Trace.{Trace, head_of}
+use Rattle.eve_grammar.specs.Limits.{row_count}
+use Rattle.eve_history.specs.SectionHistory.{history}
 use Rattle.eve_views.specs.declared.fault.Code.{Code}
 use Rattle.eve_views.specs.declared.fault.Code.TheVariants as code
 use Rattle.eve_views.specs.declared.fault.Fault.{Fault}
 use Rattle.eve_views.specs.Form.{IsLeast, HasNone}
 use Rattle.eve_chains.specs.Rows.{bases_of}
 use Rattle.eve_chains.specs.Rows.{Noted, Pair, told_of, all_noted, of_row, pair_after, IsWrongOnRow, EachSees}
-use Rattle.eve_chains.specs.Changes.{changes_along, changes_of_rows}
+use Rattle.eve_chains.specs.Changes.{changes_along, changes_of_rows, of_number, changes_at}
+use Rattle.eve_chains.specs.Numbered.{IsInOrder}
 use Rattle.eve_chains.specs.Stretches.{AreStretches}
 use Rattle.eve_chains.specs.declared.stretch.Stretch.{Stretch}
 use Rattle.eve_chains.specs.declared.row_walk.RowWalk.{RowWalk}
 use Rattle.eve_chains.specs.declared.walked_row.WalkedRow.{WalkedRow}
 use Rattle.eve_chains.specs.declared.walked.Walked.{Walked}
+use Rattle.eve_chains.specs.declared.numbered.Numbered.{Numbered}
 
 -- all is well and none of these faults stands, or this is the first of them, by offset and then by number
 abbrev pub IsFirstOrNone : Type 0 → (Fault → Type 0) → Option Fault → Type 0
@@ -88,8 +92,21 @@ pub record IsWalked (t : Trace) (e : ℕ) (x : Stretch) (w : Walked) : Type 0 wh
   pub first : IsFirstOnRows t e x.from x.to w.first
   pub changes : w.changes.items ≡ changes_of_rows (all_noted (told_of t e)) x.from (x.to - x.from) []
 
--- all rows are walked, range after range
-pub record AreWalked (t : Trace) (e rows : ℕ) (ws : List Walked) : Type 0 where
+-- ---- what they change, by number
+
+-- how many numbers replica e reached
+abbrev pub reached : Trace → ℕ → ℕ
+reached t e = length (history t e).landings
+
+-- this is what its batches changed of these rows
+pub record IsOfRange (t : Trace) (e : ℕ) (x : Stretch) (n : Numbered) : Type 0 where
+  pub count : n.count ≡ reached t e
+  pub order : IsInOrder (row_count (head_of t)) n
+  pub changes : (i : ℕ) → i < reached t e → changes_at i n
+      ≡ of_number (i + 1) (changes_of_rows (all_noted (told_of t e)) x.from (x.to - x.from) [])
+
+-- and this of all rows, range after range
+pub record AreOfRanges (t : Trace) (e rows : ℕ) (ns : List Numbered) : Type 0 where
   pub ranges : List Stretch
   pub cut : AreStretches rows ranges
-  pub each : AllZip (IsWalked t e) ranges ws
+  pub each : AllZip (IsOfRange t e) ranges ns

@@ -1,6 +1,6 @@
 //! The judgement of a replica's settled attempts.
 
-ghost use Rattle.std.specs.Prelude.{◌≡◌, ◌≤◌, IfOk, IfErr, length};
+ghost use Rattle.std.specs.Prelude.{◌≡◌, ◌≤◌, IfOk, IfErr};
 ghost use Rattle.eve_grammar.specs.Trace.{opening_rows, head_of};
 ghost use Rattle.eve_grammar.specs.Limits.{row_count};
 ghost use Rattle.eve_views.specs.Form.{IfFound, IsLeast, IsFaultIn};
@@ -8,69 +8,41 @@ ghost use Rattle.eve_history.specs.SectionHistory.{section_history, names_of, Is
 ghost use Rattle.eve_chains.specs.Sound.{RecordsFit, SettledAreSound};
 ghost use Rattle.eve_chains.specs.Faults.{HasNoFault, IsLeastFault, StandsInChains};
 ghost use Rattle.eve_chains.specs.Settling.{settling};
-ghost use Rattle.eve_chains.specs.Unfit.{records_between, IsLeastUnfit};
-ghost use Rattle.eve_chains.specs.Walked.{IsFirstOnRows, AreWalked};
+ghost use Rattle.eve_chains.specs.Judged.{AreJudged};
+ghost use Rattle.eve_chains.specs.Walked.{IsFirstOnRows};
 
+use crate::judging::{Judged, changed_ranges, first_of_all, judge_all, least_unfit};
 use crate::laws::{rows_are_judged_by_themselves, sound_sections_have_no_fault};
-use crate::looked::{least_unfit, look_all};
 use crate::opening::opening_balances;
 use crate::settled::Settled;
-use crate::stretch::Stretch;
+use crate::share::deal;
 use crate::unfit::records;
-use crate::walked::{Walked, first_of_all, walk_all};
 use eve_accounts::{Balances, Names};
 use eve_history::History;
 use eve_views::{CheckFault, Fault, Trace};
 use std::alloc::{AllocError, Global};
 use std::thread::Threads;
 
-/// The least offset of the records of settled attempts that don't fit, found in stretches of attempts, no more of them
-/// than there are jobs.
-fn look<R: Threads + Sync>(
+/// The settled attempts' records looked at, and all rows walked along them, each of them by itself, in shares, no more
+/// of them than there are jobs.
+fn judge<R: Threads + Sync>(
     rt: &R,
     alloc: Global,
     history: &History<'_>,
     trace: &Trace<'_>,
     names: &Names<'_>,
+    opening: &Balances,
     jobs: u8,
-) -> Result<Option<u64>, AllocError>
+) -> Result<Vec<Judged>, AllocError>
     requires history { history.now ≡ section_history trace.now history.now.replica }
     requires right { IsRightSection trace.now history.now.replica }
     requires names { names.now.items ≡ names_of trace.now }
-    requires jobs { 1 ≤ jobs }
-    ensures { IfOk result (IsLeastUnfit (names_of trace.now)
-        (records_between trace.now history.now 0 (length history.now.attempts))) }
-{
-    let all = Stretch {
-        from: 0,
-        to: history.attempts(),
-    };
-    let stretches = all.cut(alloc, jobs)?;
-    let looked = look_all(rt, alloc, history, trace, names, &stretches)?;
-    Ok(least_unfit(&looked))
-}
-
-/// All rows walked along the settled attempts, each by itself, in ranges, no more of them than there are jobs.
-fn walk<R: Threads + Sync>(
-    rt: &R,
-    alloc: Global,
-    history: &History<'_>,
-    trace: &Trace<'_>,
-    opening: &Balances,
-    jobs: u8,
-) -> Result<Vec<Walked>, AllocError>
-    requires history { history.now ≡ section_history trace.now history.now.replica }
     requires opening { opening.now ≡ opening_rows trace.now.customers }
     requires jobs { 1 ≤ jobs }
-    ensures { IfOk result (λ walked. AreWalked trace.now history.now.replica (row_count (head_of trace.now))
-        walked.items) }
+    ensures { IfOk result (λ judged. AreJudged trace.now history.now judged.items) }
 {
-    let all = Stretch {
-        from: 0,
-        to: opening.len(),
-    };
-    let ranges = all.cut(alloc, jobs)?;
-    walk_all(rt, alloc, history, trace, opening, &ranges)
+    let shares = deal(alloc, history.attempts(), opening.len(), jobs)?;
+    judge_all(rt, alloc, history, trace, names, opening, &shares)
 }
 
 /// Judges the chains of a section whose records fit, by the first fault that was found on its rows.
@@ -94,10 +66,11 @@ fn chains(history: &History<'_>, trace: &Trace<'_>, first: Option<Fault>) -> Res
 /// left; else the first fault, those of records before those of chains, then by offset, then by number.
 ///
 /// docs/MODEL.md, "A record fits its request", "What an entry must see" and "Faults". Each record is judged by itself,
-/// in stretches of attempts; then each row is walked by itself along its own entries, in the attempts' order, in ranges
-/// of rows. Both go in as many threads as there are jobs at most, from 1 on; with one job none is started. What is
-/// found doesn't depend on which ends first. Refused memory decides nothing. The time is linear in the entries; each
-/// range, and each part of one with many rows, reads all entries, and passes over those of other rows.
+/// and each row is walked by itself along its own entries, in the attempts' order. Of as many threads as there are jobs
+/// at most, from 2 on, some judge the records of a stretch of attempts each, and others walk a range of rows each; with
+/// one job none is started. What is found doesn't depend on which ends first. Refused memory decides nothing. The time
+/// is linear in the entries; each range, and each part of one with many rows, reads all entries, and passes over those
+/// of other rows.
 pub fn check<'a, R: Threads + Sync>(
     rt: &R,
     alloc: Global,
@@ -115,16 +88,16 @@ pub fn check<'a, R: Threads + Sync>(
     ensures least { IfErr result (λ why. IfFound why (IsLeastFault trace.now history.now.replica)) }
 {
     history.recall_right();
-    let least = look(rt, alloc, history, trace, names, jobs)?;
-    if let Err(why) = records(history, trace, least) {
+    let opening = opening_balances(alloc, trace)?;
+    let judged = judge(rt, alloc, history, trace, names, &opening, jobs)?;
+    if let Err(why) = records(history, trace, least_unfit(&judged)) {
         return Err(why);
     }
-    let opening = opening_balances(alloc, trace)?;
-    let walked = walk(rt, alloc, history, trace, &opening, jobs)?;
-    if let Err(why) = chains(history, trace, first_of_all(&walked)) {
+    if let Err(why) = chains(history, trace, first_of_all(&judged)) {
         return Err(why);
     }
     sound_sections_have_no_fault();
-    let settled = Settled::of_walked(alloc, history, trace, opening, walked)?;
+    let ranges = changed_ranges(alloc, judged)?;
+    let settled = Settled::of_ranges(alloc, history, trace, opening, ranges)?;
     Ok(settled)
 }

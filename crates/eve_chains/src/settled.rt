@@ -9,16 +9,16 @@ ghost use Rattle.eve_grammar.specs.Trace.{opening_rows, head_of};
 ghost use Rattle.eve_grammar.specs.Limits.{row_count};
 ghost use Rattle.eve_frames.specs.Said.{transfer_said};
 ghost use Rattle.eve_history.specs.SectionHistory.{section_history, IsToldOf};
-ghost use Rattle.eve_chains.specs.Changes.{change_of, from_starts, values_changed};
+ghost use Rattle.eve_chains.specs.Changes.{change_of, changes_in_ranges, values_changed};
 ghost use Rattle.eve_chains.specs.Landed.{change_said, IsOfRows, transfer_at, rows_changed_at};
-ghost use Rattle.eve_chains.specs.Numbered.{IsInOrder, IsRowBelow, is_same_where_changed};
+ghost use Rattle.eve_chains.specs.Numbered.{IsRowBelow, ReachesNumber, is_same_where_changed};
 ghost use Rattle.eve_chains.specs.Settling.{settling, values_in, defined, AreBankAfter, HaveSameBalances};
-ghost use Rattle.eve_chains.specs.Walked.{AreWalked};
+ghost use Rattle.eve_chains.specs.Walked.{AreOfRanges};
 
 use crate::changed::Changed;
 use crate::numbered::Numbered;
 use crate::opening::opening_balances;
-use crate::walked::{Walked, row_at, walk_section};
+use crate::walked::{number_section, row_at};
 use eve_accounts::{Balances, SetRow};
 use eve_frames::TransferView;
 use eve_history::laws::numbers_are_reached;
@@ -33,13 +33,16 @@ const ROWS_A_CHANGE: usize = 2;
 
 /// The opening balances, and what each number that a replica reached changed, which give the balances after each.
 ///
-/// docs/MODEL.md, "Bank and replies after a committed batch". It takes eight bytes for each row, sixteen for each
-/// number, and sixteen for each row that a batch changed. A state that was taken over is read where it lies in the
-/// trace.
+/// docs/MODEL.md, "Bank and replies after a committed batch". It takes eight bytes for each row, eight for each number
+/// and eight more for each in each range of rows, and sixteen for each row that a batch changed. A state that was taken
+/// over is read where it lies in the trace.
 #[derive(Drop)]
 pub struct Settled<'a> {
     opening: Balances,
-    numbered: Numbered,
+    // the last number that was reached
+    count: u32,
+    // what the numbers up to it changed, range of rows after range
+    ranges: Vec<Numbered>,
     // how each number was reached, from 1 on
     landings: Vec<Landing>,
     // the states that were taken over
@@ -49,8 +52,8 @@ pub struct Settled<'a> {
 /// What a number changed.
 #[derive(Clone, Copy)]
 enum Change<'a> {
-    /// The rows that its batch wrote, rising.
-    Wrote(&'a [Changed]),
+    /// Some rows: those that its batch wrote, range after range.
+    Wrote(&'a [Numbered]),
     /// All rows: this state was taken over.
     TookOver(TransferView<'a>),
     /// No row: the number was skipped.
@@ -58,9 +61,9 @@ enum Change<'a> {
 }
 
 impl<'a> Model for Settled<'a> {
-    ghost use Rattle.std.specs.Prelude.{length};
-    ghost use Rattle.eve_chains.specs.Changes.{from_starts};
-    ghost use Rattle.eve_chains.specs.Numbered.{IsInOrder};
+    ghost use Rattle.std.specs.Prelude.{All, length};
+    ghost use Rattle.eve_chains.specs.Changes.{ranges_by_number};
+    ghost use Rattle.eve_chains.specs.Numbered.{ReachesNumber};
     ghost use Rattle.eve_chains.specs.Landed.{AreLandings, changes_in};
     ghost use Rattle.eve_chains.specs.Settling.{Settling};
 
@@ -68,12 +71,11 @@ impl<'a> Model for Settled<'a> {
 
     ghost view = { λ s. record {
       opening = s.opening;
-      numbers = changes_in s.transfers.items s.landings.items
-          (from_starts s.numbered.count s.numbered.starts.items s.numbered.changes.items);
+      numbers = changes_in s.transfers.items s.landings.items (ranges_by_number s.count s.ranges.items);
     } };
 
-    ghost invariant = { λ s. IsInOrder (length s.opening) s.numbered
-        × AreLandings (length s.opening) s.numbered.count s.transfers.items s.landings.items };
+    ghost invariant = { λ s. All (ReachesNumber (length s.opening) s.count) s.ranges.items
+        × AreLandings (length s.opening) s.count s.transfers.items s.landings.items };
 }
 
 impl<'a> Settled<'a> {
@@ -87,21 +89,21 @@ impl<'a> Settled<'a> {
         ensures { IfOk result (λ settled. settled ≡ settling trace.now history.now.replica) }
     {
         let opening = opening_balances(alloc, trace)?;
-        let walked = walk_section(alloc, history, trace, &opening)?;
-        Settled::of_walked(alloc, history, trace, opening, walked)
+        let ranges = number_section(alloc, history, trace, &opening)?;
+        Settled::of_ranges(alloc, history, trace, opening, ranges)
     }
 
-    /// The same, of its opening balances and of what the walks of all rows gave.
-    pub(crate) fn of_walked(
+    /// The same, of its opening balances and of what the rows changed.
+    pub(crate) fn of_ranges(
         alloc: Global,
         history: &History<'a>,
         trace: &Trace<'_>,
         opening: Balances,
-        walked: Vec<Walked>,
+        ranges: Vec<Numbered>,
     ) -> Result<Settled<'a>, AllocError>
         requires history { history.now ≡ section_history trace.now history.now.replica }
         requires opening { opening ≡ opening_rows trace.now.customers }
-        requires walked { AreWalked trace.now history.now.replica (row_count (head_of trace.now)) walked.items }
+        requires ranges { AreOfRanges trace.now history.now.replica (row_count (head_of trace.now)) ranges.items }
         ensures { IfOk result (λ settled. settled ≡ settling trace.now history.now.replica) }
     {
         trace.recall_limits();
@@ -109,10 +111,10 @@ impl<'a> Settled<'a> {
         numbers_are_reached();
         let landings = landings_of(alloc, history)?;
         let transfers = transfers_of(alloc, history)?;
-        let numbered = Numbered::of(alloc, opening.len(), history.committed(), &walked)?;
         Ok(Settled {
             opening,
-            numbered,
+            count: history.committed(),
+            ranges,
             landings,
             transfers,
         })
@@ -122,7 +124,7 @@ impl<'a> Settled<'a> {
     pub fn committed(&self) -> u32
         ensures { result ≡ length self.now.numbers }
     {
-        self.numbered.count
+        self.count
     }
 
     /// Whether there are balances after number n: 0 has some, and so has each number that the replica reached and
@@ -135,7 +137,7 @@ impl<'a> Settled<'a> {
         if n == 0 {
             return true;
         }
-        if self.numbered.count < n {
+        if self.count < n {
             return false;
         }
         match self.landings[n as usize - 1] {
@@ -149,11 +151,11 @@ impl<'a> Settled<'a> {
     fn change_at(&self, n: u32) -> Change<'_>
         requires one { 1 ≤ n }
         requires there { n ≤ length self.now.numbers }
-        ensures says { slice_get self.now.numbers (n - 1) ≡ Some (change_said result) }
-        ensures rows { IsOfRows (length self.now.opening) result }
+        ensures says { slice_get self.now.numbers (n - 1) ≡ Some (change_said n result) }
+        ensures rows { IsOfRows (length self.now.opening) n result }
     {
         match self.landings[n as usize - 1] {
-            Landing::Attempt(_) => Change::Wrote(written(&self.numbered, n)),
+            Landing::Attempt(_) => Change::Wrote(&self.ranges),
             Landing::Transfer(i) => Change::TookOver(self.transfers[i as usize]),
             Landing::Skipped => Change::Nothing,
         }
@@ -191,7 +193,7 @@ impl<'a> Settled<'a> {
     {
         let change = self.change_at(n);
         match change {
-            Change::Wrote(changes) => set_all(rows, changes),
+            Change::Wrote(ranges) => set_all(rows, ranges, n),
             Change::TookOver(state) => take_over(rows, &state),
             Change::Nothing => {}
         }
@@ -250,23 +252,23 @@ impl<'a> Settled<'a> {
     {
         let own = self.rows_changed(n)?;
         let its = other.rows_changed(n)?;
-        if balances.len() / ROWS_A_CHANGE < own.len() {
+        if balances.len() / ROWS_A_CHANGE < count_changed(own, n) {
             return None;
         }
-        let same = are_same_where_changed(own, balances, others)
-            && are_same_where_changed(its, balances, others);
+        let same = are_same_where_changed(own, n, balances, others)
+            && are_same_where_changed(its, n, balances, others);
         Some(same)
     }
 
-    /// The rows that number n changed, of the numbers from 1 on, where it wasn't all of them.
-    fn rows_changed(&self, n: u32) -> Option<&[Changed]>
+    /// Where the rows stand that number n changed, of the numbers from 1 on, where it wasn't all of them.
+    fn rows_changed(&self, n: u32) -> Option<&[Numbered]>
         requires one { 1 ≤ n }
         requires there { n ≤ length self.now.numbers }
-        ensures says { option_map (λ changes. map change_of changes.now) result ≡ rows_changed_at self.now n }
-        ensures rows { IfSome result (λ changes. All (IsRowBelow (length self.now.opening)) changes.now) }
+        ensures says { option_map (λ ranges. changes_in_ranges (n - 1) ranges.now) result ≡ rows_changed_at self.now n }
+        ensures rows { IfSome result (λ ranges. All (ReachesNumber (length self.now.opening) n) ranges.now) }
     {
         match self.change_at(n) {
-            Change::Wrote(changes) => Some(changes),
+            Change::Wrote(ranges) => Some(ranges),
             Change::TookOver(_) => None,
             Change::Nothing => Some(&[]),
         }
@@ -300,25 +302,33 @@ fn transfers_of<'a>(
     Ok(transfers)
 }
 
-/// What batch n changed, of the batches from 1 on, the rows rising.
-fn written(numbered: &Numbered, n: u32) -> &[Changed]
+/// How many rows batch n changed.
+fn count_changed(ranges: &[Numbered], n: u32) -> usize
     requires one { 1 ≤ n }
-    requires there { n ≤ numbered.now.count }
-    requires order { (rows : ℕ) × IsInOrder rows numbered.now }
-    ensures says { slice_get
-        (from_starts numbered.now.count numbered.now.starts.items numbered.now.changes.items) (n - 1)
-        ≡ Some (map change_of result.now) }
-    ensures rows { (rows : ℕ) → IsInOrder rows numbered.now → All (IsRowBelow rows) result.now }
+    requires reached { (rows : ℕ) × All (ReachesNumber rows n) ranges.now }
 {
-    let from = numbered.starts[n as usize - 1];
-    let to = numbered.starts[n as usize];
-    prove!(from <= to);
-    prove!(to <= numbered.changes.len());
-    &numbered.changes[from..to]
+    let mut count = 0usize;
+    for range in ranges {
+        count = count.saturating_add(range.changed_by(n).len());
+    }
+    count
+}
+
+/// Gives each row that batch n changed its value.
+fn set_all<T: SetRow>(rows: &mut T, ranges: &[Numbered], n: u32)
+    requires one { 1 ≤ n }
+    requires rows { All (ReachesNumber (length (T.rows rows.old)) n) ranges.now }
+    ensures as_many { length (T.rows rows.new) ≡ length (T.rows rows.old) }
+    ensures values { balance_of_row (T.rows rows.new)
+        ≡ values_changed (balance_of_row (T.rows rows.old)) (changes_in_ranges (n - 1) ranges.now) }
+{
+    for range in ranges {
+        set_each(rows, range.changed_by(n));
+    }
 }
 
 /// Gives each changed row its value.
-fn set_all<T: SetRow>(rows: &mut T, changes: &[Changed])
+fn set_each<T: SetRow>(rows: &mut T, changes: &[Changed])
     requires rows { All (IsRowBelow (length (T.rows rows.old))) changes.now }
     ensures as_many { length (T.rows rows.new) ≡ length (T.rows rows.old) }
     ensures values { balance_of_row (T.rows rows.new)
@@ -340,8 +350,28 @@ fn take_over<T: SetRow>(rows: &mut T, state: &TransferView<'_>)
     }
 }
 
+/// Whether both have the same balance in each row that batch n changed.
+fn are_same_where_changed(
+    ranges: &[Numbered],
+    n: u32,
+    balances: &Balances,
+    others: &Balances,
+) -> bool
+    requires one { 1 ≤ n }
+    requires rows { All (ReachesNumber (length balances.now) n) ranges.now }
+    requires as_many { length others.now ≡ length balances.now }
+    ensures { result ≡ list_all (is_same_where_changed balances.now others.now) (changes_in_ranges (n - 1) ranges.now) }
+{
+    for range in ranges {
+        if !is_same_in_each(range.changed_by(n), balances, others) {
+            return false;
+        }
+    }
+    true
+}
+
 /// Whether both have the same balance in each changed row.
-fn are_same_where_changed(changes: &[Changed], balances: &Balances, others: &Balances) -> bool
+fn is_same_in_each(changes: &[Changed], balances: &Balances, others: &Balances) -> bool
     requires rows { All (IsRowBelow (length balances.now)) changes.now }
     requires as_many { length others.now ≡ length balances.now }
     ensures { result ≡ list_all (is_same_where_changed balances.now others.now) (map change_of changes.now) }

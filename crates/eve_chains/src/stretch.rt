@@ -6,9 +6,6 @@ ghost use Rattle.eve_chains.specs.Stretches.{AreBetween};
 use eve_views::part_size;
 use std::alloc::{AllocError, Global};
 
-/// The fewest items of a stretch but the last: an attempt has up to 256 records, and a row mostly many entries.
-const LEAST_ITEMS: usize = 16;
-
 /// Attempts of a replica, or rows, that stand after one another.
 #[derive(Clone, Copy)]
 pub struct Stretch {
@@ -20,27 +17,11 @@ pub struct Stretch {
 
 impl Stretch {
     /// Cuts it into parts of about the same length, no more than the given number, and none but the last shorter than
-    /// is worth a thread.
-    pub fn cut(&self, alloc: Global, parts: u8) -> Result<Vec<Stretch>, AllocError>
+    /// the least length.
+    pub fn cut(&self, alloc: Global, parts: u8, least: usize) -> Result<Vec<Stretch>, AllocError>
         requires rising { self.now.from ≤ self.now.to }
         requires parts { 1 ≤ parts }
         ensures all { IfOk result (λ stretches. AreBetween self.now.from self.now.to stretches.items) }
-        ensures few { IfOk result (λ stretches. length stretches.items ≤ parts) }
-    {
-        self.cut_long(alloc, parts, LEAST_ITEMS)
-    }
-
-    /// The same, with none but the last shorter than the least length.
-    pub fn cut_long(
-        &self,
-        alloc: Global,
-        parts: u8,
-        least: usize,
-    ) -> Result<Vec<Stretch>, AllocError>
-        requires rising { self.now.from ≤ self.now.to }
-        requires parts { 1 ≤ parts }
-        ensures all { IfOk result (λ stretches. AreBetween self.now.from self.now.to stretches.items) }
-        ensures few { IfOk result (λ stretches. length stretches.items ≤ parts) }
     {
         let start = self.from;
         let to = self.to;

@@ -1,32 +1,28 @@
 //! Rows walked, each by itself, in ranges: the first fault of chains, and what the batches change.
 
-ghost use Rattle.std.specs.Prelude.{◌≡◌, ◌≤◌, ◌<◌, ◌+◌, ◌-◌, [], ℕ, List, All, IfOk, OnOk, None, Option, length, fold};
-ghost use Rattle.std.specs.List.{AllZip};
+ghost use Rattle.std.specs.Prelude.{◌≡◌, ◌≤◌, ◌<◌, ◌+◌, ◌-◌, [], ℕ, List, IfOk, OnOk, length};
 ghost use Rattle.eve_accounts.specs.declared.limits.TheConstants.{MOST_NAMED_ROWS};
 ghost use Rattle.eve_grammar.specs.Trace.{Trace as TraceValue, opening_rows, head_of};
 ghost use Rattle.eve_grammar.specs.Limits.{row_count};
-ghost use Rattle.eve_views.specs.First.{first_of};
-ghost use Rattle.eve_views.specs.declared.fault.Fault.{Fault as FaultValue};
 ghost use Rattle.eve_history.specs.SectionHistory.{section_history};
 ghost use Rattle.eve_chains.specs.Bases.{AreBasesOf};
 ghost use Rattle.eve_chains.specs.Notes.{notes_between};
 ghost use Rattle.eve_chains.specs.Rows.{Noted};
 ghost use Rattle.eve_chains.specs.Stretches.{IsWithin};
-ghost use Rattle.eve_chains.specs.Walked.{EachHasWalked, IsWalked, AreWalked};
-ghost use Rattle.eve_chains.specs.declared.walked.Walked.{Walked as WalkedValue};
+ghost use Rattle.eve_chains.specs.Walked.{EachHasWalked, IsWalked, IsOfRange, AreOfRanges};
 
 use crate::bases::Bases;
 use crate::changed::Changed;
 use crate::entries::walk_attempt;
+use crate::numbered::Numbered;
 use crate::row_walk::RowWalk;
 use crate::stretch::Stretch;
 use crate::walked_row::WalkedRow;
 use eve_accounts::{Balances, Row};
 use eve_history::History;
+use eve_history::laws::numbers_are_reached;
 use eve_views::{Fault, Trace, first_of};
-use rayon::prelude::*;
 use std::alloc::{AllocError, Global};
-use std::thread::Threads;
 
 /// In how many parts a range of rows is walked at most, since each part reads all records.
 const MOST_PARTS: u8 = 4;
@@ -100,6 +96,9 @@ fn walk_rows(
     ensures walked { OnOk result (EachHasWalked trace.now history.now.replica from
         (notes_between history.now 0 (length history.now.attempts)) rows.new.items) }
 {
+    if rows.is_empty() {
+        return Ok(());
+    }
     trace.recall_limits();
     let bases = Bases { opening, history };
     for i in 0..history.attempts() {
@@ -185,7 +184,7 @@ fn walk_part(
 
 /// A range of rows walked along all settled attempts. Of many rows some are walked at a time, so that their walks stay
 /// in a processor's own memory, and what each changed takes little.
-fn walk_range(
+pub(crate) fn walk_range(
     alloc: Global,
     history: &History<'_>,
     trace: &Trace<'_>,
@@ -198,7 +197,7 @@ fn walk_range(
     ensures { IfOk result (IsWalked trace.now history.now.replica range) }
 {
     let start = range.from;
-    let parts = range.cut_long(alloc, MOST_PARTS, LEAST_ROWS)?;
+    let parts = range.cut(alloc, MOST_PARTS, LEAST_ROWS)?;
     let mut walked = Walked {
         first: None,
         changes: Vec::new(alloc),
@@ -209,64 +208,49 @@ fn walk_range(
     Ok(walked)
 }
 
-/// Each of the ranges walked, in rayon's pieces: as many threads as there are ranges, with the caller's, and of one
-/// range none is started.
-pub(crate) fn walk_all<R: Threads + Sync>(
-    rt: &R,
+/// What the batches changed of a range of rows that is walked, in order by batch.
+pub(crate) fn number_range(
     alloc: Global,
     history: &History<'_>,
     trace: &Trace<'_>,
     opening: &Balances,
-    ranges: &[Stretch],
-) -> Result<Vec<Walked>, AllocError>
+    range: Stretch,
+    walked: &Walked,
+) -> Result<Numbered, AllocError>
     requires history { history.now ≡ section_history trace.now history.now.replica }
     requires opening { opening.now ≡ opening_rows trace.now.customers }
-    requires within { All (IsWithin (row_count (head_of trace.now))) ranges.now }
-    ensures { IfOk result (λ walked. AllZip (IsWalked trace.now history.now.replica) ranges.now walked.items) }
+    requires within { IsWithin (row_count (head_of trace.now)) range }
+    requires walked { IsWalked trace.now history.now.replica range walked.now }
+    ensures { IfOk result (IsOfRange trace.now history.now.replica range) }
 {
-    ranges
-        .par_iter()
-        .with_min_len(1)
-        .map(
-            |range: &Stretch| -> Result<Walked, AllocError>
-                requires { (history.now ≡ section_history trace.now history.now.replica)
-                    × (opening.now ≡ opening_rows trace.now.customers)
-                    × IsWithin (row_count (head_of trace.now)) range.now }
-                ensures { IfOk result (IsWalked trace.entry.now history.entry.now.replica range.now) }
-            { walk_range(alloc, history, trace, opening, *range) },
-        )
-        .collect::<Result<Vec<Walked>, AllocError>>(rt, alloc)?
+    trace.recall_limits();
+    history.recall_right();
+    numbers_are_reached();
+    let _range = range;
+    let count = history.committed();
+    let numbered = Numbered::of(alloc, opening.len(), count, walked.changes.as_slice())?;
+    Ok(numbered)
 }
 
-/// All rows walked on the caller's thread alone, along a section whose records nobody judges.
-pub(crate) fn walk_section(
+/// What the batches changed of all rows, which are walked on the caller's thread alone, along a section whose records
+/// nobody judges.
+pub(crate) fn number_section(
     alloc: Global,
     history: &History<'_>,
     trace: &Trace<'_>,
     opening: &Balances,
-) -> Result<Vec<Walked>, AllocError>
+) -> Result<Vec<Numbered>, AllocError>
     requires history { history.now ≡ section_history trace.now history.now.replica }
     requires opening { opening.now ≡ opening_rows trace.now.customers }
-    ensures { IfOk result (λ walked. AreWalked trace.now history.now.replica (row_count (head_of trace.now))
-        walked.items) }
+    ensures { IfOk result (λ ranges. AreOfRanges trace.now history.now.replica (row_count (head_of trace.now))
+        ranges.items) }
 {
     let all = Stretch {
         from: 0,
         to: opening.len(),
     };
-    let mut walked = Vec::with_capacity(alloc, 1)?;
-    walked.push_reserved(walk_range(alloc, history, trace, opening, all)?);
-    Ok(walked)
-}
-
-/// The first fault of all ranges.
-pub(crate) fn first_of_all(walked: &[Walked]) -> Option<Fault>
-    ensures { result ≡ fold (λ (first : Option FaultValue) (one : WalkedValue). first_of first one.first) None
-        walked.now }
-{
-    let mut first = None;
-    for one in walked {
-        first = first_of(first, one.first);
-    }
-    first
+    let mut ranges = Vec::with_capacity(alloc, 1)?;
+    let walked = walk_range(alloc, history, trace, opening, all)?;
+    ranges.push_reserved(number_range(alloc, history, trace, opening, all, &walked)?);
+    Ok(ranges)
 }

@@ -1,21 +1,39 @@
-use Rattle.std.proofs.Common.{List, None, Option, fold, sym, subst, ap, ◌∙◌}
+use Rattle.std.proofs.Common.{ℕ, List, None, Option, fold, length, sym, subst, ap, ◌∙◌}
 use Rattle.eve_grammar.specs.Limits.{row_count}
 use Rattle.eve_grammar.specs.Trace.{head_of}
 use Rattle.eve_views.specs.First.{first_of}
 use Rattle.eve_views.specs.declared.fault.Fault.{Fault}
-use Rattle.eve_chains.specs.Walked.{IsFirstOnRows}
-use Rattle.eve_chains.specs.declared.walked.Walked.{Walked}
-use Rattle.eve_chains.proofs.WalkedRows.{first_of_ranges}
+use Rattle.eve_history.specs.SectionHistory.{names_of}
+use Rattle.eve_chains.specs.Unfit.{records_between, IsLeastUnfit, lesser}
+use Rattle.eve_chains.specs.Walked.{IsFirstOnRows, AreOfRanges}
+use Rattle.eve_chains.specs.declared.judging.Judged.{Judged}
+use Rattle.eve_chains.specs.declared.numbered.Numbered.{Numbered}
+use Rattle.eve_chains.proofs.Shares.{least_of_shares, first_of_shares, ranges_of_shares}
 use Rattle.eve_chains.proofs.checking.check.Goals as goal
+
+pub records-requires-clause-least : goal.records-requires-clause-least
+records-requires-clause-least g c =
+    let t = c.args.trace.now in
+    let h = c.args.history.now in
+    subst (IsLeastUnfit (names_of t) (records_between t h 0 (length h.attempts)))
+    (sym (c.least_unfit.ensures
+    ∙ ap (λ (js : List Judged). fold (λ (least : Option ℕ) (one : Judged). lesser least one.unfit) None js)
+    c.deref.ensures.value))
+    (least_of_shares t h c.in_ok-judged.judged.items c.in_ok-judged.ensures)
 
 pub chains-requires-clause-first : goal.chains-requires-clause-first
 chains-requires-clause-first g c =
     let t = c.args.trace.now in
-    let e = c.args.history.now.replica in
-    let rows = row_count (head_of t) in
-    let walked = c.in_ok-walked.ensures in
-    subst (IsFirstOnRows t e 0 rows)
+    let h = c.args.history.now in
+    subst (IsFirstOnRows t h.replica 0 (row_count (head_of t)))
     (sym (c.first_of_all.ensures
-    ∙ ap (λ (ks : List Walked). fold (λ (first : Option Fault) (one : Walked). first_of first one.first) None ks)
-    c.deref.ensures.value))
-    (first_of_ranges t e rows walked.ranges c.in_ok-walked.walked.items walked.each walked.cut)
+    ∙ ap (λ (js : List Judged). fold (λ (first : Option Fault) (one : Judged). first_of first one.first) None js)
+    c.deref-2.ensures.value))
+    (first_of_shares t h c.in_ok-judged.judged.items c.in_ok-judged.ensures)
+
+pub of_ranges-requires-clause-ranges : goal.of_ranges-requires-clause-ranges
+of_ranges-requires-clause-ranges g c =
+    let t = c.args.trace.now in
+    let h = c.args.history.now in
+    subst (λ (ns : List Numbered). AreOfRanges t h.replica (row_count (head_of t)) ns) (sym c.in_ok-ranges.ensures)
+    (ranges_of_shares t h c.in_ok-judged.judged.items c.in_ok-judged.ensures)

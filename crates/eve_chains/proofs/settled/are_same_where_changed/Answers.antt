@@ -1,30 +1,39 @@
-use Rattle.std.proofs.Common.{◌≡◌, true, false, sym, ◌∙◌, rules}
-use Rattle.std.specs.Ordering.{int_eq}
+use Rattle.std.proofs.Common.{◌-◌, length, map, sym, ◌∙◌}
 use Rattle.eve_chains.specs.Changes.{change_of}
-use Rattle.eve_chains.specs.Numbered.{is_same_where_changed}
-use Rattle.eve_chains.proofs.SettingRows.{same_more, not_same, lent_is}
+use Rattle.eve_chains.specs.Numbered.{ReachesNumber}
+use Rattle.eve_chains.proofs.ByNumber.{of_next}
+use Rattle.eve_chains.proofs.SettingRows.{range_same, range_other}
 use Rattle.eve_chains.proofs.settled.are_same_where_changed.Goals as goal
 
-pub returns-then-ne : goal.returns-then-ne
-returns-then-ne c =
-    let change = c.change-item.result in
-    let b = c.args.balances.now in
-    let d = c.args.others.now in
-    let own = lent_is b change.row c.get.result c.get.ensures in
-    let its = lent_is d change.row c.get-in-loop-change.result c.get-in-loop-change.ensures in
-    let is : int_eq c.get.result c.get-in-loop-change.result ≡ false = search rules in
-    let other : is_same_where_changed b d (change_of change) ≡ false = (λ k. int_eq (own k) (its k)) ∙ is in
-    sym (not_same c.args.changes.now c.loop-change.change-index change c.loop-change-test.true c.change-item.is b d
-    other)
+pub changed_by-requires-clause-there : goal.changed_by-requires-clause-there
+changed_by-requires-clause-there c =
+    (of_next (ReachesNumber (length c.args.balances.now) c.args.n) c.args.ranges.now c.loop-range.range-index
+    c.range-item.result
+    c.requires.rows c.loop-range-test.true c.range-item.is).there
 
-pub loop-change-preserved : goal.loop-change-preserved
-loop-change-preserved c =
-    let change = c.change-item.result in
-    let b = c.args.balances.now in
-    let d = c.args.others.now in
-    let own = lent_is b change.row c.get.result c.get.ensures in
-    let its = lent_is d change.row c.get-in-loop-change.result c.get-in-loop-change.ensures in
-    let is : int_eq c.get.result c.get-in-loop-change.result ≡ true = search rules in
-    let same : is_same_where_changed b d (change_of change) ≡ true = (λ k. int_eq (own k) (its k)) ∙ is in
-    same_more c.args.changes.now c.loop-change.change-index change c.loop-change-test.true c.change-item.is b d
-    c.loop-change.invariant same
+pub changed_by-requires-clause-order : goal.changed_by-requires-clause-order
+changed_by-requires-clause-order c = (
+  length c.args.balances.now,
+  (of_next (ReachesNumber (length c.args.balances.now) c.args.n) c.args.ranges.now c.loop-range.range-index
+      c.range-item.result
+      c.requires.rows c.loop-range-test.true c.range-item.is).order,
+)
+
+pub is_same_in_each-requires-clause-rows : goal.is_same_in_each-requires-clause-rows
+is_same_in_each-requires-clause-rows c =
+    c.changed_by.ensures.rows (length c.args.balances.now)
+    (of_next (ReachesNumber (length c.args.balances.now) c.args.n) c.args.ranges.now c.loop-range.range-index
+    c.range-item.result
+    c.requires.rows c.loop-range-test.true c.range-item.is).order
+
+pub returns-then-not-is_same_in_each : goal.returns-then-not-is_same_in_each
+returns-then-not-is_same_in_each c =
+    sym (range_other (c.args.n - 1) c.args.ranges.now c.loop-range.range-index c.range-item.result
+    c.loop-range-test.true c.range-item.is c.args.balances.now c.args.others.now (map change_of c.changed_by.result.now)
+    c.changed_by.ensures.says (sym c.is_same_in_each.ensures ∙ c.if-not-is_same_in_each.true))
+
+pub loop-range-preserved : goal.loop-range-preserved
+loop-range-preserved c =
+    range_same (c.args.n - 1) c.args.ranges.now c.loop-range.range-index c.range-item.result c.loop-range-test.true
+    c.range-item.is c.args.balances.now c.args.others.now (map change_of c.changed_by.result.now)
+    c.changed_by.ensures.says c.loop-range.invariant (sym c.is_same_in_each.ensures ∙ c.if-not-is_same_in_each.false)

@@ -1,9 +1,9 @@
-use Rattle.std.proofs.Common.{◌≡◌, true, map, take}
+use Rattle.std.proofs.Common.{◌≡◌, ◌-◌, true, take}
 use Rattle.std.specs.List.{list_all}
-use Rattle.eve_chains.specs.Changes.{change_of}
+use Rattle.eve_chains.specs.Changes.{changes_in_ranges}
 use Rattle.eve_chains.specs.Numbered.{is_same_where_changed}
 use Rattle.eve_chains.proofs.settled.are_same_where_changed.Given as goal
 
-abbrev pub invariant-loop-change : goal.invariant-loop-change
-invariant-loop-change l =
-    list_all (is_same_where_changed l.balances l.others) (map change_of (take l.change-index l.changes)) ≡ true
+abbrev pub invariant-loop-range : goal.invariant-loop-range
+invariant-loop-range l = list_all (is_same_where_changed l.balances l.others)
+    (changes_in_ranges (l.n - 1) (take l.range-index l.ranges)) ≡ true

@@ -1,25 +1,44 @@
-use Rattle.std.proofs.Common.{length, ap, subst, sym, ◌∙◌, arith}
-use Rattle.std.proofs.lemmas.List.{length-set}
+use Rattle.std.proofs.Common.{◌-◌, ℕ, length, map, subst, sym, ◌∙◌}
+use Rattle.std.specs.Prelude.{All}
 use Rattle.eve_smallbank.specs.Access.{balance_of_row}
-use Rattle.eve_chains.specs.Numbered.{IsRowBelow}
-use Rattle.eve_chains.proofs.SettingRows.{set_more}
+use Rattle.eve_chains.specs.Changes.{change_of}
+use Rattle.eve_chains.specs.Numbered.{IsRowBelow, ReachesNumber}
+use Rattle.eve_chains.proofs.ByNumber.{of_next}
+use Rattle.eve_chains.proofs.SettingRows.{range_set}
 use Rattle.eve_chains.proofs.settled.set_all.Goals as goal
 
-pub set-requires : goal.set-requires
-set-requires g c =
-    let below = subst (IsRowBelow (length (g.T.SetRow.rows c.args.rows.now))) (sym c.change-item.is)
-    (c.requires.rows c.loop-change.change-index c.change-item.result c.loop-change-test.true) in
-    omega (arith, below, c.loop-change.invariant.as_many)
+pub changed_by-requires-clause-there : goal.changed_by-requires-clause-there
+changed_by-requires-clause-there g c =
+    let rows = length (g.T.SetRow.rows c.args.rows.now) in
+    (of_next (ReachesNumber rows c.args.n) c.args.ranges.now c.loop-range.range-index c.range-item.result
+    c.requires.rows c.loop-range-test.true c.range-item.is).there
 
-pub loop-change-preserved : goal.loop-change-preserved
-loop-change-preserved g c =
-    let change = c.change-item.result in
-    let old = g.T.SetRow.rows c.loop-change.rows in
-    let below = subst (IsRowBelow (length (g.T.SetRow.rows c.args.rows.now))) (sym c.change-item.is)
-    (c.requires.rows c.loop-change.change-index change c.loop-change-test.true) in
+pub changed_by-requires-clause-order : goal.changed_by-requires-clause-order
+changed_by-requires-clause-order g c =
+    let rows = length (g.T.SetRow.rows c.args.rows.now) in (
+      rows,
+      (of_next (ReachesNumber rows c.args.n) c.args.ranges.now c.loop-range.range-index c.range-item.result
+          c.requires.rows
+          c.loop-range-test.true c.range-item.is).order,
+    )
+
+pub set_each-requires : goal.set_each-requires
+set_each-requires g c =
+    let rows = length (g.T.SetRow.rows c.args.rows.now) in
     record {
-      as_many = ap length c.set.ensures ∙ length-set old change.row change.value ∙ c.loop-change.invariant.as_many;
-      values = set_more c.args.changes.now c.loop-change.change-index change c.loop-change-test.true c.change-item.is
-          (balance_of_row (g.T.SetRow.rows c.args.rows.now)) old (g.T.SetRow.rows c.set.new.self)
-          c.loop-change.invariant.values (omega (arith, below, c.loop-change.invariant.as_many)) c.set.ensures;
+      rows = subst (λ (k : ℕ). All (IsRowBelow k) c.changed_by.result.now) (sym c.loop-range.invariant.as_many)
+          (c.changed_by.ensures.rows rows
+          (of_next (ReachesNumber rows c.args.n) c.args.ranges.now c.loop-range.range-index c.range-item.result
+          c.requires.rows
+          c.loop-range-test.true c.range-item.is).order);
     }
+
+pub loop-range-preserved : goal.loop-range-preserved
+loop-range-preserved g c = record {
+  as_many = c.set_each.ensures.as_many ∙ c.loop-range.invariant.as_many;
+  values = range_set (c.args.n - 1) c.args.ranges.now c.loop-range.range-index c.range-item.result
+      c.loop-range-test.true c.range-item.is (balance_of_row (g.T.SetRow.rows c.args.rows.now))
+      (balance_of_row (g.T.SetRow.rows c.loop-range.rows)) (balance_of_row (g.T.SetRow.rows c.set_each.new.rows))
+      (map change_of c.changed_by.result.now) c.loop-range.invariant.values c.changed_by.ensures.says
+      c.set_each.ensures.values;
+}

@@ -1,6 +1,6 @@
-use Rattle.std.proofs.Common.{map, refl, ap}
+use Rattle.std.proofs.Common.{◌-◌, refl, ap}
 use Rattle.eve_smallbank.specs.Access.{balance_of_row}
-use Rattle.eve_chains.specs.Changes.{change_of}
+use Rattle.eve_chains.specs.Changes.{changes_in_ranges}
 use Rattle.eve_chains.specs.Landed.{values_said}
 use Rattle.eve_chains.specs.Settling.{Wrote, TookOverValues, Nothing}
 use Rattle.eve_chains.proofs.AdvancingBanks.{values_then, banks_are}
@@ -8,7 +8,7 @@ use Rattle.eve_chains.proofs.settled.Settled.advance.Goals as goal
 
 pub returns-in-Wrote-clause-values : goal.returns-in-Wrote-clause-values
 returns-in-Wrote-clause-values g c =
-    values_then c.args.self.now c.args.n (Wrote (map change_of c.in-Wrote.changes.now))
+    values_then c.args.self.now c.args.n (Wrote (changes_in_ranges (c.args.n - 1) c.in-Wrote.ranges.now))
     (balance_of_row (g.T.SetRow.rows c.args.rows.now)) (balance_of_row (g.T.SetRow.rows c.set_all.new.rows))
     c.requires.one c.in-Wrote.ensures.says c.requires.before c.set_all.ensures.values
 

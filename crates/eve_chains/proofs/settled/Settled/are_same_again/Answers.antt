@@ -1,6 +1,6 @@
-use Rattle.std.proofs.Common.{map, sym, ◌∙◌}
+use Rattle.std.proofs.Common.{◌-◌, sym, ◌∙◌}
 use Rattle.std.proofs.lemmas.Bool.{false≢true}
-use Rattle.eve_chains.specs.Changes.{change_of}
+use Rattle.eve_chains.specs.Changes.{changes_in_ranges}
 use Rattle.eve_chains.proofs.SameAgain.{IsCompared, same_again, changed_alike}
 use Rattle.eve_chains.proofs.settled.Settled.are_same_again.Goals as goal
 
@@ -10,12 +10,12 @@ returns-then-are_same_where_changed c =
     let b = c.args.balances.now in
     let o = c.args.others.now in
     let own : IsCompared c.args.self.now n b o c.are_same_where_changed.result = record {
-      cs = map change_of c.in_ok-own.own.now;
+      cs = changes_in_ranges (n - 1) c.in_ok-own.own.now;
       at = sym c.in_ok-own.ensures.says;
       is = c.are_same_where_changed.ensures;
     } in
     let its : IsCompared c.args.other.now n b o c.are_same_where_changed-same.result = record {
-      cs = map change_of c.in_ok-its.its.now;
+      cs = changes_in_ranges (n - 1) c.in_ok-its.its.now;
       at = sym c.in_ok-its.ensures.says;
       is = c.are_same_where_changed-same.ensures;
     } in (
@@ -32,7 +32,7 @@ returns-else-are_same_where_changed c =
     let b = c.args.balances.now in
     let o = c.args.others.now in
     let own : IsCompared c.args.self.now n b o c.are_same_where_changed.result = record {
-      cs = map change_of c.in_ok-own.own.now;
+      cs = changes_in_ranges (n - 1) c.in_ok-own.own.now;
       at = sym c.in_ok-own.ensures.says;
       is = c.are_same_where_changed.ensures;
     } in (

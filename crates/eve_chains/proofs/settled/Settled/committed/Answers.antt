@@ -6,5 +6,5 @@ use Rattle.eve_chains.proofs.settled.Settled.committed.Goals as goal
 pub returns : goal.returns
 returns c =
     let x = c.self.inside in
-    sym (kept_counted (length x.opening) x.numbered.count x.transfers.items x.landings.items x.numbered.starts.items
-    x.numbered.changes.items c.self.invariant.1) ∙ ap (λ (s : Settling). length s.numbers) c.self.view_is
+    sym (kept_counted (length x.opening) x.count x.transfers.items x.landings.items x.ranges.items c.self.invariant.1)
+    ∙ ap (λ (s : Settling). length s.numbers) c.self.view_is

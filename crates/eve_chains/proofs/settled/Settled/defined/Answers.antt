@@ -1,6 +1,6 @@
 use Rattle.std.proofs.Common.{◌<◌, ◌≤◌, ◌-◌, None, slice_get, length, sym, ap, ◌∙◌, arith}
 use Rattle.eve_history.specs.declared.landing.Landing.TheVariants as landing
-use Rattle.eve_chains.specs.Changes.{from_starts}
+use Rattle.eve_chains.specs.Changes.{ranges_by_number}
 use Rattle.eve_chains.specs.Settling.{Settling}
 use Rattle.eve_chains.proofs.LandedChanges.{none_past, change_kept, state_among, taken_is_change, defined_at}
 use Rattle.eve_chains.proofs.settled.Settled.defined.Goals as goal
@@ -13,18 +13,18 @@ returns-then-self-n c =
     sym (defined_at c.args.self.now n None (omega (arith, c.if-self-n.true))
     (ap (λ (s : Settling). slice_get s.numbers (n - 1)) (sym c.self.view_is)
     ∙ none_past x.transfers.items x.landings.items
-    (from_starts x.numbered.count x.numbered.starts.items x.numbered.changes.items) (n - 1) past))
+    (ranges_by_number x.count x.ranges.items) (n - 1) past))
 
 pub returns-in-Attempt : goal.returns-in-Attempt
 returns-in-Attempt c =
     let x = c.self.inside in
     let n = c.args.n in
     let one : 1 ≤ n = omega (arith, c.if-n-eq0.false) in
-    let lt : n - 1 < x.numbered.count = omega (arith, one, c.if-self-n.false) in
+    let lt : n - 1 < x.count = omega (arith, one, c.if-self-n.false) in
     sym (defined_at c.args.self.now n _ one
     (ap (λ (s : Settling). slice_get s.numbers (n - 1)) (sym c.self.view_is)
-    ∙ change_kept (length x.opening) x.numbered.count x.transfers.items x.landings.items x.numbered.starts.items
-    x.numbered.changes.items (n - 1) c.index.result.now (landing.Attempt c.in-Attempt.field-0) c.self.invariant.1 lt
+    ∙ change_kept (length x.opening) x.count x.transfers.items x.landings.items x.ranges.items (n - 1)
+    c.index.result.now (landing.Attempt c.in-Attempt.field-0) c.self.invariant.1 lt
     c.index.ensures c.in-Attempt.is))
 
 pub returns-in-Transfer : goal.returns-in-Transfer
@@ -33,14 +33,14 @@ returns-in-Transfer c =
     let n = c.args.n in
     let i = c.in-Transfer.field-0 in
     let one : 1 ≤ n = omega (arith, c.if-n-eq0.false) in
-    let lt : n - 1 < x.numbered.count = omega (arith, one, c.if-self-n.false) in
+    let lt : n - 1 < x.count = omega (arith, one, c.if-self-n.false) in
     sym (defined_at c.args.self.now n _ one
     (ap (λ (s : Settling). slice_get s.numbers (n - 1)) (sym c.self.view_is)
-    ∙ change_kept (length x.opening) x.numbered.count x.transfers.items x.landings.items x.numbered.starts.items
-    x.numbered.changes.items (n - 1) c.index.result.now (landing.Transfer i) c.self.invariant.1 lt
+    ∙ change_kept (length x.opening) x.count x.transfers.items x.landings.items x.ranges.items (n - 1)
+    c.index.result.now (landing.Transfer i) c.self.invariant.1 lt
     c.index.ensures c.in-Transfer.is)
     ∙ taken_is_change x.transfers.items i
-    (state_among (length x.opening) x.numbered.count x.transfers.items x.landings.items (n - 1) i c.index.result.now
+    (state_among (length x.opening) x.count x.transfers.items x.landings.items (n - 1) i c.index.result.now
     c.self.invariant.1 lt c.index.ensures c.in-Transfer.is))
 
 pub returns-in-Skipped : goal.returns-in-Skipped
@@ -48,9 +48,9 @@ returns-in-Skipped c =
     let x = c.self.inside in
     let n = c.args.n in
     let one : 1 ≤ n = omega (arith, c.if-n-eq0.false) in
-    let lt : n - 1 < x.numbered.count = omega (arith, one, c.if-self-n.false) in
+    let lt : n - 1 < x.count = omega (arith, one, c.if-self-n.false) in
     sym (defined_at c.args.self.now n _ one
     (ap (λ (s : Settling). slice_get s.numbers (n - 1)) (sym c.self.view_is)
-    ∙ change_kept (length x.opening) x.numbered.count x.transfers.items x.landings.items x.numbered.starts.items
-    x.numbered.changes.items (n - 1) c.index.result.now landing.Skipped c.self.invariant.1 lt
+    ∙ change_kept (length x.opening) x.count x.transfers.items x.landings.items x.ranges.items (n - 1)
+    c.index.result.now landing.Skipped c.self.invariant.1 lt
     c.index.ensures c.in-Skipped.is))
