@@ -25,7 +25,7 @@ use Rattle.eve_chains.specs.declared.walked.Walked.{Walked}
 use Rattle.eve_chains.specs.Changes.{last_written, changes_below, with_change, change_by, changes_along}
 use Rattle.eve_chains.specs.Changes.{changes_of_rows, of_number, by_number, changes_at, changes_in_ranges}
 use Rattle.eve_chains.specs.Changes.{ranges_by_number}
-use Rattle.eve_chains.specs.Numbered.{HasNumber, IsRowBelow, ReachesNumber}
+use Rattle.eve_chains.specs.Numbered.{HasNumber, IsRowBelow, HasNumbersTo}
 use Rattle.eve_chains.specs.Walked.{IsWalked, IsOfRange, AreOfRanges, reached}
 use Rattle.eve_chains.proofs.ByNumber.{of_number-append}
 use Rattle.eve_chains.proofs.Linked.{AreLinked, linked_history, last_committed}
@@ -318,12 +318,12 @@ module _ (t : Trace) (e : ℕ) (right : IsRightSection t e) where
 
 -- each range has all numbers that were reached
 pub ranges_reach : (t : Trace) (e : ℕ) (ns : List Numbered) → AreOfRanges t e (row_count (head_of t)) ns
-    → All (ReachesNumber (2 * length t.customers) (reached t e)) ns
-ranges_reach t e ns are = All-from_recursion (ReachesNumber (2 * length t.customers) (reached t e)) ns
+    → All (HasNumbersTo (2 * length t.customers) (reached t e)) ns
+ranges_reach t e ns are = All-from_recursion (HasNumbersTo (2 * length t.customers) (reached t e)) ns
     (each are.ranges ns are.each)
   where
     each : (xs : List Stretch) (ms : List Numbered) → AllZip (IsOfRange t e) xs ms
-        → AllByRecursion (ReachesNumber (2 * length t.customers) (reached t e)) ms
+        → AllByRecursion (HasNumbersTo (2 * length t.customers) (reached t e)) ms
     each [] [] all = tt
     each [] (m ∷ ms) all = absurd all
     each (x ∷ xs) [] all = absurd all

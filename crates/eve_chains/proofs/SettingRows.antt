@@ -15,7 +15,7 @@ use Rattle.eve_smallbank.specs.Access.{balance_of_row}
 use Rattle.eve_chains.specs.declared.changed.Changed.{Changed}
 use Rattle.eve_chains.specs.declared.numbered.Numbered.{Numbered}
 use Rattle.eve_chains.specs.Changes.{change_of, changes_at, changes_in_ranges, values_changed}
-use Rattle.eve_chains.specs.Numbered.{ReachesNumber, is_same_where_changed}
+use Rattle.eve_chains.specs.Numbered.{HasNumbersTo, is_same_where_changed}
 
 and-false : (t : Bool) → t && false ≡ false
 and-false true = refl
@@ -80,8 +80,8 @@ module _ (cs : List Changed) (i : ℕ) (c : Changed) (lt : i < length cs) (is : 
 -- ---- range after range
 
 -- ranges that reach a number reach those before it
-pub reach_fewer : (rows count n : ℕ) (xs : List Numbered) → All (ReachesNumber rows count) xs → n ≤ count
-    → All (ReachesNumber rows n) xs
+pub reach_fewer : (rows count n : ℕ) (xs : List Numbered) → All (HasNumbersTo rows count) xs → n ≤ count
+    → All (HasNumbersTo rows n) xs
 reach_fewer rows count n xs all le i d lt =
     let own = all i d lt in record { order = own.order; there = omega (arith, own.there, le) }
 

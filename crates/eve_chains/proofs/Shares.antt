@@ -13,7 +13,7 @@ use Rattle.eve_views.specs.declared.fault.Fault.{Fault}
 use Rattle.eve_history.specs.SectionHistory.{SectionHistory, names_of}
 use Rattle.eve_chains.specs.Unfit.{records_between, IsLeastUnfit, lesser}
 use Rattle.eve_chains.specs.Looked.{IsLooked}
-use Rattle.eve_chains.specs.Judged.{IsShare, IsJudged, AreJudged}
+use Rattle.eve_chains.specs.Judged.{IsShare, IsFoundIn, AreFoundIn}
 use Rattle.eve_chains.specs.Stretches.{IsWithin, AreBetween, AreStretches}
 use Rattle.eve_chains.specs.Walked.{IsFirstOnRows, IsOfRange, AreOfRanges}
 use Rattle.eve_chains.specs.declared.judging.Judged.{Judged}
@@ -39,14 +39,14 @@ fold_parts step g a (y ∷ ys) = fold_parts step g (step a (g y)) ys
 
 -- ---- of all shares
 
-module _ (t : Trace) (h : SectionHistory) (js : List Judged) (are : AreJudged t h js) where
+module _ (t : Trace) (h : SectionHistory) (js : List Judged) (are : AreFoundIn t h js) where
   pub least_of_shares : IsLeastUnfit (names_of t) (records_between t h 0 (length h.attempts))
       (fold (λ (least : Option ℕ) (j : Judged). lesser least j.unfit) None js)
   least_of_shares =
       subst (IsLeastUnfit (names_of t) (records_between t h 0 (length h.attempts)))
       (fold_parts lesser (λ (j : Judged). j.unfit) None js)
       (least_in_all t h (names_of t) 0 (length h.attempts) (map (λ s. s.attempts) are.shares) (map (λ j. j.unfit) js)
-      (zip_parts (IsJudged (names_of t) t h) (IsLooked (names_of t) t h) (λ s. s.attempts) (λ j. j.unfit)
+      (zip_parts (IsFoundIn (names_of t) t h) (IsLooked (names_of t) t h) (λ s. s.attempts) (λ j. j.unfit)
       (λ s j is. is.unfit) are.shares js are.each)
       (record { reaches = are.attempts.reaches; within = are.attempts.within }))
 
@@ -56,7 +56,7 @@ module _ (t : Trace) (h : SectionHistory) (js : List Judged) (are : AreJudged t 
       subst (IsFirstOnRows t h.replica 0 (row_count (head_of t)))
       (fold_parts first_of (λ (j : Judged). j.first) None js)
       (first_of_ranges t h.replica (row_count (head_of t)) (map (λ s. s.rows) are.shares) (map (λ j. j.first) js)
-      (zip_parts (IsJudged (names_of t) t h) (IsFirstOfRange t h.replica) (λ s. s.rows) (λ j. j.first)
+      (zip_parts (IsFoundIn (names_of t) t h) (IsFirstOfRange t h.replica) (λ s. s.rows) (λ j. j.first)
       (λ s j is. is.first) are.shares js are.each)
       are.rows)
 
@@ -64,7 +64,7 @@ module _ (t : Trace) (h : SectionHistory) (js : List Judged) (are : AreJudged t 
   ranges_of_shares = record {
     ranges = map (λ s. s.rows) are.shares;
     cut = are.rows;
-    each = zip_parts (IsJudged (names_of t) t h) (IsOfRange t h.replica) (λ s. s.rows) (λ j. j.changed)
+    each = zip_parts (IsFoundIn (names_of t) t h) (IsOfRange t h.replica) (λ s. s.rows) (λ j. j.changed)
         (λ s j is. is.changed) are.shares js are.each;
   }
 

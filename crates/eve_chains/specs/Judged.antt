@@ -16,14 +16,14 @@ pub record IsShare (t : Trace) (h : SectionHistory) (s : Share) : Type 0 where
   pub rows : IsWithin (row_count (head_of t)) s.rows
 
 -- it is judged: its records are looked at, and its rows are walked along all attempts
-pub record IsJudged (names : List (List ℕ)) (t : Trace) (h : SectionHistory) (s : Share) (j : Judged) : Type 0 where
+pub record IsFoundIn (names : List (List ℕ)) (t : Trace) (h : SectionHistory) (s : Share) (j : Judged) : Type 0 where
   pub unfit : IsLooked names t h s.attempts j.unfit
   pub first : IsFirstOnRows t h.replica s.rows.from s.rows.to j.first
   pub changed : IsOfRange t h.replica s.rows j.changed
 
 -- all attempts' records are looked at, and all rows are walked, share after share
-pub record AreJudged (t : Trace) (h : SectionHistory) (js : List Judged) : Type 0 where
+pub record AreFoundIn (t : Trace) (h : SectionHistory) (js : List Judged) : Type 0 where
   pub shares : List Share
   pub attempts : AreStretches (length h.attempts) (map (λ s. s.attempts) shares)
   pub rows : AreStretches (row_count (head_of t)) (map (λ s. s.rows) shares)
-  pub each : AllZip (IsJudged (names_of t) t h) shares js
+  pub each : AllZip (IsFoundIn (names_of t) t h) shares js

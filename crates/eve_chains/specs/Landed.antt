@@ -8,7 +8,7 @@ use Rattle.eve_frames.specs.declared.transfer.TransferView.{TransferView}
 use Rattle.eve_history.specs.declared.landing.Landing as told
 use Rattle.eve_history.specs.declared.landing.Landing.TheVariants as landing
 use Rattle.eve_chains.specs.Changes.{changes_in_ranges}
-use Rattle.eve_chains.specs.Numbered.{ReachesNumber}
+use Rattle.eve_chains.specs.Numbered.{HasNumbersTo}
 use Rattle.eve_chains.specs.Settling.{Change, Wrote, TookOverValues, Nothing, Settling}
 use Rattle.eve_chains.specs.declared.settled.Change as met
 use Rattle.eve_chains.specs.declared.settled.Change.TheVariants as change
@@ -68,7 +68,7 @@ change_said n change.Nothing = Nothing
 
 -- it is of the rows below this number: of some, of all, or of none
 abbrev pub IsOfRows : ℕ → ℕ → met.Change → Type 0
-IsOfRows rows n (change.Wrote ranges) = All (ReachesNumber rows n) ranges.now
+IsOfRows rows n (change.Wrote ranges) = All (HasNumbersTo rows n) ranges.now
 IsOfRows rows n (change.TookOver v) = HasRows rows v × (rows ≤ MOST_NAMED_ROWS)
 IsOfRows rows n change.Nothing = ⊤
 

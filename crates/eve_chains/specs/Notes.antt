@@ -21,8 +21,8 @@ noted_at row n = record {
 }
 
 -- what is noted of an entry of a record at this offset
-abbrev pub noted_of : Noting → ℕ → Entry → Noted
-noted_of x at e = record {
+abbrev pub noted_of_entry : Noting → ℕ → Entry → Noted
+noted_of_entry x at e = record {
   offset = at;
   taken = x.taken;
   view = x.view;

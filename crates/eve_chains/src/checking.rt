@@ -8,7 +8,7 @@ ghost use Rattle.eve_history.specs.SectionHistory.{section_history, names_of, Is
 ghost use Rattle.eve_chains.specs.Sound.{RecordsFit, SettledAreSound};
 ghost use Rattle.eve_chains.specs.Faults.{HasNoFault, IsLeastFault, StandsInChains};
 ghost use Rattle.eve_chains.specs.Settling.{settling};
-ghost use Rattle.eve_chains.specs.Judged.{AreJudged};
+ghost use Rattle.eve_chains.specs.Judged.{AreFoundIn};
 ghost use Rattle.eve_chains.specs.Walked.{IsFirstOnRows};
 
 use crate::judging::{Judged, changed_ranges, first_of_all, judge_all, least_unfit};
@@ -39,7 +39,7 @@ fn judge<R: Threads + Sync>(
     requires names { names.now.items ≡ names_of trace.now }
     requires opening { opening.now ≡ opening_rows trace.now.customers }
     requires jobs { 1 ≤ jobs }
-    ensures { IfOk result (λ judged. AreJudged trace.now history.now judged.items) }
+    ensures { IfOk result (λ judged. AreFoundIn trace.now history.now judged.items) }
 {
     let shares = deal(alloc, history.attempts(), opening.len(), jobs)?;
     judge_all(rt, alloc, history, trace, names, opening, &shares)

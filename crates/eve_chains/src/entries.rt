@@ -10,7 +10,7 @@ ghost use Rattle.eve_history.specs.SectionHistory.{ExecutedAttempt, section_hist
 ghost use Rattle.eve_chains.specs.Along.{AreWithin};
 ghost use Rattle.eve_chains.specs.Bases.{AreBasesOf};
 ghost use Rattle.eve_chains.specs.Rows.{Noted, noted_by};
-ghost use Rattle.eve_chains.specs.Notes.{noted_of, noted_if_settled};
+ghost use Rattle.eve_chains.specs.Notes.{noted_of_entry, noted_if_settled};
 ghost use Rattle.eve_chains.specs.Walked.{EachHasWalked, IsPlaceAmong};
 
 use crate::bases::Bases;
@@ -126,7 +126,7 @@ fn walk_entry(
     ensures as_many { OnOk result (length rows.new.items ≡ length rows.old.items) }
     ensures walked { OnOk result ((t : TraceValue) (ns : List Noted) → AreBasesOf t noting.replica bases.now
         → EachHasWalked t noting.replica noting.from ns rows.old.items
-        → EachHasWalked t noting.replica noting.from (ns ++ noted_of noting at entry.now ∷ []) rows.new.items) }
+        → EachHasWalked t noting.replica noting.from (ns ++ noted_of_entry noting at entry.now ∷ []) rows.new.items) }
 {
     let Some(place) = place_of(entry.row, noting.from, rows.len()) else {
         return Ok(());

@@ -7,7 +7,7 @@ ghost use Rattle.eve_views.specs.First.{first_of};
 ghost use Rattle.eve_views.specs.declared.fault.Fault.{Fault as FaultValue};
 ghost use Rattle.eve_history.specs.SectionHistory.{section_history, IsRightSection};
 ghost use Rattle.eve_chains.specs.Unfit.{lesser};
-ghost use Rattle.eve_chains.specs.Judged.{IsShare, IsJudged};
+ghost use Rattle.eve_chains.specs.Judged.{IsShare, IsFoundIn};
 ghost use Rattle.eve_chains.specs.declared.judging.Judged.{Judged as JudgedValue};
 ghost use Rattle.eve_chains.specs.declared.numbered.Numbered.{Numbered as NumberedValue};
 
@@ -47,7 +47,7 @@ fn judge(
     requires right { IsRightSection trace.now history.now.replica }
     requires opening { opening.now ≡ opening_rows trace.now.customers }
     requires share { IsShare trace.now history.now share }
-    ensures { IfOk result (IsJudged names.now.items trace.now history.now share) }
+    ensures { IfOk result (IsFoundIn names.now.items trace.now history.now share) }
 {
     let unfit = look(alloc, history, trace, names, share.attempts)?;
     let walked = walk_range(alloc, history, trace, opening, share.rows)?;
@@ -74,7 +74,7 @@ pub(crate) fn judge_all<R: Threads + Sync>(
     requires right { IsRightSection trace.now history.now.replica }
     requires opening { opening.now ≡ opening_rows trace.now.customers }
     requires shares { All (IsShare trace.now history.now) shares.now }
-    ensures { IfOk result (λ judged. AllZip (IsJudged names.now.items trace.now history.now) shares.now judged.items) }
+    ensures { IfOk result (λ judged. AllZip (IsFoundIn names.now.items trace.now history.now) shares.now judged.items) }
 {
     shares
         .par_iter()
@@ -85,7 +85,7 @@ pub(crate) fn judge_all<R: Threads + Sync>(
                     × IsRightSection trace.now history.now.replica
                     × (opening.now ≡ opening_rows trace.now.customers)
                     × IsShare trace.now history.now share.now }
-                ensures { IfOk result (IsJudged names.entry.now.items trace.entry.now history.entry.now share.now) }
+                ensures { IfOk result (IsFoundIn names.entry.now.items trace.entry.now history.entry.now share.now) }
             { judge(alloc, history, trace, names, opening, *share) },
         )
         .collect::<Result<Vec<Judged>, AllocError>>(rt, alloc)?

@@ -11,7 +11,7 @@ ghost use Rattle.eve_frames.specs.Said.{transfer_said};
 ghost use Rattle.eve_history.specs.SectionHistory.{section_history, IsToldOf};
 ghost use Rattle.eve_chains.specs.Changes.{change_of, changes_in_ranges, values_changed};
 ghost use Rattle.eve_chains.specs.Landed.{change_said, IsOfRows, transfer_at, rows_changed_at};
-ghost use Rattle.eve_chains.specs.Numbered.{IsRowBelow, ReachesNumber, is_same_where_changed};
+ghost use Rattle.eve_chains.specs.Numbered.{IsRowBelow, HasNumbersTo, is_same_where_changed};
 ghost use Rattle.eve_chains.specs.Settling.{settling, values_in, defined, AreBankAfter, HaveSameBalances};
 ghost use Rattle.eve_chains.specs.Walked.{AreOfRanges};
 
@@ -63,7 +63,7 @@ enum Change<'a> {
 impl<'a> Model for Settled<'a> {
     ghost use Rattle.std.specs.Prelude.{All, length};
     ghost use Rattle.eve_chains.specs.Changes.{ranges_by_number};
-    ghost use Rattle.eve_chains.specs.Numbered.{ReachesNumber};
+    ghost use Rattle.eve_chains.specs.Numbered.{HasNumbersTo};
     ghost use Rattle.eve_chains.specs.Landed.{AreLandings, changes_in};
     ghost use Rattle.eve_chains.specs.Settling.{Settling};
 
@@ -74,7 +74,7 @@ impl<'a> Model for Settled<'a> {
       numbers = changes_in s.transfers.items s.landings.items (ranges_by_number s.count s.ranges.items);
     } };
 
-    ghost invariant = { λ s. All (ReachesNumber (length s.opening) s.count) s.ranges.items
+    ghost invariant = { λ s. All (HasNumbersTo (length s.opening) s.count) s.ranges.items
         × AreLandings (length s.opening) s.count s.transfers.items s.landings.items };
 }
 
@@ -265,7 +265,7 @@ impl<'a> Settled<'a> {
         requires one { 1 ≤ n }
         requires there { n ≤ length self.now.numbers }
         ensures says { option_map (λ ranges. changes_in_ranges (n - 1) ranges.now) result ≡ rows_changed_at self.now n }
-        ensures rows { IfSome result (λ ranges. All (ReachesNumber (length self.now.opening) n) ranges.now) }
+        ensures rows { IfSome result (λ ranges. All (HasNumbersTo (length self.now.opening) n) ranges.now) }
     {
         match self.change_at(n) {
             Change::Wrote(ranges) => Some(ranges),
@@ -305,7 +305,7 @@ fn transfers_of<'a>(
 /// How many rows batch n changed.
 fn count_changed(ranges: &[Numbered], n: u32) -> usize
     requires one { 1 ≤ n }
-    requires reached { (rows : ℕ) × All (ReachesNumber rows n) ranges.now }
+    requires reached { (rows : ℕ) × All (HasNumbersTo rows n) ranges.now }
 {
     let mut count = 0usize;
     for range in ranges {
@@ -317,7 +317,7 @@ fn count_changed(ranges: &[Numbered], n: u32) -> usize
 /// Gives each row that batch n changed its value.
 fn set_all<T: SetRow>(rows: &mut T, ranges: &[Numbered], n: u32)
     requires one { 1 ≤ n }
-    requires rows { All (ReachesNumber (length (T.rows rows.old)) n) ranges.now }
+    requires rows { All (HasNumbersTo (length (T.rows rows.old)) n) ranges.now }
     ensures as_many { length (T.rows rows.new) ≡ length (T.rows rows.old) }
     ensures values { balance_of_row (T.rows rows.new)
         ≡ values_changed (balance_of_row (T.rows rows.old)) (changes_in_ranges (n - 1) ranges.now) }
@@ -358,7 +358,7 @@ fn are_same_where_changed(
     others: &Balances,
 ) -> bool
     requires one { 1 ≤ n }
-    requires rows { All (ReachesNumber (length balances.now) n) ranges.now }
+    requires rows { All (HasNumbersTo (length balances.now) n) ranges.now }
     requires as_many { length others.now ≡ length balances.now }
     ensures { result ≡ list_all (is_same_where_changed balances.now others.now) (changes_in_ranges (n - 1) ranges.now) }
 {

@@ -4,7 +4,7 @@ use Rattle.rayon.proofs.ListFacts.{IfOk-then}
 use Rattle.eve_grammar.specs.Limits.{row_count}
 use Rattle.eve_grammar.specs.Trace.{head_of}
 use Rattle.eve_grammar.proofs.OpeningRows.{length-opening_rows}
-use Rattle.eve_chains.specs.Judged.{IsShare, IsJudged}
+use Rattle.eve_chains.specs.Judged.{IsShare, IsFoundIn}
 use Rattle.eve_chains.specs.Stretches.{AreStretches}
 use Rattle.eve_chains.specs.declared.share.Share.{Share}
 use Rattle.eve_chains.proofs.Shares.{shares_there}
@@ -35,7 +35,7 @@ returns g c =
       attempts = subst (λ (n : ℕ). AreStretches n (map (λ s. s.attempts) xs)) c.attempts.ensures.attempts
           c.in_ok-shares.ensures.attempts;
       rows = subst (λ (n : ℕ). AreStretches n (map (λ s. s.rows) xs)) rows c.in_ok-shares.ensures.rows;
-      each = subst (λ (ns : List (List ℕ)). AllZip (IsJudged ns t h) xs js.items) c.requires.names
-          (subst (λ (ys : List Share). AllZip (IsJudged c.args.names.now.items t h) ys js.items) c.deref.ensures.value
+      each = subst (λ (ns : List (List ℕ)). AllZip (IsFoundIn ns t h) xs js.items) c.requires.names
+          (subst (λ (ys : List Share). AllZip (IsFoundIn c.args.names.now.items t h) ys js.items) c.deref.ensures.value
           each);
     })

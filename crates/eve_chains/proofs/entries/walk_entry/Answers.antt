@@ -2,7 +2,7 @@ use Rattle.std.proofs.Common.{◌≡◌, ◌+◌, ◌++◌, ◌∷◌, [], ℕ, 
 use Rattle.eve_smallbank.specs.declared.versioned.Versioned.{Versioned}
 use Rattle.eve_chains.specs.Bases.{base_at}
 use Rattle.eve_chains.specs.Rows.{bases_of}
-use Rattle.eve_chains.specs.Notes.{noted_of}
+use Rattle.eve_chains.specs.Notes.{noted_of_entry}
 use Rattle.eve_chains.specs.Rows.{of_row}
 use Rattle.eve_chains.specs.Walked.{HasWalked, IsPlaceAmong}
 use Rattle.eve_chains.specs.declared.walked_row.WalkedRow.{WalkedRow}
@@ -11,7 +11,7 @@ use Rattle.eve_chains.proofs.entries.walk_entry.Goals as goal
 
 pub returns-in_default-clause-walked : goal.returns-in_default-clause-walked
 returns-in_default-clause-walked c = λ t ns based known.
-    let n = noted_of c.args.noting c.args.at c.args.entry.now in
+    let n = noted_of_entry c.args.noting c.args.at c.args.entry.now in
     let from = c.args.noting.from in
     let many : c.len.result ≡ length c.args.rows.now.items = omega (arith, c.len.ensures, c.args.rows.now.ok.0) in
     passed_over t c.args.noting.replica from ns n c.args.rows.now.items
@@ -20,7 +20,7 @@ returns-in_default-clause-walked c = λ t ns based known.
 
 pub returns-clause-walked : goal.returns-clause-walked
 returns-clause-walked c = λ t ns based known.
-    let n = noted_of c.args.noting c.args.at c.args.entry.now in
+    let n = noted_of_entry c.args.noting c.args.at c.args.entry.now in
     let e = c.args.noting.replica in
     let place = c.in-Some.place in
     let from = c.args.noting.from in

@@ -1,20 +1,20 @@
 use Rattle.std.proofs.Common.{◌-◌, length, map, sym, ◌∙◌}
 use Rattle.eve_chains.specs.Changes.{change_of}
-use Rattle.eve_chains.specs.Numbered.{ReachesNumber}
+use Rattle.eve_chains.specs.Numbered.{HasNumbersTo}
 use Rattle.eve_chains.proofs.ByNumber.{of_next}
 use Rattle.eve_chains.proofs.SettingRows.{range_same, range_other}
 use Rattle.eve_chains.proofs.settled.are_same_where_changed.Goals as goal
 
 pub changed_by-requires-clause-there : goal.changed_by-requires-clause-there
 changed_by-requires-clause-there c =
-    (of_next (ReachesNumber (length c.args.balances.now) c.args.n) c.args.ranges.now c.loop-range.range-index
+    (of_next (HasNumbersTo (length c.args.balances.now) c.args.n) c.args.ranges.now c.loop-range.range-index
     c.range-item.result
     c.requires.rows c.loop-range-test.true c.range-item.is).there
 
 pub changed_by-requires-clause-order : goal.changed_by-requires-clause-order
 changed_by-requires-clause-order c = (
   length c.args.balances.now,
-  (of_next (ReachesNumber (length c.args.balances.now) c.args.n) c.args.ranges.now c.loop-range.range-index
+  (of_next (HasNumbersTo (length c.args.balances.now) c.args.n) c.args.ranges.now c.loop-range.range-index
       c.range-item.result
       c.requires.rows c.loop-range-test.true c.range-item.is).order,
 )
@@ -22,7 +22,7 @@ changed_by-requires-clause-order c = (
 pub is_same_in_each-requires-clause-rows : goal.is_same_in_each-requires-clause-rows
 is_same_in_each-requires-clause-rows c =
     c.changed_by.ensures.rows (length c.args.balances.now)
-    (of_next (ReachesNumber (length c.args.balances.now) c.args.n) c.args.ranges.now c.loop-range.range-index
+    (of_next (HasNumbersTo (length c.args.balances.now) c.args.n) c.args.ranges.now c.loop-range.range-index
     c.range-item.result
     c.requires.rows c.loop-range-test.true c.range-item.is).order
 

@@ -2,7 +2,7 @@ use Rattle.std.proofs.Common.{◌-◌, ℕ, length, map, subst, sym, ◌∙◌}
 use Rattle.std.specs.Prelude.{All}
 use Rattle.eve_smallbank.specs.Access.{balance_of_row}
 use Rattle.eve_chains.specs.Changes.{change_of}
-use Rattle.eve_chains.specs.Numbered.{IsRowBelow, ReachesNumber}
+use Rattle.eve_chains.specs.Numbered.{IsRowBelow, HasNumbersTo}
 use Rattle.eve_chains.proofs.ByNumber.{of_next}
 use Rattle.eve_chains.proofs.SettingRows.{range_set}
 use Rattle.eve_chains.proofs.settled.set_all.Goals as goal
@@ -10,14 +10,14 @@ use Rattle.eve_chains.proofs.settled.set_all.Goals as goal
 pub changed_by-requires-clause-there : goal.changed_by-requires-clause-there
 changed_by-requires-clause-there g c =
     let rows = length (g.T.SetRow.rows c.args.rows.now) in
-    (of_next (ReachesNumber rows c.args.n) c.args.ranges.now c.loop-range.range-index c.range-item.result
+    (of_next (HasNumbersTo rows c.args.n) c.args.ranges.now c.loop-range.range-index c.range-item.result
     c.requires.rows c.loop-range-test.true c.range-item.is).there
 
 pub changed_by-requires-clause-order : goal.changed_by-requires-clause-order
 changed_by-requires-clause-order g c =
     let rows = length (g.T.SetRow.rows c.args.rows.now) in (
       rows,
-      (of_next (ReachesNumber rows c.args.n) c.args.ranges.now c.loop-range.range-index c.range-item.result
+      (of_next (HasNumbersTo rows c.args.n) c.args.ranges.now c.loop-range.range-index c.range-item.result
           c.requires.rows
           c.loop-range-test.true c.range-item.is).order,
     )
@@ -28,7 +28,7 @@ set_each-requires g c =
     record {
       rows = subst (λ (k : ℕ). All (IsRowBelow k) c.changed_by.result.now) (sym c.loop-range.invariant.as_many)
           (c.changed_by.ensures.rows rows
-          (of_next (ReachesNumber rows c.args.n) c.args.ranges.now c.loop-range.range-index c.range-item.result
+          (of_next (HasNumbersTo rows c.args.n) c.args.ranges.now c.loop-range.range-index c.range-item.result
           c.requires.rows
           c.loop-range-test.true c.range-item.is).order);
     }

@@ -3,7 +3,7 @@ use Rattle.eve_history.specs.declared.landing.Landing.TheVariants as landing
 use Rattle.eve_chains.specs.Changes.{changes_in_ranges}
 use Rattle.std.specs.Prelude.{All}
 use Rattle.eve_chains.specs.Landed.{HasRows}
-use Rattle.eve_chains.specs.Numbered.{ReachesNumber}
+use Rattle.eve_chains.specs.Numbered.{HasNumbersTo}
 use Rattle.eve_chains.proofs.SettingRows.{reach_fewer}
 use Rattle.eve_chains.specs.Settling.{Wrote, Settling}
 use Rattle.eve_chains.specs.declared.numbered.Numbered.{Numbered}
@@ -54,9 +54,9 @@ returns-in-Attempt-clause-rows c =
     let count : x.count ≡ length c.args.self.now.numbers =
     sym (kept_counted (length x.opening) x.count x.transfers.items x.landings.items x.ranges.items c.self.invariant.1)
     ∙ ap (λ (s : Settling). length s.numbers) c.self.view_is in
-    subst (λ (xs : List Numbered). All (ReachesNumber (length c.args.self.now.opening) c.args.n) xs)
+    subst (λ (xs : List Numbered). All (HasNumbersTo (length c.args.self.now.opening) c.args.n) xs)
     (sym c.deref.ensures.value)
-    (subst (λ (k : ℕ). All (ReachesNumber k c.args.n) x.ranges.items) rows
+    (subst (λ (k : ℕ). All (HasNumbersTo k c.args.n) x.ranges.items) rows
     (reach_fewer (length x.opening) x.count c.args.n x.ranges.items c.self.invariant.0
     (omega (arith, count, c.requires.there))))
 

@@ -7,7 +7,7 @@ use Rattle.eve_grammar.proofs.HeadLimits.{few_customers}
 use Rattle.eve_grammar.proofs.OpeningRows.{length-opening_rows}
 use Rattle.eve_chains.specs.Changes.{ranges_by_number}
 use Rattle.eve_chains.specs.Landed.{transfer_at, HasRows, IsStateAmong}
-use Rattle.eve_chains.specs.Numbered.{ReachesNumber}
+use Rattle.eve_chains.specs.Numbered.{HasNumbersTo}
 use Rattle.eve_chains.specs.Settling.{settling}
 use Rattle.eve_chains.proofs.CommittedChanges.{ranges_are, ranges_reach, landings_counted}
 use Rattle.eve_chains.proofs.LandedChanges.{told_counted, told_among, numbers_told}
@@ -26,8 +26,8 @@ invariant_of-result c =
     ap (λ (xs : List ℤ). length xs) c.requires.opening ∙ length-opening_rows t.customers in
     let many : length h.transfers ≡ length states =
     ap length (sym c.in_ok-transfers.ensures) ∙ length-map states transfer_at in (
-      subst (λ (k : ℕ). All (ReachesNumber k c.committed.result) c.args.ranges.items) (sym rows)
-          (subst (λ (n : ℕ). All (ReachesNumber (2 * length t.customers) n) c.args.ranges.items) (sym count)
+      subst (λ (k : ℕ). All (HasNumbersTo k c.committed.result) c.args.ranges.items) (sym rows)
+          (subst (λ (n : ℕ). All (HasNumbersTo (2 * length t.customers) n) c.args.ranges.items) (sym count)
           (ranges_reach t h.replica c.args.ranges.items c.requires.ranges)),
       record {
         many = told_counted h c.in_ok-landings.landings.items h.landings c.in_ok-landings.ensures
