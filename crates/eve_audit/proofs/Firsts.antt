@@ -2,7 +2,7 @@
 use Rattle.std.proofs.Common.{◌≡◌, ℕ, ◌<◌, ◌≤◌, inl, inr, length, sym, ◌∙◌, arith}
 use Rattle.eve_grammar.specs.Trace.{Trace}
 use Rattle.eve_views.specs.Code.{phase_of}
-use Rattle.eve_views.specs.Form.{IfFound, IsLeast, HasNone, Precedes, IsFaultSomewhere, IsFaultOutside}
+use Rattle.eve_views.specs.Form.{IfFound, IsLeast, HasNone, Precedes, IsFaultIn, IsFaultSomewhere, IsFaultOutside}
 use Rattle.eve_views.specs.declared.fault.CheckFault.{CheckFault}
 use Rattle.eve_views.specs.declared.fault.CheckFault.TheVariants.{Found, Memory}
 use Rattle.eve_views.specs.declared.fault.Fault.{Fault}
@@ -17,6 +17,7 @@ use Rattle.eve_agree.specs.SentReplies.{StandsInReplies}
 use Rattle.eve_agree.specs.Agreement.{StandsInAgreement}
 use Rattle.eve_agree.specs.Majority.{StandsInMajorities}
 use Rattle.eve_history.specs.Order.{StandsInOrders}
+use Rattle.eve_history.specs.Structure.{StandsInStructure}
 
 -- a fact about what was found, from another about it
 pub found_weaker : (P Q : Fault → Type 0) (why : CheckFault) → ((f : Fault) → P f → Q f) → IfFound why P → IfFound why Q
@@ -37,6 +38,19 @@ module _ (t : Trace) (e : ℕ) where
   own_phase f (of_restores is) = let p = restore_phase t e f is in (omega arith, omega arith)
   own_phase f (of_tokens is) = let p = token_phase t e f is in (omega arith, omega arith)
 
+  pub structure_first : (f : Fault) → IsLeast (IsFaultIn StandsInStructure t e) f → IsFirstOf (IsOwnFault t e) f
+  structure_first f least = record { is = of_structure least.is; first = by }
+    where
+      own : phase_of f.code ≡ 3
+      own = structure_phase t e f least.is
+
+      by : (g : Fault) → IsOwnFault t e g → Precedes f g
+      by g (of_structure is) = inr (own ∙ sym (structure_phase t e g is), least.least g is)
+      by g (of_records is) = lower f g 3 4 own (record_phase t e g is) (omega arith)
+      by g (of_chains is) = lower f g 3 5 own (chain_phase t e g is) (omega arith)
+      by g (of_restores is) = lower f g 3 6 own (restore_phase t e g is) (omega arith)
+      by g (of_tokens is) = lower f g 3 7 own (token_phase t e g is) (omega arith)
+
 -- ---- all replicas together
 
 module _ (t : Trace) where
@@ -45,6 +59,31 @@ module _ (t : Trace) where
   common_phase f (of_majorities is) = let p = majority_phase t f is in omega arith
   common_phase f (of_agreement is) = let p = outcome_phase t f is in omega arith
   common_phase f (of_replies is) = let p = reply_phase t f is in omega arith
+
+  pub vote_first : (f : Fault) → IsLeast (IsFaultOutside StandsInVotes t) f → IsFirstOf (IsCommonFault t) f
+  vote_first f least = record { is = of_votes least.is; first = by }
+    where
+      own : phase_of f.code ≡ 8
+      own = vote_phase t f least.is
+
+      by : (g : Fault) → IsCommonFault t g → Precedes f g
+      by g (of_votes is) = inr (own ∙ sym (vote_phase t g is), least.least g is)
+      by g (of_majorities is) = lower f g 8 9 own (majority_phase t g is) (omega arith)
+      by g (of_agreement is) = lower f g 8 10 own (outcome_phase t g is) (omega arith)
+      by g (of_replies is) = lower f g 8 11 own (reply_phase t g is) (omega arith)
+
+  pub majority_first : (f : Fault) → HasNone (IsFaultOutside StandsInVotes t)
+      → IsLeast (IsFaultSomewhere StandsInMajorities t) f → IsFirstOf (IsCommonFault t) f
+  majority_first f votes least = record { is = of_majorities least.is; first = by }
+    where
+      own : phase_of f.code ≡ 9
+      own = majority_phase t f least.is
+
+      by : (g : Fault) → IsCommonFault t g → Precedes f g
+      by g (of_votes is) = absurd (votes g is)
+      by g (of_majorities is) = inr (own ∙ sym (majority_phase t g is), least.least g is)
+      by g (of_agreement is) = lower f g 9 10 own (outcome_phase t g is) (omega arith)
+      by g (of_replies is) = lower f g 9 11 own (reply_phase t g is) (omega arith)
 
   pub outcome_first : (f : Fault) → HasNone (IsFaultOutside StandsInVotes t)
       → HasNone (IsFaultSomewhere StandsInMajorities t) → IsLeast (IsFaultSomewhere StandsInAgreement t) f

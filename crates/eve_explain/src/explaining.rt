@@ -63,7 +63,7 @@ fn evidence_along<'a>(
     trace: &Trace<'a>,
     fault: &Fault,
     random: RandomState,
-) -> Result<Evidence<'a>, AuditFault>
+) -> Result<Evidence<'a>, AllocError>
     requires first { (bytes : List ℕ) × Spells bytes trace.now × IsFirst bytes fault.now }
     requires along { IsTrue (is_told_along fault.now.code) }
     ensures { IfOk result (λ x. (e : ℕ) → fault.now.replica ≡ Some e
@@ -74,14 +74,8 @@ fn evidence_along<'a>(
     let Some(e) = fault.replica else {
         return Ok(Evidence::Untold);
     };
-    let names = match names_in_order(alloc, trace, random) {
-        Ok(names) => names,
-        Err(AllocError) => return Err(AuditFault::Memory),
-    };
-    match section_evidence(alloc, trace, &names, e, fault.code, fault.offset) {
-        Ok(evidence) => Ok(evidence),
-        Err(AllocError) => Err(AuditFault::Memory),
-    }
+    let names = names_in_order(alloc, trace, random)?;
+    section_evidence(alloc, trace, &names, e, fault.code, fault.offset)
 }
 
 /// The evidence of a fault in the trace.
@@ -90,7 +84,7 @@ fn evidence_in<'a>(
     trace: &Trace<'a>,
     fault: &Fault,
     random: RandomState,
-) -> Result<Evidence<'a>, AuditFault>
+) -> Result<Evidence<'a>, AllocError>
     requires { (bytes : List ℕ) × Spells bytes trace.now × IsFirst bytes fault.now }
     ensures { IfOk result (IsEvidence trace.now fault.now) }
 {
@@ -102,19 +96,13 @@ fn evidence_in<'a>(
         return evidence_of_majority(alloc, trace, fault);
     }
     if is_of_orders(fault.code) {
-        return match trace_evidence(alloc, trace, fault) {
-            Ok(evidence) => Ok(evidence),
-            Err(AllocError) => Err(AuditFault::Memory),
-        };
+        return trace_evidence(alloc, trace, fault);
     }
     match fault.code {
         Code::TwoVotes => Ok(Evidence::TwoVotes {
             first: voted_again(trace, fault.offset),
         }),
-        Code::TwoDecisions => match decisions_evidence(alloc, trace, fault.offset) {
-            Ok(evidence) => Ok(evidence),
-            Err(AllocError) => Err(AuditFault::Memory),
-        },
+        Code::TwoDecisions => decisions_evidence(alloc, trace, fault.offset),
         Code::Restore => evidence_of_restore(alloc, trace, fault),
         Code::Token => evidence_of_token(alloc, trace, fault),
         Code::Outcome => evidence_of_outcome(alloc, trace, fault),
@@ -130,18 +118,15 @@ fn evidence_of<'a>(
     bytes: &'a [u8],
     fault: &Fault,
     random: RandomState,
-) -> Result<Evidence<'a>, AuditFault>
+) -> Result<Evidence<'a>, AllocError>
     requires { IsFirst bytes.now fault.now }
     ensures { IfOk result (IsEvidenceOf bytes.now fault.now) }
 {
     bytes_spell_one_trace();
     match Trace::read(alloc, bytes) {
         Ok(trace) => evidence_in(alloc, &trace, fault, random),
-        Err(CheckFault::Found(_)) => match form_evidence(alloc, bytes, fault) {
-            Ok(evidence) => Ok(evidence),
-            Err(AllocError) => Err(AuditFault::Memory),
-        },
-        Err(CheckFault::Memory) => Err(AuditFault::Memory),
+        Err(CheckFault::Found(_)) => form_evidence(alloc, bytes, fault),
+        Err(CheckFault::Memory) => Err(AllocError),
     }
 }
 
@@ -175,7 +160,7 @@ pub fn explain<'a, R: Threads + Wait + Sync, G: Gate>(
         }
         Ok(WholeVerdict::No(fault)) => match evidence_of(alloc, bytes, &fault, random) {
             Ok(evidence) => Ok(Explained::No(fault, evidence)),
-            Err(why) => Err(why),
+            Err(AllocError) => Err(AuditFault::Memory),
         },
         Err(why) => Err(why),
     }

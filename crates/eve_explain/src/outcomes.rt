@@ -13,7 +13,6 @@ ghost use Rattle.eve_evidence_outcomes.specs.Token.{TellsToken};
 ghost use Rattle.eve_explain.specs.Explained.{is_of_majority};
 
 use crate::replicas::{histories_of, history_of, settled_of};
-use eve_audit::AuditFault;
 use eve_chains::Settled;
 use eve_evidence::Evidence;
 use eve_evidence_outcomes::{
@@ -29,7 +28,7 @@ pub(crate) fn evidence_of_majority<'a>(
     alloc: Global,
     trace: &Trace<'a>,
     fault: &Fault,
-) -> Result<Evidence<'a>, AuditFault>
+) -> Result<Evidence<'a>, AllocError>
     requires first { (bytes : List ℕ) × Spells bytes trace.now × IsFirst bytes fault.now }
     requires majority { IsTrue (is_of_majority fault.now.code) }
     ensures { IfOk result (λ x. (e : ℕ) → fault.now.replica ≡ Some e
@@ -40,10 +39,7 @@ pub(crate) fn evidence_of_majority<'a>(
         return Ok(Evidence::Untold);
     };
     let _history = history_of(alloc, trace, fault, e)?;
-    match majority_evidence(alloc, trace, e, fault.code, fault.offset) {
-        Ok(evidence) => Ok(evidence),
-        Err(AllocError) => Err(AuditFault::Memory),
-    }
+    majority_evidence(alloc, trace, e, fault.code, fault.offset)
 }
 
 /// The evidence of a rollback whose restores aren't those that are due.
@@ -51,7 +47,7 @@ pub(crate) fn evidence_of_restore<'a>(
     alloc: Global,
     trace: &Trace<'a>,
     fault: &Fault,
-) -> Result<Evidence<'a>, AuditFault>
+) -> Result<Evidence<'a>, AllocError>
     requires first { (bytes : List ℕ) × Spells bytes trace.now × IsFirst bytes fault.now }
     requires restore { fault.now.code ≡ code.Restore }
     ensures { IfOk result (λ x. (e : ℕ) → fault.now.replica ≡ Some e → TellsRestore trace.now e fault.now.offset x) }
@@ -61,10 +57,7 @@ pub(crate) fn evidence_of_restore<'a>(
         return Ok(Evidence::Untold);
     };
     let history = history_of(alloc, trace, fault, e)?;
-    match restore_evidence(alloc, trace, &history, fault.offset) {
-        Ok(evidence) => Ok(evidence),
-        Err(AllocError) => Err(AuditFault::Memory),
-    }
+    restore_evidence(alloc, trace, &history, fault.offset)
 }
 
 /// The evidence of a token that isn't due.
@@ -72,7 +65,7 @@ pub(crate) fn evidence_of_token<'a>(
     alloc: Global,
     trace: &Trace<'a>,
     fault: &Fault,
-) -> Result<Evidence<'a>, AuditFault>
+) -> Result<Evidence<'a>, AllocError>
     requires first { (bytes : List ℕ) × Spells bytes trace.now × IsFirst bytes fault.now }
     requires token { fault.now.code ≡ code.Token }
     ensures { IfOk result (λ x. (e : ℕ) → fault.now.replica ≡ Some e → TellsToken trace.now e fault.now.offset x) }
@@ -83,12 +76,9 @@ pub(crate) fn evidence_of_token<'a>(
     };
     let history = history_of(alloc, trace, fault, e)?;
     let Ok(settled) = Settled::of(alloc, &history, trace) else {
-        return Err(AuditFault::Memory);
+        return Err(AllocError);
     };
-    match token_evidence(alloc, trace, &history, &settled, fault.offset) {
-        Ok(evidence) => Ok(evidence),
-        Err(AllocError) => Err(AuditFault::Memory),
-    }
+    token_evidence(alloc, trace, &history, &settled, fault.offset)
 }
 
 /// The evidence of a reply that was sent and not committed.
@@ -96,7 +86,7 @@ pub(crate) fn evidence_of_reply<'a>(
     alloc: Global,
     trace: &Trace<'a>,
     fault: &Fault,
-) -> Result<Evidence<'a>, AuditFault>
+) -> Result<Evidence<'a>, AllocError>
     requires first { (bytes : List ℕ) × Spells bytes trace.now × IsFirst bytes fault.now }
     requires reply { fault.now.code ≡ code.Reply }
     ensures { IfOk result (TellsReply trace.now fault.now.offset) }
@@ -111,7 +101,7 @@ pub(crate) fn evidence_of_outcome<'a>(
     alloc: Global,
     trace: &Trace<'a>,
     fault: &Fault,
-) -> Result<Evidence<'a>, AuditFault>
+) -> Result<Evidence<'a>, AllocError>
     requires first { (bytes : List ℕ) × Spells bytes trace.now × IsFirst bytes fault.now }
     requires outcome { fault.now.code ≡ code.Outcome }
     ensures { IfOk result (λ x. (e : ℕ) → fault.now.replica ≡ Some e → TellsOutcome trace.now e fault.now.offset x) }
@@ -122,12 +112,9 @@ pub(crate) fn evidence_of_outcome<'a>(
     };
     let histories = histories_of(alloc, trace, fault)?;
     let Ok(settled) = settled_of(alloc, trace, &histories) else {
-        return Err(AuditFault::Memory);
+        return Err(AllocError);
     };
-    match outcome_evidence(alloc, trace, &histories, &settled, e, fault.offset) {
-        Ok(evidence) => Ok(evidence),
-        Err(AllocError) => Err(AuditFault::Memory),
-    }
+    outcome_evidence(alloc, trace, &histories, &settled, e, fault.offset)
 }
 
 /// The evidence of a state that was taken over and isn't the one that was committed.
@@ -135,7 +122,7 @@ pub(crate) fn evidence_of_state<'a>(
     alloc: Global,
     trace: &Trace<'a>,
     fault: &Fault,
-) -> Result<Evidence<'a>, AuditFault>
+) -> Result<Evidence<'a>, AllocError>
     requires first { (bytes : List ℕ) × Spells bytes trace.now × IsFirst bytes fault.now }
     requires state { fault.now.code ≡ code.TransferBalances }
     ensures { IfOk result (λ x. (e : ℕ) → fault.now.replica ≡ Some e → TellsState trace.now e fault.now.offset x) }
@@ -146,10 +133,7 @@ pub(crate) fn evidence_of_state<'a>(
     };
     let histories = histories_of(alloc, trace, fault)?;
     let Ok(settled) = settled_of(alloc, trace, &histories) else {
-        return Err(AuditFault::Memory);
+        return Err(AllocError);
     };
-    match state_evidence(alloc, trace, &histories, &settled, e, fault.offset) {
-        Ok(evidence) => Ok(evidence),
-        Err(AllocError) => Err(AuditFault::Memory),
-    }
+    state_evidence(alloc, trace, &histories, &settled, e, fault.offset)
 }

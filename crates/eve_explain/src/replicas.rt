@@ -8,7 +8,6 @@ ghost use Rattle.eve_chains.specs.Settling.{settlings};
 ghost use Rattle.eve_audit.specs.Verdict.{IsFirst};
 ghost use Rattle.eve_explain.specs.Behind.{IsBehindSection};
 
-use eve_audit::AuditFault;
 use eve_chains::Settled;
 use eve_history::History;
 use eve_views::{CheckFault, Fault, Trace};
@@ -21,7 +20,7 @@ pub(crate) fn history_of<'a>(
     trace: &Trace<'a>,
     fault: &Fault,
     e: u8,
-) -> Result<History<'a>, AuditFault>
+) -> Result<History<'a>, AllocError>
     requires first { (bytes : List ℕ) × Spells bytes trace.now × IsFirst bytes fault.now }
     requires behind { IsBehindSection fault.now e }
     requires there { e < length trace.now.sections }
@@ -32,7 +31,7 @@ pub(crate) fn history_of<'a>(
     match History::of(alloc, trace, e) {
         Ok(history) => Ok(history),
         Err(CheckFault::Found(_)) => unreachable!(),
-        Err(CheckFault::Memory) => Err(AuditFault::Memory),
+        Err(CheckFault::Memory) => Err(AllocError),
     }
 }
 
@@ -41,7 +40,7 @@ pub(crate) fn histories_of<'a>(
     alloc: Global,
     trace: &Trace<'a>,
     fault: &Fault,
-) -> Result<Vec<History<'a>>, AuditFault>
+) -> Result<Vec<History<'a>>, AllocError>
     requires first { (bytes : List ℕ) × Spells bytes trace.now × IsFirst bytes fault.now }
     requires together { 7 < phase_of fault.now.code }
     ensures { IfOk result (λ hs. hs.items ≡ section_histories trace.now) }
@@ -50,10 +49,7 @@ pub(crate) fn histories_of<'a>(
     let mut histories = Vec::new(alloc);
     for e in 0..trace.section_count() {
         let history = history_of(alloc, trace, fault, e)?;
-        match histories.push(history) {
-            Ok(()) => {}
-            Err(_) => return Err(AuditFault::Memory),
-        }
+        histories.push(history)?;
     }
     Ok(histories)
 }

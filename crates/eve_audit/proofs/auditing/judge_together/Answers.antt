@@ -3,10 +3,29 @@ use Rattle.std.proofs.lemmas.Result.{IfOk-weaker, IfErr-weaker}
 use Rattle.eve_views.specs.Form.{IfFound, IsLeast, HasNone, IsFaultSomewhere, IsFaultOutside}
 use Rattle.eve_audit.specs.Verdict.{IsCommonFault}
 use Rattle.eve_audit.specs.Reports.{IsFirstOf}
-use Rattle.eve_audit.proofs.Firsts.{found_weaker, outcome_first, reply_first, none_common}
+use Rattle.eve_audit.proofs.Firsts.{found_weaker, vote_first, majority_first, outcome_first, reply_first}
+use Rattle.eve_audit.proofs.Firsts.{none_common}
 use Rattle.eve_agree.specs.Agreement.{StandsInAgreement}
+use Rattle.eve_agree.specs.Majority.{StandsInMajorities}
+use Rattle.eve_votes.specs.Faults.{StandsInVotes}
 use Rattle.eve_agree.specs.SentReplies.{StandsInReplies}
 use Rattle.eve_audit.proofs.auditing.judge_together.Goals as goal
+
+pub returns-in_err-tally-clause-first : goal.returns-in_err-tally-clause-first
+returns-in_err-tally-clause-first g c =
+    let t = c.args.trace.now in
+    let found = c.in_err-tally in
+    let first = found_weaker (IsLeast (IsFaultOutside StandsInVotes t)) (IsFirstOf (IsCommonFault t)) found.field-0.0
+    (vote_first t) found.ensures.least in
+    search rules
+
+pub returns-in_err-majorities-clause-first : goal.returns-in_err-majorities-clause-first
+returns-in_err-majorities-clause-first g c =
+    let t = c.args.trace.now in
+    let found = c.in_err-majorities in
+    let first = found_weaker (IsLeast (IsFaultSomewhere StandsInMajorities t)) (IsFirstOf (IsCommonFault t))
+    found.field-0.0 (λ f least. majority_first t f c.in_ok-tally.ensures.none least) found.ensures.least in
+    search rules
 
 pub returns-in_err-equal_balances-clause-first : goal.returns-in_err-equal_balances-clause-first
 returns-in_err-equal_balances-clause-first g c =

@@ -1,11 +1,18 @@
 use Rattle.std.proofs.Common.{ℕ, subst, sym, ◌∙◌, ap}
-use Rattle.eve_views.specs.Form.{IfFound, HasNone, IsFaultIn}
+use Rattle.eve_views.specs.Form.{IfFound, IsLeast, HasNone, IsFaultIn}
 use Rattle.eve_chains.specs.Settling.{settling}
 use Rattle.eve_audit.specs.Verdict.{IsOwnFault}
 use Rattle.eve_audit.specs.Reports.{IsFirstOf, IsSoundBeforeTokens}
+use Rattle.eve_audit.proofs.Firsts.{found_weaker, structure_first}
 use Rattle.eve_audit.proofs.Told.{replica_told, section_history_by_its_own}
 use Rattle.eve_history.specs.Structure.{StandsInStructure}
 use Rattle.eve_audit.proofs.replicas.settle_replica.Goals as goal
+
+pub returns-in-Err-clause-first : goal.returns-in-Err-clause-first
+returns-in-Err-clause-first g c =
+    let t = c.args.trace.now in
+    found_weaker (IsLeast (IsFaultIn StandsInStructure t c.args.e)) (IsFirstOf (IsOwnFault t c.args.e)) c.in-Err.why
+    (structure_first t c.args.e) c.in-Err.ensures.least
 
 pub settle-requires-clause-history : goal.settle-requires-clause-history
 settle-requires-clause-history g c κs within = section_history_by_its_own c.args.trace.now c.args.e

@@ -10,7 +10,7 @@ loop-e-preserved c =
     let t = c.args.trace.now in
     let e = c.loop-e.e in
     let there : e < length t.sections = search rules in
-    c.in-Ok.ensures.items
+    c.in_ok-push.ensures.items
     ∙ (λ j. c.loop-e.invariant j ++ c.in_ok-history.ensures.history j ∷ [])
     ∙ sym (take_one_more (section_histories t) e (section_history t e) (section_history_at t e there))
 
