@@ -1,4 +1,4 @@
-use Rattle.std.proofs.Common.{arith, rules}
+use Rattle.std.proofs.Common.{◌<◌, arith, rules}
 use Rattle.eve_grammar.proofs.Straight.{entry_is}
 use Rattle.eve_grammar.proofs.entry.entry_at.Goals as goal
 
@@ -22,5 +22,10 @@ pub returns-then-number-rows : goal.returns-then-number-rows
 returns-then-number-rows c = rw (entry_is c.args.rows c.args.bytes.now (λ i. omega (arith, c.type_inv.bytes i)))
     (search rules)
 
+pub row_of-row-requires : goal.row_of-row-requires
+row_of-row-requires c = omega (arith, c.if-number-rows.false, c.requires)
+
 pub returns : goal.returns
-returns c = rw (entry_is c.args.rows c.args.bytes.now (λ i. omega (arith, c.type_inv.bytes i))) (search rules)
+returns c =
+    let below : c.u32_in-number.result < c.args.rows = omega (arith, c.if-number-rows.false) in
+    rw (entry_is c.args.rows c.args.bytes.now (λ i. omega (arith, c.type_inv.bytes i))) (search rules)
