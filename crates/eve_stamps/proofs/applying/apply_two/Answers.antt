@@ -1,9 +1,14 @@
-use Rattle.std.proofs.Common.{List, ap, ap₂, sym, ◌∙◌}
+use Rattle.std.proofs.Common.{List, Ok, ap, ap₂, sym, subst, ◌∙◌}
 use Rattle.std.proofs.lemmas.Bool.{and_parts}
+use Rattle.std.specs.Prelude.{Bool, Option}
+use Rattle.eve_smallbank.specs.SmallBank.{plain}
+use Rattle.eve_smallbank.specs.Access.{Fits}
 use Rattle.eve_smallbank.specs.Touch.{rows_in}
 use Rattle.eve_stamps.specs.declared.journal.Journaled.{Journaled}
+use Rattle.eve_stamps.specs.declared.fault.StampFault.{StampFault}
+use Rattle.eve_stamps.specs.Applied.{Applied, noted_of, executed_as}
 use Rattle.eve_stamps.specs.Stripes.{HeldRow, Stripe, is_above}
-use Rattle.eve_stamps.specs.Stamping.{has_row_in_two, rows_in_two, seen_of}
+use Rattle.eve_stamps.specs.Stamping.{has_row_in_two, rows_in_two, seen_of, refused_for, IsRefusedFor}
 use Rattle.eve_stamps.specs.Holding.{stripe_held}
 use Rattle.eve_stamps.proofs.Refusing.{many_seen}
 use Rattle.eve_stamps.proofs.Keeping.{noted_within, noted_outside}
@@ -50,3 +55,30 @@ note-requires-2-clause-noted c =
     c.deref-2.ensures.value c.reserve_in_both.ensures.second_items ∙ c.second.view_is) c.split-within.ensures.outside
     (c.in_ok-reply.ensures.run is_there now
     (c.seen_in_two-seen.ensures ∙ ap (seen_of is_there now) c.rows-rows.ensures)).noted
+
+pub returns-clause-exact : goal.returns-clause-exact
+returns-clause-exact c names same =
+    let stamp = c.args.stamp in
+    let is_there = has_row_in_two c.args.first.now c.args.second.now in
+    let now = rows_in_two c.args.first.now c.args.second.now in
+    c.new.ensures ∙ ap (noted_of stamp.worker stamp.place stamp.index stamp.tick)
+    ((c.in_ok-reply.ensures.run is_there now
+    (c.seen_in_two-seen.ensures ∙ ap (seen_of is_there now) c.rows-rows.ensures)).exact names same)
+
+pub returns-clause-fits : goal.returns-clause-fits
+returns-clause-fits c names same =
+    let is_there = has_row_in_two c.args.first.now c.args.second.now in
+    let now = rows_in_two c.args.first.now c.args.second.now in
+    subst (λ (r : Applied). Fits names (executed_as (plain c.args.request.now) r)) (sym c.new.ensures)
+    ((c.in_ok-reply.ensures.run is_there now
+    (c.seen_in_two-seen.ensures ∙ ap (seen_of is_there now) c.rows-rows.ensures)).fits names same)
+
+pub returns-clause-refused : goal.returns-clause-refused
+returns-clause-refused c =
+    let is_there = has_row_in_two c.args.first.now c.args.second.now in
+    let now = rows_in_two c.args.first.now c.args.second.now in
+    let taken = (c.in_ok-reply.ensures.run is_there now
+    (c.seen_in_two-seen.ensures ∙ ap (seen_of is_there now) c.rows-rows.ensures)).taken in
+    subst (λ (why : Option StampFault). IsRefusedFor why (Ok c.new.result))
+    (sym (ap (λ (b : Bool). refused_for is_there b now (rows_in c.args.touched.now)) (sym c.are_above.ensures) ∙ taken))
+    tt
