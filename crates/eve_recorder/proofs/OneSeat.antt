@@ -6,14 +6,14 @@ use Rattle.std.specs.Option.{MatchOption}
 use Rattle.std.proofs.lemmas.Bool.{cases_lt}
 use Rattle.std.proofs.lemmas.List.{nil_from_length}
 use Rattle.atomic_table.specs.Seated.{TableId}
-use Rattle.crossbeam_queue.specs.Fifo.{Pushes, Pops, Learns, Held}
+use Rattle.crossbeam_queue.specs.Fifo.{Pops, Learns, Held}
 use Rattle.eve_recorder.specs.declared.passes.Knowledge.{Knowledge}
 use Rattle.eve_stamps.specs.Applied.{Applied}
 use Rattle.eve_recorder.specs.Noted.{of_worker, AllOf, IsOrderly, ComeFrom}
-use Rattle.eve_recorder.specs.Kept.{knowledge, FitsPasses, IsWorkers, noting, taking, TakesFront, SeesSome}
+use Rattle.eve_recorder.specs.Kept.{knowledge, FitsPasses, IsWorkers, noting, taking, TakesFront, SeesSome, StandsFor}
 use Rattle.eve_recorder.specs.Kept.{SeesAll, KnowsOf}
 use Rattle.eve_recorder.specs.Seen.{RecorderId, recorder_id, Desk, Noter, Taker, NotedAndTaken, WasFull}
-use Rattle.eve_recorder.proofs.Keeps.{whose_is, come_rest, notes, takes, learns_all, learns_some}
+use Rattle.eve_recorder.proofs.Keeps.{whose_is, come_rest, takes, learns_all}
 
 pub all_of-of_worker : (w : ℕ) (xs : List Applied) → AllOf w xs → of_worker w xs ≡ xs
 all_of-of_worker w [] h = refl
@@ -24,15 +24,16 @@ pub all_of_snoc : (w : ℕ) (xs : List Applied) (x : Applied) → AllOf w xs →
 all_of_snoc w [] x h e = (e, tt)
 all_of_snoc w (y ∷ xs) x h e = (h.0, all_of_snoc w xs x h.1 e)
 
-pub note_step : (n port w count : ℕ) (v : Knowledge) (x : Applied) → IsWorkers w count v → x.worker ≡ w
+-- a worker's next record is due on its pass
+pub note_due : (w count : ℕ) (v : Knowledge) (x : Applied) → IsWorkers w count v → x.worker ≡ w
     → x.place ≡ length v.noted
-    → Pushes FitsPasses n port v x (λ u. u ≡ noting v x) × Learns FitsPasses port v (SeesSome v)
-note_step n port w count v x is e place =
+    → StandsFor v x.worker × (x.place ≡ length (of_worker x.worker v.noted))
+note_due w count v x is e place =
     let from : v.from ≡ w = ap (λ (h : Knowledge). h.from) is.0 in
     let below : v.below ≡ suc w = ap (λ (h : Knowledge). h.below) is.0 in
     let due : x.place ≡ length (of_worker x.worker v.noted) = place
     ∙ ap length (sym (ap (λ k. of_worker k v.noted) e ∙ all_of-of_worker w v.noted is.4)) in
-    (notes n port v x (omega arith) due, learns_some port v)
+    (omega arith, due)
 
 pub seat_after : (w count : ℕ) (v u : Knowledge) (x : Applied) → IsWorkers w count v → x.worker ≡ w → u ≡ noting v x
     → IsWorkers w (count + 1) u

@@ -1,10 +1,11 @@
 //! The recorder: how it is made, its two steps, and how it is ended.
 
 ghost use Rattle.std.specs.Prelude.{◌≡◌, ◌<◌, ◌≤◌, ◌+◌, true, false, [], ◌++◌, ◌∷◌, ℕ, min, max, length, IfOk, OnOk};
-ghost use Rattle.std.specs.Prelude.{IfErr, IfSome, IsSome, IfNone, Some, slice_get};
-ghost use Rattle.crossbeam_queue.specs.Passes.{view, IsPassOf, IsSamePass};
+ghost use Rattle.std.specs.Prelude.{IfErr, IfSome, IsSome, IfNone, Some, slice_get, MatchResult};
+ghost use Rattle.crossbeam_queue.specs.Passes.{view, IsPassOf, IsSamePass, ruled_capacity};
+ghost use Rattle.crossbeam_queue.specs.Fifo.{Held};
 ghost use Rattle.eve_recorder.specs.Noted.{of_worker, IsOrderly};
-ghost use Rattle.eve_recorder.specs.Kept.{knowledge};
+ghost use Rattle.eve_recorder.specs.Kept.{knowledge, noting, StandsFor, SeesSome};
 ghost use Rattle.eve_recorder.specs.Seen.{Desk, Noter, recorder_id, fresh_noter};
 ghost use Rattle.eve_recorder.specs.Seen.{fresh_places};
 ghost use Rattle.eve_recorder.specs.Seen.{noted_on, IsNoterOf, HasAllSeats, WasFull, WasEmpty};
@@ -104,7 +105,7 @@ impl Recorder {
         ensures full { IfErr result (λ _. WasFull self.now seat.old) }
         ensures alone { IfErr result (λ _. self.now.recorder.workers ≡ 1 → self.now.room ≤ length seat.old.noted) }
     {
-        match self.queue.push_as::<Notes, R>(rt, &mut seat.pass, made) {
+        match push(&self.queue, rt, &mut seat.pass, made) {
             Ok(()) => {
                 seat.place += 1;
                 Ok(())
@@ -167,6 +168,24 @@ impl Recorder {
         queue.absorb::<TakerCut>(&mut main, pass);
         Taken { queue, pass: main }
     }
+}
+
+/// Notes a record on the pass that stands for its worker. It comes back where the queue was full at one moment.
+fn push<R: Wait>(
+    queue: &Queue,
+    rt: &R,
+    pass: &mut QueuePass,
+    made: AccessRecord,
+) -> Result<(), AccessRecord>
+    requires queue { IsPassOf queue.now pass.old }
+    requires stands { StandsFor (view pass.old) made.worker }
+    requires next { made.place ≡ length (of_worker made.worker (view pass.old).noted) }
+    ensures queue { IsSamePass pass.old pass.new }
+    ensures rule { MatchResult result (λ _. view pass.new ≡ noting (view pass.old) made)
+        (λ x. (x ≡ made) × (view pass.new ≡ view pass.old)
+        × Held (ruled_capacity queue.now) (SeesSome (view pass.old))) }
+{
+    queue.push_as::<Notes, R>(rt, pass, made)
 }
 
 /// Cuts the last of the workers 0 to w off: its seat, if it is to be there, and else it is no worker.

@@ -3,19 +3,23 @@ use Rattle.crossbeam_queue.specs.Passes.{view}
 use Rattle.crossbeam_queue.specs.Fifo.{Held}
 use Rattle.eve_recorder.specs.Kept.{SeesSome}
 use Rattle.eve_recorder.specs.Seen.{RecorderId, recorder_id, Desk, Noter, WasFull}
-use Rattle.eve_recorder.proofs.OneSeat.{note_step, seat_after, full_by, full_alone}
+use Rattle.eve_recorder.proofs.OneSeat.{note_due, seat_after, full_by, full_alone}
 use Rattle.eve_recorder.proofs.recorder.Recorder.note.Goals as goal
 
-pub push_as-requires-clause-queue : goal.push_as-requires-clause-queue
-push_as-requires-clause-queue g c = (
+pub push-requires-clause-queue : goal.push-requires-clause-queue
+push-requires-clause-queue g c = (
   ap (λ (s : Noter). s.recorder.table) c.seat.view_is ∙ ap (λ (r : RecorderId). r.table) c.requires.own
       ∙ sym (ap (λ (d : Desk). d.recorder.table) c.self.view_is),
   c.seat.invariant.0,
 )
 
-pub push_as-requires-clause-rule : goal.push_as-requires-clause-rule
-push_as-requires-clause-rule g c = let i = c.seat.invariant.1 in let r = rw (← c.seat.view_is) at c.requires.next in
-    note_step _ _ _ _ _ _ i r.0 r.1
+pub push-requires-clause-stands : goal.push-requires-clause-stands
+push-requires-clause-stands g c = let r = rw (← c.seat.view_is) at c.requires.next in
+    (note_due _ _ _ c.args.made c.seat.invariant.1 r.0 r.1).0
+
+pub push-requires-clause-next : goal.push-requires-clause-next
+push-requires-clause-next g c = let r = rw (← c.seat.view_is) at c.requires.next in
+    (note_due _ _ _ c.args.made c.seat.invariant.1 r.0 r.1).1
 
 pub invariant_of-seat : goal.invariant_of-seat
 invariant_of-seat g c = let i = c.seat.invariant.1 in let r = rw (← c.seat.view_is) at c.requires.next in
