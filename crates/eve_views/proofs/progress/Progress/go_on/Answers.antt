@@ -1,4 +1,4 @@
-use Rattle.std.proofs.Common.{List, ℕ, ◌++◌, refl, ap, ◌∙◌, append_assoc}
+use Rattle.std.proofs.Common.{List, ℕ, ◌++◌, refl, ap, ◌∙◌, append_assoc, arith}
 use Rattle.eve_views.specs.declared.progress.Progress.{Progress}
 use Rattle.eve_views.specs.SideBySide.{WalksOn}
 use Rattle.eve_views.proofs.RunLaws.{unjudged_on, walks_further}
@@ -24,3 +24,9 @@ frames-preserved c =
           (c.in_ok-pass_accesses.ensures.walked c.if-not-branch-2.false) c.in_ok-walked.ensures refl;
       kept = walks_further c.args.self w on c.args.bytes.now kept c.in_ok-walked.ensures;
     }
+
+pub frames-smaller : goal.frames-smaller
+frames-smaller c =
+    let frame = c.in_ok-pass_frame.ensures.on c.if-not-branch.false in
+    let accesses = c.in_ok-pass_accesses.ensures.on c.if-not-branch-2.false in
+    omega (arith, frame, accesses, c.in_ok-walked.ensures.on, c.in_ok-walked.ensures.within)

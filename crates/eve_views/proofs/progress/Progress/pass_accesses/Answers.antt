@@ -61,3 +61,18 @@ frames-init c = record {
   on = omega arith;
   allowed = λ some. sym c.allows.ensures ∙ c.if-not-allows.false;
 }
+
+pub frames-smaller : goal.frames-smaller
+frames-smaller c =
+    let self = c.frames.self in
+    let bytes = c.args.bytes.now in
+    let allowed = c.frames.invariant.allowed c.frames-test.true in
+    let framed = c.in-Some.ensures self.reached.head self.reached.place allowed in
+    omega (
+      arith,
+      framed.some,
+      framed.within,
+      length-drop self.at bytes,
+      length-take (length bytes - self.at) (drop self.at bytes),
+      c.frames.invariant.walked.within,
+    )
