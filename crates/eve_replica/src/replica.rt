@@ -269,6 +269,7 @@ impl<'n> Replica<'n> {
             gate,
             &mut own,
         );
+        drop(assignments);
         match ran {
             Ok((Ok(()), _)) => Ok(()),
             Ok((Err(Some(why)), _)) => Err(why),
