@@ -1,5 +1,7 @@
 use Rattle.std.proofs.Common.{◌≡◌, ℕ, ◌<◌, [], Option, IfSome, length, get_or, sym, ap, subst, ◌∙◌}
+use Rattle.std.proofs.lemmas.Bool.{false≢true}
 use Rattle.std.proofs.lemmas.Option.{same_Some}
+use Rattle.eve_chains.proofs.Linked.{none≢some}
 use Rattle.eve_agree.proofs.Outcomes.{read_default}
 use Rattle.eve_agree.proofs.agreement.has_balances_of.Goals as goal
 
@@ -19,3 +21,7 @@ returns-in-Some c =
           let one : has.0 ≡ f = same_Some has.0 f (sym has.1 ∙ c.in-Some.is) in
           c.are_same.ensures.1 (own ∙ has.2 ∙ ap (λ (k : ℕ). get_or all k []) one ∙ sym its),
     )
+
+pub returns-in-None : goal.returns-in-None
+returns-in-None c =
+    (λ yes. absurd (false≢true yes), λ has. none≢some has.0 (sym c.in-None.is ∙ has.1))
