@@ -207,8 +207,10 @@ pub fn majority_evidence<'a>(
     trace.recall_limits();
     let mut steps = trace.section(e);
     while let Some(step) = steps.next() {
-        if let Some(found) = at_step(alloc, trace, &step, code, place)? {
-            return Ok(found);
+        match at_step(alloc, trace, &step, code, place) {
+            Ok(None) => {}
+            Ok(Some(found)) => return Ok(found),
+            Err(why) => return Err(why),
         }
     }
     unreachable!()

@@ -9,16 +9,30 @@ ghost use Rattle.eve_chains.specs.Committed.{balances_to};
 ghost use Rattle.eve_agree.specs.Agreement.{StandsInAgreement};
 ghost use Rattle.eve_evidence_outcomes.specs.Outcome.{IsFirstApart, IsReplyFault, TellsOutcomeFault, TellsOutcome};
 ghost use Rattle.eve_evidence_outcomes.specs.Outcome.{HasThatOfFirst};
+ghost use Rattle.eve_evidence.specs.declared.evidence.Evidence.TheVariants as shown;
 
 use crate::committed::committed_attempt;
 use crate::sent::{has_reply, reply_of};
 use crate::state::{first_committed, row_apart};
 use eve_chains::Settled;
-use eve_evidence::{Evidence, OutcomeFault, told_attempt, told_request};
+use eve_evidence::{Evidence, OutcomeFault, ToldAttempt, told_attempt, told_request};
 use eve_frames::AttemptView;
 use eve_history::History;
 use eve_views::Trace;
 use std::alloc::{AllocError, Global};
+
+/// An outcome that isn't that of the first replica that committed the batch.
+#[derive(Clone, Copy)]
+struct OtherOutcome<'a> {
+    /// The attempt that came to it.
+    attempt: ToldAttempt,
+    /// That replica.
+    first: u8,
+    /// The byte at which its attempt's frame begins.
+    first_at: u64,
+    /// The first thing that differs.
+    wrong: OutcomeFault<'a>,
+}
 
 /// Whether two attempts have the same reply for the request of an index, or both have none.
 fn have_same_reply(own: &AttemptView<'_>, its: &AttemptView<'_>, index: u16) -> bool
@@ -99,7 +113,7 @@ fn outcome_fault<'a>(
     }
 }
 
-/// The evidence of batch n, if the attempt by which replica e committed it begins at this byte and its outcome isn't
+/// The outcome of batch n, if the attempt by which replica e committed it begins at this byte and its outcome isn't
 /// that of the first that committed it.
 fn at_number<'a>(
     alloc: Global,
@@ -109,12 +123,13 @@ fn at_number<'a>(
     e: u8,
     n: u32,
     place: u64,
-) -> Result<Option<Evidence<'a>>, AllocError>
+) -> Result<Option<OtherOutcome<'a>>, AllocError>
     requires histories { histories.now ≡ section_histories trace.now }
     requires settled { settled.now ≡ settlings trace.now }
     requires there { e < length trace.now.sections }
     requires number { n ≤ length (settling trace.now e).numbers }
-    ensures told { IfOk result (λ x. IfSome x (TellsOutcome trace.now e place)) }
+    ensures told { IfOk result (λ x. IfSome x (λ other. TellsOutcome trace.now e place
+        (shown.Outcome other.attempt other.first other.first_at other.wrong))) }
     ensures none { IfOk result (λ x. IfNone x (HasThatOfFirst trace.now e place n)) }
 {
     let Some(own) = committed_attempt(&histories[e as usize], n) else {
@@ -127,7 +142,7 @@ fn at_number<'a>(
         return Ok(None);
     };
     match outcome_fault(alloc, trace, histories, settled, e, first, n, &own, &its) {
-        Ok(Some(wrong)) => Ok(Some(Evidence::Outcome {
+        Ok(Some(wrong)) => Ok(Some(OtherOutcome {
             attempt: told_attempt(&own),
             first,
             first_at: its.offset(),
@@ -162,8 +177,17 @@ pub fn outcome_evidence<'a>(
 {
     let count = settled[e as usize].committed();
     for n in 0..count {
-        if let Some(found) = at_number(alloc, trace, histories, settled, e, n + 1, place)? {
-            return Ok(found);
+        match at_number(alloc, trace, histories, settled, e, n + 1, place) {
+            Ok(None) => {}
+            Ok(Some(other)) => {
+                return Ok(Evidence::Outcome {
+                    attempt: other.attempt,
+                    first: other.first,
+                    first_at: other.first_at,
+                    wrong: other.wrong,
+                });
+            }
+            Err(why) => return Err(why),
         }
     }
     unreachable!()

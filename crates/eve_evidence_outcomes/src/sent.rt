@@ -11,6 +11,7 @@ ghost use Rattle.eve_views.specs.declared.fault.Code.TheVariants as code;
 ghost use Rattle.eve_history.specs.SectionHistory.{section_history, section_histories};
 ghost use Rattle.eve_agree.specs.SentReplies.{IsReplied, StandsInReplies};
 ghost use Rattle.eve_evidence_outcomes.specs.Sent.{NoneHas, IsFoundRequest, TellsSent, TellsReply};
+ghost use Rattle.eve_evidence.specs.declared.evidence.Evidence.TheVariants as shown;
 
 use crate::committed::committed_attempt;
 use eve_evidence::{Evidence, SentFault, ToldRequest};
@@ -117,16 +118,16 @@ fn wrong_with<'a>(
     })
 }
 
-/// The evidence of a reply sent, by its place from 0, if its frame begins at this byte and it was not committed.
+/// What is wrong with a reply sent, by its place from 0, if its frame begins at this byte and it was not committed.
 fn at_sent<'a>(
     trace: &Trace<'a>,
     histories: &[History<'_>],
     i: usize,
     place: u64,
-) -> Option<Evidence<'a>>
+) -> Option<SentFault<'a>>
     requires there { i < length trace.now.sent }
     requires histories { histories.now ≡ section_histories trace.now }
-    ensures told { IfSome result (TellsReply trace.now place) }
+    ensures told { IfSome result (λ wrong. TellsReply trace.now place (shown.Reply wrong)) }
     ensures none { IfNone result ((s : ℕ × SentValue) → slice_get (sent_at trace.now) i ≡ Some s
         → s.0 ≡ place → IsReplied trace.now s.1) }
 {
@@ -136,10 +137,7 @@ fn at_sent<'a>(
         return None;
     }
     let history = &histories[sent.replica() as usize];
-    match wrong_with(trace, history, &sent) {
-        Some(wrong) => Some(Evidence::Reply(wrong)),
-        None => None,
-    }
+    wrong_with(trace, history, &sent)
 }
 
 /// The evidence of a reply that was sent and not committed, by the byte of its frame.
@@ -155,8 +153,8 @@ pub fn reply_evidence<'a>(trace: &Trace<'a>, histories: &[History<'_>], place: u
     ensures told { TellsReply trace.now place result }
 {
     for i in 0..trace.sent_count() {
-        if let Some(found) = at_sent(trace, histories, i, place) {
-            return found;
+        if let Some(wrong) = at_sent(trace, histories, i, place) {
+            return Evidence::Reply(wrong);
         }
     }
     unreachable!()

@@ -12,6 +12,7 @@ ghost use Rattle.eve_agree.specs.Agreement.{first_to_commit, StandsInAgreement};
 ghost use Rattle.eve_evidence_outcomes.specs.Committed.{IsCommittedBy};
 ghost use Rattle.eve_evidence_outcomes.specs.Outcomes.{IsRowFoundApart, TellsStateFault, TellsState, HasThoseOfFirst};
 ghost use Rattle.eve_evidence_outcomes.specs.Outcomes.{IsRightAt};
+ghost use Rattle.eve_evidence.specs.declared.evidence.Evidence.TheVariants as shown;
 
 use crate::apart::{RowApart, first_apart};
 use crate::balances::balances_to;
@@ -141,7 +142,7 @@ fn taken_over<'a>(history: &History<'a>, n: u32) -> Option<TransferView<'a>>
     }
 }
 
-/// The evidence of the state of number n, if replica e took it over at this byte and it isn't the committed one.
+/// What is wrong with the state of number n, if replica e took it over at this byte and it isn't the committed one.
 fn at_number<'a>(
     alloc: Global,
     trace: &Trace<'a>,
@@ -150,13 +151,13 @@ fn at_number<'a>(
     e: u8,
     n: u32,
     place: u64,
-) -> Result<Option<Evidence<'a>>, AllocError>
+) -> Result<Option<StateFault<'a>>, AllocError>
     requires histories { histories.now ≡ section_histories trace.now }
     requires settled { settled.now ≡ settlings trace.now }
     requires there { e < length trace.now.sections }
     requires one { 1 ≤ n }
     requires number { n ≤ length (settling trace.now e).numbers }
-    ensures told { IfOk result (λ x. IfSome x (TellsState trace.now e place)) }
+    ensures told { IfOk result (λ x. IfSome x (λ wrong. TellsState trace.now e place (shown.TransferState wrong))) }
     ensures none { IfOk result (λ x. IfNone x (IsRightAt trace.now e place n)) }
 {
     numbers_are_reached();
@@ -170,11 +171,7 @@ fn at_number<'a>(
     if state.offset() != place {
         return Ok(None);
     }
-    match state_fault(alloc, trace, histories, settled, e, n) {
-        Ok(Some(wrong)) => Ok(Some(Evidence::TransferState(wrong))),
-        Ok(None) => Ok(None),
-        Err(why) => Err(why),
-    }
+    state_fault(alloc, trace, histories, settled, e, n)
 }
 
 /// The evidence of a state that was taken over and isn't the one that was committed, by the replica's number from 0 and
@@ -201,8 +198,10 @@ pub fn state_evidence<'a>(
 {
     let count = settled[e as usize].committed();
     for n in 0..count {
-        if let Some(found) = at_number(alloc, trace, histories, settled, e, n + 1, place)? {
-            return Ok(found);
+        match at_number(alloc, trace, histories, settled, e, n + 1, place) {
+            Ok(None) => {}
+            Ok(Some(wrong)) => return Ok(Evidence::TransferState(wrong)),
+            Err(why) => return Err(why),
         }
     }
     unreachable!()

@@ -9,12 +9,13 @@ ghost use Rattle.eve_chains.specs.Committed.{balances_to};
 ghost use Rattle.eve_chains.specs.Settling.{settling};
 ghost use Rattle.eve_agree.specs.DueTokens.{StandsInTokens};
 ghost use Rattle.eve_agree.specs.Stretches.{AreOfSection};
+ghost use Rattle.eve_evidence.specs.declared.evidence.Evidence.TheVariants as shown;
 ghost use Rattle.eve_evidence_outcomes.specs.Token.{TellsToken, IsDueAt};
 
 use crate::balances::balances_to;
 use crate::committed::committed_attempt;
 use eve_chains::Settled;
-use eve_evidence::{Evidence, told_attempt};
+use eve_evidence::{Evidence, ToldAttempt, told_attempt};
 use eve_frames::AttemptView;
 use eve_history::History;
 use eve_history::laws::numbers_are_reached;
@@ -22,6 +23,17 @@ use eve_smallbank::Reply;
 use eve_token::token;
 use eve_views::Trace;
 use std::alloc::{AllocError, Global};
+
+/// A token that isn't due.
+#[derive(Clone, Copy)]
+struct OtherToken<'a> {
+    /// The attempt that has it.
+    attempt: ToldAttempt,
+    /// The token.
+    found: &'a [u8],
+    /// The one that is due.
+    due: [u8; 32],
+}
 
 /// The replies of an attempt, by request index.
 fn replies_of(alloc: Global, attempt: &AttemptView<'_>) -> Result<Vec<Reply>, AllocError>
@@ -55,8 +67,7 @@ fn token_after(
     Ok(token(trace.head().version, attempt.seq(), &balances, &replies))
 }
 
-/// The evidence of the token of batch n, if the attempt by which the replica committed it begins at this byte and its
-/// token isn't due.
+/// The token of batch n, if the attempt by which the replica committed it begins at this byte and its token isn't due.
 fn at_number<'a>(
     alloc: Global,
     trace: &Trace<'a>,
@@ -64,10 +75,11 @@ fn at_number<'a>(
     settled: &Settled<'_>,
     n: u32,
     place: u64,
-) -> Result<Option<Evidence<'a>>, AllocError>
+) -> Result<Option<OtherToken<'a>>, AllocError>
     requires section { AreOfSection trace.now history.now settled.now }
     requires there { n ≤ length settled.now.numbers }
-    ensures told { IfOk result (λ x. IfSome x (TellsToken trace.now history.now.replica place)) }
+    ensures told { IfOk result (λ x. IfSome x (λ other. TellsToken trace.now history.now.replica place
+        (shown.Token other.attempt other.found other.due))) }
     ensures none { IfOk result (λ x. IfNone x (IsDueAt trace.now history.now.replica place n)) }
 {
     numbers_are_reached();
@@ -83,7 +95,7 @@ fn at_number<'a>(
     if found == due.as_slice() {
         return Ok(None);
     }
-    Ok(Some(Evidence::Token {
+    Ok(Some(OtherToken {
         attempt: told_attempt(&attempt),
         found,
         due,
@@ -108,8 +120,16 @@ pub fn token_evidence<'a>(
     ensures told { IfOk result (TellsToken trace.now history.now.replica place) }
 {
     for n in 0..settled.committed() {
-        if let Some(found) = at_number(alloc, trace, history, settled, n + 1, place)? {
-            return Ok(found);
+        match at_number(alloc, trace, history, settled, n + 1, place) {
+            Ok(None) => {}
+            Ok(Some(other)) => {
+                return Ok(Evidence::Token {
+                    attempt: other.attempt,
+                    found: other.found,
+                    due: other.due,
+                });
+            }
+            Err(why) => return Err(why),
         }
     }
     unreachable!()

@@ -13,8 +13,8 @@ pub loop-step-preserved : goal.loop-step-preserved
 loop-step-preserved c =
     let t = c.args.trace.now in
     let some = c.in-Some.ensures.some in
-    let none = subst (λ o. IfNone o (AtNone c.args.code t c.args.place c.in-Some.step)) c.in_default-2.is
-    c.in_ok-found.ensures.none in
+    let none = subst (λ o. IfNone o (AtNone c.args.code t c.args.place c.in-Some.step)) c.in-Ok-None.field-0-is
+    c.in-Ok-None.ensures.none in
     goes_on c.args.code t c.args.e c.args.place some.0 c.next.new.self
     (subst (Ahead c.args.code t c.args.e c.args.place) some.1 c.loop-step.invariant) (none some.0 some.2)
 

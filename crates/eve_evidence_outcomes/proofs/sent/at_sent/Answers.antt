@@ -1,12 +1,15 @@
-use Rattle.std.proofs.Common.{◌≡◌, ℕ, List, length, ap, ◌∙◌, arith}
+use Rattle.std.proofs.Common.{◌≡◌, ℕ, List, length, sym, ap, subst, ◌∙◌, arith}
+use Rattle.std.proofs.lemmas.Option.{same_Some}
 use Rattle.eve_grammar.specs.Trace.{Sent}
 use Rattle.eve_grammar.specs.Spelling.{sent_at}
 use Rattle.eve_frames.specs.Views.{sent_in}
 use Rattle.eve_history.specs.SectionHistory.{SectionHistory}
 use Rattle.eve_history.proofs.Rights.{as_many_told}
 use Rattle.eve_agree.proofs.Sending.{sent_there, is_possible, told_as}
-use Rattle.eve_evidence.proofs.Lists.{place_at}
-use Rattle.eve_evidence_outcomes.specs.Sent.{TellsSent}
+use Rattle.eve_agree.specs.SentReplies.{IsReplied}
+use Rattle.eve_evidence.specs.declared.evidence.Evidence.TheVariants as shown
+use Rattle.eve_evidence.proofs.Lists.{place_at, if_some, if_none_weaker}
+use Rattle.eve_evidence_outcomes.specs.Sent.{TellsSent, TellsReply}
 use Rattle.eve_evidence_outcomes.proofs.sent.at_sent.Goals as goal
 
 pub bounds-histories-replica : goal.bounds-histories-replica
@@ -43,10 +46,19 @@ wrong_with-requires-clause-there c =
     (is_possible t c.args.i s c.recall_limits.ensures
     (sent_there t c.args.i c.sent-sent.result.offset s c.sent-sent.ensures.says)).there
 
-pub returns-in-Some-clause-told : goal.returns-in-Some-clause-told
-returns-in-Some-clause-told c =
+pub returns-clause-told : goal.returns-clause-told
+returns-clause-told c =
     let t = c.args.trace.now in
     let y : ℕ × Sent = (c.sent-sent.result.offset, sent_in c.sent-sent.result.bytes.now) in
     let here : y.0 ≡ c.args.place = omega (arith, c.if-offset-place.false, c.offset.ensures) in
-    place_at (λ _ z. (z.0 ≡ c.args.place) × TellsSent t z.1 c.in-Some.wrong) (sent_at t) c.args.i y
-    c.sent-sent.ensures.says (here, c.in-Some.ensures.told)
+    if_some c.wrong_with.result (TellsSent t y.1) (λ wrong. TellsReply t c.args.place (shown.Reply wrong))
+    (λ wrong told. place_at (λ _ z. (z.0 ≡ c.args.place) × TellsSent t z.1 wrong) (sent_at t) c.args.i y
+    c.sent-sent.ensures.says (here, told)) c.wrong_with.ensures.told
+
+pub returns-clause-none : goal.returns-clause-none
+returns-clause-none c =
+    let t = c.args.trace.now in
+    let y : ℕ × Sent = (c.sent-sent.result.offset, sent_in c.sent-sent.result.bytes.now) in
+    if_none_weaker c.wrong_with.result (IsReplied t y.1) _
+    (λ replied s got at. subst (λ (z : ℕ × Sent). IsReplied t z.1) (same_Some y s (sym c.sent-sent.ensures.says ∙ got))
+    replied) c.wrong_with.ensures.none
