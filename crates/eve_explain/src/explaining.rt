@@ -9,7 +9,7 @@ ghost use Rattle.eve_audit.specs.declared.verdict.Verdict.TheVariants.{Yes, No};
 ghost use Rattle.eve_audit.specs.Verdict.{IsFirst, IsVerdict, SpellsAudited};
 ghost use Rattle.eve_audit.specs.Where.{NamesItsSection};
 ghost use Rattle.eve_grammar.specs.Trace.{Trace as TraceValue};
-ghost use Rattle.eve_history.specs.SectionHistory.{names_of};
+ghost use Rattle.eve_history.specs.SectionHistory.{names_of, section_histories};
 ghost use Rattle.std.specs.Prelude.{Some, IsTrue};
 ghost use Rattle.eve_evidence.specs.Section.{TellsAlong};
 ghost use Rattle.eve_explain.specs.Explained.{is_told_along, verdict_in};
@@ -23,7 +23,7 @@ use crate::outcomes::{
 use crate::phase::{is_of_majority, is_of_orders, is_told_along};
 use crate::votes::voted_again;
 use eve_accounts::Names;
-use eve_audit::{AuditFault, WholeVerdict, audit_whole};
+use eve_audit::{AcceptedTrace, AuditFault, WholeVerdict, audit_whole};
 use eve_evidence::laws::faults_stand_along_the_section;
 use eve_evidence::{Evidence, section_evidence};
 use eve_evidence_form::{form_evidence, trace_evidence};
@@ -130,6 +130,39 @@ fn evidence_of<'a>(
     }
 }
 
+/// A no with the evidence of its fault.
+fn explained_no<'a>(
+    alloc: Global,
+    bytes: &'a [u8],
+    fault: &Fault,
+    random: RandomState,
+) -> Result<Explained<'a>, AuditFault>
+    requires { IsFirst bytes.now fault.now }
+    ensures no { IfOk result (λ x. verdict_in x ≡ No fault.now) }
+    ensures explained { IfOk result (IsExplained bytes.now) }
+{
+    match evidence_of(alloc, bytes, fault, random) {
+        Ok(evidence) => Ok(Explained::No(*fault, evidence)),
+        Err(AllocError) => Err(AuditFault::Memory),
+    }
+}
+
+/// A yes with what the trace has, in numbers.
+fn explained_yes<'a>(
+    alloc: Global,
+    accepted: &AcceptedTrace<'_>,
+) -> Result<Explained<'a>, AuditFault>
+    requires { accepted.now.histories.items ≡ section_histories accepted.now.trace }
+    ensures yes { IfOk result (λ x. verdict_in x ≡ Yes accepted.now.summary) }
+    ensures explained { (bytes : List ℕ) → Spells bytes accepted.now.trace → IfOk result (IsExplained bytes) }
+{
+    bytes_spell_one_trace();
+    match counts(alloc, &accepted.trace, &accepted.histories) {
+        Ok(counts) => Ok(Explained::Yes(accepted.summary, counts)),
+        Err(AllocError) => Err(AuditFault::Memory),
+    }
+}
+
 /// The verdict on the bytes of a trace, as `audit` gives it. For a yes it has what the trace has, in numbers; for a no
 /// what shows it: what is wrong at the frame that the fault names, what was due there, and what says so.
 ///
@@ -150,18 +183,9 @@ pub fn explain<'a, R: Threads + Wait + Sync, G: Gate>(
     ensures replica { IfOk result (λ x. (f : FaultValue) → verdict_in x ≡ No f → NamesItsSection bytes.now f) }
     ensures explained { IfOk result (IsExplained bytes.now) }
 {
-    bytes_spell_one_trace();
     match audit_whole(rt, alloc, bytes, workers, random, gate) {
-        Ok(WholeVerdict::Yes(accepted)) => {
-            match counts(alloc, &accepted.trace, &accepted.histories) {
-                Ok(counts) => Ok(Explained::Yes(accepted.summary, counts)),
-                Err(AllocError) => Err(AuditFault::Memory),
-            }
-        }
-        Ok(WholeVerdict::No(fault)) => match evidence_of(alloc, bytes, &fault, random) {
-            Ok(evidence) => Ok(Explained::No(fault, evidence)),
-            Err(AllocError) => Err(AuditFault::Memory),
-        },
+        Ok(WholeVerdict::Yes(accepted)) => explained_yes(alloc, &accepted),
+        Ok(WholeVerdict::No(fault)) => explained_no(alloc, bytes, &fault, random),
         Err(why) => Err(why),
     }
 }
