@@ -1,6 +1,7 @@
 //! Why a request isn't executed.
 
 ghost use Rattle.std.specs.Prelude.{◌≡◌};
+ghost use Rattle.std.specs.Option.{option_or};
 ghost use Rattle.eve_floor.specs.Applying.{told};
 ghost use Rattle.eve_floor.specs.declared.fault.ExecFault.TheVariants as fault;
 
@@ -8,7 +9,7 @@ use eve_stamps::StampFault;
 use std::alloc::AllocError;
 
 /// Why an execution notes no record. Of these `flush` returns Full alone.
-#[derive(Clone, Copy, Debug, PartialEq, Eq)]
+#[derive(Clone, Copy)]
 pub enum ExecFault {
     /// A record waits already, and nothing was done; or the queue was full at one moment, and the record waits.
     Full,
@@ -22,6 +23,15 @@ pub enum ExecFault {
     Worn,
     /// Memory ran out.
     Memory,
+}
+
+impl ExecFault {
+    /// The fault that is told of two workers: that of the lower one, or where it has none, that of the higher one.
+    pub fn first_of(lower: Option<ExecFault>, higher: Option<ExecFault>) -> Option<ExecFault>
+        ensures { result ≡ option_or lower higher }
+    {
+        lower.or(higher)
+    }
 }
 
 impl From<StampFault> for ExecFault {

@@ -343,7 +343,7 @@ fn dismiss(
 {
     let mut told = first;
     while let Some(member) = members.pop() {
-        told = told.or(member.fault);
+        told = ExecFault::first_of(told, member.fault);
         let (tick, made) = leavings_of(tickets, member);
         ticks.push_reserved(tick);
         pool.absorb(made);

@@ -19,7 +19,7 @@ loop-member-preserved c =
           c.loop-member.invariant.1 c.leavings_of-tick.ensures c.push_reserved.ensures.items,
       grind (arith, common_steps),
       grind (arith, common_steps),
-      ap (λ (x : Option ExecFault). option_or x (lowest_fault c.pop.new.self.items)) c.or-told.ensures
+      ap (λ (x : Option ExecFault). option_or x (lowest_fault c.pop.new.self.items)) c.first_of-told.ensures
           ∙ asked_last c.loop-member.told c.loop-member.members.items c.pop.new.self.items c.in-Some.member
           c.in-Some.ensures.items ∙ c.loop-member.invariant.4,
     )
