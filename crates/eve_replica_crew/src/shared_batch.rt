@@ -39,7 +39,7 @@ pub(crate) fn starts_of(alloc: Global, sizes: &[u16], count: u16) -> Result<Vec<
             start = index;
             end = end.saturating_add(rest.next().copied().unwrap_or(0));
         }
-        starts.push(start)?;
+        starts.push_reserved(start);
     }
     Ok(starts)
 }
