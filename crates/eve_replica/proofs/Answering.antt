@@ -10,8 +10,7 @@ use Rattle.eve_grammar.specs.Trace.{Asked, Batch, Attempt, Attempts, Commit, Com
 use Rattle.eve_grammar.specs.Trace.{TakesOver}
 use Rattle.eve_grammar.specs.Trace.{Transfer}
 use Rattle.eve_write.specs.declared.step.Step as code
-use Rattle.eve_write.specs.Data.{section, step}
-use Rattle.eve_replica.specs.declared.server.Server.{Server}
+use Rattle.eve_write.specs.Data.{step}
 use Rattle.eve_replica.specs.Sending.{answered, answers_of, requests_there, requests_numbered, sent_along, sent_from_on}
 
 -- ---- the replies of an attempt
@@ -198,10 +197,3 @@ step_at steps i item x there is same =
 pub first_removed : {A : Type 0} (xs : List A) (x : A) → 0 < length xs → x ≡ get_or xs 0 x → xs ≡ x ∷ remove xs 0
 first_removed [] x some is = absurd (omega arith)
 first_removed (y ∷ ys) x some is = ap (λ z. z ∷ ys) (sym is)
-
--- the section of the replica at a place
-pub section_there : (servers : List Server) (place : ℕ) → place < length servers
-    → (steps : List Step) × (slice_get (map (λ s. section s.steps) servers) place ≡ Some steps)
-section_there [] place below = absurd (omega arith)
-section_there (s ∷ servers) zero below = (section s.steps, refl)
-section_there (s ∷ servers) (suc place) below = section_there servers place (omega arith)

@@ -7,10 +7,9 @@ ghost use Rattle.eve_replica.specs.declared.fault.RunFault.TheVariants as run;
 
 use eve_floor::ExecFault;
 use std::alloc::AllocError;
-use thiserror::Error;
 
 /// Why a batch was not attempted. Every fault but `Broken` breaks the replica.
-#[derive(Clone, Copy, Debug, PartialEq, Eq)]
+#[derive(Clone, Copy, PartialEq, Eq)]
 pub enum AttemptFault {
     /// Memory ran out.
     Memory,
@@ -31,7 +30,7 @@ pub enum AttemptFault {
 }
 
 /// Why records were not closed to an attempt.
-#[derive(Clone, Copy, Debug, PartialEq, Eq)]
+#[derive(Clone, Copy, PartialEq, Eq)]
 pub enum CloseFault {
     /// Memory ran out.
     Memory,
@@ -42,7 +41,7 @@ pub enum CloseFault {
 }
 
 /// Why nothing was committed.
-#[derive(Clone, Copy, Debug, PartialEq, Eq)]
+#[derive(Clone, Copy, PartialEq, Eq)]
 pub enum CommitFault {
     /// No attempt is open, or the first open one is of another batch.
     NotOpen,
@@ -51,7 +50,7 @@ pub enum CommitFault {
 }
 
 /// Why no state was taken over.
-#[derive(Clone, Copy, Debug, PartialEq, Eq)]
+#[derive(Clone, Copy, PartialEq, Eq)]
 pub enum TransferFault {
     /// Its batch isn't later than the last committed one, or its view is an earlier one than the replica's.
     NotDue,
@@ -60,16 +59,13 @@ pub enum TransferFault {
 }
 
 /// Why a workload was not run.
-#[derive(Clone, Copy, Debug, Error)]
+#[derive(Clone, Copy)]
 pub enum RunFault {
     /// Memory ran out.
-    #[error("out of memory")]
     Memory,
     /// A replica failed otherwise, or some batch wasn't committed after two windows for each batch.
-    #[error("the run is broken")]
     Broken,
     /// In format 2, the states that replicas took over have more bytes than a trace may have.
-    #[error("the trace is too long")]
     TooLong,
 }
 

@@ -1,10 +1,10 @@
 //! The replies that replicas send.
 
-ghost use Rattle.std.specs.Prelude.{◌≡◌, ◌≤◌, ◌<◌, ◌++◌, ◌∷◌, [], map, slice_get, Some, IfOk, IsTrue, List, OnOk};
+ghost use Rattle.std.specs.Prelude.{◌≡◌, ◌≤◌, ◌<◌, ◌++◌, ◌∷◌, [], map, IfOk, IsTrue, OnOk};
 ghost use Rattle.std.specs.Prelude.{◌+◌, length, vec_len, vec_capacity};
-ghost use Rattle.eve_grammar.specs.Trace.{Step as StepValue};
 ghost use Rattle.eve_grammar.specs.Limits.{is_sent};
 ghost use Rattle.eve_write.specs.Data.{asked, attempt as plain_attempt, batch, section, sent as plain};
+ghost use Rattle.eve_write.specs.Data.{step as plain_step};
 ghost use Rattle.eve_replica.specs.Sending.{answered, answers_of, sent_along, sent_from_on};
 ghost use Rattle.eve_replica.specs.Serving.{AreReplies};
 
@@ -30,7 +30,15 @@ pub(crate) fn replies_of(
 {
     let mut replies = Vec::with_capacity(alloc, count_replies(servers))?;
     for place in 0..servers.len() {
-        send_section(alloc, &mut replies, place as u8, servers, batches)?;
+        let steps = servers[place].steps.as_slice();
+        send_section(
+            alloc,
+            &mut replies,
+            place as u8,
+            servers.len(),
+            steps,
+            batches,
+        )?;
     }
     Ok(replies)
 }
@@ -49,30 +57,29 @@ fn count_replies(servers: &[Server]) -> usize {
     count
 }
 
-/// The replies to each batch that the replica at this place committed.
+/// The replies to each batch that the replica at this place committed by these steps.
 fn send_section(
     alloc: Global,
     replies: &mut Vec<SentData>,
     place: u8,
-    servers: &[Server],
+    replicas: usize,
+    steps: &[Step],
     batches: &[MixedBatch],
 ) -> Result<(), AllocError>
-    requires there { place < length servers.now }
-    requires right { AreReplies (length servers.now) (length batches.now) replies.old.items }
-    ensures limits { OnOk result (AreReplies (length servers.now) (length batches.now) replies.new.items) }
-    ensures sent { (steps : List StepValue) → slice_get (map (λ s. section s.steps) servers.now) place ≡ Some steps
-        → OnOk result (map plain replies.new.items ≡ map plain replies.old.items
-        ++ sent_along (map (λ m. batch m.batch) batches.now) place [] steps) }
+    requires there { place < replicas }
+    requires right { AreReplies replicas (length batches.now) replies.old.items }
+    ensures limits { OnOk result (AreReplies replicas (length batches.now) replies.new.items) }
+    ensures sent { OnOk result (map plain replies.new.items ≡ map plain replies.old.items
+        ++ sent_along (map (λ m. batch m.batch) batches.now) place [] (map plain_step steps.now)) }
 {
     let mut opened: Vec<&AttemptData> = Vec::new(alloc);
-    let steps = servers[place as usize].steps.as_slice();
     for step in steps {
         match step {
             Step::Attempt(attempt) => opened.push(attempt)?,
             Step::Commit(_) => {
                 if !opened.is_empty() {
                     let attempt = opened.remove(0);
-                    send_attempt(replies, place, servers.len(), attempt, batches)?;
+                    send_attempt(replies, place, replicas, attempt, batches)?;
                 }
             }
             Step::Rollback(_) => opened.clear(),

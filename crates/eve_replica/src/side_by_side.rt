@@ -47,10 +47,14 @@ pub(crate) fn attempt_each<R: Threads + Wait + Sync, G: Gate>(
 fn threads_for(servers: &[Server], window: &[MixedBatch]) -> usize
     ensures { 1 ≤ result }
 {
-    if servers.len() < 2 || work_of(&servers[0].replica, window) < LEAST_WORK {
+    if servers.len() < 2 {
         return 1;
     }
-    match servers[0].replica.workers() {
+    let first = &servers[0].replica;
+    if work_of(first, window) < LEAST_WORK {
+        return 1;
+    }
+    match first.workers() {
         1 => 8,
         2 | 3 => 4,
         _ => 2,

@@ -1,14 +1,11 @@
-use Rattle.std.proofs.Common.{rules, ◌≡◌, ◌+◌, ◌<◌, ◌∷◌, ◌++◌, [], List, map, drop, length, slice_get, option_map, Some}
+use Rattle.std.proofs.Common.{rules, ◌≡◌, ◌+◌, ◌<◌, ◌∷◌, ◌++◌, [], List, map, drop, length}
 use Rattle.std.proofs.Common.{refl}
 use Rattle.std.proofs.Common.{sym, ap, ◌∙◌, subst, arith}
 use Rattle.std.proofs.lemmas.List.{map-append, length-map, nil_from_length}
-use Rattle.std.proofs.lemmas.Option.{slice_get-map, slice_get_read, same_Some}
 use Rattle.std.specs.Arc.{arc_value}
 use Rattle.eve_grammar.specs.Bodies.{transfer}
-use Rattle.eve_grammar.specs.Trace.{Batch, Step, Attempts, Commits, RollsBack, TakesOver}
-use Rattle.eve_write.specs.Data.{attempt, batch, commit, rollback, section, sent, step}
-use Rattle.eve_replica.specs.declared.server.Server.{Server}
-use Rattle.eve_replica.specs.Sending.{sent_along}
+use Rattle.eve_grammar.specs.Trace.{Batch, Attempts, Commits, RollsBack, TakesOver}
+use Rattle.eve_write.specs.Data.{attempt, batch, commit, rollback, sent, step}
 use Rattle.eve_replica.specs.Serving.{AreReplies}
 use Rattle.eve_replica.proofs.Answering.{attempt_sent, commit_sent, empty_commit_sent, rollback_sent, section_sent}
 use Rattle.eve_replica.proofs.Answering.{transfer_sent}
@@ -21,7 +18,7 @@ use Rattle.eve_replica.proofs.sending.send_section.Goals.{in-Commit+else-not-is_
 pub loop-step-preserved : goal.loop-step-preserved
 loop-step-preserved c =
     let batches : List Batch = map (λ m. batch m.batch) c.args.batches.now in
-    let steps = c.as_slice-steps.result.now in
+    let steps = c.args.steps.now in
     let i = c.loop-step.step-index in
     let was = c.loop-step.invariant in
     let before = map sent c.loop-step.replies.items in
@@ -31,7 +28,7 @@ loop-step-preserved c =
       | in-Attempt+in_ok-push-in-Attempt w ↦
           let a = attempt w.in-Attempt.attempt in
           record {
-            limits = subst (λ v. AreReplies (length c.args.servers.now) (length c.args.batches.now) v.items)
+            limits = subst (λ v. AreReplies c.args.replicas (length c.args.batches.now) v.items)
                 (sym w.replies-is) was.limits;
             sent = along_is batches place before _
                 (map (λ x. attempt x.now) c.loop-step.opened.items ++ a ∷ []) _ rest _
@@ -50,7 +47,7 @@ loop-step-preserved c =
           let d = commit w.in-Commit.field-0 in
           let some : 0 < length c.loop-step.opened.items = search rules in
           record {
-            limits = subst (λ v. AreReplies (length c.args.servers.now) (length c.args.batches.now) v.items)
+            limits = subst (λ v. AreReplies c.args.replicas (length c.args.batches.now) v.items)
                 (sym w.replies-is) w.in_ok-send_attempt-in-Commit.ensures.limits;
             sent = along_is batches place (map sent w.send_attempt.new.replies.items) _
                 (map (λ x. attempt x.now) w.remove-attempt.new.self.items) _ rest _
@@ -73,7 +70,7 @@ loop-step-preserved c =
           let empty : length c.loop-step.opened.items ≡ 0 = search rules in
           let none = nil_from_length c.loop-step.opened.items empty in
           record {
-            limits = subst (λ v. AreReplies (length c.args.servers.now) (length c.args.batches.now) v.items)
+            limits = subst (λ v. AreReplies c.args.replicas (length c.args.batches.now) v.items)
                 (sym w.replies-is) was.limits;
             sent = along_is batches place before _ [] _ rest _ (ap (λ v. map sent v.items) w.replies-is)
                 (ap (λ v. map (λ x. attempt x.now) v.items) w.opened-is ∙ ap (map (λ x. attempt x.now)) none)
@@ -86,7 +83,7 @@ loop-step-preserved c =
       | in-Rollback w ↦
           let r = rollback w.in-Rollback.field-0 in
           record {
-            limits = subst (λ v. AreReplies (length c.args.servers.now) (length c.args.batches.now) v.items)
+            limits = subst (λ v. AreReplies c.args.replicas (length c.args.batches.now) v.items)
                 (sym w.replies-is) was.limits;
             sent = along_is batches place before _ [] _ rest _ (ap (λ v. map sent v.items) w.replies-is)
                 (ap (λ v. map (λ x. attempt x.now) v.items) w.opened-is
@@ -101,7 +98,7 @@ loop-step-preserved c =
           let x = transfer (arc_value w.in-Transfer.field-0) in
           let none : c.match-step.opened.items ≡ [] = cc in
           record {
-            limits = subst (λ v. AreReplies (length c.args.servers.now) (length c.args.batches.now) v.items)
+            limits = subst (λ v. AreReplies c.args.replicas (length c.args.batches.now) v.items)
                 (sym w.replies-is) was.limits;
             sent = along_is batches place before _ [] _ rest _ (ap (λ v. map sent v.items) w.replies-is)
                 (ap (map (λ x. attempt x.now)) none)
@@ -114,19 +111,8 @@ loop-step-preserved c =
     ]
 
 pub returns-clause-sent : goal.returns-clause-sent
-returns-clause-sent c = λ steps there.
-    let batches : List Batch = map (λ m. batch m.batch) c.args.batches.now in
-    let servers : List Server = c.args.servers.now in
-    let item : Server = c.index-servers-place.result in
-    let own : slice_get (map (λ s. section s.steps) servers) c.args.place ≡ Some (section item.steps) =
-    slice_get-map (λ s. section s.steps) servers c.args.place
-    ∙ ap (option_map (λ s. section s.steps)) (slice_get_read servers (length servers) c.args.place item refl
-    c.requires.there c.index-servers-place.is) in
-    let same : map step c.as_slice-steps.result.now ≡ steps =
-    ap (map step) c.as_slice-steps.ensures.value ∙ ap (λ (s : Server). section s.steps) (sym c.index-servers-place.is)
-    ∙ same_Some (section item.steps) steps (sym own ∙ there) in
-    subst (λ (ss : List Step). map sent c.loop-step.replies.items
-    ≡ map sent c.args.replies.now.items ++ sent_along batches c.args.place [] ss) same
-    (section_sent batches c.args.place (map (λ x. attempt x.now) c.loop-step.opened.items)
-    (map step c.as_slice-steps.result.now) c.loop-step.step-index (map sent c.loop-step.replies.items) _
-    (omega (arith, length-map c.as_slice-steps.result.now step)) c.loop-step.invariant.sent)
+returns-clause-sent c =
+    section_sent (map (λ m. batch m.batch) c.args.batches.now) c.args.place
+    (map (λ x. attempt x.now) c.loop-step.opened.items) (map step c.args.steps.now) c.loop-step.step-index
+    (map sent c.loop-step.replies.items) _ (omega (arith, length-map c.args.steps.now step))
+    c.loop-step.invariant.sent

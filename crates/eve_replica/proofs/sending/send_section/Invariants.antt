@@ -6,7 +6,7 @@ use Rattle.eve_replica.proofs.sending.send_section.Given as goal
 
 abbrev pub invariant-loop-step : goal.invariant-loop-step
 invariant-loop-step l = record {
-  limits : AreReplies (length l.servers) (length l.batches) l.replies.items;
+  limits : AreReplies l.replicas (length l.batches) l.replies.items;
   sent : map sent l.replies.items
       ++ sent_along (map (λ m. batch m.batch) l.batches) l.place (map (λ a. attempt a.now) l.opened.items)
       (drop l.step-index (map step l.steps))
