@@ -68,12 +68,15 @@ fn replay_line(rt: &HostRuntime, keys: RandomState, line: &str, said: &mut Text)
 
 /// Replays the trace of these bytes, by the workload of this text.
 fn replay_files(alloc: Global, asked: Asked, trace: &[u8], workload: &[u8], said: &mut Text) {
-    let trace = Trace::read(alloc, trace);
-    let workload = Workload::read(alloc, workload, 1);
-    match (&trace, &workload) {
-        (Ok(trace), Ok(workload)) => replay_all(alloc, asked, trace, workload, said),
-        (Err(CheckFault::Memory), _) | (_, Err(WorkloadFault::Memory)) => said.refused(),
-        _ => said.words(" no trace, or no workload"),
+    let trace = match Trace::read(alloc, trace) {
+        Ok(trace) => trace,
+        Err(CheckFault::Memory) => return said.refused(),
+        Err(CheckFault::Found(_)) => return said.words(" no trace"),
+    };
+    match Workload::read(alloc, workload, 1) {
+        Ok(workload) => replay_all(alloc, asked, &trace, &workload, said),
+        Err(WorkloadFault::Memory) => said.refused(),
+        Err(WorkloadFault::Line(_)) => said.words(" no workload"),
     }
 }
 

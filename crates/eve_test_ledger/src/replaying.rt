@@ -261,8 +261,7 @@ fn close_records(
         return NOTHING;
     };
     match close_due(alloc, ledger, batch, names, records) {
-        Ok(attempt) if ledger.version() == 2 => told_by_tree(&attempt, ledger.balances()),
-        Ok(attempt) => told_of(alloc, &attempt, framed, said),
+        Ok(attempt) => told_of(alloc, ledger, &attempt, framed, said),
         Err(why) => refused(why, before.is_of(ledger), said),
     }
 }
@@ -279,11 +278,19 @@ fn refused(why: CloseFault, is_as_before: bool, said: &mut Text) -> &'static str
     }
 }
 
-/// What is told of an attempt, beside its frames.
-fn told_of(alloc: Global, attempt: &AttemptData, framed: Framed, said: &mut Text) -> &'static str
+/// What is told of an attempt, beside its frames; in version 2, beside a token that is made from nothing.
+fn told_of(
+    alloc: Global,
+    ledger: &Ledger,
+    attempt: &AttemptData,
+    framed: Framed,
+    said: &mut Text,
+) -> &'static str
     requires { IsTrue (is_attempt (plain_attempt attempt.now)) }
 {
-    if is_attempt_of(alloc, attempt, framed, said) {
+    if ledger.version() == 2 {
+        told_by_tree(attempt, ledger.balances())
+    } else if is_attempt_of(alloc, attempt, framed, said) {
         "as written"
     } else if has_token_of(attempt, framed.attempt) {
         "with its token"

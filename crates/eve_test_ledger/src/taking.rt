@@ -16,7 +16,10 @@ use std::alloc::{AllocError, Global};
 pub fn replay_beside(case: &Case, section: u8, said: &mut Text)
     requires { section < length case.now.trace.now.sections }
 {
-    let (Ok(mut first), Ok(mut second)) = (ledger_of(case), ledger_of(case)) else {
+    let Ok(mut first) = ledger_of(case) else {
+        return said.refused();
+    };
+    let Ok(mut second) = ledger_of(case) else {
         return said.refused();
     };
     let mut steps = case.trace.section(section);
@@ -25,7 +28,7 @@ pub fn replay_beside(case: &Case, section: u8, said: &mut Text)
             break;
         };
         replay_step(case, &mut first, &step, said);
-        match step {
+        match &step {
             Step::Commit(_) => take_over(case.alloc, &first, &mut second, said),
             _ => replay_step(case, &mut second, &step, said),
         }
@@ -39,7 +42,7 @@ fn take_over(alloc: Global, first: &Ledger, second: &mut Ledger, said: &mut Text
     let Some(rows) = said.made(state_of(alloc, first)) else {
         return;
     };
-    let state = TransferData {
+    let mut state = TransferData {
         seq: first.committed(),
         view: first.view(),
         rows,
@@ -55,12 +58,9 @@ fn take_over(alloc: Global, first: &Ledger, second: &mut Ledger, said: &mut Text
         said.words(" not due again,");
     }
     if state.view > 0 && state.seq < u32::MAX {
-        let earlier = TransferData {
-            seq: state.seq + 1,
-            view: state.view - 1,
-            rows: state.rows,
-        };
-        if is_refused(alloc, second, &earlier, said) {
+        state.seq += 1;
+        state.view -= 1;
+        if is_refused(alloc, second, &state, said) {
             said.words(" of an earlier view not due,");
         }
     }
