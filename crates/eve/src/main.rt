@@ -1,13 +1,13 @@
 //! The program `eve`: `serve` over the arguments and the streams of the process.
 #![tactic(auto)]
 
-use eve_streams::{Buffered, Sink, SinkOf, Source, SourceOf};
+use eve_streams::{Buffered, Sink, SinkOf, SourceOf};
 use eve_tool::{ToolFault, file_named, serve, stop};
 use std::alloc::{AllocError, Global};
 use std::fs::File;
+use std::io::{Read, Stdin};
 use std::process::ExitCode;
 use std::random::RandomSource;
-use std::rt::Files;
 use std::sync::Wait;
 use std::thread::Threads;
 use std::{env, io};
@@ -40,42 +40,56 @@ fn finish<O: Sink + Drop, E: Sink>(status: u8, out: &mut Buffered<O>, err: &mut 
     status
 }
 
-/// Serves the arguments, with this file as the input.
-fn serve_file<R: AllocGlobal + Files + RandomSource + Threads + Wait + Sync, O: Sink, E: Sink>(
-    rt: &R,
-    arguments: &[String],
-    path: &str,
-    out: &mut O,
-    err: &mut E,
-) -> u8 {
-    match File::open(rt, path) {
-        Ok(file) => serve(rt, arguments, &mut SourceOf::new(file), out, err),
-        Err(_) => stop(ToolFault::Read, err),
+/// What is read: the file that the arguments name, or standard input where they name none.
+#[derive(Drop)]
+enum Input {
+    File(File),
+    Stdin(Stdin),
+}
+
+impl Read for Input {
+    fn read(&mut self, buffer: &mut [u8]) -> io::Result<usize> {
+        match self {
+            Input::File(file) => file.read(buffer),
+            Input::Stdin(stdin) => stdin.read(buffer),
+        }
     }
 }
 
-/// Serves the arguments. The input is the file that they name, and `input` where they name none.
-fn serve_named<
-    R: AllocGlobal + Files + RandomSource + Threads + Wait + Sync,
-    I: Source,
+/// What the arguments say is read.
+fn input_of(rt: &HostRuntime, arguments: &[String]) -> Result<Input, ToolFault> {
+    match file_named(rt.alloc(), arguments)? {
+        Some(path) => match File::open(rt, path.as_str()) {
+            Ok(file) => Ok(Input::File(file)),
+            Err(_) => Err(ToolFault::Read),
+        },
+        None => Ok(Input::Stdin(rt.stdin())),
+    }
+}
+
+/// Serves the arguments, over what they say is read.
+fn serve_input<
+    R: AllocGlobal + RandomSource + Threads + Wait + Sync,
+    I: Read + Drop,
     O: Sink,
     E: Sink,
->(rt: &R, arguments: &[String], input: &mut I, out: &mut O, err: &mut E) -> u8 {
-    match file_named(rt.alloc(), arguments) {
-        Ok(Some(path)) => serve_file(rt, arguments, path.as_str(), out, err),
-        Ok(None) => serve(rt, arguments, input, out, err),
-        Err(_) => stop(ToolFault::Memory, err),
+>(rt: &R, arguments: &[String], input: Result<I, ToolFault>, out: &mut O, err: &mut E) -> u8 {
+    match input {
+        Ok(input) => serve(rt, arguments, &mut SourceOf::new(input), out, err),
+        Err(fault) => stop(fault, err),
     }
 }
 
 fn main(rt: HostRuntime) -> ExitCode {
-    let mut input = SourceOf::new(rt.stdin());
     let mut err = SinkOf::new(rt.stderr());
     let Ok(mut out) = Buffered::new(rt.alloc(), SinkOf::new(rt.stdout())) else {
         return ExitCode::from(stop(ToolFault::Memory, &mut err));
     };
     let status = match arguments_of(&rt) {
-        Ok(arguments) => serve_named(&rt, arguments.as_slice(), &mut input, &mut out, &mut err),
+        Ok(arguments) => {
+            let arguments = arguments.as_slice();
+            serve_input(&rt, arguments, input_of(&rt, arguments), &mut out, &mut err)
+        }
         Err(_) => stop(ToolFault::Memory, &mut err),
     };
     ExitCode::from(finish(status, &mut out, &mut err))
