@@ -2,47 +2,46 @@
 
 ghost use Rattle.std.specs.Prelude.{◌<◌};
 
-use crate::parts::{Ask, Given, opened, plan_of};
+use crate::parts::{Ask, Given};
 use crate::plain::{CUSTOMERS, Made, Plain};
 use crate::seen::Seen;
-use crate::worked::{ordered, stepped};
+use crate::worked::{Events, ordered, play_events, stepped};
 use eve_stamps::AccessRecord;
 use eve_stamps_schedule::{Event, Schedule};
-use rand_core::Rng;
-use rand_pcg::Pcg32;
-use std::alloc::{AllocError, Global};
+use eve_testing::Draws;
+use std::alloc::Global;
 use std::hash::RandomState;
 
 /// A number below the limit.
-fn below(rng: &mut Pcg32, limit: u32) -> u32
+fn below(draws: &mut Draws, limit: u32) -> u32
     requires { 0 < limit }
     ensures { result < limit }
 {
-    rng.next_u32() % limit
+    (draws.bits() >> 32) as u32 % limit
 }
 
 /// A customer; at times one that isn't there.
-fn customer(rng: &mut Pcg32) -> u8 {
+fn customer(draws: &mut Draws) -> u8 {
     // Few customers, so that workers meet, and two that share a stripe.
     let few = [0u8, 1, 2, 16, 17, CUSTOMERS];
-    few[below(rng, 6) as usize]
+    few[below(draws, 6) as usize]
 }
 
-fn ask(rng: &mut Pcg32) -> Ask {
-    let value = i64::from(below(rng, 60)) - 10;
-    match below(rng, 5) {
-        0 => Ask::Balance(customer(rng)),
-        1 => Ask::Deposit(customer(rng), value),
-        2 => Ask::Saving(customer(rng), 20 - value),
-        3 => Ask::Amalgamate(customer(rng), customer(rng)),
-        _ => Ask::Check(customer(rng), value),
+fn ask(draws: &mut Draws) -> Ask {
+    let value = i64::from(below(draws, 60)) - 10;
+    match below(draws, 5) {
+        0 => Ask::Balance(customer(draws)),
+        1 => Ask::Deposit(customer(draws), value),
+        2 => Ask::Saving(customer(draws), 20 - value),
+        3 => Ask::Amalgamate(customer(draws), customer(draws)),
+        _ => Ask::Check(customer(draws), value),
     }
 }
 
 /// An event of one of the workers, or of one more, who isn't there.
-fn event(rng: &mut Pcg32, workers: u8) -> Event {
-    let worker = below(rng, u32::from(workers) + 1) as u8;
-    match below(rng, 6) {
+fn event(draws: &mut Draws, workers: u8) -> Event {
+    let worker = below(draws, u32::from(workers) + 1) as u8;
+    match below(draws, 6) {
         0 => Event::Claim(worker),
         1 => Event::LockStripe(worker),
         2 => Event::Tick(worker),
@@ -62,45 +61,45 @@ struct Drawn {
 }
 
 impl Drawn {
-    fn draw_values(&mut self, rng: &mut Pcg32) {
+    fn draw_values(&mut self, draws: &mut Draws) {
         for _ in 0..2 * CUSTOMERS {
-            self.is_whole &= self.values.push(i64::from(below(rng, 50))).is_ok();
+            self.is_whole &= self.values.push(i64::from(below(draws, 50))).is_ok();
         }
     }
 
     /// Draws a parallelBatch.
-    fn draw_group(&mut self, rng: &mut Pcg32) {
-        let size = 1 + below(rng, 4);
+    fn draw_group(&mut self, draws: &mut Draws) {
+        let size = 1 + below(draws, 4);
         self.is_whole &= self.sizes.push(size as u16).is_ok();
         for _ in 0..size {
-            self.is_whole &= self.asks.push(ask(rng)).is_ok();
+            self.is_whole &= self.asks.push(ask(draws)).is_ok();
         }
     }
 }
 
-fn draw(alloc: Global, rng: &mut Pcg32) -> Drawn {
+fn draw(alloc: Global, draws: &mut Draws) -> Drawn {
     let mut drawn = Drawn {
         values: Vec::new(alloc),
         sizes: Vec::new(alloc),
         asks: Vec::new(alloc),
         is_whole: true,
     };
-    drawn.draw_values(rng);
-    for _ in 0..1 + below(rng, 3) {
-        drawn.draw_group(rng);
+    drawn.draw_values(draws);
+    for _ in 0..1 + below(draws, 3) {
+        drawn.draw_group(draws);
     }
     drawn
 }
 
 /// Draws 600 events. Whether both take the same steps.
 fn takes_same_steps(
-    rng: &mut Pcg32,
+    draws: &mut Draws,
     schedule: &mut Schedule,
     plain: &mut Plain,
     seen: &mut Seen,
 ) -> bool {
     for _ in 0..600 {
-        let event = event(rng, plain.given.workers);
+        let event = event(draws, plain.given.workers);
         let is_allowed = stepped(schedule, event, seen);
         if is_allowed != plain.step(event) || schedule.done() != plain.done() {
             return false;
@@ -155,12 +154,12 @@ fn have_noted(schedule: &Schedule, plain: &Plain) -> bool {
 /// Draws events. What then has to be the same and isn't, in words; none where nothing differs.
 fn difference(
     alloc: Global,
-    rng: &mut Pcg32,
+    draws: &mut Draws,
     schedule: &mut Schedule,
     plain: &mut Plain,
     seen: &mut Seen,
 ) -> &'static str {
-    if !takes_same_steps(rng, schedule, plain, seen) {
+    if !takes_same_steps(draws, schedule, plain, seen) {
         "the steps are the same"
     } else if !have_noted(schedule, plain) {
         "each worker notes the same"
@@ -171,47 +170,25 @@ fn difference(
     }
 }
 
-/// Draws events, and compares. Whether every request is noted at the end.
-fn compare(
+/// Draws events, and compares.
+pub(crate) fn compare(
     alloc: Global,
-    rng: &mut Pcg32,
+    draws: &mut Draws,
     schedule: &mut Schedule,
     given: &Given<'_>,
     seen: &mut Seen,
-) -> bool {
+) {
     let mut plain = Plain::new(alloc, given);
-    let difference = difference(alloc, rng, schedule, &mut plain, seen);
+    let difference = difference(alloc, draws, schedule, &mut plain, seen);
     seen.want(difference.is_empty(), difference);
     seen.needs(plain.is_whole);
-    schedule.done()
-}
-
-/// Draws events for the batch, and compares. Whether every request is noted at the end.
-fn is_done(
-    alloc: Global,
-    random: RandomState,
-    rng: &mut Pcg32,
-    given: &Given<'_>,
-    seen: &mut Seen,
-) -> bool {
-    let Ok(plan) = plan_of(alloc, random, given) else {
-        seen.needs(false);
-        return false;
-    };
-    match opened(alloc, &plan, given.workers) {
-        Ok(mut schedule) => compare(alloc, rng, &mut schedule, given, seen),
-        Err(AllocError) => {
-            seen.needs(false);
-            false
-        }
-    }
 }
 
 /// Draws a batch and a list of events, and compares. Whether every request is noted at the end.
 fn is_drawn_and_done(alloc: Global, random: RandomState, seed: u64, seen: &mut Seen) -> bool {
-    let mut rng = Pcg32::new(seed, 54);
-    let workers = 1 + below(&mut rng, 4) as u8;
-    let drawn = draw(alloc, &mut rng);
+    let mut draws = Draws::new(seed);
+    let workers = 1 + below(&mut draws, 4) as u8;
+    let drawn = draw(alloc, &mut draws);
     seen.needs(drawn.is_whole);
     let given = Given {
         customers: CUSTOMERS,
@@ -220,7 +197,7 @@ fn is_drawn_and_done(alloc: Global, random: RandomState, seed: u64, seen: &mut S
         sizes: drawn.sizes.as_slice(),
         asks: drawn.asks.as_slice(),
     };
-    is_done(alloc, random, &mut rng, &given, seen)
+    play_events(alloc, random, &given, Events::Drawn(&mut draws), seen)
 }
 
 /// Looks at `count` lists of events. They come far enough: more than half of the schedules are carried out whole.

@@ -1,17 +1,19 @@
 //! Worked schedules.
 
 use crate::parts::{Ask, Given, opened, plan_of};
+use crate::random::compare;
 use crate::seen::Seen;
 use eve_smallbank::{Abort, Reply};
 use eve_stamps_schedule::{Event, Schedule, StepFault};
+use eve_testing::Draws;
 use std::alloc::{AllocError, Global};
 use std::hash::RandomState;
 
 /// An event, and whether it is allowed where it comes.
-struct Step(Event, bool);
+pub struct Step(Event, bool);
 
 /// What has to be so.
-enum Due {
+pub enum Due {
     /// Each of the events, which are carried out, is allowed or refused as it says.
     Carried(&'static [Step]),
     /// Whether every request is noted.
@@ -25,7 +27,7 @@ enum Due {
 }
 
 /// What has to be so, and in words.
-struct Want(Due, &'static str);
+pub struct Want(Due, &'static str);
 
 /// What a worked schedule begins with, and what has to be so of it, in this order.
 pub struct Case {
@@ -236,21 +238,47 @@ fn is_so(alloc: Global, schedule: &mut Schedule, due: &Due, seen: &mut Seen) -> 
     }
 }
 
-/// Carries out the case on its schedule, and looks at it.
-fn look(alloc: Global, schedule: &mut Schedule, case: &Case, seen: &mut Seen) {
-    for want in case.wants {
+/// Carries out a worked schedule, and looks at it.
+fn look(alloc: Global, schedule: &mut Schedule, wants: &[Want], seen: &mut Seen) {
+    for want in wants {
         let is_so = is_so(alloc, schedule, &want.0, seen);
         seen.want(is_so, want.1);
     }
 }
 
+/// Which events are carried out on a schedule.
+#[derive(Drop)]
+pub enum Events<'e> {
+    /// Those of a worked schedule, at which it is looked.
+    Worked(&'e [Want]),
+    /// Events that are drawn, beside a schedule written as lists.
+    Drawn(&'e mut Draws),
+}
+
+/// Carries out the events on a schedule of what is given, and looks at it. Whether every request is noted at the end.
+pub fn play_events(
+    alloc: Global,
+    random: RandomState,
+    given: &Given<'_>,
+    events: Events<'_>,
+    seen: &mut Seen,
+) -> bool {
+    let Ok(plan) = plan_of(alloc, random, given) else {
+        seen.needs(false);
+        return false;
+    };
+    let Ok(mut schedule) = opened(alloc, &plan, given.workers) else {
+        seen.needs(false);
+        return false;
+    };
+    match events {
+        Events::Worked(wants) => look(alloc, &mut schedule, wants, seen),
+        Events::Drawn(draws) => compare(alloc, draws, &mut schedule, given, seen),
+    }
+    schedule.done()
+}
+
 /// Carries out the worked schedule, and looks at it.
 pub fn play(alloc: Global, random: RandomState, case: &Case, seen: &mut Seen) {
-    let Ok(plan) = plan_of(alloc, random, &case.given) else {
-        return seen.needs(false);
-    };
-    match opened(alloc, &plan, case.given.workers) {
-        Ok(mut schedule) => look(alloc, &mut schedule, case, seen),
-        Err(AllocError) => seen.needs(false),
-    }
+    play_events(alloc, random, &case.given, Events::Worked(case.wants), seen);
 }
