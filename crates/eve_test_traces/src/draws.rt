@@ -1,12 +1,12 @@
 //! Traces that are drawn of a trace: with other values in entries at random places.
 
+ghost use Rattle.std.specs.Prelude.{◌<◌};
+
 use eve_frames::AccessView;
 use eve_history::History;
 use eve_smallbank::{Entry, Kind};
-use eve_testing::Text;
+use eve_testing::{Draws, Text};
 use eve_views::{CheckFault, Trace};
-use rand_core::Rng;
-use rand_pcg::Pcg32;
 use std::alloc::Global;
 
 /// Where a frame's body begins behind its first byte, and where the first entry does in an Access frame's body.
@@ -14,6 +14,14 @@ const ENTRIES: usize = 5 + 6;
 
 /// The bytes of an entry.
 const ENTRY: usize = 29;
+
+/// A number below the limit.
+fn below(random: &mut Draws, limit: usize) -> usize
+    requires { 0 < limit }
+    ensures { result < limit }
+{
+    (random.bits() >> 32) as usize % limit
+}
 
 /// A byte of an entry is one higher or lower, modulo 256.
 fn shift(bytes: &mut [u8], at: usize, higher: bool) {
@@ -28,9 +36,9 @@ fn shift(bytes: &mut [u8], at: usize, higher: bool) {
 
 /// Changes a value of the entry whose bytes begin at a place: its version, what it saw, what it left, or its row. What
 /// a read leaves stays what it saw.
-fn change(bytes: &mut [u8], at: usize, entry: &Entry, random: &mut Pcg32) {
-    let higher = random.next_u32() % 2 == 0;
-    match random.next_u32() % 8 {
+fn change(bytes: &mut [u8], at: usize, entry: &Entry, random: &mut Draws) {
+    let higher = below(random, 2) == 0;
+    match below(random, 8) {
         0 | 1 => shift(bytes, at.saturating_add(12), higher),
         2 => shift(bytes, at.saturating_add(3), higher),
         3 | 4 | 5 if entry.kind == Kind::Write => shift(bytes, at.saturating_add(28), higher),
@@ -44,12 +52,12 @@ fn change(bytes: &mut [u8], at: usize, entry: &Entry, random: &mut Pcg32) {
 }
 
 /// Changes one of a record's entries.
-fn change_record(bytes: &mut [u8], access: &AccessView<'_>, random: &mut Pcg32) {
+fn change_record(bytes: &mut [u8], access: &AccessView<'_>, random: &mut Draws) {
     let count = access.len();
     if count == 0 {
         return;
     }
-    let k = random.next_u32() as usize % count;
+    let k = below(random, count);
     let at = access.offset() as usize;
     change(
         bytes,
@@ -61,17 +69,17 @@ fn change_record(bytes: &mut [u8], access: &AccessView<'_>, random: &mut Pcg32) 
 }
 
 /// Changes an entry of one of a replica's records.
-fn change_history(bytes: &mut [u8], history: &History, random: &mut Pcg32) {
+fn change_history(bytes: &mut [u8], history: &History, random: &mut Draws) {
     let attempts = history.attempts();
     if attempts == 0 {
         return;
     }
-    let i = random.next_u32() as usize % attempts;
+    let i = below(random, attempts);
     let records = history.attempt(i).len();
     if records == 0 {
         return;
     }
-    let place = random.next_u32() as usize % records;
+    let place = below(random, records);
     let access = history.ordered(i, place);
     change_record(bytes, &access, random);
 }
@@ -81,15 +89,15 @@ pub fn draw(
     alloc: Global,
     trace: &Trace,
     histories: &[History],
-    random: &mut Pcg32,
+    random: &mut Draws,
 ) -> Option<Vec<u8>> {
     let mut bytes = trace.bytes().to_vec(alloc).ok()?;
     let count = histories.len();
     if count == 0 {
         return Some(bytes);
     }
-    for _ in 0..1 + random.next_u32() % 4 {
-        let e = random.next_u32() as usize % count;
+    for _ in 0..1 + below(random, 4) {
+        let e = below(random, count);
         change_history(bytes.as_mut_slice(), &histories[e], random);
     }
     Some(bytes)

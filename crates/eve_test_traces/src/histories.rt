@@ -219,11 +219,9 @@ fn agreement_of_two(alloc: Global, trace: &Trace) -> Result<(), CheckFault>
 {
     let first = History::of(alloc, trace, 0)?;
     let second = History::of(alloc, trace, 1)?;
-    let settled = [
-        Settled::of(alloc, &first, trace)?,
-        Settled::of(alloc, &second, trace)?,
-    ];
-    equal_balances(alloc, trace, &[first, second], &settled)
+    let one = Settled::of(alloc, &first, trace)?;
+    let other = Settled::of(alloc, &second, trace)?;
+    equal_balances(alloc, trace, &[first, second], &[one, other])
 }
 
 /// What the replicas of a trace with two come to together.

@@ -1,12 +1,13 @@
-//! Worked traces, as they are and with bytes of theirs changed, and what `eve audit` says of each.
+//! Worked traces, as they are and with bytes of theirs changed, and the verdict on each.
 //!
 //! A line of the input says what is asked, of which file of `data`, and what is changed in it first (`change.rt`). The
 //! line is printed again in front of the answer:
 //!
-//! - `audit FILE CHANGE..`: the status and the line of `eve audit`, by every number of workers.
-//! - `fronts FILE`: what it says of each front of the file, as it is and with its own total.
-//! - `lengths FILE AT`: what it says where the frame at byte AT claims another length of its body.
-//! - `bytes FILE`: with which values of each byte it says yes.
+//! - `audit FILE CHANGE..`: the verdict, as the status and the line that `eve audit` has for it, by every number of
+//!   workers.
+//! - `fronts FILE`: the same of each front of the file, as it is and with its own total.
+//! - `lengths FILE AT`: the same where the frame at byte AT claims another length of its body.
+//! - `bytes FILE`: with which values of each byte it is yes.
 //! - `each-one-higher FILE`: the verdict with each byte one higher, modulo 256, if two workers come to the same.
 //! - `one FILE`: whether `audit_one` accepts it.
 //! - `meet FILE`: the audit by two workers, each held at its replica until the other has come to its own.
@@ -36,6 +37,7 @@ mod texts;
 mod walk;
 mod walks;
 
+use crate::sweeps::Sweep;
 use crate::texts::Missing;
 use eve_testing::Text;
 use std::fs::Files;
@@ -58,11 +60,53 @@ fn bytes_of<R: AllocGlobal + Files>(text: &mut Text, rt: &R, file: &str) -> Opti
     }
 }
 
+/// What a line asks of a trace.
+#[derive(Clone, Copy)]
+enum Call {
+    Sweep(Sweep),
+    One,
+    Agree,
+    Meet,
+    Walk,
+    Draw,
+    Audit,
+    Tell,
+    Alone,
+}
+
+/// A call, and the word that a line has for it.
+struct Named(&'static str, Call);
+
+static CALLS: [Named; 12] = [
+    Named("fronts", Call::Sweep(Sweep::Fronts)),
+    Named("lengths", Call::Sweep(Sweep::Lengths)),
+    Named("bytes", Call::Sweep(Sweep::Bytes)),
+    Named("each-one-higher", Call::Sweep(Sweep::Higher)),
+    Named("one", Call::One),
+    Named("agree", Call::Agree),
+    Named("meet", Call::Meet),
+    Named("walk", Call::Walk),
+    Named("draw", Call::Draw),
+    Named("audit", Call::Audit),
+    Named("tell", Call::Tell),
+    Named("alone", Call::Alone),
+];
+
+/// The call that a word asks for.
+fn call_of(word: &str) -> Option<Call> {
+    for named in &CALLS {
+        if named.0 == word {
+            return Some(named.1);
+        }
+    }
+    None
+}
+
 /// What is said of a trace that is changed first.
 fn push_changed_answer<R: AllocGlobal + RandomSource + Threads + Wait + Sync>(
     text: &mut Text,
     rt: &R,
-    call: &str,
+    call: Call,
     bytes: &[u8],
     changes: Option<&str>,
 ) {
@@ -71,10 +115,9 @@ fn push_changed_answer<R: AllocGlobal + RandomSource + Threads + Wait + Sync>(
         return;
     };
     match call {
-        "audit" => audits::push_by_all(text, rt, bytes.as_slice()),
-        "tell" => findings::push_told(text, rt, bytes.as_slice()),
-        "alone" => phases::push_alone(text, rt, bytes.as_slice()),
-        _ => text.fail(Missing::Call.error()),
+        Call::Audit => audits::push_by_all(text, rt, bytes.as_slice()),
+        Call::Tell => findings::push_told(text, rt, bytes.as_slice()),
+        _ => phases::push_alone(text, rt, bytes.as_slice()),
     }
 }
 
@@ -86,16 +129,18 @@ fn push_answer<R: AllocGlobal + RandomSource + Threads + Wait + Sync>(
     bytes: &[u8],
     more: Option<&str>,
 ) {
+    let Some(call) = call_of(call) else {
+        text.fail(Missing::Call.error());
+        return;
+    };
     match call {
-        "fronts" | "lengths" | "bytes" | "each-one-higher" => {
-            sweeps::push_swept(text, rt, call, bytes, more)
-        }
-        "one" => sweeps::push_one(text, rt, bytes),
-        "agree" => findings::push_agreed(text, rt.alloc(), bytes),
-        "meet" => meeting::push_meeting(text, rt, bytes),
-        "walk" => walks::push_walked(text, rt, bytes),
-        "draw" => walks::push_drawn(text, rt, bytes, more),
-        _ => push_changed_answer(text, rt, call, bytes, more),
+        Call::Sweep(sweep) => sweeps::push_swept(text, rt, sweep, bytes, more),
+        Call::One => sweeps::push_one(text, rt, bytes),
+        Call::Agree => findings::push_agreed(text, rt.alloc(), bytes),
+        Call::Meet => meeting::push_meeting(text, rt, bytes),
+        Call::Walk => walks::push_walked(text, rt, bytes),
+        Call::Draw => walks::push_drawn(text, rt, bytes, more),
+        Call::Audit | Call::Tell | Call::Alone => push_changed_answer(text, rt, call, bytes, more),
     }
 }
 

@@ -1,6 +1,6 @@
-//! Two workers that are at their replicas at the same time.
+//! Workers of an audit that are held until others have come.
 
-use crate::audits::by_two;
+use crate::audits::by_workers;
 use eve_audit::Verdict;
 use eve_recorder::Gate;
 use eve_testing::Text;
@@ -15,10 +15,21 @@ const TURNS: u32 = 10_000_000;
 
 /// Holds each piece until the wanted number has entered, or its turns are over.
 #[derive(Drop)]
-struct Meeting {
+pub struct Meeting {
     wanted: u64,
     entered: AtomicU64,
     met: AtomicU64,
+}
+
+impl Meeting {
+    /// A gate that holds each piece until this number has entered; where that is 0, none.
+    pub fn of(wanted: u64) -> Meeting {
+        Meeting {
+            wanted,
+            entered: AtomicU64::new(0),
+            met: AtomicU64::new(0),
+        }
+    }
 }
 
 impl Gate for Meeting {
@@ -40,12 +51,8 @@ pub fn push_meeting<R: AllocGlobal + RandomSource + Threads + Wait + Sync>(
     rt: &R,
     bytes: &[u8],
 ) {
-    let gate = Meeting {
-        wanted: 2,
-        entered: AtomicU64::new(0),
-        met: AtomicU64::new(0),
-    };
-    let verdict = by_two(text, rt, bytes, &gate);
+    let gate = Meeting::of(2);
+    let verdict = by_workers(text, rt, bytes, 2, &gate);
     text.value("", gate.entered.load(Ordering::SeqCst));
     text.value(" entered, ", gate.met.load(Ordering::SeqCst));
     text.value(" met, yes ", matches!(verdict, Some(Verdict::Yes(_))));

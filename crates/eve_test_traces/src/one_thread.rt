@@ -18,7 +18,7 @@ fn open_row(balances: &mut Balances, row: Row, cents: Cents) {
 }
 
 /// The balances at which a trace opens.
-fn opening_of(alloc: Global, trace: &Trace) -> Result<Balances, AllocError> {
+pub fn opening_of(alloc: Global, trace: &Trace) -> Result<Balances, AllocError> {
     let customers = trace.customer_count();
     let mut balances = Balances::new(alloc, 2 * customers as usize)?;
     for customer in 0..customers {

@@ -1,12 +1,12 @@
 //! The same trace, changed in every way of one kind.
 
-use crate::audits::{by_one_thread, by_two, push_by_one};
+use crate::audits::{by_one_thread, by_workers, push_by_one};
 use crate::change::set_total;
+use crate::meeting::Meeting;
 use crate::ranges::Ranges;
 use crate::texts::Missing;
 use eve_audit::Verdict;
 use eve_grammar::u32_at;
-use eve_recorder::OpenGate;
 use eve_testing::Text;
 use std::alloc::{AllocError, Global};
 use std::random::RandomSource;
@@ -105,12 +105,25 @@ fn push_by_one_and_two<R: AllocGlobal + RandomSource + Threads + Wait + Sync>(
     bytes: &[u8],
 ) {
     let one = by_one_thread(text, rt, bytes);
-    let two = by_two(text, rt, bytes, &OpenGate);
+    let two = by_workers(text, rt, bytes, 2, &Meeting::of(0));
     text.words(match one {
         _ if one != two => "two workers say something else",
         Some(Verdict::Yes(_)) => "yes",
         _ => "no",
     });
+}
+
+/// What is changed in a trace, in every way.
+#[derive(Clone, Copy)]
+pub enum Sweep {
+    /// It ends early.
+    Fronts,
+    /// A frame claims another number of bytes for its body.
+    Lengths,
+    /// Each byte has every value.
+    Bytes,
+    /// Each byte is one higher, modulo 256.
+    Higher,
 }
 
 /// How a trace is changed, by a number.
@@ -224,9 +237,16 @@ fn say_fronts<R: AllocGlobal + RandomSource + Threads + Wait + Sync>(
 
 /// The frame at a place, and the length of its body that it claims.
 fn frame_at(bytes: &[u8], place: Option<&str>) -> Option<(usize, u32)> {
-    let at: usize = place?.parse().ok()?;
-    let (length, _) = u32_at(bytes.get(at.saturating_add(1)..)?)?;
-    Some((at, length))
+    let Ok(at) = place.unwrap_or("").parse::<usize>() else {
+        return None;
+    };
+    let Some(frame) = bytes.get(at.saturating_add(1)..) else {
+        return None;
+    };
+    match u32_at(frame) {
+        Some((length, _)) => Some((at, length)),
+        None => None,
+    }
 }
 
 /// What is said where a frame claims another number of bytes for its body: from none to one more than it has.
@@ -247,33 +267,33 @@ fn say_lengths<R: AllocGlobal + RandomSource + Threads + Wait + Sync>(
 fn say_all<R: AllocGlobal + RandomSource + Threads + Wait + Sync>(
     ranges: &mut Ranges,
     rt: &R,
-    call: &str,
+    sweep: Sweep,
     bytes: &[u8],
     more: Option<&str>,
 ) {
-    match call {
-        "fronts" => say_fronts(ranges, rt, bytes),
-        "lengths" => say_lengths(ranges, rt, bytes, more),
-        "bytes" => {
+    match sweep {
+        Sweep::Fronts => say_fronts(ranges, rt, bytes),
+        Sweep::Lengths => say_lengths(ranges, rt, bytes, more),
+        Sweep::Bytes => {
             ranges.head("each byte");
             say_each(ranges, rt, bytes, Way::Values, (0, bytes.len()));
         }
-        _ => {
+        Sweep::Higher => {
             ranges.head("each byte one higher");
             say_each(ranges, rt, bytes, Way::Higher, (0, bytes.len()));
         }
     }
 }
 
-/// What is said of the trace, changed in every way that the call names.
+/// What is said of the trace, changed in every way of the sweep.
 pub fn push_swept<R: AllocGlobal + RandomSource + Threads + Wait + Sync>(
     text: &mut Text,
     rt: &R,
-    call: &str,
+    sweep: Sweep,
     bytes: &[u8],
     more: Option<&str>,
 ) {
     let mut ranges = Ranges::new(rt.alloc());
-    say_all(&mut ranges, rt, call, bytes, more);
+    say_all(&mut ranges, rt, sweep, bytes, more);
     ranges.push_all(text);
 }

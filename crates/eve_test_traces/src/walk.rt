@@ -10,7 +10,7 @@ use eve_frames::{AccessView, TransferView};
 use eve_history::{Fate, History};
 use eve_smallbank::{Entry, Kind, UpToThree, Versioned, fits, touched};
 use eve_views::{Code, Fault, Step, Trace, first_of};
-use std::alloc::{AllocError, Global};
+use std::alloc::Global;
 
 /// Where a walk has come to.
 #[derive(Drop)]
@@ -27,6 +27,8 @@ pub struct Walk {
     wrong: Option<Fault>,
     /// The balances of all rows at the opening, and after each number.
     balances: Vec<Vec<Cents>>,
+    /// Whether there was memory for all of it.
+    is_whole: bool,
 }
 
 /// The entries of a record.
@@ -154,40 +156,45 @@ fn judge_fit(
     first
 }
 
-/// The values of all rows.
-fn values_of(alloc: Global, table: &[Versioned]) -> Result<Vec<Cents>, AllocError> {
-    let mut values = Vec::new(alloc);
-    for row in table {
-        values.push(row.value)?;
-    }
-    Ok(values)
-}
-
 impl Walk {
     /// At the opening.
-    fn new(alloc: Global, opening: &Balances) -> Result<Walk, AllocError> {
-        let mut committed = Vec::new(alloc);
-        for value in opening.as_slice() {
-            committed.push(Versioned {
-                version: 0,
-                value: *value,
-            })?;
-        }
-        let mut balances = Vec::new(alloc);
-        let values = values_of(alloc, &committed)?;
-        balances.push(values)?;
-        Ok(Walk {
-            committed,
+    fn new(alloc: Global, opening: &Balances) -> Walk {
+        let mut walk = Walk {
+            committed: Vec::new(alloc),
             settled: 0,
             come: 0,
             unfit: None,
             wrong: None,
-            balances,
-        })
+            balances: Vec::new(alloc),
+            is_whole: true,
+        };
+        for value in opening.as_slice() {
+            walk.set_next(Versioned {
+                version: 0,
+                value: *value,
+            });
+        }
+        walk.keep(alloc);
+        walk
+    }
+
+    /// What the next row has.
+    fn set_next(&mut self, row: Versioned) {
+        self.is_whole &= self.committed.push(row).is_ok();
+    }
+
+    /// Keeps the values of all rows, as the balances after one more number.
+    fn keep(&mut self, alloc: Global) {
+        let mut values = Vec::new(alloc);
+        let mut is_whole = true;
+        for row in &self.committed {
+            is_whole &= values.push(row.value).is_ok();
+        }
+        self.is_whole &= is_whole & self.balances.push(values).is_ok();
     }
 
     /// Commits the first open attempt.
-    fn commit(&mut self, alloc: Global, history: &History) -> Result<(), AllocError> {
+    fn commit(&mut self, alloc: Global, history: &History) {
         if self.settled < history.attempts() {
             self.wrong = judge(
                 self.committed.as_mut_slice(),
@@ -197,58 +204,51 @@ impl Walk {
             );
             self.settled += 1;
         }
-        let values = values_of(alloc, &self.committed)?;
-        self.balances.push(values)?;
-        Ok(())
+        self.keep(alloc);
     }
 
     /// Discards the open attempts, which are judged one after another over a table of their own.
-    fn roll_back(&mut self, alloc: Global, history: &History) -> Result<(), AllocError> {
-        let mut working = self.committed.to_vec(alloc)?;
+    fn roll_back(&mut self, alloc: Global, history: &History) {
+        let Ok(mut working) = self.committed.to_vec(alloc) else {
+            self.is_whole = false;
+            return;
+        };
         for i in self.settled..self.come {
             if i < history.attempts() {
                 self.wrong = judge(working.as_mut_slice(), history, i, self.wrong);
             }
         }
         self.settled = self.come;
-        Ok(())
     }
 
     /// Takes a state over: the open attempts are discarded, and numbers that are skipped leave what was there.
-    fn take_over(
-        &mut self,
-        alloc: Global,
-        history: &History,
-        state: &TransferView<'_>,
-    ) -> Result<(), AllocError> {
-        self.roll_back(alloc, history)?;
+    fn take_over(&mut self, alloc: Global, history: &History, state: &TransferView<'_>) {
+        self.roll_back(alloc, history);
         for _ in self.balances.len()..state.seq() as usize {
-            let values = values_of(alloc, &self.committed)?;
-            self.balances.push(values)?;
+            self.keep(alloc);
         }
         self.committed.clear();
         for row in state.rows() {
-            self.committed.push(row)?;
+            self.set_next(row);
         }
-        let values = values_of(alloc, &self.committed)?;
-        self.balances.push(values)?;
-        Ok(())
+        self.keep(alloc);
     }
 
-    fn take(
-        &mut self,
-        alloc: Global,
-        history: &History,
-        step: Step<'_, '_>,
-    ) -> Result<(), AllocError> {
+    fn take(&mut self, alloc: Global, history: &History, step: Step<'_, '_>) {
         match step {
-            Step::Attempt(_, _) => {
-                self.come = self.come.saturating_add(1);
-                Ok(())
-            }
+            Step::Attempt(_, _) => self.come = self.come.saturating_add(1),
             Step::Commit(_) => self.commit(alloc, history),
             Step::Rollback(_) => self.roll_back(alloc, history),
             Step::Transfer(view) => self.take_over(alloc, history, &view),
+        }
+    }
+
+    /// Judges whether the records of what was committed or discarded fit.
+    fn judge_fits(&mut self, trace: &Trace, history: &History, names: &Names) {
+        for i in 0..history.attempts() {
+            if history.fate(i) != Fate::Open {
+                self.unfit = judge_fit(trace, history, names, i, self.unfit);
+            }
         }
     }
 
@@ -259,20 +259,21 @@ impl Walk {
         history: &History,
         names: &Names,
         opening: &Balances,
-    ) -> Result<Walk, AllocError>
+    ) -> Walk
         requires { history.now.replica < length trace.now.sections }
     {
-        let mut walk = Walk::new(alloc, opening)?;
+        let mut walk = Walk::new(alloc, opening);
         let mut steps = trace.section(history.replica());
         while let Some(step) = steps.next() {
-            walk.take(alloc, history, step)?;
+            walk.take(alloc, history, step);
         }
-        for i in 0..history.attempts() {
-            if history.fate(i) != Fate::Open {
-                walk.unfit = judge_fit(trace, history, names, i, walk.unfit);
-            }
-        }
-        Ok(walk)
+        walk.judge_fits(trace, history, names);
+        walk
+    }
+
+    /// Whether there was memory for all of it.
+    pub fn is_whole(&self) -> bool {
+        self.is_whole
     }
 
     /// The first fault of records; or of chains, where there is none of records.

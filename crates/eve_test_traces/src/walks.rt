@@ -5,15 +5,16 @@ ghost use Rattle.eve_history.specs.SectionHistory.{names_of, section_history};
 
 use crate::audits::keys;
 use crate::draws::{draw, histories};
+use crate::one_thread::opening_of;
 use crate::texts::Missing;
 use crate::walk::Walk;
-use eve_accounts::Names;
+use eve_accounts::{Balances, Names};
 use eve_chains::{Settled, check};
 use eve_history::{History, orders};
-use eve_testing::Text;
+use eve_testing::{Draws, Text};
 use eve_views::{CheckFault, Fault, Trace};
-use rand_pcg::Pcg32;
 use std::alloc::Global;
+use std::hash::RandomState;
 use std::random::RandomSource;
 use std::thread::Threads;
 
@@ -142,27 +143,48 @@ fn is_alike<R: AllocGlobal + Threads + Sync>(
     alike
 }
 
-/// Judges a replica's section in both ways, where its structure is right.
+/// Judges a replica's section in both ways, from the balances at the opening, where its structure is right.
 fn judge_section<R: AllocGlobal + Threads + Sync>(
     text: &mut Text,
     rt: &R,
     trace: &Trace,
     names: &Names,
+    opening: &Balances,
     e: u8,
     judged: &mut Judged,
-) -> Result<(), CheckFault>
+)
     requires there { e < length trace.now.sections }
     requires names { names.now.items ≡ names_of trace.now }
 {
-    let alloc = rt.alloc();
-    let Ok(history) = History::of(alloc, trace, e) else {
-        return Ok(());
+    let Ok(history) = History::of(rt.alloc(), trace, e) else {
+        return;
     };
-    let opening = Settled::of(alloc, &history, trace)?.balances_after(alloc, 0)?;
-    let walk = Walk::along(alloc, trace, &history, names, &opening)?;
+    let walk = Walk::along(rt.alloc(), trace, &history, names, opening);
+    if !walk.is_whole() {
+        text.refused();
+    }
     let alike = is_alike(text, rt, trace, &history, names, &walk);
     judged.count(walk.first(), alike);
-    Ok(())
+}
+
+/// Judges all sections of a trace in both ways, where its orders are right.
+fn judge_sections<R: AllocGlobal + Threads + Sync>(
+    text: &mut Text,
+    rt: &R,
+    trace: &Trace,
+    keys: RandomState,
+    judged: &mut Judged,
+) {
+    let Ok(names) = orders(rt.alloc(), trace, keys) else {
+        return;
+    };
+    let Some(opening) = text.made(opening_of(rt.alloc(), trace)) else {
+        return;
+    };
+    trace.recall_limits();
+    for e in 0..trace.section_count() {
+        judge_section(text, rt, trace, &names, &opening, e, judged);
+    }
 }
 
 /// Judges all sections of a trace in both ways, where it can be read and its orders are right.
@@ -172,19 +194,9 @@ fn judge_all<R: AllocGlobal + RandomSource + Threads + Sync>(
     bytes: &[u8],
     judged: &mut Judged,
 ) {
-    let Some(keys) = keys(text, rt) else {
-        return;
-    };
-    let Ok(trace) = Trace::read(rt.alloc(), bytes) else {
-        return;
-    };
-    let Ok(names) = orders(rt.alloc(), &trace, keys) else {
-        return;
-    };
-    trace.recall_limits();
-    for e in 0..trace.section_count() {
-        if judge_section(text, rt, &trace, &names, e, judged).is_err() {
-            text.refused();
+    if let Some(keys) = keys(text, rt) {
+        if let Ok(trace) = Trace::read(rt.alloc(), bytes) {
+            judge_sections(text, rt, &trace, keys, judged);
         }
     }
 }
@@ -216,7 +228,7 @@ pub fn push_drawn<R: AllocGlobal + RandomSource + Threads + Sync>(
         return;
     };
     let histories = histories(text, rt.alloc(), &trace);
-    let mut random = Pcg32::new(bytes.len() as u64, 54);
+    let mut random = Draws::new(bytes.len() as u64);
     for _ in 0..count {
         match draw(rt.alloc(), &trace, &histories, &mut random) {
             Some(drawn) => judge_all(text, rt, &drawn, &mut judged),

@@ -8,6 +8,6 @@ equal_balances-requires-clause-histories c =
 
 pub equal_balances-requires-clause-settled : goal.equal_balances-requires-clause-settled
 equal_balances-requires-clause-settled c =
-    let first = rw (c.in_ok-first.ensures.replica) at c.in_ok-of.ensures in
-    let second = rw (c.in_ok-second.ensures.replica) at c.in_ok-of-2.ensures in
-    both_settled c.args.trace.now c.in_ok-of.field-0 c.in_ok-of-2.field-0 c.requires first second
+    let first = rw (c.in_ok-first.ensures.replica) at c.in_ok-one.ensures in
+    let second = rw (c.in_ok-second.ensures.replica) at c.in_ok-other.ensures in
+    both_settled c.args.trace.now c.in_ok-one.one c.in_ok-other.other c.requires first second
