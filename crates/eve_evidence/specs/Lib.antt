@@ -8,3 +8,4 @@ pub mod Lasts
 pub mod Chain
 pub mod Section
 pub mod Places
+pub mod FrameKinds

@@ -1,11 +1,14 @@
 //! What shows why the verdict on a trace is no.
 
+ghost use Rattle.std.specs.Prelude.{◌≡◌};
+ghost use Rattle.eve_evidence.specs.FrameKinds.{all_kinds};
+
 use eve_accounts::{Cents, Row};
-use eve_grammar::{Asked, Choice, FrameKind};
+use eve_grammar::{Asked, Choice, FrameKind, MOST_REPLICAS, MOST_VERIFIERS};
 use eve_smallbank::{Kind, Reply, Versioned};
 
 /// An attempt, as its own frame says it.
-#[derive(Clone, Copy, PartialEq, Eq)]
+#[derive(Clone, Copy)]
 pub struct ToldAttempt {
     /// The number of its batch.
     pub batch: u32,
@@ -47,7 +50,7 @@ pub struct ToldState<'a> {
 }
 
 /// A number that was found, and the one that was due.
-#[derive(Clone, Copy, PartialEq, Eq)]
+#[derive(Clone, Copy)]
 pub struct Numbers {
     /// The number that the frame says.
     pub found: u64,
@@ -56,7 +59,7 @@ pub struct Numbers {
 }
 
 /// What is wrong with the length of the bytes.
-#[derive(Clone, Copy, PartialEq, Eq)]
+#[derive(Clone, Copy)]
 pub enum LengthFault {
     /// There are fewer bytes than a header has.
     TooShort,
@@ -67,7 +70,7 @@ pub enum LengthFault {
 }
 
 /// A field of the header.
-#[derive(Clone, Copy, PartialEq, Eq)]
+#[derive(Clone, Copy)]
 pub enum HeadField {
     /// Byte 6.
     Version,
@@ -90,7 +93,7 @@ pub enum HeadField {
 }
 
 /// What stands where no frame can.
-#[derive(Clone, Copy, PartialEq, Eq)]
+#[derive(Clone, Copy)]
 pub enum FrameFault {
     /// That many bytes after the end.
     AfterEnd(u64),
@@ -106,8 +109,31 @@ pub enum FrameFault {
     },
 }
 
+/// How many kinds of frames there are.
+pub const FRAME_KINDS: usize = 12;
+
+/// The kinds of frames, in the order of their bytes.
+pub fn frame_kinds() -> [FrameKind; FRAME_KINDS]
+    ensures { result ≡ all_kinds }
+{
+    [
+        FrameKind::Customer,
+        FrameKind::Batch,
+        FrameKind::Replica,
+        FrameKind::Attempt,
+        FrameKind::Access,
+        FrameKind::Commit,
+        FrameKind::Rollback,
+        FrameKind::Transfer,
+        FrameKind::Verifier,
+        FrameKind::Vote,
+        FrameKind::Sent,
+        FrameKind::End,
+    ]
+}
+
 /// A field of a frame's body.
-#[derive(Clone, Copy, PartialEq, Eq)]
+#[derive(Clone, Copy)]
 pub enum BodyField {
     /// The first byte behind the last field.
     End,
@@ -146,7 +172,7 @@ pub enum BodyField {
 }
 
 /// The first thing that is wrong with an attempt's number, view, requests or mode.
-#[derive(Clone, Copy, PartialEq, Eq)]
+#[derive(Clone, Copy)]
 pub enum AttemptFault {
     /// Its batch is not the one after the last that is committed or open: due is that one.
     Number(Numbers),
@@ -163,7 +189,7 @@ pub enum AttemptFault {
 }
 
 /// The first thing that is wrong with a certificate, place after place.
-#[derive(Clone, Copy, PartialEq, Eq)]
+#[derive(Clone, Copy)]
 pub enum CertificateFault {
     /// At this place there is the index of no request: the batch has `requests`.
     NoRequest {
@@ -191,7 +217,7 @@ pub enum CertificateFault {
 }
 
 /// The first thing that is wrong with an access record's worker or index.
-#[derive(Clone, Copy, PartialEq, Eq)]
+#[derive(Clone, Copy)]
 pub enum AccessFault {
     /// There is no such worker: due is below this, which is 1 in serial mode.
     Worker(Numbers),
@@ -215,7 +241,7 @@ pub enum CommitFault<'a> {
 }
 
 /// The first thing that is wrong with a rollback.
-#[derive(Clone, Copy, PartialEq, Eq)]
+#[derive(Clone, Copy)]
 pub enum RollbackFault {
     /// It doesn't go back to the last committed number.
     To(Numbers),
@@ -226,7 +252,7 @@ pub enum RollbackFault {
 }
 
 /// The first thing that is wrong with a state that was taken over.
-#[derive(Clone, Copy, PartialEq, Eq)]
+#[derive(Clone, Copy)]
 pub enum TransferFault {
     /// Its number is not above the last one that was reached: due is above that.
     Number(Numbers),
@@ -271,7 +297,7 @@ pub enum RecordFault<'a> {
 }
 
 /// Who left what an entry must see.
-#[derive(Clone, Copy, PartialEq, Eq)]
+#[derive(Clone, Copy)]
 pub enum Source {
     /// No write came before: it is the row's opening balance, at version 0.
     Opening,
@@ -324,7 +350,7 @@ pub struct ToldDecision {
 }
 
 /// What a verifier did about a batch in a view.
-#[derive(Clone, Copy, PartialEq, Eq)]
+#[derive(Clone, Copy)]
 pub enum VerifierVote {
     /// Its vote, whose frame begins at this byte, is the one that is asked for.
     For(u64),
@@ -334,8 +360,11 @@ pub enum VerifierVote {
     NoVote,
 }
 
+/// How many verifiers a list of what each did has room for.
+pub const VERIFIERS: usize = MOST_VERIFIERS as usize;
+
 /// Who voted for a commit or a rollback that has no majority.
-#[derive(Drop)]
+#[derive(Clone, Copy)]
 pub struct Poll<'a> {
     /// The number of the batch.
     pub batch: u32,
@@ -347,8 +376,10 @@ pub struct Poll<'a> {
     pub found: u8,
     /// How many must.
     pub due: u8,
+    /// How many verifiers there are.
+    pub verifiers: u8,
     /// What each verifier did, in their order.
-    pub votes: Vec<VerifierVote>,
+    pub votes: [VerifierVote; VERIFIERS],
 }
 
 /// What a verifier said about a batch in a view, whatever it was asked for.
@@ -363,7 +394,7 @@ pub enum VerifierChoice<'a> {
 }
 
 /// Who voted for the commit of a batch whose state was taken over, where no token has a majority.
-#[derive(Drop)]
+#[derive(Clone, Copy)]
 pub struct TransferPoll<'a> {
     /// The number of the batch.
     pub batch: u32,
@@ -373,8 +404,10 @@ pub struct TransferPoll<'a> {
     pub found: u8,
     /// How many must.
     pub due: u8,
+    /// How many verifiers there are.
+    pub verifiers: u8,
     /// What each verifier said, in their order.
-    pub votes: Vec<VerifierChoice<'a>>,
+    pub votes: [VerifierChoice<'a>; VERIFIERS],
 }
 
 /// The first thing in which a state that was taken over differs from the one that was committed.
@@ -433,7 +466,7 @@ pub enum SentFault<'a> {
 }
 
 /// Why a verdict is no: what is wrong at the frame that the fault names, what was due there, and what says so.
-#[derive(Drop)]
+#[derive(Clone, Copy)]
 pub enum Evidence<'a> {
     /// F1: how many bytes there are.
     Length {
@@ -452,10 +485,11 @@ pub enum Evidence<'a> {
         least: u32,
         most: u32,
     },
-    /// F4: what stands where a frame is due, and which kinds of frames may stand there.
+    /// F4: what stands where a frame is due, and whether a frame of each kind may stand there, in the order of
+    /// `frame_kinds`.
     Frame {
         wrong: FrameFault,
-        due: Vec<FrameKind>,
+        due: [bool; FRAME_KINDS],
     },
     /// F5: the frame, and the first field of its body that is wrong, at byte `field_at`.
     Body {
@@ -555,7 +589,7 @@ pub enum Evidence<'a> {
 }
 
 /// What a replica did, in numbers.
-#[derive(Clone, Copy, PartialEq, Eq)]
+#[derive(Clone, Copy)]
 pub struct ReplicaCounts {
     /// How many numbers it committed by an attempt.
     pub committed: u32,
@@ -569,11 +603,27 @@ pub struct ReplicaCounts {
     pub rollbacks: u32,
 }
 
+impl ReplicaCounts {
+    /// What a replica did that did nothing.
+    pub const NONE: ReplicaCounts = ReplicaCounts {
+        committed: 0,
+        taken_over: 0,
+        discarded: 0,
+        open: 0,
+        rollbacks: 0,
+    };
+}
+
+/// How many replicas a list of what each did has room for.
+pub const REPLICAS: usize = MOST_REPLICAS as usize;
+
 /// What a trace without a fault has.
-#[derive(Drop)]
+#[derive(Clone, Copy)]
 pub struct Counts {
     /// How many requests all batches have.
     pub requests: u32,
+    /// How many replicas there are.
+    pub many: u8,
     /// What each replica did, in their order.
-    pub replicas: Vec<ReplicaCounts>,
+    pub replicas: [ReplicaCounts; REPLICAS],
 }

@@ -14,10 +14,10 @@ mod told;
 
 pub use evidence::{
     AccessFault, AttemptFault, BodyField, CertificateFault, CommitFault, Counts, Evidence,
-    FrameFault, HeadField, LengthFault, Numbers, OutcomeFault, Poll, RecordFault, ReplicaCounts,
-    RestoreFault, RollbackFault, SentFault, Source, StateFault, ToldAttempt, ToldDecision,
-    ToldRequest, ToldRow, ToldState, TransferFault, TransferPoll, VerifierChoice, VerifierVote,
-    WrongEntry,
+    FRAME_KINDS, FrameFault, HeadField, LengthFault, Numbers, OutcomeFault, Poll, REPLICAS,
+    RecordFault, ReplicaCounts, RestoreFault, RollbackFault, SentFault, Source, StateFault,
+    ToldAttempt, ToldDecision, ToldRequest, ToldRow, ToldState, TransferFault, TransferPoll,
+    VERIFIERS, VerifierChoice, VerifierVote, WrongEntry, frame_kinds,
 };
 pub use section::section_evidence;
 pub use told::{told_attempt, told_request, told_row};

@@ -1,26 +1,19 @@
 -- What shows that no frame stands where one is due. docs/MODEL.md, "Evidence"; docs/TRACE.md, "Order of frames".
-use Rattle.std.specs.Prelude.{◌≡◌, ℕ, ◌+◌, ◌<◌, ◌≤◌, IsTrue, IsFalse, List, [], ◌∷◌, length, drop, filter, slice_index}
+use Rattle.std.specs.Prelude.{◌≡◌, ℕ, ◌+◌, ◌<◌, ◌≤◌, Bool, IsTrue, IsFalse, List, length, drop, map, slice_index}
 use Rattle.byteorder.specs.Endian.{big_number}
 use Rattle.eve_grammar.specs.Frames.{is_allowed}
 use Rattle.eve_grammar.specs.Kinds.{kind_byte}
-use Rattle.eve_grammar.specs.declared.frame_kind.FrameKind.{FrameKind}
-use Rattle.eve_grammar.specs.declared.frame_kind.FrameKind.TheVariants as kind
 use Rattle.eve_grammar.specs.declared.frame_kind.TheConstants.{FRAME_HEAD_LEN}
 use Rattle.eve_grammar.specs.declared.head.Head.{Head}
 use Rattle.eve_grammar.specs.declared.place.Place.{Place}
 use Rattle.eve_views.specs.Form.{IsReached, place_at}
+use Rattle.eve_evidence.specs.FrameKinds.{all_kinds}
 use Rattle.eve_evidence.specs.declared.evidence.FrameFault.{FrameFault}
 use Rattle.eve_evidence.specs.declared.evidence.FrameFault.TheVariants as wrong
 
--- the kinds of frames, in the order of their bytes
-abbrev pub all_kinds : List FrameKind
-all_kinds =
-    kind.Customer ∷ kind.Batch ∷ kind.Replica ∷ kind.Attempt ∷ kind.Access ∷ kind.Commit ∷ kind.Rollback
-    ∷ kind.Transfer ∷ kind.Verifier ∷ kind.Vote ∷ kind.Sent ∷ kind.End ∷ []
-
--- those that may stand at a place
-abbrev pub due_kinds : Head → Place → List FrameKind
-due_kinds h p = filter (λ k. is_allowed h p (kind_byte k)) all_kinds
+-- of each kind of frame, in the order of their bytes, whether it may stand at a place
+abbrev pub due_kinds : Head → Place → List Bool
+due_kinds h p = map (λ k. is_allowed h p (kind_byte k)) all_kinds
 
 -- the first thing that is wrong with the bytes at a place where a frame is due, or after the end
 abbrev pub IsFrameFault : Head → Place → List ℕ → FrameFault → Type 0
@@ -33,7 +26,7 @@ IsFrameFault h p bytes (wrong.Cut k body left) =
     × (body ≡ big_number 4 (drop 1 bytes)) × (FRAME_HEAD_LEN + left ≡ length bytes) × (left < body)
 
 -- what stands at this byte, where the frames before it have come so far, and which kinds of frames may stand there
-abbrev pub TellsFrame : List ℕ → ℕ → FrameFault → List FrameKind → Type 0
+abbrev pub TellsFrame : List ℕ → ℕ → FrameFault → List Bool → Type 0
 TellsFrame bytes at found due =
     (r : IsReached bytes at) × IsFrameFault r.head (place_at r) (drop at bytes) found
     × (due ≡ due_kinds r.head (place_at r))

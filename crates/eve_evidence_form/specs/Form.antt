@@ -15,7 +15,7 @@ TellsForm bytes f (shown.Length found wrong) =
 TellsForm bytes f (shown.Magic found) = (f.code ≡ code.Magic) × (found ≡ take 6 bytes)
 TellsForm bytes f (shown.Head name at found least most) =
     (f.code ≡ code.Head) × IsFirstWrongNumber bytes (number name at found least most)
-TellsForm bytes f (shown.Frame found due) = (f.code ≡ code.Frame) × TellsFrame bytes f.offset found due.items
+TellsForm bytes f (shown.Frame found due) = (f.code ≡ code.Frame) × TellsFrame bytes f.offset found due
 TellsForm bytes f (shown.Body frame at own own_at) =
     (f.code ≡ code.Body) × (at ≡ f.offset) × TellsBody bytes f.offset frame own own_at
 TellsForm bytes f _ = ⊥

@@ -1,15 +1,14 @@
 //! Which kinds of frames may stand at a place, and what is wrong with what stands there.
 
-ghost use Rattle.std.specs.Prelude.{◌≡◌, ◌<◌, ◌++◌, ◌∷◌, [], if◌then◌else◌, IfOk, OnOk, length, slice_get, Some};
+ghost use Rattle.std.specs.Prelude.{◌≡◌, ◌<◌, length, slice_get, Some};
 ghost use Rattle.eve_grammar.specs.Kinds.{kind_byte};
 ghost use Rattle.eve_grammar.specs.Frames.{is_allowed, is_allowed_in_sections, is_allowed_behind_sections};
 ghost use Rattle.eve_views.specs.Form.{HasNoFrame};
-ghost use Rattle.eve_evidence_form.specs.Due.{all_kinds, due_kinds, IsFrameFault};
+ghost use Rattle.eve_evidence_form.specs.Due.{due_kinds, IsFrameFault};
 
 use byteorder::{BigEndian, ByteOrder};
-use eve_evidence::FrameFault;
+use eve_evidence::{FRAME_KINDS, FrameFault, frame_kinds};
 use eve_grammar::{FRAME_HEAD_LEN, FrameKind, Head, Place};
-use std::alloc::{AllocError, Global};
 
 /// Whether a frame of the kind may stand there, after customers and batches, and before the first verifier.
 fn is_allowed_in_sections(head: &Head, place: &Place, kind: FrameKind) -> bool
@@ -55,26 +54,6 @@ fn is_allowed(head: &Head, place: &Place, kind: FrameKind) -> bool
     }
 }
 
-/// The kinds of frames, in the order of their bytes.
-fn all_kinds() -> [FrameKind; 12]
-    ensures { result ≡ all_kinds }
-{
-    [
-        FrameKind::Customer,
-        FrameKind::Batch,
-        FrameKind::Replica,
-        FrameKind::Attempt,
-        FrameKind::Access,
-        FrameKind::Commit,
-        FrameKind::Rollback,
-        FrameKind::Transfer,
-        FrameKind::Verifier,
-        FrameKind::Vote,
-        FrameKind::Sent,
-        FrameKind::End,
-    ]
-}
-
 /// The kind at this place of a list.
 fn kind_at(kinds: &[FrameKind], i: usize) -> FrameKind
     requires { i < length kinds.now }
@@ -83,27 +62,16 @@ fn kind_at(kinds: &[FrameKind], i: usize) -> FrameKind
     kinds[i]
 }
 
-/// Puts a kind behind others, if it may stand there.
-fn keep_if(due: &mut Vec<FrameKind>, allowed: bool, kind: FrameKind) -> Result<(), AllocError>
-    ensures { OnOk result (due.new.items ≡ due.old.items ++ (if allowed then kind ∷ [] else [])) }
+/// Whether a frame of each kind may stand there, in the order of their bytes.
+pub fn due_kinds(head: &Head, place: &Place) -> [bool; FRAME_KINDS]
+    ensures { result ≡ due_kinds head.now place.now }
 {
-    if allowed {
-        due.push(kind)?;
-    }
-    Ok(())
-}
-
-/// The kinds of frames that may stand there, in the order of their bytes.
-pub fn due_kinds(alloc: Global, head: &Head, place: &Place) -> Result<Vec<FrameKind>, AllocError>
-    ensures { IfOk result (λ due. due.items ≡ due_kinds head.now place.now) }
-{
-    let kinds = all_kinds();
-    let mut due = Vec::new(alloc);
+    let kinds = frame_kinds();
+    let mut due = [false; FRAME_KINDS];
     for i in 0..kinds.len() {
-        let kind = kind_at(&kinds, i);
-        keep_if(&mut due, is_allowed(head, place, kind), kind)?;
+        due[i] = is_allowed(head, place, kind_at(&kinds, i));
     }
-    Ok(due)
+    due
 }
 
 /// What is wrong with the bytes where a frame is due, or after the end.

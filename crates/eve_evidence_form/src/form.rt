@@ -1,6 +1,6 @@
 //! The evidence of a fault of form.
 
-ghost use Rattle.std.specs.Prelude.{◌≡◌, IfOk};
+ghost use Rattle.std.specs.Prelude.{◌≡◌};
 ghost use Rattle.eve_views.specs.Form.{IsLeast, StandsInForm, IsFaultOutside};
 ghost use Rattle.eve_evidence_form.specs.Form.{TellsForm};
 
@@ -9,52 +9,48 @@ use crate::frame::no_frame_at;
 use crate::head::{first_six, head_fault, length_fault};
 use eve_evidence::Evidence;
 use eve_views::{Code, Fault};
-use std::alloc::{AllocError, Global};
 
 /// The evidence of a fault of form, which is the first of these bytes, as `Trace::read` finds it.
 ///
 /// docs/MODEL.md, "Evidence". One pass over the frames before it.
-pub fn form_evidence<'a>(
-    alloc: Global,
-    bytes: &'a [u8],
-    fault: &Fault,
-) -> Result<Evidence<'a>, AllocError>
+pub fn form_evidence<'a>(bytes: &'a [u8], fault: &Fault) -> Evidence<'a>
     requires { IsLeast (IsFaultOutside StandsInForm bytes.now) fault.now }
-    ensures told { IfOk result (TellsForm bytes.now fault.now) }
+    ensures told { TellsForm bytes.now fault.now result }
 {
     match fault.code {
-        Code::Length => Ok(Evidence::Length {
+        Code::Length => Evidence::Length {
             found: bytes.len() as u64,
             wrong: length_fault(bytes),
-        }),
-        Code::Magic => Ok(Evidence::Magic {
+        },
+        Code::Magic => Evidence::Magic {
             found: first_six(bytes),
-        }),
+        },
         Code::Head => {
             let number = head_fault(bytes);
-            Ok(Evidence::Head {
+            Evidence::Head {
                 field: number.field,
                 at: number.at,
                 found: number.found,
                 least: number.least,
                 most: number.most,
-            })
+            }
         }
-        Code::Frame => match no_frame_at(alloc, bytes, fault.offset) {
-            Ok(found) => Ok(Evidence::Frame {
+        Code::Frame => {
+            let found = no_frame_at(bytes, fault.offset);
+            let due = found.due;
+            Evidence::Frame {
                 wrong: found.wrong,
-                due: found.due,
-            }),
-            Err(AllocError) => Err(AllocError),
-        },
+                due,
+            }
+        }
         Code::Body => {
             let wrong = wrong_body_at(bytes, fault.offset);
-            Ok(Evidence::Body {
+            Evidence::Body {
                 frame: wrong.frame,
                 at: fault.offset,
                 field: wrong.field,
                 field_at: wrong.at,
-            })
+            }
         }
         _ => unreachable!(),
     }

@@ -1,5 +1,5 @@
 -- Requests and fates, counted one after another.
-use Rattle.std.proofs.Common.{◌≡◌, ℕ, ◌+◌, ◌≤◌, Bool, cond, count_by}
+use Rattle.std.proofs.Common.{◌≡◌, ℕ, ◌+◌, ◌<◌, ◌≤◌, Bool, cond, count_by, slice_set}
 use Rattle.std.proofs.Common.{List, length, take, slice_get, Some, sym, ap}
 use Rattle.std.proofs.Common.{◌∙◌, arith, zero, suc, [], ◌∷◌, ◌++◌, subst}
 use Rattle.eve_chains.proofs.Linked.{none≢some}
@@ -26,11 +26,13 @@ requests_few b =
     let total = batch_total b.bytes.now b.whole in
     omega (arith, few, total)
 
-pub each_pushed : {A : Type 0} (P : ℕ → A → Type 0) (xs : List A) (x : A)
-    → ((u : ℕ) (y : A) → slice_get xs u ≡ Some y → P u y) → P (length xs) x
-    → (u : ℕ) (y : A) → slice_get (xs ++ x ∷ []) u ≡ Some y → P u y
-each_pushed P [] x all own zero y got = subst (P 0) (same_Some x y got) own
-each_pushed P [] x all own (suc u) y got = absurd (none≢some y got)
-each_pushed P (z ∷ xs) x all own zero y got = all zero y got
-each_pushed P (z ∷ xs) x all own (suc u) y got =
-    each_pushed (λ k. P (suc k)) xs x (λ v w g. all (suc v) w g) own u y got
+-- of each of the first items something is so, and of the next one once it is put there
+pub each_put : {A : Type 0} (P : ℕ → A → Type 0) (xs : List A) (i : ℕ) (x : A)
+    → ((u : ℕ) (y : A) → u < i → slice_get xs u ≡ Some y → P u y) → P i x
+    → (u : ℕ) (y : A) → u < i + 1 → slice_get (slice_set xs i x) u ≡ Some y → P u y
+each_put P [] i x all own u y low got = absurd (none≢some y got)
+each_put P (z ∷ xs) zero x all own zero y low got = subst (P 0) (same_Some x y got) own
+each_put P (z ∷ xs) zero x all own (suc u) y low got = absurd (omega (arith, low))
+each_put P (z ∷ xs) (suc i) x all own zero y low got = all zero y (omega arith) got
+each_put P (z ∷ xs) (suc i) x all own (suc u) y low got =
+    each_put (λ k. P (suc k)) xs i x (λ v w l g. all (suc v) w (omega (arith, l)) g) own u y (omega (arith, low)) got

@@ -1,5 +1,5 @@
 -- What a trace without a fault has, in numbers. docs/MODEL.md, "Section state, fate" and "Evidence".
-use Rattle.std.specs.Prelude.{◌≡◌, ℕ, min, Bool, true, false, length, slice_get, Some}
+use Rattle.std.specs.Prelude.{◌≡◌, ◌<◌, ℕ, min, Bool, true, false, length, slice_get, Some}
 use Rattle.std.specs.List.{count_by, sum_by}
 use Rattle.eve_grammar.specs.Trace.{Trace}
 use Rattle.eve_history.specs.declared.fate.Fate.{Fate}
@@ -34,6 +34,6 @@ pub record IsReplicaCounts (h : SectionHistory) (c : ReplicaCounts) : Type 0 whe
 -- What the trace has: the requests of all batches, and what each replica did, in their order.
 pub record AreTraceCounts (t : Trace) (c : Counts) : Type 0 where
   pub requests_are : c.requests ≡ sum_by (λ b. length b.requests) t.batches
-  pub as_many : length c.replicas.items ≡ length t.sections
-  pub each : (e : ℕ) (x : ReplicaCounts) → slice_get c.replicas.items e ≡ Some x
+  pub as_many : c.many ≡ length t.sections
+  pub each : (e : ℕ) (x : ReplicaCounts) → e < length t.sections → slice_get c.replicas e ≡ Some x
       → IsReplicaCounts (section_history t e) x

@@ -26,10 +26,9 @@ vote_told choice (w ∷ []) = if same_choice w.1.choice choice then For w.0 else
 vote_told choice (w ∷ u ∷ ws) = Otherwise w.0
 
 -- what each verifier did, in their order
-pub record AreToldVotes (t : Trace) (n view : ℕ) (choice : Choice) (votes : List VerifierVote) : Type 0 where
-  pub as_many : length votes ≡ length t.verifiers
-  pub each : (v : ℕ) (x : VerifierVote) → slice_get votes v ≡ Some x
-      → x ≡ vote_told choice (votes_on n view (votes_at t v))
+abbrev pub AreToldVotes : Trace → ℕ → ℕ → Choice → List VerifierVote → Type 0
+AreToldVotes t n view choice votes = (v : ℕ) (x : VerifierVote) → v < length t.verifiers → slice_get votes v ≡ Some x
+    → x ≡ vote_told choice (votes_on n view (votes_at t v))
 
 -- Who voted for this choice on the batch in the view, and that they are no quorum.
 pub record IsPoll (t : Trace) (n view : ℕ) (choice : Choice) (p : Poll) : Type 0 where
@@ -39,7 +38,8 @@ pub record IsPoll (t : Trace) (n view : ℕ) (choice : Choice) (p : Poll) : Type
   pub found_is : p.found ≡ backers t n view choice
   pub due_is : p.due ≡ t.head.quorum
   pub short : p.found < p.due
-  pub votes_are : AreToldVotes t n view choice p.votes.items
+  pub verifiers_are : p.verifiers ≡ length t.verifiers
+  pub votes_are : AreToldVotes t n view choice p.votes
 
 -- ---- whatever the choice
 
@@ -51,9 +51,9 @@ TellsChoice (w ∷ ws) (said.Rollback at) = (w.1.choice ≡ ForRollback) × (w.0
 TellsChoice _ _ = ⊥
 
 -- what each verifier said, in their order
-pub record AreToldChoices (t : Trace) (n view : ℕ) (votes : List VerifierChoice) : Type 0 where
-  pub as_many : length votes ≡ length t.verifiers
-  pub each : (v : ℕ) (x : VerifierChoice) → slice_get votes v ≡ Some x → TellsChoice (votes_on n view (votes_at t v)) x
+abbrev pub AreToldChoices : Trace → ℕ → ℕ → List VerifierChoice → Type 0
+AreToldChoices t n view votes = (v : ℕ) (x : VerifierChoice) → v < length t.verifiers → slice_get votes v ≡ Some x
+    → TellsChoice (votes_on n view (votes_at t v)) x
 
 -- the most verifiers that are for the commit of the batch in the view with one token
 pub record IsMost (t : Trace) (n view most : ℕ) : Type 0 where
@@ -67,7 +67,8 @@ pub record IsTransferPoll (t : Trace) (n view : ℕ) (p : TransferPoll) : Type 0
   pub found_is : IsMost t n view p.found
   pub due_is : p.due ≡ t.head.quorum
   pub short : p.found < p.due
-  pub votes_are : AreToldChoices t n view p.votes.items
+  pub verifiers_are : p.verifiers ≡ length t.verifiers
+  pub votes_are : AreToldChoices t n view p.votes
 
 -- the token of a commit that was voted for
 abbrev pub chosen : Choice → Option (List ℕ)

@@ -1,6 +1,6 @@
 //! Who voted for what, verifier by verifier.
 
-ghost use Rattle.std.specs.Prelude.{◌≡◌, ◌<◌, ◌≤◌, ℕ, List, IfOk, Some, length, filter, if◌then◌else◌};
+ghost use Rattle.std.specs.Prelude.{◌≡◌, ◌<◌, ◌≤◌, ℕ, List, Some, length, filter, if◌then◌else◌};
 ghost use Rattle.eve_grammar.specs.Trace.{ForCommit};
 ghost use Rattle.eve_grammar.specs.Bodies.{borrowed_choice as choice_of};
 ghost use Rattle.eve_grammar.specs.Spelling.{votes_at, votes_of};
@@ -9,46 +9,41 @@ ghost use Rattle.eve_evidence_outcomes.specs.Polls.{AreToldChoices, AreToldVotes
 ghost use Rattle.eve_evidence_outcomes.specs.Polls.{IsMost};
 
 use crate::votes::{only_commit, told_choice, told_vote};
-use eve_evidence::{VerifierChoice, VerifierVote};
+use eve_evidence::{VERIFIERS, VerifierChoice, VerifierVote};
 use eve_grammar::Choice;
 use eve_views::Trace;
-use std::alloc::{AllocError, Global};
 
 /// What each verifier did about a choice on the batch in the view.
 pub(crate) fn told_votes(
-    alloc: Global,
     trace: &Trace<'_>,
     n: u32,
     view: u32,
     choice: Choice<'_>,
-) -> Result<Vec<VerifierVote>, AllocError>
-    ensures { IfOk result (λ votes. AreToldVotes trace.now n view (choice_of choice.entry) votes.items) }
+) -> [VerifierVote; VERIFIERS]
+    ensures { AreToldVotes trace.now n view (choice_of choice.entry) result }
 {
-    let count = trace.verifier_count();
-    let mut told = Vec::with_capacity(alloc, count as usize)?;
-    for v in 0..count {
-        let votes = trace.votes(v);
-        told.push(told_vote(&votes, n, view, choice))?;
+    trace.recall_limits();
+    let mut told = [VerifierVote::NoVote; VERIFIERS];
+    for v in 0..trace.verifier_count() {
+        told[v as usize] = told_vote(&trace.votes(v), n, view, choice);
     }
-    Ok(told)
+    told
 }
 
 /// What each verifier said first on the batch in the view.
 pub(crate) fn told_choices<'a>(
-    alloc: Global,
     trace: &Trace<'a>,
     n: u32,
     view: u32,
-) -> Result<Vec<VerifierChoice<'a>>, AllocError>
-    ensures { IfOk result (λ votes. AreToldChoices trace.now n view votes.items) }
+) -> [VerifierChoice<'a>; VERIFIERS]
+    ensures { AreToldChoices trace.now n view result }
 {
-    let count = trace.verifier_count();
-    let mut told = Vec::with_capacity(alloc, count as usize)?;
-    for v in 0..count {
-        let votes = trace.votes(v);
-        told.push(told_choice(&votes, n, view))?;
+    trace.recall_limits();
+    let mut told = [VerifierChoice::NoVote; VERIFIERS];
+    for v in 0..trace.verifier_count() {
+        told[v as usize] = told_choice(&trace.votes(v), n, view);
     }
-    Ok(told)
+    told
 }
 
 /// 1 where a verifier has exactly one vote on the batch in the view, and it is for this, else 0.

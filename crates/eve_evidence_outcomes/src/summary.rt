@@ -1,17 +1,16 @@
 //! What a trace without a fault has, in numbers.
 
-ghost use Rattle.std.specs.Prelude.{◌≡◌, ◌<◌, ◌≤◌, ℕ, if◌then◌else◌, IfOk, Some, length, slice_get};
+ghost use Rattle.std.specs.Prelude.{◌≡◌, ◌<◌, ◌≤◌, ℕ, if◌then◌else◌, Some, length, slice_get};
 ghost use Rattle.std.specs.List.{sum_by};
 ghost use Rattle.eve_frames.specs.Said.{batch_said};
 ghost use Rattle.eve_history.specs.SectionHistory.{section_history, section_histories};
 ghost use Rattle.eve_evidence.specs.declared.evidence.ReplicaCounts.{ReplicaCounts as ReplicaCountsValue};
 ghost use Rattle.eve_evidence_outcomes.specs.Counts.{is_fate, counted, fate_count, IsReplicaCounts, AreTraceCounts};
 
-use eve_evidence::{Counts, ReplicaCounts};
+use eve_evidence::{Counts, REPLICAS, ReplicaCounts};
 use eve_frames::BatchView;
 use eve_history::{Fate, History};
 use eve_views::Trace;
-use std::alloc::{AllocError, Global};
 
 /// A number as 32 bits hold it, which is itself wherever they can.
 fn counted(n: usize) -> u32
@@ -96,40 +95,32 @@ fn counts_at(trace: &Trace<'_>, histories: &[History<'_>], e: u8) -> ReplicaCoun
 }
 
 /// What each replica did, in their order.
-fn counts_of_all(
-    alloc: Global,
-    trace: &Trace<'_>,
-    histories: &[History<'_>],
-) -> Result<Vec<ReplicaCounts>, AllocError>
+fn counts_of_all(trace: &Trace<'_>, histories: &[History<'_>]) -> [ReplicaCounts; REPLICAS]
     requires histories { histories.now ≡ section_histories trace.now }
-    ensures as_many { IfOk result (λ all. length all.items ≡ length trace.now.sections) }
-    ensures each { IfOk result (λ all. (e : ℕ) (x : ReplicaCountsValue) → slice_get all.items e ≡ Some x
-        → IsReplicaCounts (section_history trace.now e) x) }
+    ensures { (e : ℕ) (x : ReplicaCountsValue) → e < length trace.now.sections → slice_get result e ≡ Some x
+        → IsReplicaCounts (section_history trace.now e) x }
 {
-    let count = trace.section_count();
-    let mut all = Vec::with_capacity(alloc, count as usize)?;
-    for e in 0..count {
-        all.push(counts_at(trace, histories, e))?;
+    trace.recall_limits();
+    let mut all = [ReplicaCounts::NONE; REPLICAS];
+    for e in 0..trace.section_count() {
+        all[e as usize] = counts_at(trace, histories, e);
     }
-    Ok(all)
+    all
 }
 
 /// How many requests all batches have, and what each replica did, in their order: numbers committed by an attempt,
 /// states taken over, attempts discarded and open at the end, and rollbacks.
 ///
 /// docs/MODEL.md, "Section state, fate" and "Evidence". The histories are those of all replicas, in their order. One
-/// pass over the batches, three over what became of the attempts, and an entry of memory for each replica.
-pub fn counts(
-    alloc: Global,
-    trace: &Trace<'_>,
-    histories: &[History<'_>],
-) -> Result<Counts, AllocError>
+/// pass over the batches, and three over what became of the attempts. It takes no memory.
+pub fn counts(trace: &Trace<'_>, histories: &[History<'_>]) -> Counts
     requires histories { histories.now ≡ section_histories trace.now }
-    ensures { IfOk result (AreTraceCounts trace.now) }
+    ensures { AreTraceCounts trace.now result }
 {
-    let replicas = counts_of_all(alloc, trace, histories)?;
-    Ok(Counts {
+    let replicas = counts_of_all(trace, histories);
+    Counts {
         requests: requests_in_all(trace),
+        many: trace.section_count(),
         replicas,
-    })
+    }
 }

@@ -8,7 +8,7 @@ use eve_evidence::{Counts, Evidence};
 use eve_views::Fault;
 
 /// A verdict with what shows why it is so.
-#[derive(Drop)]
+#[derive(Clone, Copy)]
 pub enum Explained<'a> {
     /// No fault stands, and what the trace has, in numbers.
     Yes(Summary, Counts),

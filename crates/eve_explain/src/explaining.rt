@@ -125,7 +125,7 @@ fn evidence_of<'a>(
     bytes_spell_one_trace();
     match Trace::read(alloc, bytes) {
         Ok(trace) => evidence_in(alloc, &trace, fault, random),
-        Err(CheckFault::Found(_)) => form_evidence(alloc, bytes, fault),
+        Err(CheckFault::Found(_)) => Ok(form_evidence(bytes, fault)),
         Err(CheckFault::Memory) => Err(AllocError),
     }
 }
@@ -148,19 +148,14 @@ fn explained_no<'a>(
 }
 
 /// A yes with what the trace has, in numbers.
-fn explained_yes<'a>(
-    alloc: Global,
-    accepted: &AcceptedTrace<'_>,
-) -> Result<Explained<'a>, AuditFault>
+fn explained_yes<'a>(accepted: &AcceptedTrace<'_>) -> Explained<'a>
     requires { accepted.now.histories.items ≡ section_histories accepted.now.trace }
-    ensures yes { IfOk result (λ x. verdict_in x ≡ Yes accepted.now.summary) }
-    ensures explained { (bytes : List ℕ) → Spells bytes accepted.now.trace → IfOk result (IsExplained bytes) }
+    ensures yes { verdict_in result ≡ Yes accepted.now.summary }
+    ensures explained { (bytes : List ℕ) → Spells bytes accepted.now.trace → IsExplained bytes result }
 {
     bytes_spell_one_trace();
-    match counts(alloc, &accepted.trace, &accepted.histories) {
-        Ok(counts) => Ok(Explained::Yes(accepted.summary, counts)),
-        Err(AllocError) => Err(AuditFault::Memory),
-    }
+    let counts = counts(&accepted.trace, &accepted.histories);
+    Explained::Yes(accepted.summary, counts)
 }
 
 /// The verdict on the bytes of a trace, as `audit` gives it. For a yes it has what the trace has, in numbers; for a no
@@ -184,7 +179,7 @@ pub fn explain<'a, R: Threads + Wait + Sync, G: Gate>(
     ensures explained { IfOk result (IsExplained bytes.now) }
 {
     match audit_whole(rt, alloc, bytes, workers, random, gate) {
-        Ok(WholeVerdict::Yes(accepted)) => explained_yes(alloc, &accepted),
+        Ok(WholeVerdict::Yes(accepted)) => Ok(explained_yes(&accepted)),
         Ok(WholeVerdict::No(fault)) => explained_no(alloc, bytes, &fault, random),
         Err(why) => Err(why),
     }

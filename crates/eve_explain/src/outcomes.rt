@@ -39,7 +39,7 @@ pub(crate) fn evidence_of_majority<'a>(
         return Ok(Evidence::Untold);
     };
     let _history = history_of(alloc, trace, fault, e)?;
-    majority_evidence(alloc, trace, e, fault.code, fault.offset)
+    Ok(majority_evidence(trace, e, fault.code, fault.offset))
 }
 
 /// The evidence of a rollback whose restores aren't those that are due.

@@ -5,7 +5,7 @@ ghost use Rattle.arrayvec.specs.ArrayVec.{array_vec_len};
 
 use crate::found::put_count_line;
 use crate::words::LONGEST_REASON;
-use eve_evidence::{Counts, ReplicaCounts};
+use eve_evidence::{Counts, REPLICAS, ReplicaCounts};
 use eve_lines::{LINE_ROOM, Line, put, put_number};
 
 /// Appends a number, and a word behind it.
@@ -44,7 +44,7 @@ pub fn put_count(line: &mut Line, i: usize, counts: &Counts) -> bool
         put_count_line(line, "requests: ", u64::from(counts.requests));
         return true;
     }
-    if i > counts.replicas.len() {
+    if i > (counts.many as usize).min(REPLICAS) {
         return false;
     }
     put_replica(line, i - 1, &counts.replicas[i - 1]);

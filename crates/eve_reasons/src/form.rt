@@ -5,12 +5,9 @@ ghost use Rattle.arrayvec.specs.ArrayVec.{array_vec_len};
 
 use crate::found::{put_count_line, put_said};
 use crate::words::{LONGEST_REASON, put_frame_line};
-use eve_evidence::{BodyField, FrameFault, HeadField, LengthFault};
+use eve_evidence::{BodyField, FRAME_KINDS, FrameFault, HeadField, LengthFault, frame_kinds};
 use eve_grammar::{FrameKind, HEADER_LEN, MOST_BYTES};
 use eve_lines::{LINE_ROOM, Line, kind_name, put, put_bytes, put_number};
-
-/// How many kinds of frames there are.
-const KINDS: usize = 12;
 
 /// Appends a line of a number and some words behind it: `found: 301 bytes`.
 fn put_count_of(line: &mut Line, label: &str, count: u64, words: &str)
@@ -186,20 +183,25 @@ fn put_no_frame(line: &mut Line, wrong: &FrameFault)
     }
 }
 
-/// Appends the kinds of frames that may stand somewhere: `due: Sent, End`. There are 12 at most.
-fn put_due_kinds(line: &mut Line, due: &[FrameKind])
+/// Appends the kinds of frames that may stand somewhere: `due: Sent, End`.
+fn put_due_kinds(line: &mut Line, due: &[bool; FRAME_KINDS])
     requires { array_vec_len line.old + LONGEST_REASON ≤ LINE_ROOM }
     ensures { array_vec_len line.new ≤ array_vec_len line.old + LONGEST_REASON }
 {
+    let kinds = frame_kinds();
     put(line, "due: ");
-    if due.is_empty() {
-        put(line, "nothing");
-    }
-    'kinds: for i in 0..due.len().min(KINDS) {
-        if i > 0 {
-            put(line, ", ");
+    let mut any = false;
+    'kinds: for i in 0..FRAME_KINDS {
+        if due[i] {
+            if any {
+                put(line, ", ");
+            }
+            put(line, kind_name(kinds[i]));
+            any = true;
         }
-        put(line, kind_name(due[i]));
+    }
+    if !any {
+        put(line, "nothing");
     }
 }
 
@@ -208,7 +210,7 @@ pub(crate) fn put_frame_fault(
     line: &mut Line,
     i: usize,
     wrong: &FrameFault,
-    due: &[FrameKind],
+    due: &[bool; FRAME_KINDS],
 ) -> bool
     requires { array_vec_len line.old + LONGEST_REASON ≤ LINE_ROOM }
     ensures { array_vec_len line.new ≤ array_vec_len line.old + LONGEST_REASON }

@@ -5,7 +5,7 @@ ghost use Rattle.arrayvec.specs.ArrayVec.{array_vec_len};
 
 use crate::found::put_count_line;
 use crate::words::{LONGEST_REASON, put_frame};
-use eve_evidence::{Poll, ToldDecision, TransferPoll, VerifierChoice, VerifierVote};
+use eve_evidence::{Poll, ToldDecision, TransferPoll, VERIFIERS, VerifierChoice, VerifierVote};
 use eve_grammar::{Choice, FrameKind};
 use eve_lines::{LINE_ROOM, Line, put, put_number, put_token};
 
@@ -96,12 +96,12 @@ fn put_asked_for(line: &mut Line, poll: &Poll)
 }
 
 /// Appends how many verifiers voted for it.
-fn put_votes_found(line: &mut Line, votes: u8, verifiers: usize)
+fn put_votes_found(line: &mut Line, votes: u8, verifiers: u8)
     requires { array_vec_len line.old + LONGEST_REASON ≤ LINE_ROOM }
     ensures { array_vec_len line.new ≤ array_vec_len line.old + LONGEST_REASON }
 {
     put(line, "found: ");
-    put_of_verifiers(line, u64::from(votes), verifiers as u64);
+    put_of_verifiers(line, u64::from(votes), u64::from(verifiers));
 }
 
 /// Appends a vote behind what it says: `for it, Vote at byte 251`.
@@ -125,17 +125,18 @@ fn put_verifier(line: &mut Line, verifier: usize)
 }
 
 /// Appends what this verifier did; no, where it isn't there.
-fn put_verifier_vote(line: &mut Line, votes: &[VerifierVote], verifier: usize) -> bool
+fn put_verifier_vote(line: &mut Line, poll: &Poll, verifier: usize) -> bool
     requires { array_vec_len line.old + LONGEST_REASON ≤ LINE_ROOM }
     ensures { array_vec_len line.new ≤ array_vec_len line.old + LONGEST_REASON }
 {
-    if verifier >= votes.len() {
+    if verifier >= (poll.verifiers as usize).min(VERIFIERS) {
         return false;
     }
     put_verifier(line, verifier);
-    match &votes[verifier] {
-        VerifierVote::For(at) => put_vote(line, "for it, ", *at),
-        VerifierVote::Otherwise(at) => put_vote(line, "otherwise, ", *at),
+    let votes = poll.votes;
+    match votes[verifier] {
+        VerifierVote::For(at) => put_vote(line, "for it, ", at),
+        VerifierVote::Otherwise(at) => put_vote(line, "otherwise, ", at),
         VerifierVote::NoVote => put(line, "no vote"),
     }
     true
@@ -148,9 +149,9 @@ pub(crate) fn put_poll(line: &mut Line, i: usize, poll: &Poll) -> bool
 {
     match i {
         0 => put_asked_for(line, poll),
-        1 => put_votes_found(line, poll.found, poll.votes.len()),
+        1 => put_votes_found(line, poll.found, poll.verifiers),
         2 => put_count_line(line, "due: ", u64::from(poll.due)),
-        _ => return put_verifier_vote(line, poll.votes.as_slice(), i - 3),
+        _ => return put_verifier_vote(line, poll, i - 3),
     }
     true
 }
@@ -166,15 +167,15 @@ fn put_any_token(line: &mut Line, poll: &TransferPoll)
 }
 
 /// Appends what this verifier said; no, where it isn't there.
-fn put_verifier_choice(line: &mut Line, votes: &[VerifierChoice], verifier: usize) -> bool
+fn put_verifier_choice(line: &mut Line, poll: &TransferPoll, verifier: usize) -> bool
     requires { array_vec_len line.old + LONGEST_REASON ≤ LINE_ROOM }
     ensures { array_vec_len line.new ≤ array_vec_len line.old + LONGEST_REASON }
 {
-    if verifier >= votes.len() {
+    if verifier >= (poll.verifiers as usize).min(VERIFIERS) {
         return false;
     }
     put_verifier(line, verifier);
-    match &votes[verifier] {
+    match &poll.votes[verifier] {
         VerifierChoice::Commit { token, at } => {
             put(line, "commit ");
             put_token(line, token);
@@ -193,9 +194,9 @@ pub(crate) fn put_transfer_poll(line: &mut Line, i: usize, poll: &TransferPoll) 
 {
     match i {
         0 => put_any_token(line, poll),
-        1 => put_votes_found(line, poll.found, poll.votes.len()),
+        1 => put_votes_found(line, poll.found, poll.verifiers),
         2 => put_count_line(line, "due: ", u64::from(poll.due)),
-        _ => return put_verifier_choice(line, poll.votes.as_slice(), i - 3),
+        _ => return put_verifier_choice(line, poll, i - 3),
     }
     true
 }

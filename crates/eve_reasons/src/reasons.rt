@@ -30,7 +30,7 @@ fn put_early(line: &mut Line, i: usize, evidence: &Evidence) -> bool
             least,
             most,
         } => put_head(line, i, *field, *at, *found, (*least, *most)),
-        Evidence::Frame { wrong, due } => put_frame_fault(line, i, wrong, due.as_slice()),
+        Evidence::Frame { wrong, due } => put_frame_fault(line, i, wrong, due),
         Evidence::Body {
             frame,
             at,

@@ -30,5 +30,5 @@ returns c =
           (subst (λ
           (ys : List ℕ). IsFrameFault c.head_said-head.result c.place_reached-place.result ys c.frame_fault.result)
           whole c.frame_fault.ensures)),
-      c.in_ok-due.ensures ∙ (λ i. due_kinds (head i) (place i)),
+      c.due_kinds-due.ensures ∙ (λ i. due_kinds (head i) (place i)),
     )

@@ -1,6 +1,5 @@
 use Rattle.std.proofs.Common.{sym, subst}
-use Rattle.std.specs.Prelude.{IfNone}
-use Rattle.eve_evidence_outcomes.proofs.Lacking.{Ahead, AtNone, all_ahead, none_ahead, goes_on}
+use Rattle.eve_evidence_outcomes.proofs.Lacking.{Ahead, all_ahead, none_ahead, goes_on}
 use Rattle.eve_evidence_outcomes.proofs.majority.majority_evidence.Goals as goal
 
 pub loop-step-init : goal.loop-step-init
@@ -13,8 +12,7 @@ pub loop-step-preserved : goal.loop-step-preserved
 loop-step-preserved c =
     let t = c.args.trace.now in
     let some = c.in-Some.ensures.some in
-    let none = subst (λ o. IfNone o (AtNone c.args.code t c.args.place c.in-Some.step)) c.in-Ok-None.field-0-is
-    c.in-Ok-None.ensures.none in
+    let none = c.in_default-at_step.ensures.none in
     goes_on c.args.code t c.args.e c.args.place some.0 c.next.new.self
     (subst (Ahead c.args.code t c.args.e c.args.place) some.1 c.loop-step.invariant) (none some.0 some.2)
 

@@ -1,4 +1,3 @@
-use Rattle.std.proofs.lemmas.Result.{IfOk-weaker}
 use Rattle.eve_frames.specs.Said.{transfer_said}
 use Rattle.eve_agree.specs.Majority.{SomeDecided}
 use Rattle.eve_evidence.proofs.Lists.{if_none_weaker}
@@ -8,7 +7,6 @@ use Rattle.eve_evidence_outcomes.proofs.majority.of_transfer.Goals as goal
 pub returns-in-TransferNoMajority-clause-none : goal.returns-in-TransferNoMajority-clause-none
 returns-in-TransferNoMajority-clause-none c =
     let t = c.args.trace.now in
-    IfOk-weaker c.transfer_poll.result _ _ (λ o none. if_none_weaker o (SomeDecided t c.seq.result c.view.result) _
+    if_none_weaker c.transfer_poll.result (SomeDecided t c.seq.result c.view.result) _
     (transfer_has c.args.code t (transfer_said c.args.transfer.now) c.seq.result c.view.result
-    c.in-TransferNoMajority.is
-    c.seq.ensures c.view.ensures) none) c.transfer_poll.ensures.none
+    c.in-TransferNoMajority.is c.seq.ensures c.view.ensures) c.transfer_poll.ensures.none

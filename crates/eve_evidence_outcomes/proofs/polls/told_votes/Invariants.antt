@@ -1,4 +1,4 @@
-use Rattle.std.proofs.Common.{◌≡◌, ℕ, length, slice_get, Some}
+use Rattle.std.proofs.Common.{◌≡◌, ◌<◌, ℕ, length, slice_get, Some}
 use Rattle.eve_grammar.specs.Bodies.{borrowed_choice}
 use Rattle.eve_grammar.specs.Spelling.{votes_at}
 use Rattle.eve_evidence.specs.declared.evidence.VerifierVote.{VerifierVote}
@@ -7,7 +7,7 @@ use Rattle.eve_evidence_outcomes.proofs.polls.told_votes.Given as goal
 
 abbrev pub invariant-loop-v : goal.invariant-loop-v
 invariant-loop-v l = record {
-  long : length l.told.items ≡ l.v;
-  each : (u : ℕ) (x : VerifierVote) → slice_get l.told.items u ≡ Some x
+  long : length l.told ≡ 16;
+  each : (u : ℕ) (x : VerifierVote) → u < l.v → slice_get l.told u ≡ Some x
       → x ≡ vote_told (borrowed_choice l.choice) (votes_on l.n l.view (votes_at l.trace u));
 }
