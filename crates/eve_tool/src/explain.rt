@@ -69,7 +69,10 @@ fn explain_bytes<R: Threads + Wait + Sync, O: Sink>(
     ensures left { IfErr result (Leaves MOST_BYTES O.written O.failures Explain (Some bytes.now) ⊥ out.old out.new) }
     ensures wrote { IfErr result (λ why. why ≢ ToolFault.Write → O.failures out.new ≡ O.failures out.old) }
 {
-    let explained = eve_explain::explain(rt, alloc, bytes, workers.get(), random, &OpenGate)?;
+    let Ok(explained) = eve_explain::explain(rt, alloc, bytes, workers.get(), random, &OpenGate)
+    else {
+        return Err(ToolFault::Memory);
+    };
     let status = send_verdict(alloc, &explained.verdict(), out)?;
     send_reasons(&explained, out)?;
     Ok(status)

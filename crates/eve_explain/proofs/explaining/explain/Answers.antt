@@ -1,4 +1,4 @@
-use Rattle.std.proofs.Common.{◌≡◌, ◌≤◌, length, Ok, subst}
+use Rattle.std.proofs.Common.{◌≡◌, ◌≤◌, length, sym, subst}
 use Rattle.eve_grammar.specs.Following.{Spells}
 use Rattle.eve_views.specs.declared.fault.Fault.{Fault}
 use Rattle.eve_audit.specs.Answer.{verdict_of}
@@ -14,30 +14,26 @@ use Rattle.eve_explain.proofs.explaining.explain.Goals as goal
 pub returns-in-Ok-Yes-clause-verdict : goal.returns-in-Ok-Yes-clause-verdict
 returns-in-Ok-Yes-clause-verdict g c =
     let P = λ (v : Verdict). IsVerdict c.args.bytes.now v in
-    told_of (Ok c.explained_yes.result) (Yes c.in-Ok-Yes.accepted.summary) P
+    subst P (sym c.explained_yes.ensures.yes)
     (subst (λ (w : WholeVerdict). P (verdict_of w)) c.in-Ok-Yes.field-0-is c.in-Ok-Yes.ensures.verdict)
-    c.explained_yes.ensures.yes
 
 pub returns-in-Ok-Yes-clause-yes : goal.returns-in-Ok-Yes-clause-yes
 returns-in-Ok-Yes-clause-yes g c =
     let P = λ (v : Verdict). (s : Summary) → v ≡ Yes s → SpellsAudited c.args.bytes.now in
-    told_of (Ok c.explained_yes.result) (Yes c.in-Ok-Yes.accepted.summary) P
+    subst P (sym c.explained_yes.ensures.yes)
     (subst (λ (w : WholeVerdict). P (verdict_of w)) c.in-Ok-Yes.field-0-is c.in-Ok-Yes.ensures.yes)
-    c.explained_yes.ensures.yes
 
 pub returns-in-Ok-Yes-clause-within : goal.returns-in-Ok-Yes-clause-within
 returns-in-Ok-Yes-clause-within g c =
     let P = λ (v : Verdict). (f : Fault) → v ≡ No f → f.offset ≤ length c.args.bytes.now in
-    told_of (Ok c.explained_yes.result) (Yes c.in-Ok-Yes.accepted.summary) P
+    subst P (sym c.explained_yes.ensures.yes)
     (subst (λ (w : WholeVerdict). P (verdict_of w)) c.in-Ok-Yes.field-0-is c.in-Ok-Yes.ensures.within)
-    c.explained_yes.ensures.yes
 
 pub returns-in-Ok-Yes-clause-replica : goal.returns-in-Ok-Yes-clause-replica
 returns-in-Ok-Yes-clause-replica g c =
     let P = λ (v : Verdict). (f : Fault) → v ≡ No f → NamesItsSection c.args.bytes.now f in
-    told_of (Ok c.explained_yes.result) (Yes c.in-Ok-Yes.accepted.summary) P
+    subst P (sym c.explained_yes.ensures.yes)
     (subst (λ (w : WholeVerdict). P (verdict_of w)) c.in-Ok-Yes.field-0-is c.in-Ok-Yes.ensures.replica)
-    c.explained_yes.ensures.yes
 
 pub returns-in-Ok-No-clause-verdict : goal.returns-in-Ok-No-clause-verdict
 returns-in-Ok-No-clause-verdict g c =

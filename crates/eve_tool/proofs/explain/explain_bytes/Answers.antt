@@ -12,9 +12,9 @@ returns-in_err-status-clause-left g c =
     let bytes = c.args.bytes.now in
     let v = c.verdict.result in
     let why = c.in_err-status.field-0.0 in
-    let audits = audits-of bytes c.in_ok-explained.explained v (status_of_verdict v) c.verdict.ensures refl
-    c.in_ok-explained.ensures.verdict c.in_ok-explained.ensures.yes in
-    at_err c.from_residual-in_err-status.result _ why c.from_residual-in_err-status.ensures.1
+    let audits = audits-of bytes c.in-Ok.explained v (status_of_verdict v) c.verdict.ensures refl
+    c.in-Ok.ensures.verdict c.in-Ok.ensures.yes in
+    at_err c.from_residual.result _ why c.from_residual.ensures.1
     (sent_left g.O.Sink.written g.O.Sink.failures Explain bytes (verdict_line v) (status_of_verdict v) c.args.out.now
     c.send_verdict.new.out (explains-alone bytes (verdict_line v) (status_of_verdict v) audits) why
     c.in_err-status.ensures.stopped)
@@ -24,8 +24,8 @@ returns-in_err-send_reasons-clause-left g c =
     let bytes = c.args.bytes.now in
     let v = c.verdict.result in
     let status = c.in_ok-status.status in
-    let audits = audits-of bytes c.in_ok-explained.explained v status c.verdict.ensures c.in_ok-status.ensures.status
-    c.in_ok-explained.ensures.verdict c.in_ok-explained.ensures.yes in
+    let audits = audits-of bytes c.in-Ok.explained v status c.verdict.ensures c.in_ok-status.ensures.status
+    c.in-Ok.ensures.verdict c.in-Ok.ensures.yes in
     at_err c.from_residual-in_err-send_reasons.result _ Write c.from_residual-in_err-send_reasons.ensures.1 (
       c.in_err-send_reasons.ensures.counted ∙ ap after_failure c.in_ok-status.ensures.fine,
       explained-front _ _ _ bytes (verdict_line v) status audits c.in_ok-status.ensures.sent
@@ -37,7 +37,7 @@ returns-clause-all g c =
     let bytes = c.args.bytes.now in
     let v = c.verdict.result in
     let status = c.in_ok-status.status in
-    let audits = audits-of bytes c.in_ok-explained.explained v status c.verdict.ensures c.in_ok-status.ensures.status
-    c.in_ok-explained.ensures.verdict c.in_ok-explained.ensures.yes in
+    let audits = audits-of bytes c.in-Ok.explained v status c.verdict.ensures c.in_ok-status.ensures.status
+    c.in-Ok.ensures.verdict c.in-Ok.ensures.yes in
     explained-all _ _ _ bytes (verdict_line v) status audits c.in_ok-status.ensures.sent
     c.in_ok-send_reasons.ensures.sent
