@@ -1,5 +1,5 @@
 -- A trace without a fault is accepted.
-use Rattle.std.proofs.Common.{◌≡◌, ℕ, inl, inr, List, length}
+use Rattle.std.proofs.Common.{◌≡◌, ℕ, ◌<◌, inl, inr, List, length}
 use Rattle.std.proofs.lemmas.Bool.{cases_lt}
 use Rattle.std.specs.Prelude.{AllPairs, ◌≢◌}
 use Rattle.eve_smallbank.specs.SmallBank.{Request}
@@ -28,7 +28,8 @@ use Rattle.eve_audit.specs.declared.verdict.Verdict.TheVariants.{Yes}
 use Rattle.eve_audit.specs.Verdict.{Stands, IsVerdict, SpellsAudited, IsOwnFault, of_structure, of_records, of_chains}
 use Rattle.eve_audit.specs.Verdict.{of_restores, of_tokens, IsTraceFault, of_votes, of_majorities, of_agreement}
 use Rattle.eve_audit.specs.Verdict.{of_replies, in_orders, in_section, in_common}
-use Rattle.eve_views.specs.Form.{HasNone, IsFaultIn, IsFaultOutside}
+use Rattle.eve_views.specs.Form.{HasNone, IsFaultIn, IsFaultOutside, IsFaultSomewhere}
+use Rattle.eve_agree.specs.Majority.{AllAreBacked, StandsInMajorities}
 use Rattle.eve_audit.specs.Reports.{IsSoundReplica, IsSoundTogether}
 use Rattle.eve_audit.proofs.Accepted.{no_request_again, accepted_of}
 use Rattle.eve_audit.proofs.Kept.{sound_beyond}
@@ -69,25 +70,31 @@ module _ (laws : Laws) (t : Trace) (limits : HasLimits t) where
         tokens = due_tokens t e (λ f is. none f (of_tokens is));
       }
 
-  module _ (none : HasNone (IsTraceFault t)) where
-    all_sound : (e : ℕ) → IsSoundReplica t e
-    all_sound e = elim (cases_lt e (length t.sections)) [
-      | inl lt ↦ own_sound e (λ f is. none f (in_section (e, lt, is)))
-      | inr le ↦ sound_beyond t e le
-    ]
+  -- so all replicas, where none has one
+  pub all_sound : ((e : ℕ) → e < length t.sections → HasNone (IsOwnFault t e)) → (e : ℕ) → IsSoundReplica t e
+  all_sound none e = elim (cases_lt e (length t.sections)) [
+    | inl lt ↦ own_sound e (none e lt)
+    | inr le ↦ sound_beyond t e le
+  ]
 
+  pub votes_hold : HasNone (IsFaultOutside StandsInVotes t) → AreVotesSound t
+  votes_hold none = laws.votes t limits none
+
+  pub steps_backed : HasNone (IsFaultSomewhere StandsInMajorities t) → AllAreBacked t
+  steps_backed none = all_backed t (λ n view token. laws.voted t n view token limits) none
+
+  module _ (none : HasNone (IsTraceFault t)) where
     together : IsSoundTogether t
     together = record {
-      votes = laws.votes t limits (λ f is. none f (in_common (of_votes is)));
-      backed = all_backed t (λ n view token. laws.voted t n view token limits)
-          (λ f is. none f (in_common (of_majorities is)));
+      votes = votes_hold (λ f is. none f (in_common (of_votes is)));
+      backed = steps_backed (λ f is. none f (in_common (of_majorities is)));
       agree = all_agree t (λ f is. none f (in_common (of_agreement is)));
       replied = all_replied t (λ f is. none f (in_common (of_replies is)));
     }
 
     pub unfaulted_accepted : IsAccepted t
     unfaulted_accepted = accepted_of t limits (laws.apart t (no_request_again t (λ f is. none f (in_orders is))))
-        all_sound together
+        (all_sound (λ e lt f is. none f (in_section (e, lt, is)))) together
 
 -- where nothing stands in the bytes, nothing does in the trace
 pub faultless_trace : (bytes : List ℕ) (t : Trace) → ((u : Trace) → Spells bytes u → u ≡ t) → Spells bytes t

@@ -30,5 +30,7 @@ pub mod SameBanks
 pub mod Reached
 pub mod Outcomes
 pub mod Decisions
+pub mod Rising
+pub mod BeforeAgreement
 pub mod Sentences
 pub mod OfVersion1

@@ -18,6 +18,7 @@ use Rattle.eve_agree.specs.SentReplies.{IsReplied}
 use Rattle.eve_audit.specs.Accepted.{IsAccepted}
 use Rattle.eve_audit.specs.Audited.{IsAudited}
 use Rattle.eve_audit.proofs.Reached.{none_there, each_at}
+use Rattle.eve_audit.proofs.Rising.{numbers_rise}
 use Rattle.eve_audit.proofs.Outcomes.{replies_agree, all_agree, all_have_firsts, by_firsts}
 use Rattle.eve_audit.proofs.Decisions.{committed_decided, commit_backed, rollback_backed, transfer_backed}
 
@@ -71,6 +72,8 @@ module _ (t : Trace) (accepted : IsAccepted t) where
 
     pub audited_with : IsAudited t
     audited_with = record {
+      right = accepted.right;
+      rise = λ e. numbers_rise t e (accepted.right e);
       numbered = laws.numbers;
       serial = laws.serial;
       before = reached_before;

@@ -1,13 +1,13 @@
 -- What a yes says of a trace. docs/MODEL.md, "The audit theorem".
-use Rattle.std.specs.Prelude.{◌≡◌, ℕ, zero, suc, ◌+◌, ◌-◌, ◌*◌, ◌<◌, ◌≤◌, List, [], ◌++◌, length, slice_get, Option}
-use Rattle.std.specs.Prelude.{Some, None, IsTrue, AllPairs, ◌≢◌}
+use Rattle.std.specs.Prelude.{◌≡◌, ℕ, zero, suc, ◌+◌, ◌-◌, ◌*◌, ◌<◌, ◌≤◌, List, [], ◌∷◌, ◌++◌, length, slice_get, Option}
+use Rattle.std.specs.Prelude.{Some, None, IsTrue, AllPairs, ◌≢◌, ⊤}
 use Rattle.std.specs.Option.{is_some}
 use Rattle.eve_smallbank.specs.Access.{Executed}
-use Rattle.eve_grammar.specs.Trace.{Commit, Rollback, Transfer, Sent, Commits, RollsBack, TakesOver, Trace}
+use Rattle.eve_grammar.specs.Trace.{Commit, Rollback, Transfer, Sent, Step, Attempts, Commits, RollsBack, TakesOver, Trace}
 use Rattle.eve_grammar.specs.Spelling.{steps_at}
 use Rattle.eve_grammar.specs.Certificate.{keeps_groups}
 use Rattle.eve_history.specs.Section.{Placed, ByTransfer, batch_at}
-use Rattle.eve_history.specs.SectionHistory.{landing_at, committed_at, is_reached, ByAttemptsTo}
+use Rattle.eve_history.specs.SectionHistory.{landing_at, committed_at, is_reached, ByAttemptsTo, IsRightSection}
 use Rattle.eve_chains.specs.Visible.{execution, executions}
 use Rattle.eve_chains.specs.Committed.{opening_bank, bank_after, committed_to, Leads, IsSerialBetween}
 use Rattle.eve_chains.specs.Committed.{committed_request_ids}
@@ -33,10 +33,28 @@ abbrev pub first_executions : Trace → ℕ → List Executed
 first_executions t zero = []
 first_executions t (suc n) = first_executions t n ++ execution_of t (suc n) (first_to_commit t (suc n))
 
+-- the numbers that commits and states taken over name, in the order of their frames
+abbrev pub named_numbers : List (ℕ × Step) → List ℕ
+named_numbers [] = []
+named_numbers ((at, Attempts a) ∷ steps) = named_numbers steps
+named_numbers ((at, Commits c) ∷ steps) = c.seq ∷ named_numbers steps
+named_numbers ((at, RollsBack r) ∷ steps) = named_numbers steps
+named_numbers ((at, TakesOver x) ∷ steps) = x.seq ∷ named_numbers steps
+
+-- each is above the one before it, the first above this one
+abbrev pub RiseFrom : ℕ → List ℕ → Type 0
+RiseFrom last [] = ⊤
+RiseFrom last (n ∷ ns) = (last < n) × RiseFrom n ns
+
 -- Each committed batch of each replica is SmallBank on one thread, and what else a yes says. A replica reached a number
 -- by an attempt, where it committed the batch of that number, or by a state that it took over, where it skipped the
 -- numbers between. All reached number 0: there the bank has the opening balances.
 pub record IsAudited (t : Trace) : Type 0 where
+  -- Each step of a replica is right where it stands: a commit is of the first open attempt, with its number, view and
+  -- token; a rollback goes back to the last number that was reached; a state taken over is of a later one.
+  pub right : (e : ℕ) → IsRightSection t e
+  -- the numbers of its commits and of the states that it took over rise: it came to none of them twice
+  pub rise : (e : ℕ) → RiseFrom 0 (named_numbers (steps_at t e))
   -- the attempt by which a replica committed batch n is of batch n
   pub numbered : (e n : ℕ) (p : Placed) → committed_at t e n ≡ Some p → p.attempt.seq ≡ n
   -- each committed batch, from the bank before it to the bank after it, in its certificate's order

@@ -94,3 +94,9 @@ pub record IsSoundTogether (t : Trace) : Type 0 where
   pub backed : AllAreBacked t
   pub agree : ReplicasAgree t
   pub replied : AllReplied t
+
+-- what holds where no fault stands of a phase before that of agreement
+pub record IsSoundToAgreement (t : Trace) : Type 0 where
+  pub replicas : (e : ℕ) → IsSoundReplica t e
+  pub votes : AreVotesSound t
+  pub backed : AllAreBacked t

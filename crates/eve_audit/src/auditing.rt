@@ -175,9 +175,13 @@ fn verdict_on<'a, R: Threads + Sync>(
 /// yes, the bytes spell a trace that is one-thread SmallBank, batch by batch, and all else that `IsAudited` says. The
 /// first fault stands within the bytes or at their end, and names the replica in whose section it lies, if any.
 ///
-/// docs/MODEL.md, "Verdict" and "The audit theorem". No recorded claim is trusted. Refused memory decides nothing. The
-/// time is linear in the trace, but for the tokens: for each batch all balances are hashed, once where the replicas
-/// came to the same, and compared once for each replica. It waits for nobody.
+/// docs/MODEL.md, "Verdict" and "The audit theorem". No recorded claim is trusted. Refused memory decides nothing. It
+/// waits for nobody.
+///
+/// The time is linear in the trace but for three things. Votes are sorted, and so are all requests where a client's
+/// numbers don't rise. A batch is read again for each reply sent that turns to it from another. And for tokens of
+/// version 1 all balances are hashed for each batch, once where the replicas came to the same; for those of version 2
+/// what the batch changed is.
 pub fn audit_one<R: Threads + Sync>(
     rt: &R,
     alloc: Global,
@@ -203,8 +207,8 @@ pub fn audit_one<R: Threads + Sync>(
 ///
 /// docs/MODEL.md, "Verdict" and "The audit theorem".
 ///
-/// - First the caller reads the trace and judges its orders: the bodies of batches, attempts and access records, and
-///   then the requests' numbers, in up to `workers` threads, which end before a worker begins.
+/// - First the caller reads the trace and judges its orders: the bodies of batches, attempts, access records and states
+///   taken over, and then the requests' numbers, in up to `workers` threads, which end before a worker begins.
 /// - Then worker e mod `workers` judges replica e by itself, but for its tokens, and enters the gate with e first.
 /// - Of the replicas without a fault so far, the tokens of the one that committed most batches are judged in up to
 ///   `workers` threads, or else of the next. Beside it those of the others are judged, side by side: a batch that came

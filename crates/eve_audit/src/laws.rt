@@ -4,6 +4,7 @@ ghost use Rattle.std.specs.Prelude.{◌≡◌, ◌≤◌, ℕ, List, Some, lengt
 ghost use Rattle.eve_grammar.specs.Trace.{Trace};
 ghost use Rattle.eve_grammar.specs.Places.{IsBytes};
 ghost use Rattle.eve_grammar.specs.Following.{Spells};
+ghost use Rattle.eve_views.specs.Code.{phase_of};
 ghost use Rattle.eve_views.specs.declared.fault.Fault.{Fault};
 ghost use Rattle.eve_history.specs.Section.{Placed};
 ghost use Rattle.eve_history.specs.SectionHistory.{committed_at, ByAttemptsTo};
@@ -12,8 +13,9 @@ ghost use Rattle.eve_chains.specs.Committed.{opening_bank, bank_after, committed
 ghost use Rattle.eve_audit.specs.Audited.{IsAudited};
 ghost use Rattle.eve_audit.specs.declared.verdict.Summary.{Summary};
 ghost use Rattle.eve_audit.specs.declared.verdict.Verdict.{Verdict};
-ghost use Rattle.eve_audit.specs.declared.verdict.Verdict.TheVariants.{Yes};
+ghost use Rattle.eve_audit.specs.declared.verdict.Verdict.TheVariants.{Yes, No};
 ghost use Rattle.eve_audit.specs.Verdict.{Stands, IsOwnFault, IsVerdict, SpellsAudited};
+ghost use Rattle.eve_audit.specs.Reports.{IsSoundToAgreement};
 ghost use Rattle.eve_audit.specs.Alone.{AgreeFor};
 ghost use Rattle.eve_audit.specs.Where.{NamesItsSection};
 ghost use Rattle.eve_audit.specs.Accepted.{IsAccepted};
@@ -109,6 +111,25 @@ pub fn a_yes_is_audited()
     eve_chains::laws::faults_tell_what_is_wrong();
     eve_chains::laws::sound_attempts_fit_and_see();
     crate::laws::accepted_traces_are_audited();
+}
+
+/// Where the first fault is one of agreement, no replica has a fault of its own, and none stands in votes and
+/// majorities: so all tokens are due, and all who committed a batch did so by one token.
+///
+/// docs/MODEL.md, "Verdict".
+pub fn faults_of_agreement_come_late()
+    ensures { (bytes : List ℕ) (t : Trace) (f : Fault) → IsVerdict bytes (No f) → Spells bytes t
+        → phase_of f.code ≡ 10 → IsSoundToAgreement t }
+{
+    eve_grammar::laws::spelled_parts_are_within_limits();
+    eve_smallbank::laws::requests_fit();
+    eve_smallbank::laws::fitting_records_are_of_what_they_saw();
+    eve_votes::laws::votes_without_faults_are_sound();
+    eve_votes::laws::decided_commits_have_a_vote();
+    eve_history::laws::right_sections_have_no_fault();
+    eve_chains::laws::requests_take_effect_once();
+    eve_chains::laws::faults_tell_what_is_wrong();
+    eve_chains::laws::sound_attempts_fit_and_see();
 }
 
 /// A trace in which no phase finds a fault is one-thread SmallBank, batch by batch, and all else that a yes says. The

@@ -1,6 +1,5 @@
 -- Where replicas differ in what a batch came to, though their tokens are due and decided, the trace shows a collision.
-use Rattle.std.proofs.Common.{◌≡◌, ℕ, Option, Some, IfSome, sym, subst, ap, ◌∙◌}
-use Rattle.std.specs.Option.{option_map}
+use Rattle.std.proofs.Common.{◌≡◌, ℕ, Option, Some, IfSome, subst}
 use Rattle.eve_grammar.specs.Trace.{Transfer, Trace}
 use Rattle.eve_grammar.specs.Limits.{HasLimits}
 use Rattle.eve_views.specs.declared.fault.Code.{Code}
@@ -26,12 +25,15 @@ module _ (t : Trace) (limits : HasLimits t) (right : (e : ℕ) → IsRightSectio
   outcomes_collide e f n q r at also apart =
       collides t e f n q r limits (right e) (right f) at also (due e) (due f)
       (votes.one_token n q.attempt.view r.attempt.view q.attempt.token r.attempt.token
-      (committed_decided t e (right e) (backed e) n q at) (committed_decided t f (right f) (backed f) n r also))
-      (λ same. apart (record {
-        balances = same.0;
-        replies = ap (option_map (λ (p : Placed). p.attempt.replies)) at ∙ ap Some same.1
-            ∙ sym (ap (option_map (λ (p : Placed). p.attempt.replies)) also);
-      }))
+      (committed_decided t e (right e) (backed e) n q at) (committed_decided t f (right f) (backed f) n r also)) apart
+
+  -- a fault of an outcome
+  pub outcome_fault_collides : (f : Fault) (e : ℕ) → StandsInAgreement code.Outcome t e f.offset → Collides t
+  outcome_fault_collides f e place =
+      let first = first_there t e place.n place.item place.is in
+      let other = first_committed t place.n first.0 first.1 in
+      outcomes_collide e first.0 place.n place.item other.0 place.is other.1
+      (subst (λ (o : Option ℕ). IfSome o (λ g. ¬ HaveSameOutcome t e g place.n)) first.1 place.holds)
 
   -- a fault of agreement, where each state that was taken over has the balances that it must have
   pub outcome_collides : ((e n at : ℕ) (x : Transfer) → landing_at t e n ≡ Some (ByTransfer at x)
@@ -40,11 +42,6 @@ module _ (t : Trace) (limits : HasLimits t) (right : (e : ℕ) → IsRightSectio
   outcome_collides states f is = by f.code is.1.stands
     where
       by : (c : Code) → StandsInAgreement c t is.0 f.offset → Collides t
-      by code.Outcome place =
-          let e = is.0 in
-          let first = first_there t e place.n place.item place.is in
-          let other = first_committed t place.n first.0 first.1 in
-          outcomes_collide e first.0 place.n place.item other.0 place.is other.1
-          (subst (λ (o : Option ℕ). IfSome o (λ g. ¬ HaveSameOutcome t e g place.n)) first.1 place.holds)
+      by code.Outcome place = outcome_fault_collides f is.0 place
       by code.TransferBalances place = absurd (place.holds (states is.0 place.n f.offset place.state place.is))
       by _ place = absurd place

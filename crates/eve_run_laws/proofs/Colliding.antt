@@ -3,6 +3,7 @@ use Rattle.std.proofs.Common.{◌≡◌, ◌≢◌, ℕ, ℤ, zero, suc, ◌≤�
 use Rattle.std.proofs.Common.{codes, Some, refl, sym, ap, ◌∙◌, length-append, arith}
 use Rattle.std.specs.Prelude.{IsTrue}
 use Rattle.std.specs.List.{list_all, flat_map}
+use Rattle.std.specs.Option.{option_map}
 use Rattle.std.proofs.lemmas.Bool.{eq-eqb, and_from}
 use Rattle.std.proofs.lemmas.List.{append_cancel_left}
 use Rattle.byteorder.specs.Endian.{big_bytes}
@@ -23,6 +24,7 @@ use Rattle.eve_history.specs.Section.{Placed}
 use Rattle.eve_history.specs.SectionHistory.{committed_at, IsRightSection}
 use Rattle.eve_chains.specs.Committed.{balances_to}
 use Rattle.eve_chains.proofs.Linked.{committed_number}
+use Rattle.eve_agree.specs.Agreement.{HaveSameOutcome}
 use Rattle.eve_agree.specs.DueTokens.{TokensAreDue}
 use Rattle.eve_run_laws.specs.Hashed.{flat_message, roots_message, IsHashedFor, OfAll, OfRoots, OfRows, OfReplies}
 use Rattle.eve_run_laws.specs.Collision.{IsCollision, Collides}
@@ -267,13 +269,18 @@ its_token t e n q right due at =
 
 pub collides : (t : Trace) (e f n : ℕ) (q r : Placed) → HasLimits t → IsRightSection t e → IsRightSection t f
     → committed_at t e n ≡ Some q → committed_at t f n ≡ Some r → TokensAreDue t e → TokensAreDue t f
-    → q.attempt.token ≡ r.attempt.token
-    → ¬ ((balances_to t e n ≡ balances_to t f n) × (q.attempt.replies ≡ r.attempt.replies)) → Collides t
+    → q.attempt.token ≡ r.attempt.token → ¬ HaveSameOutcome t e f n → Collides t
 collides t e f n q r limits right right_too at also due due_too same differ =
+    let replies = λ (p : Placed). p.attempt.replies in
+    let differ_too : ¬ ((balances_to t e n ≡ balances_to t f n) × (q.attempt.replies ≡ r.attempt.replies)) = λ one.
+    differ (record {
+      balances = one.0;
+      replies = ap (option_map replies) at ∙ ap Some one.1 ∙ sym (ap (option_map replies) also);
+    }) in
     let apart = they_collide t.head.version n (balances_to t e n) (balances_to t f n) q.attempt.replies
     r.attempt.replies (balances_within t e n limits) (balances_within t f n limits)
     (balances_count t e n ∙ sym (balances_count t f n)) (replies_within t e n q limits at)
-    (replies_within t f n r limits also) (replies_counted t e f n q r limits right right_too at also) differ
+    (replies_within t f n r limits also) (replies_counted t e f n q r limits right right_too at also) differ_too
     (sym (its_token t e n q right due at) ∙ same ∙ its_token t f n r right_too due_too also) (its_version t limits) in
     record {
       batch = n;
@@ -283,6 +290,8 @@ collides t e f n q r limits right right_too at also due due_too same differ =
       other_attempt = r;
       committed = at;
       other_committed = also;
+      one_token = same;
+      differ = differ;
       message = apart.message;
       other_message = apart.other;
       hashed = apart.hashed;

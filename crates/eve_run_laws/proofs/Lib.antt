@@ -20,6 +20,7 @@ pub mod Colliding
 pub mod OrdersRight
 pub mod Refuted
 pub mod Agreed
+pub mod OutcomeVerdicts
 pub mod Accepting
 pub mod SerialTokens
 pub mod GoingBack

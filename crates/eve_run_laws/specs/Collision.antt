@@ -7,6 +7,7 @@ use Rattle.eve_grammar.specs.Limits.{is_number}
 use Rattle.eve_history.specs.Section.{Placed}
 use Rattle.eve_history.specs.SectionHistory.{committed_at}
 use Rattle.eve_chains.specs.Committed.{balances_to}
+use Rattle.eve_agree.specs.Agreement.{HaveSameOutcome}
 use Rattle.eve_run_laws.specs.Hashed.{IsHashedFor}
 
 -- two lists of bytes, of one length, that differ and have one SHA-256
@@ -21,9 +22,9 @@ pub record IsCollision (message other : List ℕ) : Type 0 where
 abbrev pub IsHashedOf : Trace → ℕ → ℕ → Placed → List ℕ → Type 0
 IsHashedOf t e n p message = IsHashedFor t.head.version n (balances_to t e n) p.attempt.replies message
 
--- Two replicas committed a batch, and a message that is hashed for what it came to in the one and a message that is
--- hashed for what it came to in the other are a collision. Both are worked out from the trace at hand: that some
--- messages have one hash is true of every hash, and isn't enough.
+-- Two replicas committed a batch with one token, though it came to something else in each. A message that is hashed for
+-- what it came to in the one and a message that is hashed for what it came to in the other are a collision. Both are
+-- worked out from the trace at hand: that some messages have one hash is true of every hash, and isn't enough.
 pub record Collides (t : Trace) : Type 0 where
   pub batch : ℕ
   pub replica : ℕ
@@ -32,6 +33,8 @@ pub record Collides (t : Trace) : Type 0 where
   pub other_attempt : Placed
   pub committed : committed_at t replica batch ≡ Some attempt
   pub other_committed : committed_at t other batch ≡ Some other_attempt
+  pub one_token : attempt.attempt.token ≡ other_attempt.attempt.token
+  pub differ : ¬ HaveSameOutcome t replica other batch
   pub message : List ℕ
   pub other_message : List ℕ
   pub hashed : IsHashedOf t replica batch attempt message

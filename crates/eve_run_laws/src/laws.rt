@@ -5,6 +5,7 @@ ghost use Rattle.eve_grammar.specs.Trace.{Trace};
 ghost use Rattle.eve_grammar.specs.Limits.{HasLimits};
 ghost use Rattle.eve_grammar.specs.Places.{IsBytes};
 ghost use Rattle.eve_grammar.specs.Following.{Spells};
+ghost use Rattle.eve_views.specs.declared.fault.Code.TheVariants as code;
 ghost use Rattle.eve_views.specs.declared.fault.Fault.{Fault};
 ghost use Rattle.eve_views.specs.Form.{IsFaultSomewhere};
 ghost use Rattle.eve_workload.specs.declared.mixer.Mixer.{Mixer};
@@ -12,7 +13,7 @@ ghost use Rattle.eve_workload.specs.Workload.{Workload, IsWorkload};
 ghost use Rattle.eve_replica.specs.Run.{IsTraceOf};
 ghost use Rattle.eve_audit.specs.Audited.{IsAudited};
 ghost use Rattle.eve_audit.specs.declared.verdict.Summary.{Summary};
-ghost use Rattle.eve_audit.specs.declared.verdict.Verdict.TheVariants.{Yes};
+ghost use Rattle.eve_audit.specs.declared.verdict.Verdict.TheVariants.{Yes, No};
 ghost use Rattle.eve_audit.specs.Verdict.{IsTraceFault, IsVerdict};
 ghost use Rattle.eve_tool.specs.Audit.{Audits};
 ghost use Rattle.eve_tool.specs.Run.{Runs};
@@ -31,6 +32,18 @@ pub fn faults_of_runs_are_collisions()
 {
     eve_workload::laws::cuts_keep_requests();
     eve_chains::laws::sound_sections_have_no_fault();
+}
+
+/// As the verdict, F80 Outcome comes only where the trace shows a collision of SHA-256, whoever recorded that trace:
+/// two replicas committed a batch by one token, though it came to something else in each.
+///
+/// docs/MODEL.md, "Agreement".
+pub fn outcome_verdicts_are_collisions()
+    ensures { (bytes : List ℕ) (t : Trace) (f : Fault) → Spells bytes t → IsVerdict bytes (No f)
+        → f.code ≡ code.Outcome → Collides t }
+{
+    eve_grammar::laws::bytes_spell_one_trace();
+    eve_audit::laws::faults_of_agreement_come_late();
 }
 
 /// The verdict on bytes that spell the trace of a run is yes, or the trace shows two messages that differ and have one
