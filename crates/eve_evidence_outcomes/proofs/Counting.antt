@@ -1,12 +1,12 @@
 -- Requests and fates, counted one after another.
 use Rattle.std.proofs.Common.{◌≡◌, ℕ, ◌+◌, ◌<◌, ◌≤◌, Bool, cond, count_by, slice_set}
 use Rattle.std.proofs.Common.{List, length, take, slice_get, Some, sym, ap}
-use Rattle.std.proofs.Common.{◌∙◌, arith, zero, suc, [], ◌∷◌, ◌++◌, subst}
-use Rattle.eve_chains.proofs.Linked.{none≢some}
+use Rattle.std.proofs.Common.{◌∙◌, arith, zero, suc, [], ◌∷◌}
 use Rattle.std.specs.List.{sum_by}
 use Rattle.std.proofs.lemmas.List.Sums.{sum_by_more}
-use Rattle.std.proofs.lemmas.Option.{slice_get_within, get_or_from_slice_get, same_Some}
+use Rattle.std.proofs.lemmas.Option.{slice_get_within, get_or_from_slice_get}
 use Rattle.eve_frames.specs.Said.{batch_said}
+use Rattle.eve_evidence_outcomes.specs.Places.{HoldsEach}
 use Rattle.eve_frames.specs.declared.batch.BatchView.{BatchView}
 use Rattle.eve_frames.proofs.BatchPlaces.{batch_few, batch_total}
 
@@ -26,13 +26,13 @@ requests_few b =
     let total = batch_total b.bytes.now b.whole in
     omega (arith, few, total)
 
--- of each of the first items something is so, and of the next one once it is put there
-pub each_put : {A : Type 0} (P : ℕ → A → Type 0) (xs : List A) (i : ℕ) (x : A)
-    → ((u : ℕ) (y : A) → u < i → slice_get xs u ≡ Some y → P u y) → P i x
-    → (u : ℕ) (y : A) → u < i + 1 → slice_get (slice_set xs i x) u ≡ Some y → P u y
-each_put P [] i x all own u y low got = absurd (none≢some y got)
-each_put P (z ∷ xs) zero x all own zero y low got = subst (P 0) (same_Some x y got) own
-each_put P (z ∷ xs) zero x all own (suc u) y low got = absurd (omega (arith, low))
-each_put P (z ∷ xs) (suc i) x all own zero y low got = all zero y (omega arith) got
-each_put P (z ∷ xs) (suc i) x all own (suc u) y low got =
-    each_put (λ k. P (suc k)) xs i x (λ v w l g. all (suc v) w (omega (arith, l)) g) own u y (omega (arith, low)) got
+-- each of the first places holds what it must, and so does the next once it is written
+pub each_put : {A : Type 0} (P : ℕ → A → Type 0) (xs : List A) (i : ℕ) (x : A) → i < length xs
+    → HoldsEach i P xs → P i x → HoldsEach (i + 1) P (slice_set xs i x)
+each_put P [] i x there all own u low = absurd (omega (arith, there))
+each_put P (z ∷ xs) zero x there all own zero low = own
+each_put P (z ∷ xs) zero x there all own (suc u) low = absurd (omega (arith, low))
+each_put P (z ∷ xs) (suc i) x there all own zero low = all zero (omega arith)
+each_put P (z ∷ xs) (suc i) x there all own (suc u) low =
+    each_put (λ k. P (suc k)) xs i x (omega (arith, there)) (λ v l. all (suc v) (omega (arith, l))) own u
+    (omega (arith, low))

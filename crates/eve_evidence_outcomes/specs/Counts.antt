@@ -1,5 +1,5 @@
 -- What a trace without a fault has, in numbers. docs/MODEL.md, "Section state, fate" and "Evidence".
-use Rattle.std.specs.Prelude.{◌≡◌, ◌<◌, ℕ, min, Bool, true, false, length, slice_get, Some}
+use Rattle.std.specs.Prelude.{◌≡◌, ℕ, min, Bool, true, false, length}
 use Rattle.std.specs.List.{count_by, sum_by}
 use Rattle.eve_grammar.specs.Trace.{Trace}
 use Rattle.eve_history.specs.declared.fate.Fate.{Fate}
@@ -7,6 +7,7 @@ use Rattle.eve_history.specs.declared.fate.Fate.TheVariants.{Committed, Discarde
 use Rattle.eve_history.specs.SectionHistory.{SectionHistory, section_history}
 use Rattle.eve_evidence.specs.declared.evidence.ReplicaCounts.{ReplicaCounts}
 use Rattle.eve_evidence.specs.declared.evidence.Counts.{Counts}
+use Rattle.eve_evidence_outcomes.specs.Places.{HoldsEach}
 
 -- it is that fate
 abbrev pub is_fate : Fate → Fate → Bool
@@ -35,5 +36,4 @@ pub record IsReplicaCounts (h : SectionHistory) (c : ReplicaCounts) : Type 0 whe
 pub record AreTraceCounts (t : Trace) (c : Counts) : Type 0 where
   pub requests_are : c.requests ≡ sum_by (λ b. length b.requests) t.batches
   pub as_many : c.many ≡ length t.sections
-  pub each : (e : ℕ) (x : ReplicaCounts) → e < length t.sections → slice_get c.replicas e ≡ Some x
-      → IsReplicaCounts (section_history t e) x
+  pub each : HoldsEach (length t.sections) (λ e. IsReplicaCounts (section_history t e)) c.replicas

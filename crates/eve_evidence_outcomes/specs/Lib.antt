@@ -1,3 +1,4 @@
+pub mod Places
 pub mod Polls
 pub mod Majority
 pub mod Decisions

@@ -29,7 +29,7 @@ pub record IsReplyApart (t : Trace) (n : ℕ) (own its : List Reply) (request : 
   pub due_is : due ≡ slice_index_or its request.index Done
   pub first : IsFirstApart own its request.index
 
--- the fault has it
+-- what differs is a reply to the batch's requests, the first
 abbrev pub IsReplyFault : Trace → ℕ → List Reply → List Reply → OutcomeFault → Type 0
 IsReplyFault t n own its (differs.Row row found due) = ⊥
 IsReplyFault t n own its (differs.Reply request found due) = IsReplyApart t n own its request found due
@@ -56,7 +56,7 @@ pub record IsOtherOutcome (t : Trace) (e place : ℕ) (attempt : ToldAttempt) (f
   pub at_is : at ≡ its.offset
   pub wrong_is : TellsOutcomeFault t e first n placed.attempt.replies its.attempt.replies wrong
 
--- The evidence shows it.
+-- the evidence is of an outcome, and tells it of the attempt at this byte
 abbrev pub TellsOutcome : Trace → ℕ → ℕ → Evidence → Type 0
 TellsOutcome t e place (shown.Outcome attempt first at wrong) = IsOtherOutcome t e place attempt first at wrong
 TellsOutcome t e place _ = ⊥

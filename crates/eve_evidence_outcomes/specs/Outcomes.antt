@@ -34,7 +34,7 @@ TellsStateFault t e n NoneCommitted = first_to_commit t n ≡ None
 TellsStateFault t e n (Row first at row found due) =
     IsFirstCommitted t n first at × IsRowApart t (balances_to t e n) (balances_to t first n) row found due
 
--- the evidence has it
+-- the evidence is of a state, and tells it
 abbrev pub TellsStateIn : Trace → ℕ → ℕ → Evidence → Type 0
 TellsStateIn t e n (shown.TransferState wrong) = TellsStateFault t e n wrong
 TellsStateIn t e n _ = ⊥

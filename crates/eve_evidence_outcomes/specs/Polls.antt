@@ -1,5 +1,5 @@
 -- Who voted for what. docs/MODEL.md, "Decided, rolled back" and "Evidence".
-use Rattle.std.specs.Prelude.{◌≡◌, ℕ, ◌<◌, ◌≤◌, if◌then◌else◌, List, [], ◌∷◌, filter, length, slice_get, Option}
+use Rattle.std.specs.Prelude.{◌≡◌, ℕ, ◌<◌, ◌≤◌, if◌then◌else◌, List, [], ◌∷◌, filter, length, Option}
 use Rattle.std.specs.Prelude.{Some, None}
 use Rattle.std.specs.Prelude.{⊤, ◌⊎◌}
 use Rattle.eve_grammar.specs.Trace.{Choice, ForRollback, ForCommit, Vote, Trace}
@@ -12,6 +12,7 @@ use Rattle.eve_evidence.specs.declared.evidence.VerifierVote.{VerifierVote}
 use Rattle.eve_evidence.specs.declared.evidence.VerifierVote.TheVariants.{For, Otherwise, NoVote}
 use Rattle.eve_evidence.specs.declared.evidence.VerifierChoice.{VerifierChoice}
 use Rattle.eve_evidence.specs.declared.evidence.VerifierChoice.TheVariants as said
+use Rattle.eve_evidence_outcomes.specs.Places.{HoldsEach}
 
 -- of these votes those on the batch in the view
 abbrev pub votes_on : ℕ → ℕ → List (ℕ × Vote) → List (ℕ × Vote)
@@ -27,8 +28,8 @@ vote_told choice (w ∷ u ∷ ws) = Otherwise w.0
 
 -- what each verifier did, in their order
 abbrev pub AreToldVotes : Trace → ℕ → ℕ → Choice → List VerifierVote → Type 0
-AreToldVotes t n view choice votes = (v : ℕ) (x : VerifierVote) → v < length t.verifiers → slice_get votes v ≡ Some x
-    → x ≡ vote_told choice (votes_on n view (votes_at t v))
+AreToldVotes t n view choice votes =
+    HoldsEach (length t.verifiers) (λ v x. x ≡ vote_told choice (votes_on n view (votes_at t v))) votes
 
 -- Who voted for this choice on the batch in the view, and that they are no quorum.
 pub record IsPoll (t : Trace) (n view : ℕ) (choice : Choice) (p : Poll) : Type 0 where
@@ -52,8 +53,7 @@ TellsChoice _ _ = ⊥
 
 -- what each verifier said, in their order
 abbrev pub AreToldChoices : Trace → ℕ → ℕ → List VerifierChoice → Type 0
-AreToldChoices t n view votes = (v : ℕ) (x : VerifierChoice) → v < length t.verifiers → slice_get votes v ≡ Some x
-    → TellsChoice (votes_on n view (votes_at t v)) x
+AreToldChoices t n view votes = HoldsEach (length t.verifiers) (λ v. TellsChoice (votes_on n view (votes_at t v))) votes
 
 -- the most verifiers that are for the commit of the batch in the view with one token
 pub record IsMost (t : Trace) (n view most : ℕ) : Type 0 where

@@ -34,7 +34,8 @@ TellsRow t found due (Another s u) =
     IsToldState t found s × IsToldState t due u × (s.row.row ≡ u.row.row) × (s.has ≢ u.has)
     × AreSameBefore found due s.row.row
 
--- the evidence has it, of what a rollback restores and what it must, where its section has come to this
+-- the evidence is of a restore, and tells it of what a rollback restores and what it must, where its section has come
+-- to this
 abbrev pub TellsRestoreIn : Trace → SectionState → Rollback → Evidence → Type 0
 TellsRestoreIn t s r (shown.Restore wrong) = TellsRow t (restores_by_row r.restores) (due_by_row t s) wrong
 TellsRestoreIn t s r _ = ⊥

@@ -44,7 +44,7 @@ TellsSent t s (NotCommitted batch replica) =
     × (committed_at t s.replica s.seq ≡ None)
 TellsSent t s (Another request found due) = IsOtherReply t s request found due
 
--- the evidence has it
+-- the evidence is of a reply sent, and tells it
 abbrev pub TellsSentIn : Trace → Sent → Evidence → Type 0
 TellsSentIn t s (shown.Reply wrong) = TellsSent t s wrong
 TellsSentIn t s _ = ⊥

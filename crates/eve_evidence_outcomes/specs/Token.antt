@@ -20,7 +20,7 @@ pub record IsOtherToken (t : Trace) (e place : ℕ) (attempt : ToldAttempt) (fou
   pub due_is : due ≡ due_token t e placed
   pub other : found ≢ due
 
--- The evidence shows it.
+-- the evidence is of a token, and tells it of the attempt at this byte
 abbrev pub TellsToken : Trace → ℕ → ℕ → Evidence → Type 0
 TellsToken t e place (shown.Token attempt found due) = IsOtherToken t e place attempt found.now due
 TellsToken t e place _ = ⊥

@@ -1,11 +1,11 @@
 //! What a trace without a fault has, in numbers.
 
-ghost use Rattle.std.specs.Prelude.{◌≡◌, ◌<◌, ◌≤◌, ℕ, if◌then◌else◌, Some, length, slice_get};
+ghost use Rattle.std.specs.Prelude.{◌≡◌, ◌<◌, ◌≤◌, if◌then◌else◌, length};
 ghost use Rattle.std.specs.List.{sum_by};
 ghost use Rattle.eve_frames.specs.Said.{batch_said};
 ghost use Rattle.eve_history.specs.SectionHistory.{section_history, section_histories};
-ghost use Rattle.eve_evidence.specs.declared.evidence.ReplicaCounts.{ReplicaCounts as ReplicaCountsValue};
 ghost use Rattle.eve_evidence_outcomes.specs.Counts.{is_fate, counted, fate_count, IsReplicaCounts, AreTraceCounts};
+ghost use Rattle.eve_evidence_outcomes.specs.Places.{HoldsEach};
 
 use eve_evidence::{Counts, REPLICAS, ReplicaCounts};
 use eve_frames::BatchView;
@@ -97,8 +97,7 @@ fn counts_at(trace: &Trace<'_>, histories: &[History<'_>], e: u8) -> ReplicaCoun
 /// What each replica did, in their order.
 fn counts_of_all(trace: &Trace<'_>, histories: &[History<'_>]) -> [ReplicaCounts; REPLICAS]
     requires histories { histories.now ≡ section_histories trace.now }
-    ensures { (e : ℕ) (x : ReplicaCountsValue) → e < length trace.now.sections → slice_get result e ≡ Some x
-        → IsReplicaCounts (section_history trace.now e) x }
+    ensures { HoldsEach (length trace.now.sections) (λ e. IsReplicaCounts (section_history trace.now e)) result }
 {
     trace.recall_limits();
     let mut all = [ReplicaCounts::NONE; REPLICAS];

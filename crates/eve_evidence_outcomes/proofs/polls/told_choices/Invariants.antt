@@ -1,12 +1,11 @@
-use Rattle.std.proofs.Common.{◌≡◌, ◌<◌, ℕ, length, slice_get, Some}
+use Rattle.std.proofs.Common.{◌≡◌, length}
 use Rattle.eve_grammar.specs.Spelling.{votes_at}
-use Rattle.eve_evidence.specs.declared.evidence.VerifierChoice.{VerifierChoice}
+use Rattle.eve_evidence_outcomes.specs.Places.{HoldsEach}
 use Rattle.eve_evidence_outcomes.specs.Polls.{votes_on, TellsChoice}
 use Rattle.eve_evidence_outcomes.proofs.polls.told_choices.Given as goal
 
 abbrev pub invariant-loop-v : goal.invariant-loop-v
 invariant-loop-v l = record {
   long : length l.told ≡ 16;
-  each : (u : ℕ) (x : VerifierChoice) → u < l.v → slice_get l.told u ≡ Some x
-      → TellsChoice (votes_on l.n l.view (votes_at l.trace u)) x;
+  each : HoldsEach l.v (λ u. TellsChoice (votes_on l.n l.view (votes_at l.trace u))) l.told;
 }
