@@ -158,13 +158,18 @@ workers_of arguments = workers_behind (subcommand_of eve arguments)
 abbrev pub file_behind : Option (Text × List Row) → Option Text
 file_behind found = option_and_then (λ f. value_given (codes "file") f.1) found
 
--- the file that the arguments name to be read, where clap finds nothing wrong with them
+-- the file that is named for a call after the subcommand that was met
+abbrev pub file_for_call : Option (Text × List Row) → Option Text
+file_for_call found = option_and_then (λ _. file_behind found) (option_and_then subcommand_named found)
+
+-- a file only where clap finds nothing wrong
 abbrev pub file_unless : Kinds → Option Text → Option Text
 file_unless [] file = file
 file_unless (k ∷ ks) file = None
 
+-- the file that the arguments name to be read: none where they are no call
 unfoldable pub file_of : List Text → Option Text
-file_of arguments = file_unless (faults_of arguments) (file_behind (subcommand_of eve arguments))
+file_of arguments = file_unless (faults_of arguments) (file_for_call (subcommand_of eve arguments))
 
 -- the call has this number of workers, if it is one that has any
 abbrev pub HasWorkers : Option ℕ → Call → Type 0

@@ -5,7 +5,7 @@ ghost use Rattle.std.specs.String.{string_bytes};
 ghost use Rattle.clap.specs.Words.{app_of, found_of, kind_of, rule_of, shape_of, subcommand_rows_of};
 ghost use Rattle.clap.specs.Walk.{rows_of};
 ghost use Rattle.eve_tool_arguments.specs.Arguments.{Answers, HasWorkers, SaysOf, audit, eve, explain, file};
-ghost use Rattle.eve_tool_arguments.specs.Arguments.{file_behind, file_of, format, format_in, is_long, listing};
+ghost use Rattle.eve_tool_arguments.specs.Arguments.{file_behind, file_for_call, file_of, format, format_in, is_long, listing};
 ghost use Rattle.eve_tool_arguments.specs.Arguments.{long, mixer, mixer_in};
 ghost use Rattle.eve_tool_arguments.specs.Arguments.{program, run_in, run_options, run_shape, show};
 ghost use Rattle.eve_tool_arguments.specs.Arguments.{subcommand_named};
@@ -15,7 +15,7 @@ use crate::format::Format;
 use clap::builder::ValueParser;
 use clap::error::ErrorKind;
 use clap::{Arg, ArgAction, ArgMatches, Command, Error, value_parser};
-use eve_grammar::{MOST_AUDIT_WORKERS, NEWEST_VERSION, WorkerCount};
+use eve_grammar::{MOST_AUDIT_WORKERS, WorkerCount};
 use eve_workload::Mixer;
 use std::alloc::{AllocError, Global};
 use std::convert::AsStr;
@@ -55,7 +55,7 @@ const NO_MIXER: &str =
 const NO_FORMAT: &str = "error: invalid value for '--format <FORMAT>': it has to be '1' or '2'\n\n\
     For more information, try '--help'.\n";
 
-/// What is said where no number of workers is named that may be.
+/// What is said where the number of workers isn't one from 1 to 16.
 const NO_WORKERS: &str =
     "error: invalid value for '--workers <N>': it has to be a number from 1 to 16\n\n\
     For more information, try '--help'.\n";
@@ -105,15 +105,6 @@ const SHOW_EXAMPLES: &str = "Statuses:\n\
     Examples:\n\
     \x20 eve show < examples/empty-run.trace\n\
     \x20 eve show --long examples/rollback-and-serial-rerun.trace";
-
-/// Which traces the program reads, behind its name.
-fn formats() -> &'static str {
-    if NEWEST_VERSION == 1 {
-        "for traces of format 1"
-    } else {
-        "for traces of formats 1 and 2"
-    }
-}
 
 /// The numbers of workers that may be named.
 fn worker_counts<'a>() -> ValueParser<'a>
@@ -251,7 +242,7 @@ fn program<'a>(alloc: Global) -> Command<'a>
     ensures { app_of result ≡ program }
 {
     Command::new(alloc, "eve")
-        .version(formats())
+        .version("for traces of formats 1 and 2")
         .about("Records runs of replicated SmallBank servers, and audits their traces")
         .after_help(EXAMPLES)
         .subcommand_required(true)
@@ -358,6 +349,16 @@ fn file_in<'a>(matches: &ArgMatches<'a>) -> Option<&'a str>
     }
 }
 
+/// The file that was named for a call.
+fn file_for_call<'a>(matches: &ArgMatches<'a>) -> Option<&'a str>
+    ensures { option_map (λ s. s.now) result ≡ file_for_call (subcommand_rows_of matches.now) }
+{
+    match call_in(matches) {
+        Some(_) => file_in(matches),
+        None => None,
+    }
+}
+
 /// The call of the subcommand that was met.
 fn call_in(matches: &ArgMatches<'_>) -> Option<Call>
     ensures call { option_map subcommand_of_call result
@@ -432,7 +433,7 @@ pub fn file_named<S: AsStr>(alloc: Global, arguments: &[S]) -> Result<Option<Str
 {
     let command = command(alloc)?;
     match command.try_get_matches_from(arguments) {
-        Ok(matches) => match file_in(&matches) {
+        Ok(matches) => match file_for_call(&matches) {
             Some(file) => Ok(Some(String::from_str(alloc, file)?)),
             None => Ok(None),
         },

@@ -1,7 +1,7 @@
 use Rattle.std.proofs.Common.{◌≡◌, ◌∙◌, ap, sym, subst, inl, inr, true, map, List, []}
 use Rattle.std.specs.Prelude.{Some, option_map}
 use Rattle.clap.specs.Words.{App, HasKind, HasMatchesOf, Text, fault_of, is_simple_and_free, kind_of}
-use Rattle.eve_tool_arguments.specs.Arguments.{eve, file_behind}
+use Rattle.eve_tool_arguments.specs.Arguments.{eve, file_for_call}
 use Rattle.eve_tool_arguments.proofs.CommandLine.{eve_is_free, eve_is_simple, file_without_faults, no_file}
 use Rattle.eve_tool_arguments.proofs.arguments.file_named.Goals as goal
 
@@ -14,7 +14,7 @@ returns-in-Some g c =
     let found = subst (λ (a : App). HasMatchesOf a words c.in-Ok.matches) is_eve c.in-Ok.ensures.matches eve_is_simple
     in
     ap Some c.in_ok-from_str-in-Some.ensures.ok ∙ (ap (option_map (λ s. s.now)) (sym c.in-Some.is)
-    ∙ (c.file_in.ensures ∙ (ap file_behind found.1 ∙ sym (file_without_faults words right))))
+    ∙ (c.file_for_call.ensures ∙ (ap file_for_call found.1 ∙ sym (file_without_faults words right))))
 
 pub returns-in-Ok : goal.returns-in-Ok
 returns-in-Ok g c =
@@ -25,7 +25,7 @@ returns-in-Ok g c =
     let found = subst (λ (a : App). HasMatchesOf a words c.in-Ok.matches) is_eve c.in-Ok.ensures.matches eve_is_simple
     in
     ap (option_map (λ s. s.now)) (sym c.in-None.is)
-    ∙ (c.file_in.ensures ∙ (ap file_behind found.1 ∙ sym (file_without_faults words right)))
+    ∙ (c.file_for_call.ensures ∙ (ap file_for_call found.1 ∙ sym (file_without_faults words right)))
 
 pub returns : goal.returns
 returns g c =
