@@ -1,9 +1,10 @@
 -- What a yes says of a trace. docs/MODEL.md, "The audit theorem".
-use Rattle.std.specs.Prelude.{◌≡◌, ℕ, zero, suc, ◌+◌, ◌-◌, ◌*◌, ◌<◌, ◌≤◌, List, [], ◌∷◌, ◌++◌, length, slice_get, Option}
-use Rattle.std.specs.Prelude.{Some, None, IsTrue, AllPairs, ◌≢◌, ⊤}
+use Rattle.std.specs.Prelude.{◌≡◌, ℕ, zero, suc, ◌+◌, ◌-◌, ◌*◌, ◌<◌, ◌≤◌, List, [], ◌∷◌, ◌++◌, length, slice_get}
+use Rattle.std.specs.Prelude.{Option, Some, None, IsTrue, AllPairs, ◌≢◌, ⊤}
 use Rattle.std.specs.Option.{is_some}
 use Rattle.eve_smallbank.specs.Access.{Executed}
-use Rattle.eve_grammar.specs.Trace.{Commit, Rollback, Transfer, Sent, Step, Attempts, Commits, RollsBack, TakesOver, Trace}
+use Rattle.eve_grammar.specs.Trace.{Commit, Rollback, Transfer, Sent, Trace}
+use Rattle.eve_grammar.specs.Trace.{Step, Attempts, Commits, RollsBack, TakesOver}
 use Rattle.eve_grammar.specs.Spelling.{steps_at}
 use Rattle.eve_grammar.specs.Certificate.{keeps_groups}
 use Rattle.eve_history.specs.Section.{Placed, ByTransfer, batch_at}

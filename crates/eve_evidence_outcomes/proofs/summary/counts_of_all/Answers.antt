@@ -20,8 +20,8 @@ loop-e-preserved c =
     ) in
     record {
       long = length-set c.loop-e.all c.loop-e.e c.counts_at.result ∙ c.loop-e.invariant.long;
-      each = each_put (λ (k : ℕ). IsReplicaCounts (section_history t k)) c.loop-e.all c.loop-e.e c.counts_at.result there
-          c.loop-e.invariant.each c.counts_at.ensures;
+      each = each_put (λ (k : ℕ). IsReplicaCounts (section_history t k)) c.loop-e.all c.loop-e.e c.counts_at.result
+          there c.loop-e.invariant.each c.counts_at.ensures;
     }
 
 pub returns : goal.returns
