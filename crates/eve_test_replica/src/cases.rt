@@ -107,7 +107,7 @@ const CLOSED: &[Want] = &[
     },
 ];
 
-/// Two deposits in one parallelBatch, by two workers: the first is held until the other has entered.
+/// Two deposits in one parallelBatch, by two workers: each is held until the other has entered.
 const GATES_HELD: &[Want] = &[Want {
     deed: Deed::Hold(Held {
         request: 0,

@@ -32,11 +32,14 @@ pub struct Held {
     pub comes: bool,
 }
 
-/// Holds one request of a batch, with its stripes locked, until another has entered.
+/// Holds one request of a batch, with its stripes locked, until another has entered. Where that one has to come
+/// meanwhile, it is held for the first, too, so that both are inside at one moment.
 #[derive(Drop)]
 pub struct HoldingGate {
     held: Held,
-    entered: AtomicU64,
+    // whether the one has entered, and whether the other has
+    entered: [AtomicU64; 2],
+    // how many of the two saw that the other had entered
     met: AtomicU64,
 }
 
@@ -44,25 +47,36 @@ impl HoldingGate {
     pub fn new(held: Held) -> HoldingGate {
         HoldingGate {
             held,
-            entered: AtomicU64::new(0),
+            entered: [AtomicU64::new(0), AtomicU64::new(0)],
             met: AtomicU64::new(0),
         }
     }
 
-    /// Whether the other one entered while the request was held exactly where it has to.
+    /// Whether both were inside at one moment where they have to, and else the other one kept away.
     pub fn is_kept(&self) -> bool {
-        (self.met.load(Ordering::SeqCst) == 1) == self.held.comes
+        let met = self.met.load(Ordering::SeqCst);
+        if self.held.comes { met == 2 } else { met == 0 }
     }
 }
 
 impl Gate for HoldingGate {
     fn enter<R: Wait>(&self, _rt: &R, piece: u32) {
-        if piece == self.held.other {
-            self.entered.store(1, Ordering::SeqCst);
+        let Held {
+            request,
+            other,
+            comes,
+        } = self.held;
+        if piece == request {
+            self.entered[0].store(1, Ordering::SeqCst);
         }
-        let turns = if self.held.comes { TURNS } else { FEW_TURNS };
-        if piece == self.held.request && rises_above(&self.entered, 0, turns) {
-            self.met.store(1, Ordering::SeqCst);
+        if piece == other {
+            self.entered[1].store(1, Ordering::SeqCst);
+        }
+        let turns = if comes { TURNS } else { FEW_TURNS };
+        let has_met = (piece == request && rises_above(&self.entered[1], 0, turns))
+            || (comes && piece == other && rises_above(&self.entered[0], 0, turns));
+        if has_met {
+            self.met.fetch_add(1, Ordering::SeqCst);
         }
     }
 }

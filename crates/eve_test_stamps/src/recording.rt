@@ -3,7 +3,7 @@
 ghost use Rattle.std.specs.Prelude.{◌≡◌, ◌≤◌, All, IfOk, IfSome, length};
 
 use crate::seen::Seen;
-use eve_recorder::{MOST_QUEUED, MOST_SEATS, Recorder, Seats, TakerSeat, WorkerSeat};
+use eve_recorder::{MOST_QUEUED, MOST_SEATS, NoteFault, Recorder, Seats, TakerSeat, WorkerSeat};
 use eve_smallbank::Abort;
 use eve_stamps::{AccessRecord, Stamp, untouched};
 use std::alloc::{AllocError, Global};
@@ -60,20 +60,34 @@ fn next_record(seat: &WorkerSeat) -> Option<AccessRecord>
     }
 }
 
+/// Whether a record was noted, where it is due to be, and else came back: as the one that may be noted next.
+fn is_answered(answer: &Result<(), NoteFault>, next: &Option<AccessRecord>, due: bool) -> bool {
+    match answer {
+        Ok(()) => due,
+        Err(NoteFault::Full(back)) => match next {
+            Some(made) => !due && back == made,
+            None => false,
+        },
+    }
+}
+
 impl Desk {
     /// Whether the worker's seat is there, once, and the seats aren't whole without it, and its next record is noted,
-    /// or finds the queue full, as it is due.
+    /// or comes back since the queue is full, as it is due.
     fn notes<R: Wait>(&mut self, rt: &R, worker: u8, due: bool) -> bool {
         let Some(mut seat) = self.seats.worker(worker) else {
             return false;
         };
         let is_there_once = self.seats.worker(worker).is_none() && !self.seats.whole();
-        let is_noted = match next_record(&seat) {
-            Some(made) => self.recorder.note(rt, &mut seat, made).is_ok(),
-            None => !due,
+        let is_as_due = match next_record(&seat) {
+            Some(made) => {
+                let answer = self.recorder.note(rt, &mut seat, made);
+                is_answered(&answer, &next_record(&seat), due)
+            }
+            None => false,
         };
         self.seats.give_back(seat);
-        is_there_once && is_noted == due
+        is_there_once && is_as_due
     }
 
     /// Whether the taker's seat is there, once, and the seats aren't whole without it, and that is taken next, or

@@ -40,7 +40,7 @@ pub const TWO_WORKERS: Case = Case {
     given: Given {
         customers: 1,
         workers: 2,
-        values: &[10, 10],
+        values: &[0, 0],
         sizes: &[2],
         asks: &[Ask::Deposit(0, 5), Ask::Deposit(0, 7)],
     },
