@@ -150,7 +150,7 @@ fn judge(trace: &Trace<'_>, history: &History<'_>, settled: &Settled<'_>, stretc
     );
 }
 
-/// The stretch with what its tokens are hashed of, and appended to those that it follows.
+/// Gives a stretch what its tokens are hashed of, and appends it to those that it follows.
 fn append(
     alloc: Global,
     trace: &Trace<'_>,

@@ -20,7 +20,7 @@ use std::thread::Threads;
 /// number, and its reply is the one that was sent; else the first that is not so.
 ///
 /// docs/MODEL.md, "Sent replies". It takes no memory, and never answers Memory. Where replies are sent batch by batch,
-/// each batch is read once.
+/// each batch is read once; else a batch is read again for each reply that turns to it from another.
 pub fn replies(trace: &Trace<'_>, histories: &[History<'_>]) -> Result<(), CheckFault>
     requires histories { histories.now ≡ section_histories trace.now }
     ensures replied { IfOk result (λ _. AllReplied trace.now) }

@@ -1,4 +1,4 @@
-//! Why an attempt is refused, a commit, and a state.
+//! Why an attempt, a commit or a state is refused.
 
 /// Why the records of a batch are no attempt.
 #[derive(Clone, Copy, Debug)]

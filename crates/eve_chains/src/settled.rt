@@ -201,8 +201,8 @@ impl<'a> Settled<'a> {
 
     /// Whether the balances after batch n, of the batches from 1 on, are those that another replica has after it.
     /// `before` says that those after the batch before are known to be the same: then only the rows are compared that
-    /// batch n changed in the one or in the other, unless comparing all balances is quicker. So they are where the one
-    /// or the other took a state over.
+    /// batch n changed in the one or in the other, unless comparing all balances is quicker. Where either took a state
+    /// over, all balances are compared.
     ///
     /// docs/MODEL.md, "Bank and replies after a committed batch".
     pub fn are_same_after(

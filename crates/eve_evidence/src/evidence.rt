@@ -101,7 +101,7 @@ pub enum FrameFault {
     TooFew(u64),
     /// A byte that no frame of a kind that may stand there begins with.
     Kind(u8),
-    /// A frame of a kind that may stand there, whose body has `body` bytes where `left` are left.
+    /// A frame of a kind that may stand there, whose body has `body` bytes where `left` are left behind its first five.
     Cut {
         kind: FrameKind,
         body: u32,
@@ -354,7 +354,7 @@ pub struct ToldDecision {
 pub enum VerifierVote {
     /// Its vote, whose frame begins at this byte, is the one that is asked for.
     For(u64),
-    /// Its vote, whose frame begins at this byte, is another.
+    /// Its vote, whose frame begins at this byte, is another; or it is the first of two, which count for none.
     Otherwise(u64),
     /// It has none.
     NoVote,
@@ -382,7 +382,7 @@ pub struct Poll<'a> {
     pub votes: [VerifierVote; VERIFIERS],
 }
 
-/// What a verifier said about a batch in a view, whatever it was asked for.
+/// What a verifier said first about a batch in a view, whatever it was asked for.
 #[derive(Clone, Copy)]
 pub enum VerifierChoice<'a> {
     /// It voted for the commit with this token, in the frame that begins at byte `at`.
@@ -584,7 +584,7 @@ pub enum Evidence<'a> {
     TransferState(StateFault<'a>),
     /// F90.
     Reply(SentFault<'a>),
-    /// Evidence of this code is not told yet: the verdict's line is all.
+    /// None: no fault that stands has it.
     Untold,
 }
 

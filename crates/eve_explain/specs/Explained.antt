@@ -29,7 +29,7 @@ abbrev pub verdict_in : Explained → Verdict
 verdict_in (Yes s counts) = verdict.Yes s
 verdict_in (No f evidence) = verdict.No f
 
--- the codes whose evidence lies in one replica's section
+-- the codes of structure, records and chains: what shows them is found along one replica's section
 abbrev pub is_told_along : Code → Bool
 is_told_along code.Attempt = true
 is_told_along code.Certificate = true

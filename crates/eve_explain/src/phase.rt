@@ -1,11 +1,11 @@
-//! Which faults' evidence is told.
+//! By which call the evidence of a code is told.
 
 ghost use Rattle.std.specs.Prelude.{◌≡◌};
 ghost use Rattle.eve_explain.specs.Explained.{is_of_majority, is_of_orders, is_told_along};
 
 use eve_views::Code;
 
-/// Whether the evidence of a code lies in one replica's section.
+/// Whether it is a code of structure, records or chains.
 pub fn is_told_along(code: Code) -> bool
     ensures { result ≡ is_told_along code }
 {

@@ -223,7 +223,7 @@ pub(crate) fn put_frame_fault(
     true
 }
 
-/// The name of a field of a Customer or Batch frame's body, or of what is behind a body's last field.
+/// The name of a field of a body; `end` behind the last.
 fn body_word(field: BodyField) -> &'static str
     ensures { length result.now ≤ 13 }
 {

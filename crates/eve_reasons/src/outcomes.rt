@@ -1,4 +1,4 @@
-//! In what a batch came out otherwise, and what is wrong with a reply that was sent.
+//! How a batch came out otherwise, and what is wrong with a reply that was sent.
 
 ghost use Rattle.std.specs.Prelude.{◌+◌, ◌≤◌, length};
 ghost use Rattle.arrayvec.specs.ArrayVec.{array_vec_len};
@@ -40,7 +40,7 @@ fn put_reply_line(line: &mut Line, request: &ToldRequest)
     put_told_request(line, request);
 }
 
-/// Appends line `i` of in what an outcome differs, from 0: the row or the request, what was found, and what was due.
+/// Appends line `i`, from 0, of how an outcome differs: the row or the request, what was found, and what was due.
 fn put_difference(line: &mut Line, i: usize, wrong: &OutcomeFault) -> bool
     requires { array_vec_len line.old + LONGEST_REASON ≤ LINE_ROOM }
     ensures { array_vec_len line.new ≤ array_vec_len line.old + LONGEST_REASON }
@@ -67,7 +67,7 @@ fn put_difference(line: &mut Line, i: usize, wrong: &OutcomeFault) -> bool
     }
 }
 
-/// Appends line `i` of in what the outcome of a batch differs from that of the first replica, given with the byte at
+/// Appends line `i` of how the outcome of a batch differs from that of the first replica, given with the byte at
 /// which its attempt's frame begins.
 pub(crate) fn put_outcome(
     line: &mut Line,
@@ -87,7 +87,7 @@ pub(crate) fn put_outcome(
     true
 }
 
-/// Appends line `i` of in what a state that was taken over differs from the one that was committed.
+/// Appends line `i` of how a state that was taken over differs from the one that was committed.
 pub(crate) fn put_state_fault(line: &mut Line, i: usize, wrong: &StateFault) -> bool
     requires { array_vec_len line.old + LONGEST_REASON ≤ LINE_ROOM }
     ensures { array_vec_len line.new ≤ array_vec_len line.old + LONGEST_REASON }

@@ -22,7 +22,7 @@ pub(crate) fn put_two_votes(line: &mut Line, i: usize, first: u64) -> bool
     true
 }
 
-/// Appends how many verifiers there are, of all: `2 of 4 verifiers`.
+/// Appends how many verifiers voted for it, of how many: `2 of 4 verifiers`.
 fn put_of_verifiers(line: &mut Line, votes: u64, verifiers: u64)
     requires { array_vec_len line.old + 54 ≤ LINE_ROOM }
     ensures { array_vec_len line.new ≤ array_vec_len line.old + 54 }

@@ -111,7 +111,7 @@ fn put_record_values(line: &mut Line, i: usize, wrong: &RecordFault) -> bool
     }
 }
 
-/// Appends line `i` of in what a record differs from what its request must note.
+/// Appends line `i` of how a record differs from what its request must note.
 pub(crate) fn put_record_fault(
     line: &mut Line,
     i: usize,

@@ -19,7 +19,7 @@ AreKeptFrom names b place (r ∷ records) =
     IsRecordOf names (request_with b r.index) r.index 0 place r × AreKeptFrom names b (place + 1) records
 
 -- What was noted of a batch: the records that the first worker kept, then those that it took from the recorder, which
--- are each worker's in their places. A worker alone takes none.
+-- are each worker's in their places.
 pub record AreNotedOf (names : List (List ℕ)) (b : Batch) (records : List Applied) : Type 0 where
   pub kept : List Applied
   pub taken : List Applied

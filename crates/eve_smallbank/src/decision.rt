@@ -57,7 +57,7 @@ pub fn decide(request: &Request, touched: &Touched, seen: &[Cents]) -> Decision
     }
 }
 
-/// Of a request that is not refused.
+/// Decides a request that is not refused.
 #[inline(always)]
 fn decide_rows(request: &Request, seen: &[Cents]) -> Decision
     requires { IsSome (decided_from (plain request.now) seen.now) }
@@ -114,7 +114,7 @@ fn transact_saving(saving: Cents, amount: Amount) -> Decision
     }
 }
 
-/// Of a customer with itself.
+/// Amalgamates a customer with itself.
 fn amalgamate_itself(saving: Cents, checking: Cents) -> Decision
     ensures { let after = pos 0 +ℤ (saving +ℤ checking) in
         result ≡ done_within (saving ∷ checking ∷ []) after (written (pos 0) ∷ written after ∷ []) }

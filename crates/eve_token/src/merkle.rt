@@ -29,7 +29,7 @@ pub(crate) fn hash_leaf<T: Spell>(number: usize, leaf: &T) -> [u8; 32]
     hash_text(number, &text[..T::LEN])
 }
 
-/// The same of its text.
+/// The hash of a leaf, by its text.
 fn hash_text(number: usize, text: &[u8]) -> [u8; 32]
     requires { length text.now ≤ TEXT }
     ensures { result ≡ leaf_hash number text.now }

@@ -80,7 +80,7 @@ fn explain_bytes<R: Threads + Wait + Sync, O: Sink>(
 
 /// Reads a trace, asks for random words, and sends the line of the verdict, which `workers` workers find, and then why
 /// it is so. Returns 0 where it is yes, and 1 where it is the first fault. It reads at most one byte more than a trace
-/// may have: that byte is the fault then.
+/// may have: the verdict is F1 Length then.
 pub(crate) fn explain<R: AllocGlobal + RandomSource + Threads + Wait + Sync, I: Source, O: Sink>(
     rt: &R,
     workers: WorkerCount,

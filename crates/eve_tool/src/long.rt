@@ -265,7 +265,7 @@ fn show_long_bytes<O: Sink>(alloc: Global, bytes: &[u8], out: &mut O) -> Result<
 
 /// Reads a trace, sends its lines with the fields of each frame and returns 0; or sends those of the frames before its
 /// first fault of form, and then the line of that fault, and returns 1. It reads at most one byte more than a trace may
-/// have: that byte is the fault then.
+/// have: the fault is F1 Length then.
 pub(crate) fn show_long<I: Source, O: Sink>(
     alloc: Global,
     input: &mut I,

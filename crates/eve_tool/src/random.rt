@@ -6,7 +6,7 @@ use crate::fault::ToolFault;
 use std::hash::RandomState;
 use std::random::RandomSource;
 
-/// Random words of the system, from which names are hashed.
+/// Random words of the system, with which names are hashed.
 pub(crate) fn random_words<R: RandomSource>(rt: &R) -> Result<RandomState, ToolFault>
     ensures { IfErr result (λ e. e ≡ ToolFault.Random) }
 {

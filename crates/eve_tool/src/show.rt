@@ -20,9 +20,10 @@ use eve_streams::{Sink, Source, read_all};
 use eve_views::{CheckFault, Trace};
 use std::alloc::{AllocError, Global};
 
-/// How many bytes of lines are sent together, about, and how many a line has at most.
+/// How many bytes of lines are sent together, about.
 const ROOM: usize = 64 * 1024;
 
+/// How many bytes a line has at most.
 const LONGEST_LINE: usize = 64;
 
 /// Appends the line of frame number i.
@@ -75,7 +76,7 @@ fn show_bytes<O: Sink>(alloc: Global, bytes: &[u8], out: &mut O) -> Result<u8, T
 }
 
 /// Reads a trace, sends its lines and returns 0; or sends the line of its first fault of form and returns 1. It reads
-/// at most one byte more than a trace may have: that byte is the fault then.
+/// at most one byte more than a trace may have: the fault is F1 Length then.
 pub(crate) fn show<I: Source, O: Sink>(
     alloc: Global,
     input: &mut I,

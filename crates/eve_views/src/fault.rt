@@ -164,7 +164,7 @@ impl Code {
 pub struct Fault {
     /// What is wrong.
     pub code: Code,
-    /// The byte of the trace at which it stands, at most their number.
+    /// The byte at which it stands, or the number of bytes, where it stands at their end.
     pub offset: u64,
     /// The replica in whose section that byte lies; `None` outside sections and at faults of form.
     pub replica: Option<u8>,

@@ -83,7 +83,8 @@ fn sift(
     Ok(least)
 }
 
-/// Finds the same of all votes of the trace, and gives the same.
+/// Appends those votes of the trace that are their verifier's only ones on a batch in a view. Returns the byte at which
+/// the first vote begins whose verifier has an earlier one for its batch and view, if any.
 pub(crate) fn only_votes(
     alloc: Global,
     trace: &Trace<'_>,

@@ -33,7 +33,7 @@ pub struct VoteData {
     pub view: u32,
     /// What it is for.
     pub choice: ChoiceData,
-    /// The token to be committed; a vote with another one than zeros for a rollback has no spelling.
+    /// The token to be committed; 32 zero bytes in a vote for a rollback, which has no spelling with another.
     pub token: [u8; 32],
 }
 
