@@ -180,8 +180,8 @@ fn verdict_on<'a, R: Threads + Sync>(
 ///
 /// The time is linear in the trace but for three things. Votes are sorted, and so are all requests where a client's
 /// numbers don't rise or clients are too many for a table. A batch is read again for each reply sent that turns to it
-/// from another. And for tokens of version 1 all balances are hashed for each batch, once where the replicas came to the
-/// same; for those of version 2 what the batch changed is.
+/// from another. And for tokens of version 1 all balances are hashed for each batch, once where the replicas came to
+/// the same; for those of version 2 what the batch changed is.
 pub fn audit_one<R: Threads + Sync>(
     rt: &R,
     alloc: Global,
