@@ -11,8 +11,7 @@ use Rattle.std.proofs.lemmas.List.Elements.{All-push, Contains-append_right}
 use Rattle.std.proofs.lemmas.List.Quantifiers.{all_pairs_push}
 use Rattle.std.proofs.lemmas.Map.Text.{is_eq-slice_cmp}
 use Rattle.std.proofs.lemmas.Option.{none-some, same_Some, slice_get_within, get_or_from_slice_get}
-use Rattle.std.specs.Bool.{Decides}
-use Rattle.std.specs.Cmp.Lexicographic.{pointwise, same_text, other_text, bytes_decides}
+use Rattle.std.specs.Cmp.Lexicographic.{pointwise, same_text, other_text}
 use Rattle.std.specs.List.{list_any, position_or_len, position_from}
 use Rattle.std.specs.Prelude.{Result, Ok, Err}
 use Rattle.eve_accounts.specs.declared.name_key.NameKey.{NameKey}
@@ -104,21 +103,6 @@ pub number_is_place : (names : List (List ℕ)) (name : List ℕ) (result : Opti
     → (n : ℕ) → (result ≡ Some n) ↔ (slice_get names n ≡ Some name)
 number_is_place names name result distinct is n =
     (λ e. place_of_customer names name n (sym is ∙ e), λ e. is ∙ customer_at_place names name n distinct e)
-
--- the name at a place tells whether that is a name's number
-pub number_where_named : (names : List (List ℕ)) (name its : List ℕ) (n : ℕ) (b : Bool) → AllPairs (λ a b. a ≢ b) names
-    → slice_get names n ≡ Some its → b ≡ pointwise nat_eq its name → Decides b (customer_named names name ≡ Some n)
-number_where_named names name its n b distinct at is = (
-  λ h. customer_at_place names name n distinct (at ∙ ap Some ((bytes_decides its name).0 (sym is ∙ h))),
-  λ e. is ∙ (bytes_decides its name).1 (same_Some its name (sym at ∙ place_of_customer names name n e)),
-)
-
-pub no_number_past : (names : List (List ℕ)) (name : List ℕ) (n : ℕ) → slice_get names n ≡ None
-    → Decides false (customer_named names name ≡ Some n)
-no_number_past names name n past = (
-  λ h. absurd (true≢false (sym h)),
-  λ e. absurd (none-some name (sym past ∙ place_of_customer names name n e)),
-)
 
 -- ---- one name more
 

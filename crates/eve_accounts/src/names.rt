@@ -2,7 +2,6 @@
 
 ghost use Rattle.std.specs.Prelude.{◌≡◌, ◌≤◌, ◌<◌, ◌↔◌, ◌++◌, ◌∷◌, [], ℕ, length, slice_get, Contains, IsTrue, IfSome};
 ghost use Rattle.std.specs.Prelude.{IfNone, IfOk, OnOk, OnErr, Err, Some, false};
-ghost use Rattle.std.specs.Bool.{Decides};
 ghost use Rattle.std.specs.List.{list_all};
 ghost use Rattle.eve_accounts.specs.Names.{NameList, IsNameList, CanTake, is_printable, is_name, customer_named};
 
@@ -129,17 +128,6 @@ impl<'a> Names<'a> {
         self.set
             .get_index_of(&NameKey { bytes: name })
             .map(|place| place as u32)
-    }
-
-    /// Whether the name has this number. One name is compared, and nothing is hashed.
-    #[inline(always)]
-    pub fn is_number(&self, name: &[u8], number: u32) -> bool
-        ensures { Decides result (customer_named self.now.items name.now ≡ Some number) }
-    {
-        match self.set.get_index(number as usize) {
-            Some(key) => key.bytes == name,
-            None => false,
-        }
     }
 
     /// How many names there are.

@@ -1,6 +1,6 @@
 //! Where a customer's balances stand.
 
-ghost use Rattle.std.specs.Prelude.{◌≡◌, ◌<◌, ◌/◌};
+ghost use Rattle.std.specs.Prelude.{◌≡◌, ◌<◌};
 ghost use Rattle.eve_accounts.specs.Rows.{saving_row, checking_row};
 
 use crate::limits::{MOST_NAMED_ROWS, MOST_NAMES};
@@ -46,15 +46,6 @@ impl Row {
         Row {
             number: 2 * customer + 1,
         }
-    }
-
-    /// The number of the customer whose balance it is.
-    #[inline(always)]
-    pub fn customer(self) -> u32
-        ensures number { result ≡ self / 2 }
-        ensures small { result < MOST_NAMES }
-    {
-        self.number / 2
     }
 
     /// Its number, from 0.

@@ -11,7 +11,7 @@ ghost use Rattle.eve_chains.specs.Unfit.{is_settled, recorded_of, records_betwee
 ghost use Rattle.eve_chains.specs.Unfit.{CanBeJudged, IsLeastOfAttempt, lesser};
 ghost use Rattle.eve_chains.specs.Faults.{StandsInRecords};
 
-use crate::fitting::{fits, is_done};
+use crate::fitting::fits;
 use eve_accounts::Names;
 use eve_frames::{AccessView, BatchView};
 use eve_history::{Fate, History};
@@ -109,16 +109,13 @@ fn judge_records(
         let access = history.ordered(i, place);
         let index = access.index() as usize;
         let request = &requests[index];
-        if !is_done(request, names, attempt.reply(index), &access) {
-            let found = judge_record(request, names, attempt.reply(index), &access);
-            least = lesser(least, found);
-        }
+        let found = judge_record(request, names, attempt.reply(index), &access);
+        least = lesser(least, found);
     }
     least
 }
 
 /// The record's offset, where it doesn't fit.
-#[inline(never)]
 fn judge_record(
     request: &Request<'_>,
     names: &Names<'_>,

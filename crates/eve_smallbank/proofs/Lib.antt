@@ -11,4 +11,3 @@ pub mod Records
 pub mod Applying
 pub mod Recording
 mod Seeing
-mod TookEffect

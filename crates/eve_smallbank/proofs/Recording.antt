@@ -19,7 +19,7 @@ use Rattle.eve_smallbank.proofs.Records.{touches_rows}
 use Rattle.eve_smallbank.specs.Recorded.{noted_from, HasEffect}
 
 -- the record of a request
-abbrev pub recorded : Request → Reply → List Entry → Executed
+abbrev recorded : Request → Reply → List Entry → Executed
 recorded request reply entries = record { request = request; reply = reply; entries = entries }
 
 -- ---- the values seen
@@ -49,10 +49,10 @@ seen_by_three (d ∷ es) a b c n at next last =
 -- ---- entries beside rows and effects
 
 -- the entry of the row with the effect that saw what this entry saw
-abbrev pub noted : ℕ × Kind → Entry → Effect → Entry
+abbrev noted : ℕ × Kind → Entry → Effect → Entry
 noted r e f = record { row = r.0; kind = f.kind; version = e.version; seen = e.seen; after = f.after }
 
-pub noted_entry : (r : ℕ × Kind) (e : Entry) (f : Effect) → HasEffect r.0 e f → e ≡ noted r e f
+noted_entry : (r : ℕ × Kind) (e : Entry) (f : Effect) → HasEffect r.0 e f → e ≡ noted r e f
 noted_entry r e f is =
     ap (λ n. record e { row = n }) is.row ∙ ap (λ k. record e { row = r.0; kind = k }) is.kind
     ∙ ap (λ z. record e { row = r.0; kind = f.kind; after = z }) is.after

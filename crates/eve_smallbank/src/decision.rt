@@ -157,7 +157,7 @@ fn write_check(saving: Cents, checking: Cents, amount: Amount) -> Decision
 
 /// The checking balance after a check, in cents: the penalty comes where the sum of both balances is less than the
 /// amount.
-pub(crate) fn after_check(saving: Cents, checking: Cents, amount: Amount) -> i64
+fn after_check(saving: Cents, checking: Cents, amount: Amount) -> i64
     ensures { result ≡ checking -ℤ check_cost (record { saving = saving; checking = checking }) amount }
 {
     if is_below(sum(saving, checking), amount.get()) {
@@ -204,13 +204,13 @@ fn write(value: Cents) -> Effect
     }
 }
 
-pub(crate) fn is_below(a: i64, b: i64) -> bool
+fn is_below(a: i64, b: i64) -> bool
     ensures { result ≡ int_lt a b }
 {
     a < b
 }
 
-pub(crate) fn sum(a: Cents, b: Cents) -> i64
+fn sum(a: Cents, b: Cents) -> i64
     ensures value { result ≡ a +ℤ b }
     ensures low { negsuc 1999999999999999 ≤ℤ result }
     ensures high { result ≤ℤ pos 2000000000000000 }
@@ -218,13 +218,13 @@ pub(crate) fn sum(a: Cents, b: Cents) -> i64
     a.get() + b.get()
 }
 
-pub(crate) fn sum_of_three(a: Cents, b: Cents, c: Cents) -> i64
+fn sum_of_three(a: Cents, b: Cents, c: Cents) -> i64
     ensures { result ≡ a +ℤ (b +ℤ c) }
 {
     a.get() + sum(b, c)
 }
 
-pub(crate) fn raised(balance: Cents, amount: Amount) -> i64
+fn raised(balance: Cents, amount: Amount) -> i64
     ensures { result ≡ balance +ℤ amount }
 {
     balance.get() + amount.get()

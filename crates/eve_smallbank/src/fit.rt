@@ -28,7 +28,7 @@ pub fn fits(request: &Request, touched: &Touched, reply: Reply, entries: &UpToTh
     is_same(decision.reply, reply) && are_noted(entries, &rows, &decision.effects)
 }
 
-pub(crate) fn is_same(reply: Reply, other: Reply) -> bool
+fn is_same(reply: Reply, other: Reply) -> bool
     ensures { Decides result (reply ≡ other) }
 {
     reply == other

@@ -4,7 +4,6 @@
 
 mod apply_request;
 mod decision;
-mod done;
 mod entry;
 mod few;
 mod fit;
@@ -18,9 +17,6 @@ mod versioned;
 
 pub use apply_request::apply;
 pub use decision::{Decision, Effect, decide};
-pub use done::{
-    amalgamation_is_done, balance_is_told, check_is_done, deposit_is_done, transaction_is_done,
-};
 pub use entry::{Entry, Kind};
 pub use few::UpToThree;
 pub use fit::fits;

@@ -9,9 +9,8 @@ use Rattle.eve_history.specs.SectionHistory.{ExecutedAttempt}
 use Rattle.eve_grammar.proofs.Lists.{all-slice_get}
 use Rattle.eve_chains.specs.Records.{recorded}
 use Rattle.eve_chains.specs.Unfit.{recorded_of, IsLeastUnfit}
-use Rattle.eve_chains.proofs.Least.{least_next, least_kept, recorded_at}
+use Rattle.eve_chains.proofs.Least.{least_next, recorded_at}
 use Rattle.eve_chains.proofs.unfit.judge_records.Goals as goal
-use Rattle.eve_chains.proofs.unfit.judge_records.Goals.{then-not-is_done, else-not-is_done}
 
 pub loop-place-preserved : goal.loop-place-preserved
 loop-place-preserved c r at =
@@ -42,14 +41,6 @@ loop-place-preserved c r at =
     c.index-index.ensures within c.index-requests-index.is
     (ap (λ (a : Attempt). slice_get a.replies c.index-index.result) (sym said) ∙ replied) in
     let more : Option ℕ → Type 0 = λ least. IsLeastUnfit names (map of (take (place + 1) r.ordered)) least in
-    elim c.if-not-is_done.branch [
-      | then-not-is_done w ↦ subst more (sym (w.least-is ∙ w.lesser-least.ensures))
-          (least_next names of r.ordered place x (y w.reply-then-not-is_done.result) c.loop-place.least
-          w.judge_record-found.result listed
-          (is w.reply-then-not-is_done.result w.reply-then-not-is_done.ensures) (c.loop-place.invariant r at)
-          w.judge_record-found.ensures)
-      | else-not-is_done w ↦ subst more (sym w.least-is)
-          (least_kept names of r.ordered place x (y c.reply.result) c.loop-place.least listed
-          (is c.reply.result c.reply.ensures) (c.loop-place.invariant r at)
-          (c.is_done.ensures w.if-not-is_done.false))
-    ]
+    subst more (sym c.lesser-least.ensures)
+    (least_next names of r.ordered place x (y c.reply.result) c.loop-place.least c.judge_record-found.result listed
+    (is c.reply.result c.reply.ensures) (c.loop-place.invariant r at) c.judge_record-found.ensures)
