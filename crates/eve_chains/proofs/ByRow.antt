@@ -1,13 +1,13 @@
--- Rows that are walked along one entry more, and what is noted of records.
-use Rattle.std.proofs.Common.{◌≡◌, ◌≢◌, ℕ, ◌<◌, ◌==◌, List, [], ◌∷◌, ◌++◌, map, length, get_or}
-use Rattle.std.proofs.Common.{set, sym, subst, ap, ◌∙◌, inl, inr, append-nil, append_assoc, arith}
+-- What is noted of records, one entry after another.
+use Rattle.std.proofs.Common.{◌≡◌, ℕ, ◌<◌, List, [], ◌∷◌, ◌++◌, map, length}
+use Rattle.std.proofs.Common.{sym, subst, ap, ◌∙◌, append-nil, append_assoc, arith}
 use Rattle.std.proofs.Common.{◌+◌, ◌≤◌, ◌^◌, zero, suc, take, drop, flat_map, slice_get, Some, IsTrue}
 use Rattle.std.proofs.Common.{length-append}
 use Rattle.std.specs.List.{list_all}
 use Rattle.std.proofs.lemmas.Bool.{and_parts}
 use Rattle.std.proofs.lemmas.Option.{same_Some}
 use Rattle.std.proofs.lemmas.Grind.{flat_map-append}
-use Rattle.std.proofs.lemmas.List.{get_or-set_other, length-drop, length-set, map-append}
+use Rattle.std.proofs.lemmas.List.{length-drop, map-append}
 use Rattle.eve_smallbank.specs.declared.entry.Entry.{Entry}
 use Rattle.eve_grammar.specs.Trace.{Access, Trace}
 use Rattle.eve_grammar.specs.Frames.{Frame, frames_of}
@@ -19,62 +19,7 @@ use Rattle.eve_grammar.proofs.Lists.{take_one_more}
 use Rattle.eve_views.specs.Lent.{HasBytesAt}
 use Rattle.eve_chains.specs.Along.{AreWithin}
 use Rattle.eve_chains.proofs.Linked.{none≢some}
-use Rattle.std.proofs.lemmas.Bool.{cases_eq, eq-eqb, ne_eqb}
-use Rattle.std.proofs.lemmas.Grind.{get_or-set_at}
-use Rattle.std.proofs.lemmas.List.Elements.{filter-append}
-use Rattle.eve_grammar.proofs.Lists.{filter_kept, filter_dropped}
-use Rattle.eve_chains.specs.Rows.{Noted, of_row}
-use Rattle.eve_chains.specs.Rows.{bases_of}
-use Rattle.eve_chains.specs.Walked.{HasWalked, EachHasWalked}
-use Rattle.eve_chains.specs.declared.walked_row.WalkedRow.{WalkedRow}
-
--- an entry of another row is none of a row's
-other_same : (row : ℕ) (ns : List Noted) (n : Noted) → n.entry.row ≢ row → of_row row (ns ++ n ∷ []) ≡ of_row row ns
-other_same row ns n other =
-    filter-append (λ (m : Noted). m.entry.row == row) ns (n ∷ [])
-    ∙ ap (λ (ms : List Noted). of_row row ns ++ ms)
-    (filter_dropped (λ (m : Noted). m.entry.row == row) n [] (ne_eqb n.entry.row row other))
-    ∙ append-nil (of_row row ns)
-
--- and its own comes behind those before
-own_more : (row : ℕ) (ns : List Noted) (n : Noted) → n.entry.row ≡ row
-    → of_row row (ns ++ n ∷ []) ≡ of_row row ns ++ n ∷ []
-own_more row ns n own =
-    filter-append (λ (m : Noted). m.entry.row == row) ns (n ∷ [])
-    ∙ ap (λ (ms : List Noted). of_row row ns ++ ms)
-    (filter_kept (λ (m : Noted). m.entry.row == row) n [] (eq-eqb n.entry.row row own))
-
-module _ (t : Trace) (e from : ℕ) (ns : List Noted) (n : Noted) (ws : List WalkedRow) where
-  -- none of the rows is the entry's
-  pub passed_over : ((place : ℕ) → place < length ws → from + place ≢ n.entry.row) → EachHasWalked t e from ns ws
-      → EachHasWalked t e from (ns ++ n ∷ []) ws
-  passed_over apart known place d less =
-      subst (λ (ms : List Noted). HasWalked e (bases_of t e (from + place)) ms (get_or ws place d))
-      (sym (other_same (from + place) ns n (λ same. apart place less (sym same)))) (known place d less)
-
-  -- the row at this place meets the entry
-  pub entry_met : (place : ℕ) (w : WalkedRow) → place < length ws → from + place ≡ n.entry.row
-      → HasWalked e (bases_of t e (from + place)) (of_row (from + place) ns ++ n ∷ []) w
-      → EachHasWalked t e from ns ws → EachHasWalked t e from (ns ++ n ∷ []) (set ws place w)
-  entry_met place w there own more known i d less =
-      elim (cases_eq i place) [
-        | inl same ↦ subst (After i) (sym (get_or-set_at ws place i w d same there))
-            (subst (λ (k : ℕ). After k w) (sym same) here)
-        | inr other ↦ subst (After i) (sym (get_or-set_other ws place i w d other))
-            (subst (λ (ms : List Noted). HasWalked e (bases_of t e (from + i)) ms (get_or ws i d))
-            (sym (other_same (from + i) ns n (λ same. other (apart same))))
-            (known i d (subst (λ (m : ℕ). i < m) (length-set ws place w) less)))
-      ]
-    where
-      After : ℕ → WalkedRow → Type 0
-      After k x = HasWalked e (bases_of t e (from + k)) (of_row (from + k) (ns ++ n ∷ [])) x
-
-      here : After place w
-      here = subst (λ (ms : List Noted). HasWalked e (bases_of t e (from + place)) ms w)
-          (sym (own_more (from + place) ns n (sym own))) more
-
-      apart : n.entry.row ≡ from + i → i ≡ place
-      apart same = omega (arith, same, own)
+use Rattle.eve_chains.specs.Rows.{Noted}
 
 -- ---- a record's entries, one after another
 

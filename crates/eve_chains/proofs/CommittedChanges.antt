@@ -21,7 +21,7 @@ use Rattle.eve_chains.specs.Stretches.{IsWithin, Reaches}
 use Rattle.eve_chains.specs.declared.changed.Changed.{Changed}
 use Rattle.eve_chains.specs.declared.stretch.Stretch.{Stretch}
 use Rattle.eve_chains.specs.declared.numbered.Numbered.{Numbered}
-use Rattle.eve_chains.specs.declared.walked.Walked.{Walked}
+use Rattle.eve_chains.specs.declared.rows.Walked.{Walked}
 use Rattle.eve_chains.specs.Changes.{last_written, changes_below, with_change, change_by, changes_along}
 use Rattle.eve_chains.specs.Changes.{changes_of_rows, of_number, by_number, changes_at, changes_in_ranges}
 use Rattle.eve_chains.specs.Changes.{ranges_by_number}

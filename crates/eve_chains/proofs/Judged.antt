@@ -30,7 +30,8 @@ use Rattle.eve_history.specs.SectionHistory.{ExecutedAttempt, executed_attempt, 
 use Rattle.eve_history.specs.SectionHistory.{attempts_among, section_history, history}
 use Rattle.eve_history.specs.SectionHistory.{IsRightSection, names_of, placed_at, picked, is_committed, is_discarded}
 use Rattle.eve_history.proofs.Finding.{batch_is}
-use Rattle.eve_chains.specs.Records.{recorded}
+use Rattle.eve_chains.specs.Records.{recorded, is_settled, recorded_of, records_along, records_if_settled, HasRequests}
+use Rattle.eve_chains.specs.Records.{settled_records, records_between, IsLeastUnfit}
 use Rattle.eve_chains.specs.Visible.{executed_by}
 use Rattle.eve_chains.specs.Sound.{RecordsFit}
 use Rattle.eve_chains.specs.Faults.{StandsInRecords}
@@ -38,9 +39,6 @@ use Rattle.eve_chains.proofs.Distinct.{in_map, in_source, in_right, in_split}
 use Rattle.eve_chains.proofs.LeftByRecords.{right_one, complete_one}
 use Rattle.eve_chains.proofs.Faultless.{in_place, place_of}
 use Rattle.eve_chains.proofs.Linked.{none≢some}
-use Rattle.eve_chains.specs.Unfit.{is_settled, recorded_of, records_along, records_if_settled, HasRequests}
-use Rattle.eve_chains.specs.Unfit.{settled_records, records_between}
-use Rattle.eve_chains.specs.Unfit.{IsLeastUnfit}
 use Rattle.eve_chains.proofs.Stretches.{all_between}
 use Rattle.eve_chains.proofs.Attempts.{located_in, in_ordered, from_ordered, ordered_below, batch_there, as_settled}
 use Rattle.eve_chains.proofs.Attempts.{from_settled, in_picked}

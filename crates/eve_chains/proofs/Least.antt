@@ -17,8 +17,7 @@ use Rattle.eve_grammar.proofs.Lists.{all-append}
 use Rattle.eve_views.specs.Form.{SomePlace}
 use Rattle.eve_chains.proofs.Distinct.{in_right}
 use Rattle.eve_chains.proofs.Faultless.{in_place, place_of}
-use Rattle.eve_chains.specs.Records.{recorded}
-use Rattle.eve_chains.specs.Unfit.{recorded_of, IsLeastUnfit, lesser}
+use Rattle.eve_chains.specs.Records.{recorded, recorded_of, IsLeastUnfit, lesser}
 
 -- ---- two lists
 
@@ -116,15 +115,3 @@ least_next names f xs i x y o p at is first other =
     (get_or_from_slice_get xs i x x at) ∙ ap (λ (z : ℕ × Executed). map f (take i xs) ++ z ∷ []) is in
     subst (λ (zs : List (ℕ × Executed)). IsLeastUnfit names zs (lesser o p)) (sym one)
     (least_append names (map f (take i xs)) (y ∷ []) o p first other)
-
--- a record more that fits
-pub least_kept : (names : List (List ℕ)) (f : ℕ × Access → ℕ × Executed) (xs : List (ℕ × Access)) (i : ℕ)
-    (x : ℕ × Access) (y : ℕ × Executed) (o : Option ℕ) → slice_get xs i ≡ Some x → f x ≡ y
-    → IsLeastUnfit names (map f (take i xs)) o → Fits names y.1 → IsLeastUnfit names (map f (take (i + 1) xs)) o
-least_kept names f xs i x y o at is first fits =
-    subst (IsLeastUnfit names (map f (take (i + 1) xs))) (none_less o)
-    (least_next names f xs i x y o None at is first (fits, tt))
-  where
-    none_less : (o : Option ℕ) → lesser o None ≡ o
-    none_less None = refl
-    none_less (Some n) = refl

@@ -3,7 +3,9 @@ mod TakenStates
 mod Told
 mod ByRow
 mod WalkedRows
-mod Shares
+mod Grouping
+mod Gathering
+mod Joined
 mod Collecting
 mod JudgedRows
 mod Paths

@@ -10,9 +10,8 @@ use Rattle.eve_grammar.specs.Trace.{Trace}
 use Rattle.eve_grammar.proofs.Lists.{item_within}
 use Rattle.eve_history.specs.declared.fate.Fate.{Fate}
 use Rattle.eve_history.specs.SectionHistory.{SectionHistory}
-use Rattle.eve_chains.specs.Unfit.{by_fates, by_fates_between, records_if_settled, records_between, IsLeastUnfit}
-use Rattle.eve_chains.specs.Unfit.{IsLeastOfAttempt, lesser}
-use Rattle.eve_chains.specs.Looked.{IsLooked}
+use Rattle.eve_chains.specs.Records.{by_fates, by_fates_between, records_if_settled, records_between, IsLeastUnfit}
+use Rattle.eve_chains.specs.Records.{IsLeastOfAttempt, lesser, IsLooked}
 use Rattle.eve_chains.specs.Stretches.{IsWithin, Reaches, AreBetween}
 use Rattle.eve_chains.specs.declared.stretch.Stretch.{Stretch}
 use Rattle.eve_chains.proofs.Least.{least_append}

@@ -19,7 +19,7 @@ use Rattle.eve_history.specs.declared.fate.Fate.{Fate}
 use Rattle.eve_history.specs.Fates.{fate_in, fates_from}
 use Rattle.eve_history.specs.Section.{Placed, SectionState, start, path_of}
 use Rattle.eve_history.specs.Section.{committing, next}
-use Rattle.eve_history.specs.SectionHistory.{SectionHistory, executed_attempt, attempts_among, section_history, ordered}
+use Rattle.eve_history.specs.SectionHistory.{SectionHistory, executed_attempt, attempts_among, section_history}
 use Rattle.eve_history.specs.SectionHistory.{is_committed, ExecutedAttempt, taken_from, history}
 use Rattle.eve_chains.specs.Bases.{base_at, AreBasesOf}
 use Rattle.eve_chains.specs.declared.bases.Bases.{Bases}
@@ -27,8 +27,8 @@ use Rattle.eve_chains.specs.Visible.{taken_table}
 use Rattle.eve_chains.specs.Along.{AreWithin}
 use Rattle.eve_chains.specs.Rows.{states_by, bases_of}
 use Rattle.eve_chains.specs.Rows.{Fated, to_come, told_of, settles, Noted, noted_by, noted_in, all_noted, of_row}
-use Rattle.eve_chains.specs.Unfit.{is_settled, by_fates, by_fates_between}
-use Rattle.eve_chains.specs.Notes.{with_taken, noted_along, noted_if_settled, notes_between}
+use Rattle.eve_chains.specs.Records.{is_settled, by_fates, by_fates_between}
+use Rattle.eve_chains.specs.Gathered.{with_taken, noted_along, noted_if_settled, notes_between}
 use Rattle.eve_chains.proofs.Stretches.{all_between}
 use Rattle.eve_chains.specs.Walked.{notes_on}
 use Rattle.eve_chains.proofs.AttemptRecords.{IsWithin, within_section}
@@ -140,7 +140,7 @@ are_bases t e b is opening row = λ i k. each k i
 
 -- ---- the rows that there are
 
-abbrev IsRowBelow : ℕ → Noted → Type 0
+abbrev pub IsRowBelow : ℕ → Noted → Type 0
 IsRowBelow rows n = n.entry.row < rows
 
 below_in : (rows at taken view number : ℕ) (commits : Bool) (es : List Entry) → IsTrue (list_all (is_entry rows) es)
@@ -171,6 +171,17 @@ below_along rows taken view number commits (x ∷ xs) within =
     (below_in rows x.0 taken view number commits x.1.entries parts.0)
     (below_along rows taken view number commits xs parts.1)
 
+pub below_settled : (rows : ℕ) (r : ExecutedAttempt) (taken : ℕ) (fate : Fate) → AreWithin rows r.ordered
+    → AllByRecursion (IsRowBelow rows) (noted_if_settled (r, taken) fate)
+below_settled rows r taken fate within = by (is_settled fate)
+  where
+    along : AllByRecursion (IsRowBelow rows) (noted_along (r, taken) fate)
+    along = below_along rows taken r.attempt.view r.attempt.seq (is_committed fate) r.ordered within
+
+    by : (b : Bool) → AllByRecursion (IsRowBelow rows) (cond b (noted_along (r, taken) fate) [])
+    by true = along
+    by false = tt
+
 below_gathered : (rows : ℕ) (xs : List (ℕ × Attempt)) (counts : List ℕ) (fates : List Fate)
     → AllByRecursion (IsWithin rows) xs
     → AllByRecursion (IsRowBelow rows) (by_fates noted_if_settled (with_taken (map executed_attempt xs) counts) fates)
@@ -179,15 +190,9 @@ below_gathered rows (x ∷ xs) [] fates within = tt
 below_gathered rows (x ∷ xs) (taken ∷ counts) [] within = tt
 below_gathered rows (x ∷ xs) (taken ∷ counts) (fate ∷ fates) within =
     all-append (IsRowBelow rows) (noted_if_settled (executed_attempt x, taken) fate)
-    (by_fates noted_if_settled (with_taken (map executed_attempt xs) counts) fates) (by (is_settled fate))
+    (by_fates noted_if_settled (with_taken (map executed_attempt xs) counts) fates)
+    (below_settled rows (executed_attempt x) taken fate within.0.within)
     (below_gathered rows xs counts fates within.1)
-  where
-    along : AllByRecursion (IsRowBelow rows) (noted_along (executed_attempt x, taken) fate)
-    along = below_along rows taken x.1.view x.1.seq (is_committed fate) (ordered x.0 x.1) within.0.within
-
-    by : (b : Bool) → AllByRecursion (IsRowBelow rows) (cond b (noted_along (executed_attempt x, taken) fate) [])
-    by true = along
-    by false = tt
 
 none_of_row : (rows row : ℕ) (ns : List Noted) → rows ≤ row → AllByRecursion (IsRowBelow rows) ns → of_row row ns ≡ []
 none_of_row rows row [] past below = refl

@@ -1,7 +1,7 @@
 -- The first fault of rows that are walked, each by itself.
-use Rattle.std.proofs.Common.{◌≡◌, ℕ, zero, suc, ◌+◌, ◌<◌, ◌≤◌, Bool, true, false, cond, List, [], ◌∷◌, ◌++◌}
+use Rattle.std.proofs.Common.{◌≡◌, ℕ, suc, ◌+◌, ◌<◌, ◌≤◌, Bool, true, false, cond, List, [], ◌∷◌, ◌++◌}
 use Rattle.std.proofs.Common.{length, fold, Option, Some, None, refl, sym, subst, ap, ◌∙◌, inl, inr, ◌⊎◌, append_assoc}
-use Rattle.std.proofs.Common.{append-nil, arith}
+use Rattle.std.proofs.Common.{arith}
 use Rattle.std.specs.Prelude.{All}
 use Rattle.std.specs.List.{AllZip}
 use Rattle.eve_smallbank.specs.declared.entry.Entry.{Entry}
@@ -12,29 +12,18 @@ use Rattle.eve_views.specs.Form.{IsLeast}
 use Rattle.eve_views.specs.declared.fault.Code.{Code}
 use Rattle.eve_views.specs.declared.fault.Code.TheVariants as code
 use Rattle.eve_views.specs.declared.fault.Fault.{Fault}
-use Rattle.std.proofs.lemmas.Bool.{cases_eq, cases_lt}
-use Rattle.std.proofs.lemmas.Grind.{get_or-set_at}
-use Rattle.std.proofs.lemmas.List.{get_or-set_other, length-set}
+use Rattle.std.proofs.lemmas.Bool.{cases_lt}
 use Rattle.eve_views.proofs.Firsts.{up_to-trans}
 use Rattle.eve_grammar.specs.Trace.{Trace}
-use Rattle.eve_chains.specs.Visible.{opening_of}
 use Rattle.eve_chains.specs.Along.{SeesAnother, fault_if}
 use Rattle.eve_chains.specs.Rows.{bases_of}
-use Rattle.eve_chains.specs.Rows.{Noted, of_row, met_by, next_pair, pair_after, at_first, IsWrongOnRow, EachSees}
-use Rattle.std.proofs.Common.{get_or, set}
-use Rattle.std.specs.List.{AllByRecursion}
-use Rattle.std.proofs.Common.{◌==◌, ◌&&◌}
-use Rattle.std.proofs.lemmas.Bool.{eqb-true, ne_eqb}
-use Rattle.eve_smallbank.specs.Access.{is_write}
-use Rattle.eve_grammar.proofs.Lists.{all-weaker}
-use Rattle.eve_chains.specs.Changes.{with_change, change_by, changes_along, changes_of_rows}
+use Rattle.eve_chains.specs.Rows.{Noted, met_by, next_pair, pair_after, at_first, IsWrongOnRow, EachSees}
+use Rattle.eve_chains.specs.Changes.{change_by, changes_along}
 use Rattle.eve_chains.specs.declared.changed.Changed.{Changed}
 use Rattle.eve_chains.specs.Stretches.{IsWithin, Reaches, AreStretches}
 use Rattle.eve_chains.specs.Walked.{IsFirstOrNone, IsMismatch, IsFirstOnRow, IsWrongOnSome, IsFirstOnRows}
 use Rattle.std.proofs.lemmas.List.Elements.{All-nil, All-cons}
-use Rattle.eve_chains.specs.Walked.{IsOfRange, AreOfRanges, notes_on, HasMet, HasWalked}
-use Rattle.eve_chains.specs.declared.walked_row.WalkedRow.{WalkedRow}
-use Rattle.std.proofs.Common.{ℤ}
+use Rattle.eve_chains.specs.Walked.{IsOfRange, AreOfRanges, notes_on}
 use Rattle.eve_chains.specs.declared.stretch.Stretch.{Stretch}
 use Rattle.eve_chains.specs.declared.numbered.Numbered.{Numbered}
 use Rattle.eve_chains.proofs.AlongLaws.{before_up, not_before_up, split_last}
@@ -293,138 +282,6 @@ pub changes_more : (before : List Changed) (ns ms : List Noted) (now : List Chan
     → changes_along now ms ≡ changes_along before (ns ++ ms)
 changes_more before [] ms now is = ap (λ (cs : List Changed). changes_along cs ms) is
 changes_more before (n ∷ ns) ms now is = changes_more (change_by before n) ns ms now is
-
--- ---- what rows change
-
--- a change of a later row goes behind those of earlier ones
-behind_rows : (row : ℕ) (cs ds : List Changed) (c : Changed) → AllByRecursion (λ x. x.row < row) cs → c.row ≡ row
-    → with_change (cs ++ ds) c ≡ cs ++ with_change ds c
-behind_rows row [] ds c below at = refl
-behind_rows row (x ∷ []) [] c below at =
-    ap (λ (b : Bool). cond ((x.number == c.number) && b) (c ∷ []) (x ∷ c ∷ [])) (ne_eqb x.row c.row other)
-    ∙ none (x.number == c.number)
-  where
-    other : x.row ≡ c.row → ⊥
-    other same = omega (arith, below.0)
-
-    none : (b : Bool) → cond (b && false) (c ∷ []) (x ∷ c ∷ []) ≡ x ∷ c ∷ []
-    none true = refl
-    none false = refl
-behind_rows row (x ∷ []) (d ∷ ds) c below at = refl
-behind_rows row (x ∷ y ∷ cs) ds c below at =
-    ap (λ (zs : List Changed). x ∷ zs) (behind_rows row (y ∷ cs) ds c below.1 at)
-
-along_behind : (row : ℕ) (cs ds : List Changed) (ns : List Noted) → AllByRecursion (λ x. x.row < row) cs
-    → AllByRecursion (λ n. n.entry.row ≡ row) ns → changes_along (cs ++ ds) ns ≡ cs ++ changes_along ds ns
-along_behind row cs ds [] below own = refl
-along_behind row cs ds (n ∷ ns) below own =
-    ap (λ (xs : List Changed). changes_along xs ns) (by (n.commits && is_write n.entry.kind))
-    ∙ along_behind row cs (change_by ds n) ns below own.1
-  where
-    c : Changed
-    c = record { number = n.number; row = n.entry.row; value = n.entry.after }
-
-    by : (b : Bool) → cond b (with_change (cs ++ ds) c) (cs ++ ds) ≡ cs ++ cond b (with_change ds c) ds
-    by true = behind_rows row cs ds c below own.0
-    by false = refl
-
--- what a row's entries change is of the row
-changed_below : (row : ℕ) (cs : List Changed) (c : Changed) → AllByRecursion (λ x. x.row < row) cs → c.row < row
-    → AllByRecursion (λ x. x.row < row) (with_change cs c)
-changed_below row [] c below less = (less, tt)
-changed_below row (x ∷ []) c below less = by ((x.number == c.number) && (x.row == c.row))
-  where
-    by : (b : Bool) → AllByRecursion (λ y. y.row < row) (cond b (c ∷ []) (x ∷ c ∷ []))
-    by true = (less, tt)
-    by false = (below.0, (less, tt))
-changed_below row (x ∷ y ∷ cs) c below less = (below.0, changed_below row (y ∷ cs) c below.1 less)
-
-along_below : (row : ℕ) (cs : List Changed) (ns : List Noted) → AllByRecursion (λ x. x.row < row) cs
-    → AllByRecursion (λ n. n.entry.row < row) ns → AllByRecursion (λ x. x.row < row) (changes_along cs ns)
-along_below row cs [] below own = below
-along_below row cs (n ∷ ns) below own =
-    along_below row (change_by cs n) ns (by (n.commits && is_write n.entry.kind)) own.1
-  where
-    c : Changed
-    c = record { number = n.number; row = n.entry.row; value = n.entry.after }
-
-    by : (b : Bool) → AllByRecursion (λ x. x.row < row) (cond b (with_change cs c) cs)
-    by true = changed_below row cs c below own.0
-    by false = below
-
-own_rows : (row : ℕ) (ns : List Noted) → AllByRecursion (λ n. n.entry.row ≡ row) (of_row row ns)
-own_rows row [] = tt
-own_rows row (n ∷ ns) = by (n.entry.row == row) refl (own_rows row ns)
-  where
-    by : (b : Bool) → (n.entry.row == row) ≡ b → AllByRecursion (λ m. m.entry.row ≡ row) (of_row row ns)
-        → AllByRecursion (λ m. m.entry.row ≡ row) (cond b (n ∷ of_row row ns) (of_row row ns))
-    by true is rest = (eqb-true n.entry.row row is, rest)
-    by false is rest = rest
-
-rows_below : (ns : List Noted) (from count : ℕ)
-    → AllByRecursion (λ x. x.row < from + count) (changes_of_rows ns from count [])
-rows_below ns from zero = tt
-rows_below ns from (suc count) =
-    along_below (from + suc count) (changes_of_rows ns from count []) (of_row (from + count) ns)
-    (all-weaker (λ x. x.row < from + count) (λ x. x.row < from + suc count) (changes_of_rows ns from count [])
-    (λ x less. up x.row less) (rows_below ns from count))
-    (all-weaker (λ n. n.entry.row ≡ from + count) (λ n. n.entry.row < from + suc count) (of_row (from + count) ns)
-    (λ n is. at n.entry.row is) (own_rows (from + count) ns))
-  where
-    up : (k : ℕ) → k < from + count → k < from + suc count
-    up k less = omega arith
-
-    at : (k : ℕ) → k ≡ from + count → k < from + suc count
-    at k is = omega arith
-
--- one more row behind them
-pub rows_behind : (ns ms : List Noted) (from count : ℕ) (now own : List Changed) → ms ≡ ns
-    → now ≡ changes_of_rows ns from count [] → own ≡ changes_along [] (of_row (from + count) ms)
-    → now ++ own ≡ changes_of_rows ns from (count + 1) []
-rows_behind ns ms from count now own same is its =
-    (λ i. is i ++ its i)
-    ∙ ap (λ (ks : List Noted). changes_of_rows ns from count [] ++ changes_along [] (of_row (from + count) ks)) same
-    ∙ sym (along_behind (from + count) (changes_of_rows ns from count []) [] (of_row (from + count) ns)
-    (rows_below ns from count) (own_rows (from + count) ns))
-    ∙ ap (λ (cs : List Changed). changes_along cs (of_row (from + count) ns))
-    (append-nil (changes_of_rows ns from count []))
-    ∙ ap (λ (n : ℕ). changes_of_rows ns from n []) one
-  where
-    one : suc count ≡ count + 1
-    one = omega arith
-
--- ---- ranges that are walked
-
--- what holds at each place of a list holds with one item more
-pub each_more : {A : Type 0} (P : ℕ → A → Type 0) (xs : List A) (x : A)
-    → ((i : ℕ) (d : A) → i < length xs → P i (get_or xs i d)) → P (length xs) x
-    → (i : ℕ) (d : A) → i < length (xs ++ x ∷ []) → P i (get_or (xs ++ x ∷ []) i d)
-each_more P [] x each last zero d less = last
-each_more P [] x each last (suc i) d less = absurd (omega (arith, less))
-each_more P (y ∷ xs) x each last zero d less = each zero d (omega arith)
-each_more P (y ∷ xs) x each last (suc i) d less =
-    each_more (λ k. P (suc k)) xs x (λ k e lt. each (suc k) e (omega (arith, lt))) last i d (omega (arith, less))
-
--- and with another item at one place
-pub each_set : {A : Type 0} (P : ℕ → A → Type 0) (xs : List A) (p : ℕ) (x : A) → p < length xs → P p x
-    → ((i : ℕ) (d : A) → i < length xs → (i ≡ p → ⊥) → P i (get_or xs i d))
-    → (i : ℕ) (d : A) → i < length (set xs p x) → P i (get_or (set xs p x) i d)
-each_set P xs p x there new each i d less =
-    elim (cases_eq i p) [
-      | inl same ↦ subst (P i) (sym (get_or-set_at xs p i x d same there)) (subst (λ (k : ℕ). P k x) (sym same) new)
-      | inr other ↦ subst (P i) (sym (get_or-set_other xs p i x d other))
-          (each i d (subst (λ (m : ℕ). i < m) (length-set xs p x) less) other)
-    ]
-
-pub row_begun : (t : Trace) (row place : ℕ) (value : ℤ) (w : WalkedRow)
-    → ((e : ℕ) (bases : ℕ → Versioned) → bases 0 ≡ record { version = 0; value = value } → HasMet e bases [] w.walk)
-    → w.changes.items ≡ [] → value ≡ opening_of t row → row ≡ place
-    → (e : ℕ) → HasWalked e (bases_of t e place) [] w
-row_begun t row place value w met none is same e = record {
-  met = met e (bases_of t e place)
-      (λ i. record { version = 0; value = ((ap (opening_of t) (sym same)) ∙ sym is) i });
-  changes = none;
-}
 
 -- ---- one range of all rows
 

@@ -1,7 +1,7 @@
 pub mod Rows
 pub mod Bases
-pub mod Notes
-pub mod Looked
+pub mod Grouped
+pub mod Gathered
 pub mod Judged
 pub mod Changes
 pub mod Numbered
@@ -12,7 +12,6 @@ pub mod Sound
 pub mod Faults
 pub mod Records
 pub mod Along
-pub mod Unfit
 pub mod Stretches
 pub mod Settling
 pub mod Landed

@@ -15,7 +15,7 @@ use Rattle.eve_history.specs.Fates.{fate_in}
 use Rattle.eve_history.specs.SectionHistory.{history, ordered, is_committed}
 use Rattle.eve_chains.specs.Visible.{opening_table, taken_table}
 use Rattle.eve_chains.specs.Along.{SeesAnother}
-use Rattle.eve_chains.specs.Unfit.{is_settled}
+use Rattle.eve_chains.specs.Records.{is_settled}
 
 -- ---- states that were taken over
 

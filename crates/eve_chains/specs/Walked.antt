@@ -1,6 +1,5 @@
 -- Rows walked, each by itself: the first fault, and what the batches change. docs/MODEL.md, "What an entry must see".
 use Rattle.std.specs.Prelude.{◌≡◌, ◌≢◌, ℕ, ◌+◌, ◌-◌, ◌<◌, ◌≤◌, List, [], Option, Some, None, length}
-use Rattle.std.specs.Prelude.{slice_index_or}
 use Rattle.std.specs.List.{AllZip}
 use Rattle.eve_smallbank.specs.declared.entry.Entry.{Entry}
 use Rattle.eve_smallbank.specs.declared.versioned.Versioned.{Versioned}
@@ -13,13 +12,13 @@ use Rattle.eve_views.specs.declared.fault.Fault.{Fault}
 use Rattle.eve_views.specs.Form.{IsLeast, HasNone}
 use Rattle.eve_chains.specs.Rows.{bases_of}
 use Rattle.eve_chains.specs.Rows.{Noted, Pair, told_of, all_noted, of_row, pair_after, IsWrongOnRow, EachSees}
-use Rattle.eve_chains.specs.Changes.{changes_along, changes_of_rows, of_number, changes_at}
+use Rattle.eve_chains.specs.Changes.{changes_of_rows, of_number, changes_at}
 use Rattle.eve_chains.specs.Numbered.{IsInOrder}
 use Rattle.eve_chains.specs.Stretches.{AreStretches}
 use Rattle.eve_chains.specs.declared.stretch.Stretch.{Stretch}
 use Rattle.eve_chains.specs.declared.row_walk.RowWalk.{RowWalk}
-use Rattle.eve_chains.specs.declared.walked_row.WalkedRow.{WalkedRow}
-use Rattle.eve_chains.specs.declared.walked.Walked.{Walked}
+use Rattle.eve_chains.specs.declared.rows.Walked.{Walked}
+use Rattle.eve_chains.specs.declared.rows.WalkedRange.{WalkedRange}
 use Rattle.eve_chains.specs.declared.numbered.Numbered.{Numbered}
 
 -- all is well and none of these faults stands, or this is the first of them, by offset and then by number
@@ -48,23 +47,6 @@ IsFirstOnRow e bases ns first = IsFirstOrNone (EachSees bases ns) (IsWrongOnRow 
 pub record HasMet (e : ℕ) (bases : ℕ → Versioned) (ns : List Noted) (w : RowWalk) : Type 0 where
   pub pair : pair_of w ≡ pair_after bases ns
   pub first : IsFirstOnRow e bases ns w.first
-
--- and what the batches changed of it is noted
-pub record HasWalked (e : ℕ) (bases : ℕ → Versioned) (ns : List Noted) (w : WalkedRow) : Type 0 where
-  pub met : HasMet e bases ns w.walk
-  pub changes : w.changes.items ≡ changes_along [] ns
-
--- ---- rows from one on
-
--- each of these rows, the first of which has this number, is walked along its own of these entries
-abbrev pub EachHasWalked : Trace → ℕ → ℕ → List Noted → List WalkedRow → Type 0
-EachHasWalked t e from ns ws = (place : ℕ) (d : WalkedRow) → place < length ws
-    → HasWalked e (bases_of t e (from + place)) (of_row (from + place) ns) (slice_index_or ws place d)
-
--- the place of a row among the given number of rows from one on, if it is one of them
-abbrev pub IsPlaceAmong : ℕ → ℕ → ℕ → Option ℕ → Type 0
-IsPlaceAmong row from count None = (place : ℕ) → place < count → from + place ≢ row
-IsPlaceAmong row from count (Some place) = (from + place ≡ row) × (place < count)
 
 -- ---- rows from one up to another
 
@@ -110,3 +92,14 @@ pub record AreOfRanges (t : Trace) (e rows : ℕ) (ns : List Numbered) : Type 0 
   pub ranges : List Stretch
   pub cut : AreStretches rows ranges
   pub each : AllZip (IsOfRange t e) ranges ns
+
+-- a range is walked, and what its batches changed is in order
+pub record IsWalkedRange (t : Trace) (e : ℕ) (x : Stretch) (w : WalkedRange) : Type 0 where
+  pub first : IsFirstOnRows t e x.from x.to w.first
+  pub changed : IsOfRange t e x w.changed
+
+-- all rows are walked, range after range
+pub record AreWalked (t : Trace) (e : ℕ) (ws : List WalkedRange) : Type 0 where
+  pub ranges : List Stretch
+  pub cut : AreStretches (row_count (head_of t)) ranges
+  pub each : AllZip (IsWalkedRange t e) ranges ws

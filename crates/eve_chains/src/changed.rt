@@ -1,8 +1,9 @@
 //! What a batch changes of a row.
 
-ghost use Rattle.std.specs.Prelude.{◌≡◌, ◌==◌, ◌&&◌, OnOk};
+ghost use Rattle.std.specs.Prelude.{◌≡◌, ◌==◌, ◌&&◌, ◌-◌, OnOk};
 ghost use Rattle.eve_chains.specs.Changes.{with_change};
 
+use crate::grouped::Keyed;
 use eve_accounts::{Cents, Row};
 use std::alloc::AllocError;
 
@@ -15,6 +16,14 @@ pub struct Changed {
     pub row: Row,
     /// Its value after the batch.
     pub value: Cents,
+}
+
+impl Keyed for Changed {
+    ghost key_of = { λ c. c.number - 1 };
+
+    fn key(&self) -> usize {
+        (self.number as usize).saturating_sub(1)
+    }
 }
 
 /// Adds one change more. It takes the place of the last where that is of the same batch and row.

@@ -3,23 +3,19 @@
 
 mod bases;
 mod changed;
-mod checking;
-mod entries;
-mod fitting;
-mod judging;
+mod gathered;
+mod grouped;
+mod judgement;
 pub mod laws;
-mod looked;
 mod note;
-mod noted;
 mod numbered;
 mod opening;
+mod records;
 mod row_walk;
+mod rows;
 mod settled;
-mod share;
+mod side_by_side;
 mod stretch;
-mod unfit;
-mod walked;
-mod walked_row;
 
-pub use checking::check;
+pub use judgement::check;
 pub use settled::Settled;

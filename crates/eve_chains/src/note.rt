@@ -1,12 +1,13 @@
-//! What a record notes of one row.
+//! An entry as its row's walk meets it.
 
 ghost use Rattle.std.specs.Prelude.{◌≤◌};
 ghost use Rattle.eve_grammar.specs.declared.limits.TheConstants.{MOST_VERSIONS};
 
-use eve_accounts::Cents;
+use crate::grouped::Keyed;
+use eve_accounts::{Cents, Row};
 use eve_smallbank::Kind;
 
-/// An entry of a row, with what the row's walk has to know of its record.
+/// An entry of a record, with what its row's walk has to know of the record's attempt.
 #[derive(Clone, Copy)]
 pub struct Note {
     /// The row's version before the request.
@@ -15,6 +16,8 @@ pub struct Note {
     pub seen: Cents,
     /// The row's value after the request.
     pub after: Cents,
+    /// The row.
+    pub row: Row,
     /// The offset of the record's frame.
     pub at: u32,
     /// How many states were taken over before the attempt.
@@ -28,4 +31,12 @@ pub struct Note {
     /// Whether the row was read or written.
     pub kind: Kind,
     ghost within: { version ≤ MOST_VERSIONS },
+}
+
+impl Keyed for Note {
+    ghost key_of = { λ n. n.row };
+
+    fn key(&self) -> usize {
+        self.row.number() as usize
+    }
 }

@@ -1,7 +1,8 @@
-//! The balances before the first batch.
+//! The rows that there are, and their balances before the first batch.
 
 ghost use Rattle.std.specs.Prelude.{◌≡◌, IfOk};
-ghost use Rattle.eve_grammar.specs.Trace.{opening_rows};
+ghost use Rattle.eve_grammar.specs.Trace.{opening_rows, head_of};
+ghost use Rattle.eve_grammar.specs.Limits.{row_count};
 
 use eve_accounts::{Balances, Row};
 use eve_views::Trace;
@@ -20,4 +21,12 @@ pub fn opening_balances(alloc: Global, trace: &Trace<'_>) -> Result<Balances, Al
         balances.set(Row::checking(i), customer.checking());
     }
     Ok(balances)
+}
+
+/// How many rows there are: two for each customer.
+pub(crate) fn row_count(trace: &Trace<'_>) -> u32
+    ensures { result ≡ row_count (head_of trace.now) }
+{
+    trace.recall_limits();
+    2 * trace.customer_count()
 }

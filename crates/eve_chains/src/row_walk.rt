@@ -1,20 +1,97 @@
-//! One row walked by itself.
+//! One row walked by itself, along its own entries.
 
-ghost use Rattle.std.specs.Prelude.{◌≡◌, ◌++◌, ◌∷◌, [], List, Option, Some, ℕ};
+ghost use Rattle.std.specs.Prelude.{◌≡◌, ◌++◌, ◌∷◌, ◌<◌, [], List, Option, Some, ℕ, All, IfOk, OnOk, length, map};
 ghost use Rattle.eve_smallbank.specs.declared.versioned.Versioned.{Versioned as VersionedValue};
 ghost use Rattle.eve_views.specs.First.{first_of};
 ghost use Rattle.eve_views.specs.declared.fault.Code.{Code as CodeValue};
 ghost use Rattle.eve_chains.specs.Along.{fault_if};
 ghost use Rattle.eve_chains.specs.Bases.{base_at};
 ghost use Rattle.eve_chains.specs.Rows.{Noted, arrived_by, taken_by};
-ghost use Rattle.eve_chains.specs.Notes.{noted_at};
-ghost use Rattle.eve_chains.specs.Walked.{pair_of, IsMismatch, HasMet};
+ghost use Rattle.eve_chains.specs.Changes.{changes_along};
+ghost use Rattle.eve_chains.specs.Gathered.{noted_of, own_along};
+ghost use Rattle.eve_chains.specs.Grouped.{HasGroups};
+ghost use Rattle.eve_chains.specs.Walked.{pair_of, IsMismatch, IsFirstOnRow, HasMet};
 
 use crate::bases::Bases;
+use crate::changed::{Changed, add_change};
+use crate::grouped::Grouped;
 use crate::note::Note;
-use eve_accounts::{Cents, Row};
+use eve_accounts::Row;
 use eve_smallbank::Versioned;
 use eve_views::{Code, Fault, first_of};
+use std::alloc::AllocError;
+
+/// A row's own entries along the section: in each part those that stand at its number.
+#[derive(Clone, Copy)]
+pub(crate) struct RowEntries<'g> {
+    pub parts: &'g [Grouped<Note>],
+    pub row: Row,
+}
+
+/// Walks one row by itself: from what it has at first, along its own entries in their order, to the last, also where
+/// something is wrong. Gives the row's first fault, which needn't be the first that the walk meets, and adds what the
+/// committed batches change of the row, batch by batch. Of other rows it knows nothing, and of the walk nothing is kept.
+///
+/// docs/MODEL.md, "What an entry must see".
+pub(crate) fn walk_row(
+    row: Row,
+    opening: Versioned,
+    entries: RowEntries<'_>,
+    bases: &Bases<'_, '_>,
+    replica: u8,
+    changes: &mut Vec<Changed>,
+) -> Result<Option<Fault>, AllocError>
+    requires own { entries.row ≡ row }
+    requires opening { opening ≡ base_at bases.now row 0 }
+    requires groups { (rows : ℕ) × (row < rows) × All (HasGroups rows) entries.parts.now }
+    ensures first { IfOk result (IsFirstOnRow replica (base_at bases.now row) (own_along row entries.entry.parts.now)) }
+    ensures changes { OnOk result (changes.new.items
+        ≡ changes_along changes.old.items (own_along row entries.entry.parts.now)) }
+{
+    let mut walk = RowWalk::new(opening);
+    let number = entries.row.number() as usize;
+    for part in entries.parts {
+        walk_part(&mut walk, part.group(number), bases, replica, row, changes)?;
+    }
+    Ok(walk.first)
+}
+
+/// Leads a row's walk along those of its entries that stand in one part.
+fn walk_part(
+    walk: &mut RowWalk,
+    notes: &[Note],
+    bases: &Bases<'_, '_>,
+    replica: u8,
+    row: Row,
+    changes: &mut Vec<Changed>,
+) -> Result<(), AllocError>
+    ensures met { OnOk result ((ns : List Noted) → HasMet replica (base_at bases.now row) ns walk.old
+        → HasMet replica (base_at bases.now row) (ns ++ map noted_of notes.now) walk.new) }
+    ensures changes { OnOk result (changes.new.items ≡ changes_along changes.old.items (map noted_of notes.now)) }
+{
+    for note in notes {
+        walk.meet(replica, bases, row, note);
+        note_change(changes, note)?;
+    }
+    Ok(())
+}
+
+/// Adds what a note changes, where it is a write of an attempt that is committed.
+fn note_change(changes: &mut Vec<Changed>, note: &Note) -> Result<(), AllocError>
+    ensures { OnOk result (changes.new.items ≡ changes_along changes.old.items (noted_of note.now ∷ [])) }
+{
+    if note.kind.is_write() && note.commits {
+        add_change(
+            changes,
+            Changed {
+                number: note.number,
+                row: note.row,
+                value: note.after,
+            },
+        )?;
+    }
+    Ok(())
+}
 
 /// Where a row's walk has come to.
 #[derive(Clone, Copy)]
@@ -32,16 +109,12 @@ pub struct RowWalk {
 }
 
 impl RowWalk {
-    /// A row at version 0, with its opening balance, before any entry.
-    pub fn new(opening: Cents) -> RowWalk
-        ensures { (e : ℕ) (bases : ℕ → VersionedValue) → bases 0 ≡ record { version = 0; value = opening }
-            → HasMet e bases [] result }
+    /// A row with what it has at first, before any entry.
+    fn new(opening: Versioned) -> RowWalk
+        ensures { (e : ℕ) (bases : ℕ → VersionedValue) → bases 0 ≡ opening → HasMet e bases [] result }
     {
-        let committed = Versioned {
-            version: 0,
-            value: opening,
-        };
-        let working = committed;
+        let committed = opening;
+        let working = opening;
         RowWalk {
             taken: 0,
             view: 0,
@@ -55,7 +128,7 @@ impl RowWalk {
     /// last of them has, whatever came before it. With a new view a rollback came, which took the open attempts back.
     fn go_to(&mut self, bases: &Bases<'_, '_>, row: Row, note: &Note)
         ensures pair { pair_of self.new
-            ≡ arrived_by (base_at bases.now row) (pair_of self.old) (noted_at row note.now) }
+            ≡ arrived_by (base_at bases.now row) (pair_of self.old) (noted_of note.now) }
         ensures first { self.new.first ≡ self.old.first }
     {
         if note.taken == self.taken && note.view == self.view {
@@ -71,7 +144,7 @@ impl RowWalk {
 
     /// Takes the write of the entry that comes here, if it is one.
     fn take(&mut self, note: &Note)
-        ensures pair { (number : ℕ) → pair_of self.new ≡ taken_by (pair_of self.old) (noted_at number note.now) }
+        ensures pair { pair_of self.new ≡ taken_by (pair_of self.old) (noted_of note.now) }
         ensures first { self.new.first ≡ self.old.first }
     {
         if note.kind.is_write() {
@@ -99,8 +172,8 @@ impl RowWalk {
     /// Judges what the entry that comes here sees, which mostly is right.
     fn judge(&mut self, replica: u8, note: &Note)
         ensures pair { pair_of self.new ≡ pair_of self.old }
-        ensures first { (number : ℕ) → (wrong : Option CodeValue)
-            × IsMismatch self.old.working (noted_at number note.now).entry wrong
+        ensures first { (wrong : Option CodeValue)
+            × IsMismatch self.old.working (noted_of note.now).entry wrong
             × (self.new.first ≡ first_of self.old.first (fault_if replica note.now.at wrong)) }
     {
         if let Some(code) = mismatch(&self.working, note) {
@@ -115,9 +188,9 @@ impl RowWalk {
     /// The row's next entry met: what it sees is judged, and its write taken, also where something is wrong.
     ///
     /// docs/MODEL.md, "What an entry must see".
-    pub fn meet(&mut self, replica: u8, bases: &Bases<'_, '_>, row: Row, note: &Note)
+    fn meet(&mut self, replica: u8, bases: &Bases<'_, '_>, row: Row, note: &Note)
         ensures { (ns : List Noted) → HasMet replica (base_at bases.now row) ns self.old
-            → HasMet replica (base_at bases.now row) (ns ++ noted_at row note.now ∷ []) self.new }
+            → HasMet replica (base_at bases.now row) (ns ++ noted_of note.now ∷ []) self.new }
     {
         self.go_to(bases, row, note);
         self.judge(replica, note);
@@ -127,7 +200,7 @@ impl RowWalk {
 
 /// What is wrong with what an entry sees, where its row has this: the version before the value.
 fn mismatch(row: &Versioned, note: &Note) -> Option<Code>
-    ensures { (number : ℕ) → IsMismatch row.now (noted_at number note.now).entry result }
+    ensures { IsMismatch row.now (noted_of note.now).entry result }
 {
     if note.version != row.version {
         Some(Code::Version)

@@ -18,7 +18,7 @@ ghost use Rattle.eve_chains.specs.Walked.{AreOfRanges};
 use crate::changed::Changed;
 use crate::numbered::Numbered;
 use crate::opening::opening_balances;
-use crate::walked::{number_section, row_at};
+use crate::rows::{changed_in_section, row_at};
 use eve_accounts::{Balances, SetRow};
 use eve_frames::TransferView;
 use eve_history::laws::numbers_are_reached;
@@ -89,7 +89,7 @@ impl<'a> Settled<'a> {
         ensures { IfOk result (λ settled. settled ≡ settling trace.now history.now.replica) }
     {
         let opening = opening_balances(alloc, trace)?;
-        let ranges = number_section(alloc, history, trace, &opening)?;
+        let ranges = changed_in_section(alloc, history, trace, &opening)?;
         Settled::of_ranges(alloc, history, trace, opening, ranges)
     }
 

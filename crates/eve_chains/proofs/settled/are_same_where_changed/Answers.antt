@@ -1,7 +1,7 @@
 use Rattle.std.proofs.Common.{◌-◌, length, map, sym, ◌∙◌}
 use Rattle.eve_chains.specs.Changes.{change_of}
 use Rattle.eve_chains.specs.Numbered.{HasNumbersTo}
-use Rattle.eve_chains.proofs.ByNumber.{of_next}
+use Rattle.eve_chains.proofs.Grouping.{of_next}
 use Rattle.eve_chains.proofs.SettingRows.{range_same, range_other}
 use Rattle.eve_chains.proofs.settled.are_same_where_changed.Goals as goal
 

@@ -3,7 +3,7 @@ use Rattle.std.specs.Prelude.{All}
 use Rattle.eve_smallbank.specs.Access.{balance_of_row}
 use Rattle.eve_chains.specs.Changes.{change_of}
 use Rattle.eve_chains.specs.Numbered.{IsRowBelow, HasNumbersTo}
-use Rattle.eve_chains.proofs.ByNumber.{of_next}
+use Rattle.eve_chains.proofs.Grouping.{of_next}
 use Rattle.eve_chains.proofs.SettingRows.{range_set}
 use Rattle.eve_chains.proofs.settled.set_all.Goals as goal
 

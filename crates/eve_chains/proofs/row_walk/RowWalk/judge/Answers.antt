@@ -2,7 +2,7 @@ use Rattle.std.proofs.Common.{◌≡◌, ℕ, None, Option, Some, refl, subst, a
 use Rattle.eve_views.specs.First.{first_of}
 use Rattle.eve_views.specs.declared.fault.Fault.{Fault}
 use Rattle.eve_chains.specs.Along.{fault_if}
-use Rattle.eve_chains.specs.Notes.{noted_at}
+use Rattle.eve_chains.specs.Gathered.{noted_of}
 use Rattle.eve_chains.specs.Walked.{IsMismatch}
 use Rattle.eve_chains.proofs.row_walk.RowWalk.judge.Goals as goal
 
@@ -12,19 +12,19 @@ none_more None = refl
 none_more (Some f) = refl
 
 pub returns-in-Some-clause-first : goal.returns-in-Some-clause-first
-returns-in-Some-clause-first c = λ number. (
+returns-in-Some-clause-first c = (
   Some c.in-Some.code,
-  subst (IsMismatch c.args.self.now.working (noted_at number c.args.note.now).entry) c.in-Some.is
-      (c.mismatch.ensures number),
+  subst (IsMismatch c.args.self.now.working (noted_of c.args.note.now).entry) c.in-Some.is
+      c.mismatch.ensures,
   c.tell.ensures.first
       ∙ ap (λ (at : ℕ). first_of c.args.self.now.first (fault_if c.args.replica at (Some c.in-Some.code)))
       c.from.ensures,
 )
 
 pub returns-in_default-clause-first : goal.returns-in_default-clause-first
-returns-in_default-clause-first c = λ number. (
+returns-in_default-clause-first c = (
   None,
-  subst (IsMismatch c.args.self.now.working (noted_at number c.args.note.now).entry) c.in_default.is
-      (c.mismatch.ensures number),
+  subst (IsMismatch c.args.self.now.working (noted_of c.args.note.now).entry) c.in_default.is
+      c.mismatch.ensures,
   none_more c.args.self.now.first,
 )

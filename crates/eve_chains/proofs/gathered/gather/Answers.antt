@@ -1,0 +1,112 @@
+use Rattle.std.proofs.Common.{◌≡◌, ◌+◌, ◌++◌, ◌∷◌, ◌<◌, ℕ, List, [], All, map, length, refl, sym, subst, ap, ◌∙◌, arith}
+use Rattle.std.specs.List.{AllByRecursion}
+use Rattle.std.proofs.lemmas.List.Elements.{All-nil}
+use Rattle.eve_grammar.specs.Limits.{row_count}
+use Rattle.eve_grammar.specs.Trace.{head_of}
+use Rattle.eve_grammar.proofs.Lists.{item_within, all-append}
+use Rattle.eve_chains.specs.Gathered.{with_taken, noted_of, noted_if_settled, notes_between, HasGathered}
+use Rattle.eve_chains.specs.Rows.{Noted}
+use Rattle.eve_chains.specs.declared.note.Note.{Note}
+use Rattle.eve_chains.proofs.Gathering.{none_gathered, notes_more, gathered_whole, below_noted, noted_below}
+use Rattle.eve_chains.proofs.Stretches.{none_between, one_between, between_joined}
+use Rattle.eve_chains.proofs.Told.{IsRowBelow, as_many_taken, taken_at, within_told, below_settled}
+use Rattle.eve_chains.proofs.gathered.gather.Goals as goal
+
+none_left : (notes : List Note) → length notes < 1 → notes ≡ []
+none_left [] few = refl
+none_left (n ∷ notes) few = absurd (omega (arith, few))
+
+pub loop-i-init : goal.loop-i-init
+loop-i-init c =
+    let h = c.args.history.now in
+    let rows = c.args.rows in
+    let parts = c.new-parts.result.items in
+    let notes = c.new-notes.result.items in
+    record {
+      below = subst (λ (ns : List Note). All (λ n. n.row < rows) ns) (sym c.new-notes.ensures.items)
+          (All-nil (λ (n : Note). n.row < rows));
+      gathered = subst (λ (ns : List Noted). HasGathered rows ns parts notes)
+          (sym (none_between noted_if_settled (with_taken h.attempts h.taken) h.fates c.args.stretch.from))
+          (none_gathered rows parts notes c.new-parts.ensures.items c.new-notes.ensures.items);
+    }
+
+pub note_attempt-requires-clause-within : goal.note_attempt-requires-clause-within
+note_attempt-requires-clause-within c r at =
+    within_told c.args.trace.now c.args.history.now.replica c.args.history.now c.loop-i.i r c.recall_limits.ensures
+    c.requires.history at
+
+pub put_by_row-requires-clause-below : goal.put_by_row-requires-clause-below
+put_by_row-requires-clause-below c =
+    let t = c.args.trace.now in
+    let h = c.args.history.now in
+    let i = c.loop-i.i in
+    let old = c.loop-i.notes.items in
+    let r = item_within h.attempts i (omega (arith, c.loop-i-test.true, c.if-prove.false, c.attempts.ensures.attempts)) in
+    let fate = item_within h.fates i (omega (arith, c.loop-i-test.true, c.if-prove.false, c.attempts.ensures.fates)) in
+    let taken = item_within h.taken i
+    (omega (
+      arith,
+      c.loop-i-test.true,
+      c.if-prove.false,
+      c.attempts.ensures.attempts,
+      as_many_taken t h.replica h
+          c.requires.history,
+    )) in
+    let more = noted_if_settled (r.0, taken.0) fate.0 in
+    let within = within_told t h.replica h i r.0 c.recall_limits.ensures c.requires.history r.1 in
+    noted_below c.args.rows c.note_attempt.new.notes.items
+    (subst (AllByRecursion (IsRowBelow c.args.rows))
+    (sym (c.in_ok-note_attempt.ensures r.0 taken.0 fate.0 r.1 taken.1 fate.1))
+    (all-append (IsRowBelow c.args.rows) (map noted_of old) more (below_noted c.args.rows old c.loop-i.invariant.below)
+    (subst (λ (n : ℕ). AllByRecursion (IsRowBelow n) more) (sym c.requires.rows)
+    (below_settled (row_count (head_of t)) r.0 taken.0 fate.0 within))))
+
+pub loop-i-preserved : goal.loop-i-preserved
+loop-i-preserved c =
+    let t = c.args.trace.now in
+    let h = c.args.history.now in
+    let i = c.loop-i.i in
+    let from = c.args.stretch.from in
+    let r = item_within h.attempts i (omega (arith, c.loop-i-test.true, c.if-prove.false, c.attempts.ensures.attempts)) in
+    let fate = item_within h.fates i (omega (arith, c.loop-i-test.true, c.if-prove.false, c.attempts.ensures.fates)) in
+    let taken = item_within h.taken i
+    (omega (
+      arith,
+      c.loop-i-test.true,
+      c.if-prove.false,
+      c.attempts.ensures.attempts,
+      as_many_taken t h.replica h
+          c.requires.history,
+    )) in
+    let xs = with_taken h.attempts h.taken in
+    let more = noted_if_settled (r.0, taken.0) fate.0 in
+    let joined : notes_between h from i ++ more ≡ notes_between h from (i + 1) =
+    ap (λ (ms : List Noted). notes_between h from i ++ ms)
+    (one_between noted_if_settled xs h.fates i (r.0, taken.0) fate.0
+    (taken_at h.attempts h.taken i r.0 taken.0 r.1 taken.1) fate.1)
+    ∙ between_joined noted_if_settled xs h.fates from i (i + 1) c.loop-i.auto.i (omega arith) in
+    record {
+      below = c.in_ok-put_by_row.ensures.below;
+      gathered = c.in_ok-put_by_row.ensures.gathered (notes_between h from (i + 1))
+          (subst (λ (ns : List Noted). HasGathered c.args.rows ns c.loop-i.parts.items c.note_attempt.new.notes.items)
+          joined
+          (notes_more c.args.rows (notes_between h from i) more c.loop-i.parts.items c.loop-i.notes.items
+          c.note_attempt.new.notes.items (c.in_ok-note_attempt.ensures r.0 taken.0 fate.0 r.1 taken.1 fate.1)
+          c.loop-i.invariant.gathered));
+    }
+
+pub returns : goal.returns
+returns c =
+    let h = c.args.history.now in
+    let from = c.args.stretch.from in
+    let last : c.loop-i.i ≡ c.args.stretch.to = omega (
+      arith,
+      c.loop-i-test.false,
+      c.loop-i.auto.i-end c.requires.within.rising,
+    ) in
+    let whole = c.in_ok-put_by_row-2.ensures in
+    gathered_whole c.args.rows (notes_between h from c.args.stretch.to) c.put_by_row-2.new.parts.items
+    c.put_by_row-2.new.notes.items (none_left c.put_by_row-2.new.notes.items whole.few)
+    (whole.gathered (notes_between h from c.args.stretch.to)
+    (subst (λ (n : ℕ). HasGathered c.args.rows (notes_between h from n) c.loop-i.parts.items c.loop-i.notes.items) last
+    c.loop-i.invariant.gathered))

@@ -1,0 +1,12 @@
+use Rattle.std.proofs.Common.{◌≡◌, ◌-◌, []}
+use Rattle.eve_chains.specs.Rows.{told_of, all_noted}
+use Rattle.eve_chains.specs.Changes.{changes_of_rows}
+use Rattle.eve_chains.specs.Walked.{IsFirstOnRows}
+use Rattle.eve_chains.proofs.rows.walk_rows.Given as goal
+
+abbrev pub invariant-loop-number : goal.invariant-loop-number
+invariant-loop-number l = record {
+  first : IsFirstOnRows l.trace l.history.replica l.from l.number l.first;
+  changes : l.changes.items ≡ changes_of_rows (all_noted (told_of l.trace l.history.replica)) l.from
+      (l.number - l.from) [];
+}

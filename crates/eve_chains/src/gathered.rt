@@ -1,0 +1,175 @@
+//! The entries of attempts, gathered row by row along the section.
+
+ghost use Rattle.std.specs.Prelude.{◌≡◌, ◌≤◌, ◌<◌, ◌++◌, ◌^◌, ℕ, List, Some, All, IsTrue, IfOk, OnOk, length, map, slice_get};
+ghost use Rattle.std.specs.List.{list_all};
+ghost use Rattle.eve_frames.specs.Said.{access_said};
+ghost use Rattle.eve_grammar.specs.Limits.{is_entry, row_count};
+ghost use Rattle.eve_grammar.specs.Trace.{head_of};
+ghost use Rattle.eve_history.specs.declared.fate.Fate.{Fate as FateValue};
+ghost use Rattle.eve_history.specs.SectionHistory.{ExecutedAttempt, section_history, is_committed};
+ghost use Rattle.eve_chains.specs.Along.{AreWithin};
+ghost use Rattle.eve_chains.specs.Gathered.{noted_of, noted_of_entry, noted_if_settled, notes_between};
+ghost use Rattle.eve_chains.specs.Gathered.{HasGathered, AreGathered};
+ghost use Rattle.eve_chains.specs.Rows.{Noted, noted_by};
+ghost use Rattle.eve_chains.specs.Stretches.{IsWithin};
+
+use crate::grouped::Grouped;
+use crate::note::Note;
+use crate::records::is_settled;
+use crate::stretch::Stretch;
+use eve_frames::AccessView;
+use eve_history::{Fate, History};
+use eve_smallbank::Entry;
+use eve_views::Trace;
+use std::alloc::{AllocError, Global};
+
+/// How many entries are put in order at a time, at least: so many that each row mostly has some, and so few that they
+/// stay in a processor's own memory.
+const LEAST_ENTRIES: usize = 4096;
+
+/// What all entries of an attempt have.
+#[derive(Clone, Copy)]
+struct Noting {
+    taken: u32,
+    view: u32,
+    number: u32,
+    commits: bool,
+}
+
+/// Gathers the entries of a stretch's settled attempts, in their order along the section: in parts, one behind another,
+/// each of them in order by row. A part has as many entries as there are rows, or more, so that to go through all rows
+/// of all parts takes no longer than to go through the entries.
+pub(crate) fn gather(
+    alloc: Global,
+    history: &History<'_>,
+    trace: &Trace<'_>,
+    rows: u32,
+    stretch: Stretch,
+) -> Result<Vec<Grouped<Note>>, AllocError>
+    requires history { history.now ≡ section_history trace.now history.now.replica }
+    requires rows { rows ≡ row_count (head_of trace.now) }
+    requires within { IsWithin (length history.now.attempts) stretch }
+    ensures { IfOk result (λ parts. AreGathered rows (notes_between history.now stretch.from stretch.to) parts.items) }
+{
+    trace.recall_limits();
+    let to = stretch.to;
+    prove!(to <= history.attempts());
+    let many = (rows as usize).max(LEAST_ENTRIES);
+    let mut parts = Vec::new(alloc);
+    let mut notes = Vec::new(alloc);
+    for i in stretch.from..to {
+        note_attempt(&mut notes, history, trace, i)?;
+        put_by_row(alloc, rows, many, &mut notes, &mut parts)?;
+    }
+    put_by_row(alloc, rows, 1, &mut notes, &mut parts)?;
+    Ok(parts)
+}
+
+/// Puts the notes behind the parts before them, in order by row, where there are that many.
+fn put_by_row(
+    alloc: Global,
+    rows: u32,
+    many: usize,
+    notes: &mut Vec<Note>,
+    parts: &mut Vec<Grouped<Note>>,
+) -> Result<(), AllocError>
+    requires many { 1 ≤ many }
+    requires below { All (λ n. n.row < rows) notes.old.items }
+    ensures few { OnOk result (length notes.new.items < many) }
+    ensures below { OnOk result (All (λ n. n.row < rows) notes.new.items) }
+    ensures gathered { OnOk result ((ns : List Noted) → HasGathered rows ns parts.old.items notes.old.items
+        → HasGathered rows ns parts.new.items notes.new.items) }
+{
+    if notes.len() < many {
+        return Ok(());
+    }
+    let part = Grouped::of(alloc, rows, notes.as_slice())?;
+    parts.push(part)?;
+    notes.clear();
+    Ok(())
+}
+
+/// Notes the entries of an attempt's records, in its certificate's order; of an open attempt none.
+fn note_attempt(
+    notes: &mut Vec<Note>,
+    history: &History<'_>,
+    trace: &Trace<'_>,
+    i: usize,
+) -> Result<(), AllocError>
+    requires history { history.now ≡ section_history trace.now history.now.replica }
+    requires attempt { i < length history.now.attempts }
+    requires fate { i < length history.now.fates }
+    requires within { (r : ExecutedAttempt) → slice_get history.now.attempts i ≡ Some r
+        → AreWithin (row_count (head_of trace.now)) r.ordered }
+    ensures { OnOk result ((r : ExecutedAttempt) (taken : ℕ) (fate : FateValue)
+        → slice_get history.now.attempts i ≡ Some r → slice_get history.now.taken i ≡ Some taken
+        → slice_get history.now.fates i ≡ Some fate
+        → map noted_of notes.new.items ≡ map noted_of notes.old.items ++ noted_if_settled (r, taken) fate) }
+{
+    let _bytes = trace.bytes();
+    let fate = history.fate(i);
+    if !is_settled(fate) {
+        return Ok(());
+    }
+    let attempt = history.attempt(i);
+    let noting = Noting {
+        taken: history.taken_before(i),
+        view: attempt.view(),
+        number: attempt.seq(),
+        commits: is_committed(fate),
+    };
+    for place in 0..attempt.len() {
+        let access = history.ordered(i, place);
+        note_record(notes, noting, &access)?;
+    }
+    Ok(())
+}
+
+/// Whether the attempt is committed.
+fn is_committed(fate: Fate) -> bool
+    ensures { result ≡ is_committed fate }
+{
+    match fate {
+        Fate::Committed => true,
+        Fate::Discarded => false,
+        Fate::Open => false,
+    }
+}
+
+/// Notes the entries of a record.
+fn note_record(
+    notes: &mut Vec<Note>,
+    noting: Noting,
+    access: &AccessView<'_>,
+) -> Result<(), AllocError>
+    requires offset { access.now.offset < 2 ^ 32 }
+    requires within { (count : ℕ) × IsTrue (list_all (is_entry count) (access_said access.now).entries) }
+    ensures { OnOk result (map noted_of notes.new.items ≡ map noted_of notes.old.items
+        ++ noted_by noting.taken noting.view noting.number noting.commits
+        (access.now.offset, access_said access.now)) }
+{
+    let at = access.offset() as u32;
+    for place in 0..access.len() {
+        notes.push(note_of(noting, at, &access.entry(place)))?;
+    }
+    Ok(())
+}
+
+/// What is noted of an entry of a record at this offset.
+fn note_of(noting: Noting, at: u32, entry: &Entry) -> Note
+    requires { (count : ℕ) × IsTrue (is_entry count entry.now) }
+    ensures { noted_of result ≡ noted_of_entry noting at entry.now }
+{
+    Note {
+        version: entry.version,
+        seen: entry.seen,
+        after: entry.after,
+        row: entry.row,
+        at,
+        taken: noting.taken,
+        view: noting.view,
+        number: noting.number,
+        commits: noting.commits,
+        kind: entry.kind,
+    }
+}

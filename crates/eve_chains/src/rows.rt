@@ -1,0 +1,235 @@
+//! Rows walked, each by itself: the first fault of chains, and what the batches change.
+
+ghost use Rattle.std.specs.Prelude.{◌≡◌, ◌<◌, ℕ, Option, List, None, All, IfOk, length, map, fold};
+ghost use Rattle.std.specs.List.{AllZip};
+ghost use Rattle.eve_accounts.specs.declared.limits.TheConstants.{MOST_NAMED_ROWS};
+ghost use Rattle.eve_grammar.specs.Trace.{opening_rows, head_of};
+ghost use Rattle.eve_grammar.specs.Limits.{row_count};
+ghost use Rattle.eve_history.specs.SectionHistory.{section_history};
+ghost use Rattle.eve_views.specs.First.{first_of};
+ghost use Rattle.eve_views.specs.declared.fault.Fault.{Fault as FaultValue};
+ghost use Rattle.eve_chains.specs.Gathered.{notes_between, AreGathered};
+ghost use Rattle.eve_chains.specs.Stretches.{IsWithin};
+ghost use Rattle.eve_chains.specs.Walked.{IsWalked, IsOfRange, AreOfRanges, IsWalkedRange};
+ghost use Rattle.eve_chains.specs.declared.rows.WalkedRange.{WalkedRange as WalkedRangeValue};
+
+use crate::bases::Bases;
+use crate::changed::Changed;
+use crate::gathered::gather;
+use crate::grouped::Grouped;
+use crate::note::Note;
+use crate::numbered::Numbered;
+use crate::opening::row_count;
+use crate::row_walk::{RowEntries, walk_row};
+use crate::stretch::Stretch;
+use eve_accounts::{Balances, Row};
+use eve_history::History;
+use eve_history::laws::numbers_are_reached;
+use eve_views::{Fault, Trace, first_of};
+use rayon::prelude::*;
+use std::alloc::{AllocError, Global};
+use std::thread::Threads;
+
+/// What the walks of a range of rows leave.
+#[derive(Drop)]
+pub struct Walked {
+    /// The first fault of chains.
+    pub first: Option<Fault>,
+    /// What the committed batches change, row by row, and in a row batch by batch.
+    pub changes: Vec<Changed>,
+}
+
+/// The same, with the changes in order by batch.
+#[derive(Drop)]
+pub struct WalkedRange {
+    /// The first fault of chains.
+    pub first: Option<Fault>,
+    /// What the committed batches change of the rows.
+    pub changed: Numbered,
+}
+
+/// The row with this number.
+pub(crate) fn row_at(number: u32) -> Row
+    requires { number < MOST_NAMED_ROWS }
+    ensures { result ≡ number }
+{
+    let customer = number / 2;
+    if number % 2 == 0 {
+        Row::saving(customer)
+    } else {
+        Row::checking(customer)
+    }
+}
+
+/// Walks a range of rows, one after another, each by itself along its own of the entries that were gathered.
+fn walk_rows(
+    alloc: Global,
+    history: &History<'_>,
+    trace: &Trace<'_>,
+    opening: &Balances,
+    parts: &[Grouped<Note>],
+    range: Stretch,
+) -> Result<Walked, AllocError>
+    requires history { history.now ≡ section_history trace.now history.now.replica }
+    requires opening { opening.now ≡ opening_rows trace.now.customers }
+    requires within { IsWithin (row_count (head_of trace.now)) range }
+    requires gathered { AreGathered (row_count (head_of trace.now))
+        (notes_between history.now 0 (length history.now.attempts)) parts.now }
+    ensures { IfOk result (IsWalked trace.now history.now.replica range) }
+{
+    trace.recall_limits();
+    let from = range.from;
+    let replica = history.replica();
+    let bases = Bases { opening, history };
+    let mut first = None;
+    let mut changes = Vec::new(alloc);
+    for number in from..range.to {
+        let row = row_at(number as u32);
+        let entries = RowEntries { parts, row };
+        let wrong = walk_row(
+            row,
+            bases.row(row, 0),
+            entries,
+            &bases,
+            replica,
+            &mut changes,
+        )?;
+        first = first_of(first, wrong);
+    }
+    Ok(Walked { first, changes })
+}
+
+/// What the batches changed of a range of rows that is walked, in order by batch.
+fn number_range(
+    alloc: Global,
+    history: &History<'_>,
+    trace: &Trace<'_>,
+    opening: &Balances,
+    range: Stretch,
+    walked: &Walked,
+) -> Result<Numbered, AllocError>
+    requires history { history.now ≡ section_history trace.now history.now.replica }
+    requires opening { opening.now ≡ opening_rows trace.now.customers }
+    requires within { IsWithin (row_count (head_of trace.now)) range }
+    requires walked { IsWalked trace.now history.now.replica range walked.now }
+    ensures { IfOk result (IsOfRange trace.now history.now.replica range) }
+{
+    trace.recall_limits();
+    history.recall_right();
+    numbers_are_reached();
+    let _range = range;
+    let count = history.committed();
+    let numbered = Numbered::of(alloc, opening.len(), count, walked.changes.as_slice())?;
+    Ok(numbered)
+}
+
+/// Walks a range of rows, and puts what the batches changed of them in order by batch.
+pub(crate) fn walk_range(
+    alloc: Global,
+    history: &History<'_>,
+    trace: &Trace<'_>,
+    opening: &Balances,
+    parts: &[Grouped<Note>],
+    range: Stretch,
+) -> Result<WalkedRange, AllocError>
+    requires history { history.now ≡ section_history trace.now history.now.replica }
+    requires opening { opening.now ≡ opening_rows trace.now.customers }
+    requires gathered { AreGathered (row_count (head_of trace.now))
+        (notes_between history.now 0 (length history.now.attempts)) parts.now }
+    requires within { IsWithin (row_count (head_of trace.now)) range }
+    ensures { IfOk result (IsWalkedRange trace.now history.now.replica range) }
+{
+    let walked = walk_rows(alloc, history, trace, opening, parts, range)?;
+    let changed = number_range(alloc, history, trace, opening, range, &walked)?;
+    Ok(WalkedRange {
+        first: walked.first,
+        changed,
+    })
+}
+
+/// Each range walked, in rayon's pieces: as many threads as there are ranges, with the caller's, and of one range none is
+/// started.
+pub(crate) fn walk_all<R: Threads + Sync>(
+    rt: &R,
+    alloc: Global,
+    history: &History<'_>,
+    trace: &Trace<'_>,
+    opening: &Balances,
+    parts: &[Grouped<Note>],
+    ranges: &[Stretch],
+) -> Result<Vec<WalkedRange>, AllocError>
+    requires history { history.now ≡ section_history trace.now history.now.replica }
+    requires opening { opening.now ≡ opening_rows trace.now.customers }
+    requires gathered { AreGathered (row_count (head_of trace.now))
+        (notes_between history.now 0 (length history.now.attempts)) parts.now }
+    requires ranges { All (IsWithin (row_count (head_of trace.now))) ranges.now }
+    ensures { IfOk result (λ walked. AllZip (IsWalkedRange trace.now history.now.replica) ranges.now walked.items) }
+{
+    ranges
+        .par_iter()
+        .with_min_len(1)
+        .map(
+            |range: &Stretch| -> Result<WalkedRange, AllocError>
+                requires { (history.now ≡ section_history trace.now history.now.replica)
+                    × (opening.now ≡ opening_rows trace.now.customers)
+                    × AreGathered (row_count (head_of trace.now))
+                    (notes_between history.now 0 (length history.now.attempts)) parts.now
+                    × IsWithin (row_count (head_of trace.now)) range.now }
+                ensures { IfOk result (IsWalkedRange trace.entry.now history.entry.now.replica range.now) }
+            { walk_range(alloc, history, trace, opening, parts, *range) },
+        )
+        .collect::<Result<Vec<WalkedRange>, AllocError>>(rt, alloc)?
+}
+
+/// What the batches changed of all rows, along a section whose records nobody judges, on the caller's thread alone.
+pub(crate) fn changed_in_section(
+    alloc: Global,
+    history: &History<'_>,
+    trace: &Trace<'_>,
+    opening: &Balances,
+) -> Result<Vec<Numbered>, AllocError>
+    requires history { history.now ≡ section_history trace.now history.now.replica }
+    requires opening { opening.now ≡ opening_rows trace.now.customers }
+    ensures { IfOk result (λ ranges. AreOfRanges trace.now history.now.replica (row_count (head_of trace.now))
+        ranges.items) }
+{
+    let attempts = Stretch {
+        from: 0,
+        to: history.attempts(),
+    };
+    let rows = Stretch {
+        from: 0,
+        to: opening.len(),
+    };
+    let parts = gather(alloc, history, trace, row_count(trace), attempts)?;
+    let mut ranges = Vec::with_capacity(alloc, 1)?;
+    let walked = walk_range(alloc, history, trace, opening, &parts, rows)?;
+    ranges.push_reserved(walked.changed);
+    Ok(ranges)
+}
+
+/// The first fault of all rows.
+pub(crate) fn first_of_all(walked: &[WalkedRange]) -> Option<Fault>
+    ensures { result ≡ fold (λ (first : Option FaultValue) (one : WalkedRangeValue). first_of first one.first) None
+        walked.now }
+{
+    let mut first = None;
+    for one in walked {
+        first = first_of(first, one.first);
+    }
+    first
+}
+
+/// What the batches changed, range of rows after range.
+pub(crate) fn changed_ranges(
+    alloc: Global,
+    walked: Vec<WalkedRange>,
+) -> Result<Vec<Numbered>, AllocError>
+    ensures { IfOk result (λ ranges. ranges.items ≡ map (λ (one : WalkedRangeValue). one.changed) walked.items) }
+{
+    let mut ranges = Vec::with_capacity(alloc, walked.len())?;
+    for one in walked {
+        ranges.push(one.changed)?;
+    }
+    Ok(ranges)
+}

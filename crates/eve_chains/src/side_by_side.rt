@@ -1,0 +1,120 @@
+//! Stretches of attempts, side by side: their records judged, and their entries gathered.
+
+ghost use Rattle.std.specs.Prelude.{◌≡◌, ◌++◌, All, IfOk, OnOk, None, Option, ℕ, fold, length};
+ghost use Rattle.std.specs.List.{AllZip, flat_map};
+ghost use Rattle.eve_grammar.specs.Trace.{head_of};
+ghost use Rattle.eve_grammar.specs.Limits.{row_count};
+ghost use Rattle.eve_history.specs.SectionHistory.{section_history, IsRightSection};
+ghost use Rattle.eve_chains.specs.Judged.{IsJudged};
+ghost use Rattle.eve_chains.specs.Stretches.{IsWithin};
+ghost use Rattle.eve_chains.specs.Records.{lesser};
+ghost use Rattle.eve_chains.specs.declared.side_by_side.Judged.{Judged as JudgedValue};
+
+use crate::gathered::gather;
+use crate::grouped::Grouped;
+use crate::note::Note;
+use crate::records::{lesser, unfit_in};
+use crate::stretch::Stretch;
+use eve_accounts::Names;
+use eve_history::History;
+use eve_views::Trace;
+use rayon::prelude::*;
+use std::alloc::{AllocError, Global};
+use std::thread::Threads;
+
+/// What is found in a stretch of attempts.
+#[derive(Drop)]
+pub struct Judged {
+    /// The least offset of the records that don't fit.
+    pub unfit: Option<u64>,
+    /// The entries, in parts, each of them in order by row.
+    pub parts: Vec<Grouped<Note>>,
+}
+
+/// A stretch judged: each of its records by itself, and then its entries gathered, whatever was found in the records.
+fn judge(
+    alloc: Global,
+    history: &History<'_>,
+    trace: &Trace<'_>,
+    names: &Names<'_>,
+    rows: u32,
+    stretch: Stretch,
+) -> Result<Judged, AllocError>
+    requires history { history.now ≡ section_history trace.now history.now.replica }
+    requires right { IsRightSection trace.now history.now.replica }
+    requires rows { rows ≡ row_count (head_of trace.now) }
+    requires within { IsWithin (length history.now.attempts) stretch }
+    ensures { IfOk result (IsJudged names.now.items trace.now history.now stretch) }
+{
+    let unfit = unfit_in(alloc, history, trace, names, stretch)?;
+    let parts = gather(alloc, history, trace, rows, stretch)?;
+    Ok(Judged { unfit, parts })
+}
+
+/// Each stretch judged, in rayon's pieces: as many threads as there are stretches, with the caller's, and of one stretch
+/// none is started.
+pub(crate) fn judge_all<R: Threads + Sync>(
+    rt: &R,
+    alloc: Global,
+    history: &History<'_>,
+    trace: &Trace<'_>,
+    names: &Names<'_>,
+    rows: u32,
+    stretches: &[Stretch],
+) -> Result<Vec<Judged>, AllocError>
+    requires history { history.now ≡ section_history trace.now history.now.replica }
+    requires right { IsRightSection trace.now history.now.replica }
+    requires rows { rows ≡ row_count (head_of trace.now) }
+    requires stretches { All (IsWithin (length history.now.attempts)) stretches.now }
+    ensures { IfOk result (λ judged.
+        AllZip (IsJudged names.now.items trace.now history.now) stretches.now judged.items) }
+{
+    stretches
+        .par_iter()
+        .with_min_len(1)
+        .map(
+            |stretch: &Stretch| -> Result<Judged, AllocError>
+                requires { (history.now ≡ section_history trace.now history.now.replica)
+                    × IsRightSection trace.now history.now.replica
+                    × (rows ≡ row_count (head_of trace.now))
+                    × IsWithin (length history.now.attempts) stretch.now }
+                ensures { IfOk result (IsJudged names.entry.now.items trace.entry.now history.entry.now stretch.now) }
+            { judge(alloc, history, trace, names, rows, *stretch) },
+        )
+        .collect::<Result<Vec<Judged>, AllocError>>(rt, alloc)?
+}
+
+/// The least offset of all records that don't fit.
+pub(crate) fn least_unfit(judged: &[Judged]) -> Option<u64>
+    ensures { result ≡ fold (λ (least : Option ℕ) (one : JudgedValue). lesser least one.unfit) None judged.now }
+{
+    let mut least = None;
+    for one in judged {
+        least = lesser(least, one.unfit);
+    }
+    least
+}
+
+/// The parts of all stretches, one behind another.
+pub(crate) fn all_parts(
+    alloc: Global,
+    judged: Vec<Judged>,
+) -> Result<Vec<Grouped<Note>>, AllocError>
+    ensures { IfOk result (λ parts. parts.items ≡ flat_map (λ (one : JudgedValue). one.parts.items) judged.items) }
+{
+    let mut all = Vec::new(alloc);
+    for one in judged {
+        append(&mut all, one.parts)?;
+    }
+    Ok(all)
+}
+
+/// Appends parts to those before them.
+fn append(all: &mut Vec<Grouped<Note>>, parts: Vec<Grouped<Note>>) -> Result<(), AllocError>
+    ensures { OnOk result (all.new.items ≡ all.old.items ++ parts.items) }
+{
+    for part in parts {
+        all.push(part)?;
+    }
+    Ok(())
+}
