@@ -6,8 +6,8 @@ use Rattle.std.specs.List.{AllByRecursion}
 use Rattle.std.proofs.lemmas.Grind.{flat_map-append}
 use Rattle.std.proofs.lemmas.List.{map-append, take_more}
 use Rattle.std.proofs.lemmas.List.Elements.{filter-append, All-nil, All-push}
-use Rattle.eve_chains.specs.Gathered.{noted_of, own_in, own_along, AreGathered, HasGathered}
-use Rattle.eve_chains.specs.Grouped.{with_key, group_at, HasGroups}
+use Rattle.eve_chains.specs.Gathered.{as_noted, own_in, own_along, AreGathered, HasGathered}
+use Rattle.eve_chains.specs.Grouped.{with_key, standing_at, HasGroups}
 use Rattle.eve_chains.specs.Rows.{Noted, of_row}
 use Rattle.eve_chains.specs.declared.note.Note.{Note}
 use Rattle.eve_chains.specs.declared.grouped.Grouped.{Grouped}
@@ -20,14 +20,14 @@ of_row-append row ns ms = filter-append (λ n. n.entry.row == row) ns ms
 
 -- those with the row's number are the row's own
 own_noted : (row : ℕ) (notes : List Note)
-    → map noted_of (with_key (λ n. n.row) row notes) ≡ of_row row (map noted_of notes)
+    → map as_noted (with_key (λ n. n.row) row notes) ≡ of_row row (map as_noted notes)
 own_noted row [] = refl
 own_noted row (n ∷ notes) = by (n.row == row) (own_noted row notes)
   where
-    by : (b : Bool) → map noted_of (with_key (λ m. m.row) row notes) ≡ of_row row (map noted_of notes)
-        → map noted_of (cond b (n ∷ with_key (λ m. m.row) row notes) (with_key (λ m. m.row) row notes))
-        ≡ cond b (noted_of n ∷ of_row row (map noted_of notes)) (of_row row (map noted_of notes))
-    by true rest = ap (λ (ms : List Noted). noted_of n ∷ ms) rest
+    by : (b : Bool) → map as_noted (with_key (λ m. m.row) row notes) ≡ of_row row (map as_noted notes)
+        → map as_noted (cond b (n ∷ with_key (λ m. m.row) row notes) (with_key (λ m. m.row) row notes))
+        ≡ cond b (as_noted n ∷ of_row row (map as_noted notes)) (of_row row (map as_noted notes))
+    by true rest = ap (λ (ms : List Noted). as_noted n ∷ ms) rest
     by false rest = rest
 
 along-append : (row : ℕ) (ps qs : List (Grouped Note)) → own_along row (ps ++ qs) ≡ own_along row ps ++ own_along row qs
@@ -43,10 +43,10 @@ along_more row ps k p lt is =
 
 -- one note more
 pub noted_more : (notes : List Note) (k : ℕ) (n : Note) → k < length notes → get_or notes k n ≡ n
-    → map noted_of (take (k + 1) notes) ≡ map noted_of (take k notes) ++ noted_of n ∷ []
+    → map as_noted (take (k + 1) notes) ≡ map as_noted (take k notes) ++ as_noted n ∷ []
 noted_more notes k n lt is =
-    ap (map noted_of) (take_more notes k n lt ∙ ap (λ (m : Note). take k notes ++ m ∷ []) is)
-    ∙ map-append noted_of (take k notes) (n ∷ [])
+    ap (map as_noted) (take_more notes k n lt ∙ ap (λ (m : Note). take k notes ++ m ∷ []) is)
+    ∙ map-append as_noted (take k notes) (n ∷ [])
 
 -- ---- in parts, and then in notes
 
@@ -58,13 +58,13 @@ none_gathered rows parts notes none empty =
 
 -- notes more
 pub notes_more : (rows : ℕ) (ns ms : List Noted) (parts : List (Grouped Note)) (notes more : List Note)
-    → map noted_of more ≡ map noted_of notes ++ ms → HasGathered rows ns parts notes
+    → map as_noted more ≡ map as_noted notes ++ ms → HasGathered rows ns parts notes
     → HasGathered rows (ns ++ ms) parts more
 notes_more rows ns ms parts notes more is known = record {
   own = λ row lt.
       ap (λ (xs : List Noted). own_along row parts ++ of_row row xs) is
-      ∙ ap (λ (xs : List Noted). own_along row parts ++ xs) (of_row-append row (map noted_of notes) ms)
-      ∙ sym (append_assoc (own_along row parts) (of_row row (map noted_of notes)) (of_row row ms))
+      ∙ ap (λ (xs : List Noted). own_along row parts ++ xs) (of_row-append row (map as_noted notes) ms)
+      ∙ sym (append_assoc (own_along row parts) (of_row row (map as_noted notes)) (of_row row ms))
       ∙ ap (λ (xs : List Noted). xs ++ of_row row ms) (known.own row lt)
       ∙ sym (of_row-append row ns ms);
   groups = known.groups;
@@ -73,14 +73,14 @@ notes_more rows ns ms parts notes more is known = record {
 -- the notes put behind the parts
 pub put_behind : (rows : ℕ) (ns : List Noted) (parts : List (Grouped Note)) (notes : List Note) (part : Grouped Note)
     → HasGroups rows part
-    → ((row : ℕ) → row < rows → group_at row part ≡ with_key (λ n. n.row) row notes)
+    → ((row : ℕ) → row < rows → standing_at row part ≡ with_key (λ n. n.row) row notes)
     → HasGathered rows ns parts notes → HasGathered rows ns (parts ++ part ∷ []) []
 put_behind rows ns parts notes part groups own known = record {
   own = λ row lt.
       append-nil (own_along row (parts ++ part ∷ []))
       ∙ along-append row parts (part ∷ [])
       ∙ ap (λ (xs : List Noted). own_along row parts ++ xs)
-      (append-nil (own_in row part) ∙ ap (map noted_of) (own row lt) ∙ own_noted row notes)
+      (append-nil (own_in row part) ∙ ap (map as_noted) (own row lt) ∙ own_noted row notes)
       ∙ known.own row lt;
   groups = All-push (HasGroups rows) parts part known.groups groups;
 }
@@ -91,7 +91,7 @@ pub gathered_whole : (rows : ℕ) (ns : List Noted) (parts : List (Grouped Note)
 gathered_whole rows ns parts notes none known = record {
   own = λ row lt.
       sym (append-nil (own_along row parts))
-      ∙ ap (λ (xs : List Note). own_along row parts ++ of_row row (map noted_of xs)) (sym none)
+      ∙ ap (λ (xs : List Note). own_along row parts ++ of_row row (map as_noted xs)) (sym none)
       ∙ known.own row lt;
   groups = known.groups;
 }
@@ -107,19 +107,20 @@ all-both P (x ∷ xs) ys one other (suc k) d lt =
 pub both_gathered : (rows : ℕ) (ns ms : List Noted) (ps qs : List (Grouped Note)) → AreGathered rows ns ps
     → AreGathered rows ms qs → AreGathered rows (ns ++ ms) (ps ++ qs)
 both_gathered rows ns ms ps qs one other = record {
-  own = λ row lt. along-append row ps qs ∙ (λ i. one.own row lt i ++ other.own row lt i) ∙ sym (of_row-append row ns ms);
+  own = λ row lt.
+      along-append row ps qs ∙ (λ i. one.own row lt i ++ other.own row lt i) ∙ sym (of_row-append row ns ms);
   groups = all-both (HasGroups rows) ps qs one.groups other.groups;
 }
 
 -- ---- rows that there are
 
 pub below_noted : (rows : ℕ) (notes : List Note) → All (λ n. n.row < rows) notes
-    → AllByRecursion (IsRowBelow rows) (map noted_of notes)
+    → AllByRecursion (IsRowBelow rows) (map as_noted notes)
 below_noted rows [] all = tt
 below_noted rows (n ∷ notes) all =
     (all zero n (omega arith), below_noted rows notes (λ k d lt. all (suc k) d (omega (arith, lt))))
 
-pub noted_below : (rows : ℕ) (notes : List Note) → AllByRecursion (IsRowBelow rows) (map noted_of notes)
+pub noted_below : (rows : ℕ) (notes : List Note) → AllByRecursion (IsRowBelow rows) (map as_noted notes)
     → All (λ n. n.row < rows) notes
 noted_below rows [] all k d lt = absurd (omega (arith, lt))
 noted_below rows (n ∷ notes) all zero d lt = all.0

@@ -11,7 +11,7 @@ use Rattle.eve_views.specs.declared.fault.Fault.{Fault}
 use Rattle.eve_history.specs.SectionHistory.{SectionHistory, names_of}
 use Rattle.eve_chains.specs.Gathered.{with_taken, noted_if_settled, notes_between, AreGathered}
 use Rattle.eve_chains.specs.Grouped.{HasGroups}
-use Rattle.eve_chains.specs.Judged.{IsJudged, AreJudged}
+use Rattle.eve_chains.specs.Judged.{IsFoundIn, AreFoundIn}
 use Rattle.eve_chains.specs.Records.{IsLooked, records_between, IsLeastUnfit, lesser}
 use Rattle.eve_chains.specs.Rows.{Noted}
 use Rattle.eve_chains.specs.Stretches.{IsWithin, Reaches}
@@ -41,14 +41,14 @@ fold_parts step g a (y ∷ ys) = fold_parts step g (step a (g y)) ys
 
 -- ---- stretches of attempts
 
-module _ (t : Trace) (h : SectionHistory) (js : List Judged) (are : AreJudged t h js) where
+module _ (t : Trace) (h : SectionHistory) (js : List Judged) (are : AreFoundIn t h js) where
   pub least_of_stretches : IsLeastUnfit (names_of t) (records_between t h 0 (length h.attempts))
       (fold (λ (least : Option ℕ) (j : Judged). lesser least j.unfit) None js)
   least_of_stretches =
       subst (IsLeastUnfit (names_of t) (records_between t h 0 (length h.attempts)))
       (fold_parts lesser (λ (j : Judged). j.unfit) None js)
       (least_in_all t h (names_of t) 0 (length h.attempts) are.stretches (map (λ j. j.unfit) js)
-      (zip_parts (IsJudged (names_of t) t h) (IsLooked (names_of t) t h) (λ j. j.unfit) (λ x j is. is.unfit)
+      (zip_parts (IsFoundIn (names_of t) t h) (IsLooked (names_of t) t h) (λ j. j.unfit) (λ x j is. is.unfit)
       are.stretches js are.each)
       (record { reaches = are.cut.reaches; within = are.cut.within }))
 
@@ -60,7 +60,7 @@ module _ (t : Trace) (h : SectionHistory) (js : List Judged) (are : AreJudged t 
 
   -- of stretches that follow one another, behind those before
   gathered_along : (from last : ℕ) (xs : List Stretch) (ks : List Judged) (before : List (Grouped Note))
-      → AllZip (IsJudged (names_of t) t h) xs ks → Reaches from last xs → All (IsWithin last) xs
+      → AllZip (IsFoundIn (names_of t) t h) xs ks → Reaches from last xs → All (IsWithin last) xs
       → AreGathered rows (notes_between h 0 from) before
       → AreGathered rows (notes_between h 0 last) (before ++ parts_of ks)
   gathered_along from last [] [] before each reaches within known =

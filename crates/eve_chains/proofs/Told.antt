@@ -54,7 +54,7 @@ told_along : (s : SectionState) (taken : ℕ) (steps : List (ℕ × Step)) → t
 unfolding noted_of_steps
 told_along s taken [] as_many = refl
 told_along s taken ((at, Attempts a) ∷ rest) as_many =
-    (λ i. cond (settles x) (noted_of (as_many i)) [] ++ (ap (λ (n : ℕ). noted_of_steps taken n rest) one_more
+    (λ i. cond (settles x) (as_noted (as_many i)) [] ++ (ap (λ (n : ℕ). noted_of_steps taken n rest) one_more
     ∙ told_along (next s (at, Attempts a)) taken rest as_many) i)
     ∙ sym (first_noted x (to_come (next s (at, Attempts a)) rest))
   where
@@ -64,8 +64,8 @@ told_along s taken ((at, Attempts a) ∷ rest) as_many =
     x : Fated
     x = record { placed = q; taken = length (states_by s.landings); fate = fate_in rest (length s.pending) }
 
-    noted_of : ℕ → List Noted
-    noted_of k = noted_in (record { placed = q; taken = k; fate = fate_in rest (length s.pending) })
+    as_noted : ℕ → List Noted
+    as_noted k = noted_in (record { placed = q; taken = k; fate = fate_in rest (length s.pending) })
 
     one_more : suc (length s.pending) ≡ length (s.pending ++ q ∷ [])
     one_more = simp length-append (omega arith)

@@ -97,20 +97,20 @@ abbrev bases : ℕ → Versioned
 bases zero = record { version = 0; value = pos 0 }
 bases (suc k) = record { version = 3; value = pos 15 }
 
-abbrev noted_of : ℕ → ℕ → Bool → Entry → Noted
-noted_of taken number commits entry =
+abbrev as_noted : ℕ → ℕ → Bool → Entry → Noted
+as_noted taken number commits entry =
     record { offset = 0; taken = taken; view = 0; number = number; commits = commits; entry = entry }
 
 abbrev both_noted : List Noted
-both_noted = noted_of 0 1 false (deposit 0 0) ∷ noted_of 0 2 false (deposit 1 5) ∷ []
+both_noted = as_noted 0 1 false (deposit 0 0) ∷ as_noted 0 2 false (deposit 1 5) ∷ []
 
 -- the first entry behind the state meets the state, though no view began
-the_state_is_met : met_by bases (pair_after bases both_noted) (noted_of 1 4 true (deposit 3 15))
+the_state_is_met : met_by bases (pair_after bases both_noted) (as_noted 1 4 true (deposit 3 15))
     ≡ record { version = 3; value = pos 15 }
 the_state_is_met = refl
 
 -- and without the state it would have met what the open attempts left
-without_the_state : met_by bases (pair_after bases both_noted) (noted_of 0 3 true (deposit 2 10))
+without_the_state : met_by bases (pair_after bases both_noted) (as_noted 0 3 true (deposit 2 10))
     ≡ record { version = 2; value = pos 10 }
 without_the_state = refl
 

@@ -4,7 +4,7 @@ use Rattle.std.specs.List.{flat_map}
 use Rattle.eve_smallbank.specs.declared.entry.Entry.{Entry}
 use Rattle.eve_history.specs.declared.fate.Fate.{Fate}
 use Rattle.eve_history.specs.SectionHistory.{ExecutedAttempt, SectionHistory, is_committed}
-use Rattle.eve_chains.specs.Grouped.{group_at, HasGroups}
+use Rattle.eve_chains.specs.Grouped.{standing_at, HasGroups}
 use Rattle.eve_chains.specs.Rows.{Noted, noted_by, of_row}
 use Rattle.eve_chains.specs.Records.{is_settled, by_fates_between}
 use Rattle.eve_chains.specs.declared.note.Note.{Note}
@@ -14,8 +14,8 @@ use Rattle.eve_chains.specs.declared.grouped.Grouped.{Grouped}
 -- ---- one entry
 
 -- a note, as the row's walk meets it
-abbrev pub noted_of : Note → Noted
-noted_of n = record {
+abbrev pub as_noted : Note → Noted
+as_noted n = record {
   offset = n.at;
   taken = n.taken;
   view = n.view;
@@ -59,7 +59,7 @@ notes_between h from to = by_fates_between noted_if_settled (with_taken h.attemp
 
 -- a row's own entries in a part
 abbrev pub own_in : ℕ → Grouped Note → List Noted
-own_in row part = map noted_of (group_at row part)
+own_in row part = map as_noted (standing_at row part)
 
 -- and in parts, one after another
 abbrev pub own_along : ℕ → List (Grouped Note) → List Noted
@@ -72,5 +72,5 @@ pub record AreGathered (rows : ℕ) (ns : List Noted) (parts : List (Grouped Not
 
 -- and in the parts and then in these notes
 pub record HasGathered (rows : ℕ) (ns : List Noted) (parts : List (Grouped Note)) (notes : List Note) : Type 0 where
-  pub own : (row : ℕ) → row < rows → own_along row parts ++ of_row row (map noted_of notes) ≡ of_row row ns
+  pub own : (row : ℕ) → row < rows → own_along row parts ++ of_row row (map as_noted notes) ≡ of_row row ns
   pub groups : All (HasGroups rows) parts

@@ -11,12 +11,12 @@ use Rattle.eve_chains.specs.declared.side_by_side.Judged.{Judged}
 use Rattle.eve_chains.specs.declared.stretch.Stretch.{Stretch}
 
 -- a stretch is judged: its records are looked at, and its entries are gathered
-pub record IsJudged (names : List (List ℕ)) (t : Trace) (h : SectionHistory) (x : Stretch) (j : Judged) : Type 0 where
+pub record IsFoundIn (names : List (List ℕ)) (t : Trace) (h : SectionHistory) (x : Stretch) (j : Judged) : Type 0 where
   pub unfit : IsLooked names t h x j.unfit
   pub parts : AreGathered (row_count (head_of t)) (notes_between h x.from x.to) j.parts.items
 
 -- all attempts are judged, stretch after stretch
-pub record AreJudged (t : Trace) (h : SectionHistory) (js : List Judged) : Type 0 where
+pub record AreFoundIn (t : Trace) (h : SectionHistory) (js : List Judged) : Type 0 where
   pub stretches : List Stretch
   pub cut : AreStretches (length h.attempts) stretches
-  pub each : AllZip (IsJudged (names_of t) t h) stretches js
+  pub each : AllZip (IsFoundIn (names_of t) t h) stretches js

@@ -1,4 +1,4 @@
--- Records: each by itself, and those of settled attempts, one after another, with the first that doesn't fit its request.
+-- Records, each by itself; those of settled attempts, one after another; and the first that doesn't fit its request.
 -- docs/MODEL.md, "A record fits its request".
 use Rattle.std.specs.Prelude.{◌≡◌, ℕ, ◌<◌, ◌≤◌, nat_lt, Bool, ◌||◌, if◌then◌else◌, List, [], ◌∷◌, ◌++◌, map}
 use Rattle.std.specs.Prelude.{length, Option, Some, None, slice_get, slice_index_or}

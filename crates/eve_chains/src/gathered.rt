@@ -1,6 +1,7 @@
 //! The entries of attempts, gathered row by row along the section.
 
-ghost use Rattle.std.specs.Prelude.{◌≡◌, ◌≤◌, ◌<◌, ◌++◌, ◌^◌, ℕ, List, Some, All, IsTrue, IfOk, OnOk, length, map, slice_get};
+ghost use Rattle.std.specs.Prelude.{◌≡◌, ◌≤◌, ◌<◌, ◌++◌, ◌^◌, ℕ, List, Some, All, IsTrue, IfOk, OnOk, length, map};
+ghost use Rattle.std.specs.Prelude.{slice_get};
 ghost use Rattle.std.specs.List.{list_all};
 ghost use Rattle.eve_frames.specs.Said.{access_said};
 ghost use Rattle.eve_grammar.specs.Limits.{is_entry, row_count};
@@ -8,7 +9,7 @@ ghost use Rattle.eve_grammar.specs.Trace.{head_of};
 ghost use Rattle.eve_history.specs.declared.fate.Fate.{Fate as FateValue};
 ghost use Rattle.eve_history.specs.SectionHistory.{ExecutedAttempt, section_history, is_committed};
 ghost use Rattle.eve_chains.specs.Along.{AreWithin};
-ghost use Rattle.eve_chains.specs.Gathered.{noted_of, noted_of_entry, noted_if_settled, notes_between};
+ghost use Rattle.eve_chains.specs.Gathered.{as_noted, noted_of_entry, noted_if_settled, notes_between};
 ghost use Rattle.eve_chains.specs.Gathered.{HasGathered, AreGathered};
 ghost use Rattle.eve_chains.specs.Rows.{Noted, noted_by};
 ghost use Rattle.eve_chains.specs.Stretches.{IsWithin};
@@ -104,7 +105,7 @@ fn note_attempt(
     ensures { OnOk result ((r : ExecutedAttempt) (taken : ℕ) (fate : FateValue)
         → slice_get history.now.attempts i ≡ Some r → slice_get history.now.taken i ≡ Some taken
         → slice_get history.now.fates i ≡ Some fate
-        → map noted_of notes.new.items ≡ map noted_of notes.old.items ++ noted_if_settled (r, taken) fate) }
+        → map as_noted notes.new.items ≡ map as_noted notes.old.items ++ noted_if_settled (r, taken) fate) }
 {
     let _bytes = trace.bytes();
     let fate = history.fate(i);
@@ -144,7 +145,7 @@ fn note_record(
 ) -> Result<(), AllocError>
     requires offset { access.now.offset < 2 ^ 32 }
     requires within { (count : ℕ) × IsTrue (list_all (is_entry count) (access_said access.now).entries) }
-    ensures { OnOk result (map noted_of notes.new.items ≡ map noted_of notes.old.items
+    ensures { OnOk result (map as_noted notes.new.items ≡ map as_noted notes.old.items
         ++ noted_by noting.taken noting.view noting.number noting.commits
         (access.now.offset, access_said access.now)) }
 {
@@ -158,7 +159,7 @@ fn note_record(
 /// What is noted of an entry of a record at this offset.
 fn note_of(noting: Noting, at: u32, entry: &Entry) -> Note
     requires { (count : ℕ) × IsTrue (is_entry count entry.now) }
-    ensures { noted_of result ≡ noted_of_entry noting at entry.now }
+    ensures { as_noted result ≡ noted_of_entry noting at entry.now }
 {
     Note {
         version: entry.version,

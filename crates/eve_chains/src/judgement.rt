@@ -8,7 +8,7 @@ ghost use Rattle.eve_history.specs.SectionHistory.{section_history, names_of, Is
 ghost use Rattle.eve_chains.specs.Sound.{RecordsFit, SettledAreSound};
 ghost use Rattle.eve_chains.specs.Faults.{HasNoFault, IsLeastFault, StandsInChains};
 ghost use Rattle.eve_chains.specs.Gathered.{notes_between, AreGathered};
-ghost use Rattle.eve_chains.specs.Judged.{AreJudged};
+ghost use Rattle.eve_chains.specs.Judged.{AreFoundIn};
 ghost use Rattle.eve_chains.specs.Settling.{settling};
 ghost use Rattle.eve_chains.specs.Walked.{IsFirstOnRows, AreWalked};
 
@@ -45,7 +45,7 @@ fn judge_attempts<R: Threads + Sync>(
     requires right { IsRightSection trace.now history.now.replica }
     requires names { names.now.items ≡ names_of trace.now }
     requires jobs { 1 ≤ jobs }
-    ensures { IfOk result (λ judged. AreJudged trace.now history.now judged.items) }
+    ensures { IfOk result (λ judged. AreFoundIn trace.now history.now judged.items) }
 {
     let all = Stretch {
         from: 0,
@@ -108,11 +108,11 @@ fn chains(history: &History<'_>, trace: &Trace<'_>, first: Option<Fault>) -> Res
 /// Judges a replica's settled attempts: each record fits its request by itself, and each entry sees what its path
 /// left; else the first fault, those of records before those of chains, then by offset, then by number.
 ///
-/// docs/MODEL.md, "A record fits its request", "What an entry must see" and "Faults". Each record is judged by itself, by
-/// what its request touches and what is decided on the values that it saw. Then the entries of each row are gathered
+/// docs/MODEL.md, "A record fits its request", "What an entry must see" and "Faults". Each record is judged by itself,
+/// by what its request touches and what is decided on the values that it saw. Then the entries of each row are gathered
 /// along the section, and each row is walked by itself along its own entries. Records, and then rows, are worked
 /// through in as many threads as there are jobs, at most; with one job none is started. What is found doesn't depend on
-/// which ends first. Refused memory decides nothing. The time is linear in the entries, and the memory too: 48 bytes
+/// which ends first. Refused memory decides nothing. The time is linear in the entries, and so is the memory: 48 bytes
 /// for each entry, until all rows are walked.
 pub fn check<'a, R: Threads + Sync>(
     rt: &R,

@@ -8,7 +8,7 @@ ghost use Rattle.eve_chains.specs.Along.{fault_if};
 ghost use Rattle.eve_chains.specs.Bases.{base_at};
 ghost use Rattle.eve_chains.specs.Rows.{Noted, arrived_by, taken_by};
 ghost use Rattle.eve_chains.specs.Changes.{changes_along};
-ghost use Rattle.eve_chains.specs.Gathered.{noted_of, own_along};
+ghost use Rattle.eve_chains.specs.Gathered.{as_noted, own_along};
 ghost use Rattle.eve_chains.specs.Grouped.{HasGroups};
 ghost use Rattle.eve_chains.specs.Walked.{pair_of, IsMismatch, IsFirstOnRow, HasMet};
 
@@ -30,7 +30,8 @@ pub(crate) struct RowEntries<'g> {
 
 /// Walks one row by itself: from what it has at first, along its own entries in their order, to the last, also where
 /// something is wrong. Gives the row's first fault, which needn't be the first that the walk meets, and adds what the
-/// committed batches change of the row, batch by batch. Of other rows it knows nothing, and of the walk nothing is kept.
+/// committed batches change of the row, batch by batch. Of other rows it knows nothing, and nothing of the walk is
+/// kept.
 ///
 /// docs/MODEL.md, "What an entry must see".
 pub(crate) fn walk_row(
@@ -66,8 +67,8 @@ fn walk_part(
     changes: &mut Vec<Changed>,
 ) -> Result<(), AllocError>
     ensures met { OnOk result ((ns : List Noted) → HasMet replica (base_at bases.now row) ns walk.old
-        → HasMet replica (base_at bases.now row) (ns ++ map noted_of notes.now) walk.new) }
-    ensures changes { OnOk result (changes.new.items ≡ changes_along changes.old.items (map noted_of notes.now)) }
+        → HasMet replica (base_at bases.now row) (ns ++ map as_noted notes.now) walk.new) }
+    ensures changes { OnOk result (changes.new.items ≡ changes_along changes.old.items (map as_noted notes.now)) }
 {
     for note in notes {
         walk.meet(replica, bases, row, note);
@@ -78,7 +79,7 @@ fn walk_part(
 
 /// Adds what a note changes, where it is a write of an attempt that is committed.
 fn note_change(changes: &mut Vec<Changed>, note: &Note) -> Result<(), AllocError>
-    ensures { OnOk result (changes.new.items ≡ changes_along changes.old.items (noted_of note.now ∷ [])) }
+    ensures { OnOk result (changes.new.items ≡ changes_along changes.old.items (as_noted note.now ∷ [])) }
 {
     if note.kind.is_write() && note.commits {
         add_change(
@@ -128,7 +129,7 @@ impl RowWalk {
     /// last of them has, whatever came before it. With a new view a rollback came, which took the open attempts back.
     fn go_to(&mut self, bases: &Bases<'_, '_>, row: Row, note: &Note)
         ensures pair { pair_of self.new
-            ≡ arrived_by (base_at bases.now row) (pair_of self.old) (noted_of note.now) }
+            ≡ arrived_by (base_at bases.now row) (pair_of self.old) (as_noted note.now) }
         ensures first { self.new.first ≡ self.old.first }
     {
         if note.taken == self.taken && note.view == self.view {
@@ -144,7 +145,7 @@ impl RowWalk {
 
     /// Takes the write of the entry that comes here, if it is one.
     fn take(&mut self, note: &Note)
-        ensures pair { pair_of self.new ≡ taken_by (pair_of self.old) (noted_of note.now) }
+        ensures pair { pair_of self.new ≡ taken_by (pair_of self.old) (as_noted note.now) }
         ensures first { self.new.first ≡ self.old.first }
     {
         if note.kind.is_write() {
@@ -173,7 +174,7 @@ impl RowWalk {
     fn judge(&mut self, replica: u8, note: &Note)
         ensures pair { pair_of self.new ≡ pair_of self.old }
         ensures first { (wrong : Option CodeValue)
-            × IsMismatch self.old.working (noted_of note.now).entry wrong
+            × IsMismatch self.old.working (as_noted note.now).entry wrong
             × (self.new.first ≡ first_of self.old.first (fault_if replica note.now.at wrong)) }
     {
         if let Some(code) = mismatch(&self.working, note) {
@@ -190,7 +191,7 @@ impl RowWalk {
     /// docs/MODEL.md, "What an entry must see".
     fn meet(&mut self, replica: u8, bases: &Bases<'_, '_>, row: Row, note: &Note)
         ensures { (ns : List Noted) → HasMet replica (base_at bases.now row) ns self.old
-            → HasMet replica (base_at bases.now row) (ns ++ noted_of note.now ∷ []) self.new }
+            → HasMet replica (base_at bases.now row) (ns ++ as_noted note.now ∷ []) self.new }
     {
         self.go_to(bases, row, note);
         self.judge(replica, note);
@@ -200,7 +201,7 @@ impl RowWalk {
 
 /// What is wrong with what an entry sees, where its row has this: the version before the value.
 fn mismatch(row: &Versioned, note: &Note) -> Option<Code>
-    ensures { IsMismatch row.now (noted_of note.now).entry result }
+    ensures { IsMismatch row.now (as_noted note.now).entry result }
 {
     if note.version != row.version {
         Some(Code::Version)

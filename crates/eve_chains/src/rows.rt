@@ -147,7 +147,7 @@ pub(crate) fn walk_range(
     })
 }
 
-/// Each range walked, in rayon's pieces: as many threads as there are ranges, with the caller's, and of one range none is
+/// Each range walked, in rayon's pieces: as many threads as there are ranges, with the caller's. Of one range none is
 /// started.
 pub(crate) fn walk_all<R: Threads + Sync>(
     rt: &R,

@@ -5,7 +5,7 @@ ghost use Rattle.std.specs.List.{AllZip, flat_map};
 ghost use Rattle.eve_grammar.specs.Trace.{head_of};
 ghost use Rattle.eve_grammar.specs.Limits.{row_count};
 ghost use Rattle.eve_history.specs.SectionHistory.{section_history, IsRightSection};
-ghost use Rattle.eve_chains.specs.Judged.{IsJudged};
+ghost use Rattle.eve_chains.specs.Judged.{IsFoundIn};
 ghost use Rattle.eve_chains.specs.Stretches.{IsWithin};
 ghost use Rattle.eve_chains.specs.Records.{lesser};
 ghost use Rattle.eve_chains.specs.declared.side_by_side.Judged.{Judged as JudgedValue};
@@ -44,14 +44,14 @@ fn judge(
     requires right { IsRightSection trace.now history.now.replica }
     requires rows { rows ≡ row_count (head_of trace.now) }
     requires within { IsWithin (length history.now.attempts) stretch }
-    ensures { IfOk result (IsJudged names.now.items trace.now history.now stretch) }
+    ensures { IfOk result (IsFoundIn names.now.items trace.now history.now stretch) }
 {
     let unfit = unfit_in(alloc, history, trace, names, stretch)?;
     let parts = gather(alloc, history, trace, rows, stretch)?;
     Ok(Judged { unfit, parts })
 }
 
-/// Each stretch judged, in rayon's pieces: as many threads as there are stretches, with the caller's, and of one stretch
+/// Each stretch judged, in rayon's pieces: as many threads as there are stretches, with the caller's. Of one stretch
 /// none is started.
 pub(crate) fn judge_all<R: Threads + Sync>(
     rt: &R,
@@ -67,7 +67,7 @@ pub(crate) fn judge_all<R: Threads + Sync>(
     requires rows { rows ≡ row_count (head_of trace.now) }
     requires stretches { All (IsWithin (length history.now.attempts)) stretches.now }
     ensures { IfOk result (λ judged.
-        AllZip (IsJudged names.now.items trace.now history.now) stretches.now judged.items) }
+        AllZip (IsFoundIn names.now.items trace.now history.now) stretches.now judged.items) }
 {
     stretches
         .par_iter()
@@ -78,7 +78,7 @@ pub(crate) fn judge_all<R: Threads + Sync>(
                     × IsRightSection trace.now history.now.replica
                     × (rows ≡ row_count (head_of trace.now))
                     × IsWithin (length history.now.attempts) stretch.now }
-                ensures { IfOk result (IsJudged names.entry.now.items trace.entry.now history.entry.now stretch.now) }
+                ensures { IfOk result (IsFoundIn names.entry.now.items trace.entry.now history.entry.now stretch.now) }
             { judge(alloc, history, trace, names, rows, *stretch) },
         )
         .collect::<Result<Vec<Judged>, AllocError>>(rt, alloc)?

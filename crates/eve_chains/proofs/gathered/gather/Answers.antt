@@ -4,7 +4,7 @@ use Rattle.std.proofs.lemmas.List.Elements.{All-nil}
 use Rattle.eve_grammar.specs.Limits.{row_count}
 use Rattle.eve_grammar.specs.Trace.{head_of}
 use Rattle.eve_grammar.proofs.Lists.{item_within, all-append}
-use Rattle.eve_chains.specs.Gathered.{with_taken, noted_of, noted_if_settled, notes_between, HasGathered}
+use Rattle.eve_chains.specs.Gathered.{with_taken, as_noted, noted_if_settled, notes_between, HasGathered}
 use Rattle.eve_chains.specs.Rows.{Noted}
 use Rattle.eve_chains.specs.declared.note.Note.{Note}
 use Rattle.eve_chains.proofs.Gathering.{none_gathered, notes_more, gathered_whole, below_noted, noted_below}
@@ -41,7 +41,8 @@ put_by_row-requires-clause-below c =
     let h = c.args.history.now in
     let i = c.loop-i.i in
     let old = c.loop-i.notes.items in
-    let r = item_within h.attempts i (omega (arith, c.loop-i-test.true, c.if-prove.false, c.attempts.ensures.attempts)) in
+    let r = item_within h.attempts i
+    (omega (arith, c.loop-i-test.true, c.if-prove.false, c.attempts.ensures.attempts)) in
     let fate = item_within h.fates i (omega (arith, c.loop-i-test.true, c.if-prove.false, c.attempts.ensures.fates)) in
     let taken = item_within h.taken i
     (omega (
@@ -57,7 +58,7 @@ put_by_row-requires-clause-below c =
     noted_below c.args.rows c.note_attempt.new.notes.items
     (subst (AllByRecursion (IsRowBelow c.args.rows))
     (sym (c.in_ok-note_attempt.ensures r.0 taken.0 fate.0 r.1 taken.1 fate.1))
-    (all-append (IsRowBelow c.args.rows) (map noted_of old) more (below_noted c.args.rows old c.loop-i.invariant.below)
+    (all-append (IsRowBelow c.args.rows) (map as_noted old) more (below_noted c.args.rows old c.loop-i.invariant.below)
     (subst (λ (n : ℕ). AllByRecursion (IsRowBelow n) more) (sym c.requires.rows)
     (below_settled (row_count (head_of t)) r.0 taken.0 fate.0 within))))
 
@@ -67,7 +68,8 @@ loop-i-preserved c =
     let h = c.args.history.now in
     let i = c.loop-i.i in
     let from = c.args.stretch.from in
-    let r = item_within h.attempts i (omega (arith, c.loop-i-test.true, c.if-prove.false, c.attempts.ensures.attempts)) in
+    let r = item_within h.attempts i
+    (omega (arith, c.loop-i-test.true, c.if-prove.false, c.attempts.ensures.attempts)) in
     let fate = item_within h.fates i (omega (arith, c.loop-i-test.true, c.if-prove.false, c.attempts.ensures.fates)) in
     let taken = item_within h.taken i
     (omega (

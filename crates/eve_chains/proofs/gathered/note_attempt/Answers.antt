@@ -13,12 +13,12 @@ use Rattle.eve_history.specs.SectionHistory.{ExecutedAttempt, is_committed}
 use Rattle.eve_chains.specs.Along.{said_at}
 use Rattle.eve_chains.specs.Rows.{Noted, noted_by}
 use Rattle.eve_chains.specs.Records.{is_settled}
-use Rattle.eve_chains.specs.Gathered.{noted_of, noted_along}
+use Rattle.eve_chains.specs.Gathered.{as_noted, noted_along}
 use Rattle.eve_chains.proofs.ByRow.{record_within, list_more, offset_small}
 use Rattle.eve_chains.proofs.gathered.note_attempt.Goals as goal
 
 pub loop-place-init : goal.loop-place-init
-loop-place-init c = λ r at. sym (append-nil (map noted_of c.args.notes.now.items))
+loop-place-init c = λ r at. sym (append-nil (map as_noted c.args.notes.now.items))
 
 pub note_record-requires-clause-offset : goal.note_record-requires-clause-offset
 note_record-requires-clause-offset c =
@@ -43,7 +43,7 @@ loop-place-preserved c = λ r at.
     let f = noted_by c.taken_before.result c.view.result c.seq.result c.is_committed.result in
     c.in_ok-note_record.ensures
     ∙ ap (λ (ms : List Noted). ms ++ f (said_at c.ordered-access.result)) (c.loop-place.invariant r at)
-    ∙ list_more f (map noted_of c.args.notes.now.items) r.ordered c.loop-place.place (said_at c.ordered-access.result)
+    ∙ list_more f (map as_noted c.args.notes.now.items) r.ordered c.loop-place.place (said_at c.ordered-access.result)
     (ap (λ (q : ExecutedAttempt). slice_get q.ordered c.loop-place.place) (sym own) ∙ says.2)
 
 pub returns : goal.returns
@@ -68,7 +68,7 @@ returns c = λ r taken fate at as_many its.
     ∙ ap (λ (q : ExecutedAttempt). length q.attempt.certificate) own in
     let over : length r.ordered ≤ c.loop-place.place = omega (arith, many, listed, c.loop-place-test.false) in
     c.loop-place.invariant r at
-    ∙ ap (λ (ms : List Noted). map noted_of c.args.notes.now.items ++ ms)
+    ∙ ap (λ (ms : List Noted). map as_noted c.args.notes.now.items ++ ms)
     ((λ i. flat_map (noted_by (before i) (view i) (number i) (commits i))
     (take_all c.loop-place.place r.ordered over i))
     ∙ sym (cond-true (is_settled fate) (noted_along (r, taken) fate) [] passes))

@@ -37,7 +37,8 @@ chains-requires-clause-first g c =
     let h = c.args.history.now in
     subst (IsFirstOnRows t h.replica 0 (row_count (head_of t)))
     (sym (c.first_of_all.ensures
-    ∙ ap (λ (ws : List WalkedRange). fold (λ (first : Option Fault) (one : WalkedRange). first_of first one.first) None ws)
+    ∙ ap (λ (ws : List WalkedRange). fold (λ (first : Option Fault) (one : WalkedRange). first_of first one.first)
+    None ws)
     c.deref-3.ensures.value))
     (first_of_walked t h.replica c.in_ok-walked.walked.items c.in_ok-walked.ensures)
 

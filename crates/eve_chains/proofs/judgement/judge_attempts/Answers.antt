@@ -1,7 +1,7 @@
 use Rattle.std.proofs.Common.{ℕ, List, subst}
 use Rattle.std.specs.List.{AllZip}
 use Rattle.rayon.proofs.ListFacts.{IfOk-then}
-use Rattle.eve_chains.specs.Judged.{IsJudged}
+use Rattle.eve_chains.specs.Judged.{IsFoundIn}
 use Rattle.eve_chains.specs.Stretches.{AreBetween}
 use Rattle.eve_chains.specs.declared.stretch.Stretch.{Stretch}
 use Rattle.eve_chains.proofs.judgement.judge_attempts.Goals as goal
@@ -15,7 +15,7 @@ returns g c =
     IfOk-then c.judge_all.result _ _ c.judge_all.ensures (λ js each. record {
       stretches = xs;
       cut = record { reaches = cut.reaches; within = cut.within };
-      each = subst (λ (ns : List (List ℕ)). AllZip (IsJudged ns t h) xs js.items) c.requires.names
-          (subst (λ (ys : List Stretch). AllZip (IsJudged c.args.names.now.items t h) ys js.items) c.deref.ensures.value
-          each);
+      each = subst (λ (ns : List (List ℕ)). AllZip (IsFoundIn ns t h) xs js.items) c.requires.names
+          (subst (λ (ys : List Stretch). AllZip (IsFoundIn c.args.names.now.items t h) ys js.items)
+          c.deref.ensures.value each);
     })

@@ -2,8 +2,8 @@ use Rattle.std.proofs.Common.{◌≡◌, ◌+◌, ◌++◌, ℕ, List, map, take
 use Rattle.std.proofs.lemmas.List.{take_all}
 use Rattle.eve_chains.specs.Bases.{base_at}
 use Rattle.eve_chains.specs.Changes.{changes_along}
-use Rattle.eve_chains.specs.Gathered.{noted_of, own_in, own_along}
-use Rattle.eve_chains.specs.Grouped.{group_at}
+use Rattle.eve_chains.specs.Gathered.{as_noted, own_in, own_along}
+use Rattle.eve_chains.specs.Grouped.{standing_at}
 use Rattle.eve_chains.specs.Rows.{Noted}
 use Rattle.eve_chains.specs.Walked.{HasMet, IsFirstOnRow}
 use Rattle.eve_chains.specs.declared.note.Note.{Note}
@@ -26,16 +26,16 @@ loop-part-preserved c =
     let p = c.part-item.result in
     let before = own_along row (take k parts) in
     let same : c.number-number.result ≡ row = c.number-number.ensures.number ∙ c.requires.own in
-    let own : map noted_of c.group.result.now ≡ own_in row p =
-    ap (map noted_of) (c.group.ensures ∙ ap (λ (n : ℕ). group_at n p) same) in
-    let more : before ++ map noted_of c.group.result.now ≡ own_along row (take (k + 1) parts) =
+    let own : map as_noted c.group.result.now ≡ own_in row p =
+    ap (map as_noted) (c.group.ensures ∙ ap (λ (n : ℕ). standing_at n p) same) in
+    let more : before ++ map as_noted c.group.result.now ≡ own_along row (take (k + 1) parts) =
     ap (λ (ns : List Noted). before ++ ns) own
     ∙ sym (along_more row parts k p c.loop-part-test.true (sym c.part-item.is)) in
     record {
-      met = subst (λ (ns : List Noted). HasMet c.args.replica (base_at c.args.bases.now row) ns c.walk_part.new.walk) more
-          (c.in_ok-walk_part.ensures.met before c.loop-part.invariant.met);
+      met = subst (λ (ns : List Noted). HasMet c.args.replica (base_at c.args.bases.now row) ns c.walk_part.new.walk)
+          more (c.in_ok-walk_part.ensures.met before c.loop-part.invariant.met);
       changes = c.in_ok-walk_part.ensures.changes
-          ∙ changes_more c.args.changes.now.items before (map noted_of c.group.result.now) c.loop-part.changes.items
+          ∙ changes_more c.args.changes.now.items before (map as_noted c.group.result.now) c.loop-part.changes.items
           c.loop-part.invariant.changes
           ∙ ap (changes_along c.args.changes.now.items) more;
     }

@@ -2,7 +2,7 @@ use Rattle.std.proofs.Common.{Result, IfOk, subst, ap, ◌∙◌}
 use Rattle.std.specs.List.{AllZip}
 use Rattle.std.specs.declared.alloc.AllocError.{AllocError}
 use Rattle.rayon.proofs.ToStd.{slice-AllZip}
-use Rattle.eve_chains.specs.Judged.{IsJudged}
+use Rattle.eve_chains.specs.Judged.{IsFoundIn}
 use Rattle.eve_chains.specs.declared.side_by_side.Judged.{Judged}
 use Rattle.eve_chains.specs.declared.stretch.Stretch.{Stretch}
 use Rattle.eve_chains.proofs.Collecting.{collected}
@@ -20,7 +20,7 @@ returns g c =
     ∙ c.par_iter.ensures in
     subst (λ (R : Stretch → Judged → Type 0). IfOk c.in_ok-collect.field-0
     (λ made. AllZip R c.args.stretches.now made.items))
-    (λ i. IsJudged (names i) (trace i) (history i))
-    (collected (IsJudged f.3.now.items f.2.now f.1.now) c.args.stretches.now gave.0 c.in_ok-collect.field-0 gave.2
+    (λ i. IsFoundIn (names i) (trace i) (history i))
+    (collected (IsFoundIn f.3.now.items f.2.now f.1.now) c.args.stretches.now gave.0 c.in_ok-collect.field-0 gave.2
     (slice-AllZip chain.0 c.args.stretches.now (chain.1 ∙ slice)
-    (λ x (u : Result Judged AllocError). IfOk u (IsJudged f.3.now.items f.2.now f.1.now x)) gave.0 chain.2))
+    (λ x (u : Result Judged AllocError). IfOk u (IsFoundIn f.3.now.items f.2.now f.1.now x)) gave.0 chain.2))

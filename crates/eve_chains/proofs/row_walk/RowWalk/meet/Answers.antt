@@ -4,7 +4,7 @@ use Rattle.eve_views.specs.First.{first_of}
 use Rattle.eve_chains.specs.Along.{fault_if}
 use Rattle.eve_chains.specs.Bases.{base_at}
 use Rattle.eve_chains.specs.Rows.{Pair, met_by, next_pair, taken_by}
-use Rattle.eve_chains.specs.Gathered.{noted_of}
+use Rattle.eve_chains.specs.Gathered.{as_noted}
 use Rattle.eve_chains.specs.Walked.{pair_of, IsMismatch, IsFirstOnRow}
 use Rattle.eve_chains.proofs.WalkedRows.{first_noted, pair_more}
 use Rattle.eve_chains.proofs.row_walk.RowWalk.meet.Goals as goal
@@ -12,7 +12,7 @@ use Rattle.eve_chains.proofs.row_walk.RowWalk.meet.Goals as goal
 pub returns : goal.returns
 returns c = λ ns met.
     let bases = base_at c.args.bases.now c.args.row in
-    let n = noted_of c.args.note.now in
+    let n = as_noted c.args.note.now in
     let e = c.args.replica in
     let w = c.args.self.now in
     let judged = c.judge.ensures.first in
