@@ -5,7 +5,7 @@ use Rattle.std.specs.declared.alloc.Global.{Global}
 use Rattle.std.specs.List.{AllByRecursion, take-map}
 use Rattle.std.proofs.lemmas.List.Sums.{fold-append}
 use Rattle.std.proofs.lemmas.List.{map-append, length-map, length-append, append-nil}
-use Rattle.eve_grammar.specs.Trace.{Access, Attempt, Rollback, Transfer, Step, Attempts, Commits, RollsBack, TakesOver}
+use Rattle.eve_grammar.specs.Trace.{Access, Attempt, Commit, Rollback, Transfer, Step, Attempts, Commits, RollsBack, TakesOver}
 use Rattle.eve_grammar.specs.Frames.{without_accesses}
 use Rattle.eve_grammar.specs.Spelling.{accesses_at}
 use Rattle.eve_grammar.proofs.Lists.{all-push}
@@ -46,6 +46,45 @@ path_count s c is = sym (length-map c.path.items placed_on) ∙ ap length is.pat
 take-append-here : {A : Type 0} (xs ys : List A) → take (length xs) (xs ++ ys) ≡ xs
 take-append-here [] ys = refl
 take-append-here (x ∷ xs) ys = ap (λ zs. x ∷ zs) (take-append-here xs ys)
+
+-- ---- a step that was met
+
+-- what holds of an attempt as its frames say it holds of the step
+pub on_attempt : (attempt : AttemptView) (xs : List (ℕ × Access)) (step : ℕ × Step) (P : ℕ × Step → Type 0)
+    → IsStep (of.Attempt attempt xs) step
+    → ((a : Attempt) → attempt_said attempt ≡ without_accesses a → xs ≡ accesses_at attempt.offset a
+    → P (attempt.offset, Attempts a)) → P step
+on_attempt attempt xs (at, Attempts a) P stands holds =
+    subst (λ (n : ℕ). P (n, Attempts a)) stands.0
+    (holds a stands.1 (stands.2 ∙ ap (λ (n : ℕ). accesses_at n a) (sym stands.0)))
+on_attempt attempt xs (at, Commits d) P stands holds = elim stands [ ]
+on_attempt attempt xs (at, RollsBack r) P stands holds = elim stands [ ]
+on_attempt attempt xs (at, TakesOver x) P stands holds = elim stands [ ]
+
+pub on_commit : (commit : CommitView) (step : ℕ × Step) (P : ℕ × Step → Type 0) → IsStep (of.Commit commit) step
+    → ((at : ℕ) (d : Commit) → P (at, Commits d)) → P step
+on_commit commit (at, Commits d) P stands holds = holds at d
+on_commit commit (at, Attempts a) P stands holds = elim stands [ ]
+on_commit commit (at, RollsBack r) P stands holds = elim stands [ ]
+on_commit commit (at, TakesOver x) P stands holds = elim stands [ ]
+
+pub on_rollback : (rollback : RollbackView) (step : ℕ × Step) (P : ℕ × Step → Type 0)
+    → IsStep (of.Rollback rollback) step → P (rollback.offset, RollsBack (rollback_said rollback)) → P step
+on_rollback rollback (at, RollsBack r) P stands holds =
+    subst (λ (n : ℕ). P (n, RollsBack r)) stands.0
+    (subst (λ (q : Rollback). P (rollback.offset, RollsBack q)) stands.1 holds)
+on_rollback rollback (at, Attempts a) P stands holds = elim stands [ ]
+on_rollback rollback (at, Commits d) P stands holds = elim stands [ ]
+on_rollback rollback (at, TakesOver x) P stands holds = elim stands [ ]
+
+pub on_state : (state : TransferView) (step : ℕ × Step) (P : ℕ × Step → Type 0) → IsStep (of.Transfer state) step
+    → P (state.offset, TakesOver (transfer_said state)) → P step
+on_state state (at, TakesOver x) P stands holds =
+    subst (λ (n : ℕ). P (n, TakesOver x)) stands.0
+    (subst (λ (y : Transfer). P (state.offset, TakesOver y)) stands.1 holds)
+on_state state (at, Attempts a) P stands holds = elim stands [ ]
+on_state state (at, Commits d) P stands holds = elim stands [ ]
+on_state state (at, RollsBack r) P stands holds = elim stands [ ]
 
 -- ---- one step more
 

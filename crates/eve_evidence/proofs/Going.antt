@@ -1,6 +1,6 @@
 -- A fault that stands ahead in a section's steps, while they come.
-use Rattle.std.proofs.Common.{◌≡◌, ℕ, List, [], ◌∷◌, ◌++◌, refl, sym, subst, ◌∙◌, inl, inr, append_assoc}
-use Rattle.eve_grammar.specs.Trace.{Step, Trace}
+use Rattle.std.proofs.Common.{◌≡◌, ℕ, Option, List, [], ◌∷◌, ◌++◌, refl, sym, subst, ◌∙◌, inl, inr, append_assoc}
+use Rattle.eve_grammar.specs.Trace.{Step, Attempts, Commits, RollsBack, TakesOver, Trace}
 use Rattle.eve_grammar.specs.Spelling.{steps_at}
 use Rattle.eve_views.specs.declared.fault.Code.{Code}
 use Rattle.eve_views.specs.Form.{SomePlace}
@@ -9,8 +9,13 @@ use Rattle.eve_history.proofs.Places.{place_cases, no_place}
 use Rattle.eve_history.proofs.StructureLaws.{state_after-append}
 use Rattle.eve_evidence.specs.declared.course.Course.{Course}
 use Rattle.eve_evidence.specs.declared.evidence.Evidence.{Evidence}
+use Rattle.eve_evidence.specs.declared.evidence.Evidence.TheVariants as shown
+use Rattle.eve_evidence.specs.declared.evidence.SeenFrom.{SeenFrom}
+use Rattle.eve_evidence.specs.declared.evidence.ToldAttempt.{ToldAttempt}
+use Rattle.eve_evidence.specs.declared.evidence.ToldRequest.{ToldRequest}
+use Rattle.eve_evidence.specs.declared.evidence.WrongEntry.{WrongEntry}
 use Rattle.eve_evidence.specs.Course.{IsCourse}
-use Rattle.eve_evidence.specs.Section.{StandsAtStep, StandsAlong, TellsStep, TellsAlong}
+use Rattle.eve_evidence.specs.Section.{StandsAtStep, StandsAlong, TellsStep, TellsSeen}
 
 -- These steps are still to come. The section has come to the state that is kept, and the fault stands at one of them.
 pub record Goes (c : Code) (t : Trace) (e place : ℕ) (rest : List (ℕ × Step)) (course : Course) : Type 0 where
@@ -60,6 +65,25 @@ module _ (c : Code) (t : Trace) (e place : ℕ) (step : ℕ × Step) (rest : Lis
             ]);
       }
 
-  -- what tells it at the next tells it along the section
-  pub told_here : (x : Evidence) → TellsStep c t place now step x → TellsAlong c t e place x
-  told_here x told = record { before = goes.front; item = step; rest = rest; is = goes.split; holds = told }
+-- ---- where what was seen comes from
+
+-- a wrong entry is told as well, wherever what it saw comes from
+pub told_again : (c : Code) (t : Trace) (place : ℕ) (s : SectionState) (step : ℕ × Step) (attempt : ToldAttempt)
+    (request : ToldRequest) (at : ℕ) (wrong : WrongEntry) (x y : Option SeenFrom)
+    → TellsStep c t place s step (shown.Chain attempt request at wrong x)
+    → TellsStep c t place s step (shown.Chain attempt request at wrong y)
+told_again c t place s (o, Attempts a) attempt request at wrong x y told = told
+told_again c t place s (o, Commits d) attempt request at wrong x y told = told
+told_again c t place s (o, RollsBack r) attempt request at wrong x y told = told
+told_again c t place s (o, TakesOver z) attempt request at wrong x y told = told
+
+-- other evidence has nothing that was seen
+pub none_seen : (t : Trace) (front : List (ℕ × Step)) (step : ℕ × Step) (behind : List (ℕ × Step)) (x : Evidence)
+    → ((attempt : ToldAttempt) (request : ToldRequest) (at : ℕ) (wrong : WrongEntry) (seen : Option SeenFrom)
+    → x ≡ shown.Chain attempt request at wrong seen → ⊥) → TellsSeen t front step behind x
+none_seen t front (o, Attempts a) behind (shown.Chain attempt request at wrong seen) not =
+    absurd (not attempt request at wrong seen refl)
+none_seen t front (o, Attempts a) behind _ not = tt
+none_seen t front (o, Commits d) behind x not = tt
+none_seen t front (o, RollsBack r) behind x not = tt
+none_seen t front (o, TakesOver z) behind x not = tt

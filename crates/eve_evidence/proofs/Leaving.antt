@@ -36,7 +36,7 @@ module _ (t : Trace) (s : SectionState) (course : Course) (said a : Attempt) (xs
       ∙ ap (λ (b : Attempt). passed b.seq xs (before_index index b.certificate)) said_is
       ∙ ap (λ (ys : List (ℕ × Access)). passed a.seq ys (before_index index a.certificate)) xs_are
 
-  whole : path ++ own ≡ way_to (standing s) at a index
+  pub whole : path ++ own ≡ way_to (standing s) at a index
   whole i = flat_map passed_in (is.path i) ++ own_is i
 
   abbrev state : Option (ℕ × Transfer)

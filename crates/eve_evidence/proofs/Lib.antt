@@ -11,3 +11,8 @@ pub mod Recording
 pub mod Going
 pub mod Stepping
 pub mod Standing
+pub mod Meeting
+pub mod Fronting
+pub mod Splitting
+pub mod Nearing
+pub mod Seeing

@@ -43,7 +43,7 @@ with_none (y ∷ xs) index all =
     cond-false (y.1.index == index) y (access_with xs index) (ne_eqb y.1.index index all.0) ∙ with_none xs index all.1
 
 -- where no record writes the row, the one of an index doesn't
-with_kept : (P : ℕ × Access → Type 0) → P no_access → (xs : List (ℕ × Access)) (i : ℕ) → AllByRecursion P xs
+pub with_kept : (P : ℕ × Access → Type 0) → P no_access → (xs : List (ℕ × Access)) (i : ℕ) → AllByRecursion P xs
     → P (access_with xs i)
 with_kept P none [] i all = none
 with_kept P none (y ∷ xs) i all = by (y.1.index == i) (with_kept P none xs i all.1)
@@ -111,15 +111,16 @@ on_way-append (o ∷ os) ps =
     ap (λ (w : List Passed). passed_in (placed_on o) ++ w) (on_way-append os ps)
     ∙ sym (append_assoc (passed_in (placed_on o)) (on_way os) (on_way ps))
 
+pub parts_on_way : (os : List OnPath) (k : ℕ) (o : OnPath) → slice_get os k ≡ Some o
+    → on_way os ≡ on_way (take k os) ++ (passed_in (placed_on o) ++ on_way (drop (k + 1) os))
+parts_on_way os k o got =
+    ap on_way (sym (take-append-drop k os)) ∙ on_way-append (take k os) (drop k os)
+    ∙ ap (λ (ps : List OnPath). on_way (take k os) ++ on_way ps) (drop_here os k o got)
+
 module _ (row : ℕ) (os : List OnPath) (k : ℕ) (o : OnPath) (got : slice_get os k ≡ Some o)
     (none : NoneWrites row (on_way (drop (k + 1) os))) where
-  parts : on_way os ≡ on_way (take k os) ++ (passed_in (placed_on o) ++ on_way (drop (k + 1) os))
-  parts =
-      ap on_way (sym (take-append-drop k os)) ∙ on_way-append (take k os) (drop k os)
-      ∙ ap (λ (ps : List OnPath). on_way (take k os) ++ on_way ps) (drop_here os k o got)
-
   pub last_on : (l : Left) → IsLast row (passed_in (placed_on o)) l → IsLast row (on_way os) l
-  last_on l last = subst (λ (w : List Passed). IsLast row w l) (sym parts)
+  last_on l last = subst (λ (w : List Passed). IsLast row w l) (sym (parts_on_way os k o got))
       (last_inside row (on_way (take k os)) (passed_in (placed_on o)) (on_way (drop (k + 1) os)) l last none)
 
   pub none_on : NoneWrites row (passed_in (placed_on o)) → NoneWrites row (on_way (drop k os))

@@ -5,6 +5,9 @@ pub mod Structure
 pub mod Record
 pub mod Sources
 pub mod Lasts
+pub mod Sought
+pub mod Seen
+pub mod Front
 pub mod Chain
 pub mod Section
 pub mod Places

@@ -1,16 +1,21 @@
 -- What is found at one access record of an attempt.
-use Rattle.std.specs.Prelude.{◌≡◌, ℕ, List, Some, slice_get, take}
-use Rattle.eve_grammar.specs.Trace.{Access, Attempt, Trace}
+use Rattle.std.specs.Prelude.{◌≡◌, ℕ, List, ◌∷◌, ◌++◌, Option, Some, slice_get, take}
+use Rattle.eve_grammar.specs.Trace.{Access, Attempt, Step, Attempts, Trace}
 use Rattle.eve_grammar.specs.Frames.{without_accesses}
-use Rattle.eve_grammar.specs.Spelling.{accesses_at}
+use Rattle.eve_grammar.specs.Spelling.{accesses_at, steps_at}
 use Rattle.eve_frames.specs.Said.{attempt_said}
 use Rattle.eve_frames.specs.declared.attempt.AttemptView.{AttemptView}
 use Rattle.eve_views.specs.declared.fault.Code.{Code}
-use Rattle.eve_history.specs.Section.{SectionState}
+use Rattle.eve_history.specs.Section.{SectionState, start, state_after}
 use Rattle.eve_evidence.specs.declared.course.Course.{Course}
 use Rattle.eve_evidence.specs.declared.evidence.Evidence.{Evidence}
+use Rattle.eve_evidence.specs.declared.evidence.Evidence.TheVariants as shown
+use Rattle.eve_evidence.specs.declared.evidence.SeenFrom.{SeenFrom}
+use Rattle.eve_evidence.specs.declared.evidence.ToldAttempt.{ToldAttempt}
+use Rattle.eve_evidence.specs.declared.evidence.ToldRequest.{ToldRequest}
+use Rattle.eve_evidence.specs.declared.evidence.WrongEntry.{WrongEntry}
 use Rattle.eve_evidence.specs.Course.{IsCourse}
-use Rattle.eve_evidence.specs.Section.{WrongAccess, TellsAccess}
+use Rattle.eve_evidence.specs.Section.{WrongAccess, TellsAccess, TellsSeen}
 
 -- a fact about a record, by its place from 0, of an attempt whose section has come to a state that is kept
 abbrev pub AtRecord : Course → AttemptView → List (ℕ × Access) → ℕ
@@ -33,3 +38,17 @@ HasNonePlace c t course attempt xs place i =
 abbrev pub HasNoneWrong : Code → Trace → Course → AttemptView → List (ℕ × Access) → ℕ → Type 0
 HasNoneWrong c t course attempt xs i =
     AtRecord course attempt xs i (λ s a x. ¬ WrongAccess c t s attempt.offset a (take i xs) x.1)
+
+-- the attempt that was met stands in replica e's section, which has come to this in front of it
+abbrev pub HasLook : Trace → ℕ → Course → AttemptView → List (ℕ × Access) → Type 0
+HasLook t e course own xs =
+    (front : List (ℕ × Step)) × (behind : List (ℕ × Step)) × (a : Attempt)
+    × (steps_at t e ≡ front ++ (own.offset, Attempts a) ∷ behind) × IsCourse (state_after start front) course
+    × (attempt_said own ≡ without_accesses a) × (xs ≡ accesses_at own.offset a)
+
+-- of evidence of a wrong entry, this is where what it saw comes from
+abbrev pub TellsSeenWith : Trace → List (ℕ × Step) → ℕ × Step → List (ℕ × Step) → Evidence → Option SeenFrom → Type 0
+TellsSeenWith t front step behind evidence seen =
+    (attempt : ToldAttempt) (request : ToldRequest) (at : ℕ) (wrong : WrongEntry) (before : Option SeenFrom)
+    → evidence ≡ shown.Chain attempt request at wrong before
+    → TellsSeen t front step behind (shown.Chain attempt request at wrong seen)

@@ -1,5 +1,5 @@
 -- Faults of a replica's section as they stand at its steps, and what shows them. docs/MODEL.md, "Faults".
-use Rattle.std.specs.Prelude.{◌≡◌, ◌≢◌, ℕ, IsFalse, List, length, ◌⊎◌}
+use Rattle.std.specs.Prelude.{◌≡◌, ◌≢◌, ℕ, IsFalse, List, ◌∷◌, ◌++◌, length, ◌⊎◌, ⊤, None, Some}
 use Rattle.eve_smallbank.specs.Access.{Fits}
 use Rattle.eve_grammar.specs.Trace.{Access, Attempt, Commit, Rollback, Step, Attempts, Commits, RollsBack, TakesOver}
 use Rattle.eve_grammar.specs.Trace.{Transfer, Trace}
@@ -23,6 +23,7 @@ use Rattle.eve_evidence.specs.Structure.{IsTransferFault, place_numbers}
 use Rattle.eve_evidence.specs.Certificate.{IsCertificateFault}
 use Rattle.eve_evidence.specs.Record.{IsRecordFault}
 use Rattle.eve_evidence.specs.Chain.{IsFirstWrongEntry}
+use Rattle.eve_evidence.specs.Seen.{look, IsSeenFrom}
 
 -- ---- what is wrong
 
@@ -92,7 +93,7 @@ TellsAccess c t s at a own x (shown.WorkerOrder attempt at_byte place) =
 TellsAccess c t s at a own x (shown.Record attempt request place wrong) =
     (c ≡ code.Record) × (attempt ≡ told_attempt at a) × IsToldRequest t a.seq x.1.index request × (place ≡ x.0)
     × IsRecordFault t (names_of t) (executed_by t a x.1) wrong
-TellsAccess c t s at a own x (shown.Chain attempt request place wrong) =
+TellsAccess c t s at a own x (shown.Chain attempt request place wrong seen) =
     (attempt ≡ told_attempt at a) × IsToldRequest t a.seq x.1.index request × (place ≡ x.0)
     × IsFirstWrongEntry t c s at a x.1 wrong
 TellsAccess c t s at a own x _ = ⊥
@@ -121,8 +122,19 @@ TellsStep c t place s (at, Commits d) evidence = (at ≡ place) × TellsCommit c
 TellsStep c t place s (at, RollsBack r) evidence = (at ≡ place) × TellsRollback c t s r evidence
 TellsStep c t place s (at, TakesOver x) evidence = (at ≡ place) × TellsTransfer c t s x evidence
 
+-- and of a wrong entry where what it saw comes from, by the steps in front of it and behind it
+abbrev pub TellsSeen : Trace → List (ℕ × Step) → ℕ × Step → List (ℕ × Step) → Evidence → Type 0
+TellsSeen t front (at, Attempts a) behind (shown.Chain attempt request place wrong (Some seen)) =
+    IsSeenFrom t (look front behind at a request.index wrong.row.row wrong.saw) seen
+TellsSeen t front (at, Attempts a) behind (shown.Chain attempt request place wrong None) = ⊥
+TellsSeen t front step behind evidence = ⊤
+
 -- The evidence shows a fault of this code at this byte, somewhere along replica e's section, by where the section has
 -- come to there.
-abbrev pub TellsAlong : Code → Trace → ℕ → ℕ → Evidence → Type 0
-TellsAlong c t e place evidence =
-    SomePlace (steps_at t e) (λ before step. TellsStep c t place (state_after start before) step evidence)
+pub record TellsAlong (c : Code) (t : Trace) (e place : ℕ) (evidence : Evidence) : Type 0 where
+  pub front : List (ℕ × Step)
+  pub step : ℕ × Step
+  pub behind : List (ℕ × Step)
+  pub is : steps_at t e ≡ front ++ step ∷ behind
+  pub told : TellsStep c t place (state_after start front) step evidence
+  pub seen : TellsSeen t front step behind evidence

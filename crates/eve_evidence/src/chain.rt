@@ -15,6 +15,7 @@ ghost use Rattle.eve_evidence.specs.Chain.{IsFirstWrongEntry};
 
 use crate::course::Course;
 use crate::evidence::WrongEntry;
+use crate::seen::seen_by;
 use crate::sources::left_to;
 use crate::told::told_row;
 use eve_frames::{AccessView, AttemptView};
@@ -52,9 +53,10 @@ pub fn wrong_entry<'a>(
         (visible_to trace.now (placed_in s attempt.now.offset a) (access_said access.now).index y.row) y)
         (access_said access.now).entries) }
 {
+    let index = access.index();
     for i in 0..access.len() {
         let entry = access.entry(i);
-        let left = left_to(trace, course, attempt, accesses, access.index(), entry.row);
+        let left = left_to(trace, course, attempt, accesses, index, entry.row);
         if sees_another(code, &left.has, &entry) {
             return Some(WrongEntry {
                 entry: i as u8,
@@ -66,6 +68,7 @@ pub fn wrong_entry<'a>(
                 },
                 due: left.has,
                 left_by: left.by,
+                seen_by: seen_by(attempt, accesses, index, &entry),
             });
         }
     }

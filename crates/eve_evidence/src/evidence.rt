@@ -307,6 +307,37 @@ pub enum Source {
     Transfer { at: u64 },
 }
 
+/// Where what an entry saw comes from, of these the first that there is.
+#[derive(Clone, Copy)]
+pub enum SeenFrom {
+    /// The last source on its way, which was overwritten since.
+    Overwritten(Source),
+    /// The first record behind it in its own attempt's certificate that left it.
+    BehindIt(Source),
+    /// No source, but the last rollback on its way that restores just that, whose frame begins at this byte.
+    Restored(u64),
+    /// The last source in front of its attempt, which the rollback at byte `by` discarded; whether that names the row.
+    RolledBack {
+        source: Source,
+        by: u64,
+        restores: bool,
+    },
+    /// That source, which was discarded when the state at byte `by` was taken over.
+    Discarded {
+        source: Source,
+        by: u64,
+    },
+    /// That source, which stands before the last state that was taken over, at byte `state`.
+    BeforeState {
+        source: Source,
+        state: u64,
+    },
+    /// The first source behind its attempt.
+    Later(Source),
+    /// No source in the section.
+    Nobody,
+}
+
 /// The first entry of a record that doesn't see what it must.
 #[derive(Clone, Copy)]
 pub struct WrongEntry<'a> {
@@ -322,6 +353,8 @@ pub struct WrongEntry<'a> {
     pub due: Versioned,
     /// Who left that.
     pub left_by: Source,
+    /// Of a write the first record before it in its attempt's certificate that saw what it left.
+    pub seen_by: Option<Source>,
 }
 
 /// The first row in which restores differ from those that are due.
@@ -544,12 +577,13 @@ pub enum Evidence<'a> {
         wrong: RecordFault<'a>,
     },
     /// F40 and F41, in the Access frame at the fault's byte: of F40 the first entry whose version is wrong, of F41 the
-    /// first whose value is.
+    /// first whose value is; and where what it saw comes from, once the whole section was gone through for that.
     Chain {
         attempt: ToldAttempt,
         request: ToldRequest<'a>,
         at: u64,
         wrong: WrongEntry<'a>,
+        seen: Option<SeenFrom>,
     },
     /// F50.
     Restore(RestoreFault<'a>),

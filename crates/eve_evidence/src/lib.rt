@@ -5,9 +5,12 @@ mod certificate;
 mod chain;
 mod course;
 mod evidence;
+mod front;
 pub mod laws;
 mod record;
 mod section;
+mod seen;
+mod sought;
 mod sources;
 mod structure;
 mod told;
@@ -15,9 +18,9 @@ mod told;
 pub use evidence::{
     AccessFault, AttemptFault, BodyField, CertificateFault, CommitFault, Counts, Evidence,
     FRAME_KINDS, FrameFault, HeadField, LengthFault, Numbers, OutcomeFault, Poll, REPLICAS,
-    RecordFault, ReplicaCounts, RestoreFault, RollbackFault, SentFault, Source, StateFault,
-    ToldAttempt, ToldDecision, ToldRequest, ToldRow, ToldState, TransferFault, TransferPoll,
-    VERIFIERS, VerifierChoice, VerifierVote, WrongEntry, frame_kinds,
+    RecordFault, ReplicaCounts, RestoreFault, RollbackFault, SeenFrom, SentFault, Source,
+    StateFault, ToldAttempt, ToldDecision, ToldRequest, ToldRow, ToldState, TransferFault,
+    TransferPoll, VERIFIERS, VerifierChoice, VerifierVote, WrongEntry, frame_kinds,
 };
 pub use section::section_evidence;
 pub use told::{told_attempt, told_request, told_row};

@@ -10,23 +10,27 @@ ghost use Rattle.eve_chains.specs.Visible.{executed_by, visible_to};
 ghost use Rattle.eve_chains.specs.Along.{SeesAnother};
 ghost use Rattle.eve_evidence.specs.Told.{placed_in};
 ghost use Rattle.eve_grammar.specs.Trace.{Access as AccessValue, Attempt as AttemptValue, Step as StepValue};
+ghost use Rattle.eve_grammar.specs.Trace.{Attempts};
 ghost use Rattle.eve_grammar.specs.Frames.{without_accesses};
-ghost use Rattle.eve_grammar.specs.Spelling.{accesses_at};
+ghost use Rattle.eve_grammar.specs.Spelling.{accesses_at, steps_at};
 ghost use Rattle.eve_frames.specs.Said.{access_said, attempt_said, commit_said, rollback_said, transfer_said};
 ghost use Rattle.eve_views.specs.Form.{SomePlace};
 ghost use Rattle.eve_views.specs.StepKinds.{IsStep};
-ghost use Rattle.eve_history.specs.Section.{SectionState};
+ghost use Rattle.eve_history.specs.Section.{SectionState, start, state_after};
+ghost use Rattle.std.specs.Prelude.{◌∷◌, ◌++◌};
 ghost use Rattle.eve_evidence.specs.Course.{IsCourse};
 ghost use Rattle.eve_evidence.specs.Section.{WrongAttempt, WrongAccess, WrongCommit, WrongRollback, WrongTransfer};
 ghost use Rattle.eve_evidence.specs.Section.{StandsAtStep, StandsAlong, TellsAttempt, TellsAccess, TellsCommit};
 ghost use Rattle.eve_evidence.specs.Section.{TellsRollback, TellsTransfer, TellsStep, TellsAlong};
+ghost use Rattle.eve_evidence.specs.Places.{HasLook, TellsSeenWith};
 ghost use Rattle.eve_evidence.specs.Places.{TellsPlace, HasNonePlace};
 
 use crate::certificate::certificate_fault;
 use crate::chain::wrong_entry;
 use crate::course::Course;
-use crate::evidence::Evidence;
+use crate::evidence::{Evidence, SeenFrom};
 use crate::record::record_fault;
+use crate::seen::seen_from;
 use crate::structure::{
     access_fault, attempt_fault, commit_fault, place_fault, rollback_fault, transfer_fault,
 };
@@ -163,6 +167,7 @@ fn chain_at<'a>(
         request: told_request(trace, attempt.seq(), access.index()),
         at: access.offset(),
         wrong,
+        seen: None,
     })
 }
 
@@ -364,11 +369,71 @@ fn at_transfer<'a>(
     }
 }
 
+/// Where what a wrong entry saw comes from, of an attempt of replica e's section, where that has come to this; nothing of
+/// other evidence.
+fn seen_in<'a>(
+    trace: &Trace<'a>,
+    e: u8,
+    course: &Course<'_, 'a>,
+    own: &AttemptView<'a>,
+    accesses: &Accesses<'_, 'a>,
+    evidence: &Evidence<'a>,
+) -> Option<SeenFrom>
+    requires there { e < length trace.now.sections }
+    requires look { HasLook trace.now e course.now own.now accesses.now }
+    ensures { (front behind : List (ℕ × StepValue)) (a : AttemptValue)
+        → steps_at trace.now e ≡ front ++ (own.now.offset, Attempts a) ∷ behind
+        → IsCourse (state_after start front) course.now → attempt_said own.now ≡ without_accesses a
+        → accesses.now ≡ accesses_at own.now.offset a
+        → TellsSeenWith trace.now front (own.now.offset, Attempts a) behind evidence.now result }
+{
+    match evidence {
+        Evidence::Chain { request, wrong, .. } => {
+            let row = wrong.row.row;
+            let seen = seen_from(
+                trace,
+                e,
+                course,
+                own,
+                accesses,
+                request.index,
+                row,
+                &wrong.saw,
+            );
+            Some(seen)
+        }
+        _ => None,
+    }
+}
+
+/// The same of a step.
+fn seen_at<'a>(
+    trace: &Trace<'a>,
+    e: u8,
+    course: &Course<'_, 'a>,
+    step: &Step<'_, 'a>,
+    evidence: &Evidence<'a>,
+) -> Option<SeenFrom>
+    requires there { e < length trace.now.sections }
+    requires look { (front : List (ℕ × StepValue)) × (is : ℕ × StepValue) × (behind : List (ℕ × StepValue))
+        × (steps_at trace.now e ≡ front ++ is ∷ behind) × IsStep step.now is × IsCourse (state_after start front) course.now }
+    ensures { (front : List (ℕ × StepValue)) (is : ℕ × StepValue) (behind : List (ℕ × StepValue))
+        → steps_at trace.now e ≡ front ++ is ∷ behind → IsStep step.now is → IsCourse (state_after start front) course.now
+        → TellsSeenWith trace.now front is behind evidence.now result }
+{
+    match step {
+        Step::Attempt(own, accesses) => seen_in(trace, e, course, own, accesses, evidence),
+        Step::Commit(_) => None,
+        Step::Rollback(_) => None,
+        Step::Transfer(_) => None,
+    }
+}
+
 /// What shows a fault of a replica's section, by the replica's number from 0: one of this code that stands at this
 /// byte.
 ///
-/// docs/MODEL.md, "Faults". One pass over the section's frames, up to the one that is wrong; some fifty bytes for each
-/// attempt on the way.
+/// docs/MODEL.md, "Faults" and "Where what was seen comes from". One pass over the section's frames, up to the one that
+/// is wrong, and of a wrong entry one more over the section; some fifty bytes for each attempt on the way.
 pub fn section_evidence<'a>(
     alloc: Global,
     trace: &Trace<'a>,
@@ -386,7 +451,25 @@ pub fn section_evidence<'a>(
     let mut steps = trace.section(e);
     while let Some(step) = steps.next() {
         if let Some(found) = at_step(trace, names, &course, &step, code, place) {
-            return Ok(found);
+            let seen = seen_at(trace, e, &course, &step, &found);
+            match found {
+                Evidence::Chain {
+                    attempt,
+                    request,
+                    at,
+                    wrong,
+                    ..
+                } => {
+                    return Ok(Evidence::Chain {
+                        attempt,
+                        request,
+                        at,
+                        wrong,
+                        seen,
+                    });
+                }
+                other => return Ok(other),
+            }
         }
         course.take(step)?;
     }

@@ -63,7 +63,7 @@ fn left_by_record(access: &AccessView<'_>, row: Row) -> Option<Versioned>
 }
 
 /// The first record with this index.
-fn record_of<'a>(accesses: &Accesses<'_, 'a>, index: u16) -> Option<AccessView<'a>>
+pub fn record_of<'a>(accesses: &Accesses<'_, 'a>, index: u16) -> Option<AccessView<'a>>
     ensures found { IfSome result (λ x. access_with accesses.now index ≡ (x.offset, access_said x)) }
     ensures none { IfNone result (access_with accesses.now index ≡ no_access) }
 {
@@ -168,7 +168,7 @@ fn last_of(on: &OnPath<'_, '_>, row: Row) -> Option<Left>
 }
 
 /// The first place of an index in an attempt's certificate, or how many places there are.
-fn place_of(attempt: &AttemptView<'_>, index: u16) -> usize
+pub fn place_of(attempt: &AttemptView<'_>, index: u16) -> usize
     ensures within { result ≤ length (attempt_said attempt.now).certificate }
     ensures before { take result (attempt_said attempt.now).certificate
         ≡ before_index index (attempt_said attempt.now).certificate }
@@ -182,7 +182,7 @@ fn place_of(attempt: &AttemptView<'_>, index: u16) -> usize
 }
 
 /// The opening balance of a row.
-fn opening_value(trace: &Trace<'_>, row: Row) -> Cents
+pub fn opening_value(trace: &Trace<'_>, row: Row) -> Cents
     ensures { result ≡ opening_of trace.now row }
 {
     let number = row.number();
@@ -197,7 +197,7 @@ fn opening_value(trace: &Trace<'_>, row: Row) -> Cents
 }
 
 /// What a row has in a state.
-fn row_in(state: &TransferView<'_>, row: Row) -> Versioned
+pub fn row_in(state: &TransferView<'_>, row: Row) -> Versioned
     ensures { result ≡ taken_table (transfer_said state.now).rows row }
 {
     let number = row.number() as usize;
@@ -211,7 +211,7 @@ fn row_in(state: &TransferView<'_>, row: Row) -> Versioned
 }
 
 /// What a row has where the path begins, and who left it: the last state that was taken over, or the opening.
-fn left_at_first(trace: &Trace<'_>, course: &Course<'_, '_>, row: Row) -> Left
+pub fn left_at_first(trace: &Trace<'_>, course: &Course<'_, '_>, row: Row) -> Left
     ensures by { (way : List Passed) → NoneWrites row way → IsLeftBy (state_said course.now.taken) row way result.by }
     ensures has { result.has ≡ state_table trace.now (state_said course.now.taken) row }
 {

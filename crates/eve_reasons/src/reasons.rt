@@ -89,6 +89,7 @@ fn put_section(line: &mut Line, i: usize, evidence: &Evidence) -> bool
             request,
             at,
             wrong,
+            seen,
         } => {
             let at = *at;
             put_chain(
@@ -100,6 +101,7 @@ fn put_section(line: &mut Line, i: usize, evidence: &Evidence) -> bool
                     at,
                 },
                 wrong,
+                seen,
             )
         }
         _ => put_early(line, i, evidence),

@@ -8,7 +8,7 @@ use crate::words::{
     LONGEST_REASON, put_attempt_line, put_frame, put_frame_line, put_has, put_index,
     put_request_line, put_row,
 };
-use eve_evidence::{RecordFault, Source, ToldAttempt, ToldRequest, ToldRow, WrongEntry};
+use eve_evidence::{RecordFault, SeenFrom, Source, ToldAttempt, ToldRequest, ToldRow, WrongEntry};
 use eve_grammar::FrameKind;
 use eve_lines::{LINE_ROOM, Line, kind_word, put, put_number};
 use eve_smallbank::Versioned;
@@ -152,12 +152,11 @@ fn put_has_line(line: &mut Line, label: &str, has: Versioned)
     put_has(line, has);
 }
 
-/// Appends who left what an entry must see: `left by: #0 of batch 1, Access at byte 236`.
+/// Appends who left something in a row: `#0 of batch 1, Access at byte 236`.
 fn put_source(line: &mut Line, source: &Source)
-    requires { array_vec_len line.old + LONGEST_REASON ≤ LINE_ROOM }
-    ensures { array_vec_len line.new ≤ array_vec_len line.old + LONGEST_REASON }
+    requires { array_vec_len line.old + 90 ≤ LINE_ROOM }
+    ensures { array_vec_len line.new ≤ array_vec_len line.old + 90 }
 {
-    put(line, "left by: ");
     match source {
         Source::Opening => put(line, "the opening"),
         Source::Write { index, batch, at } => {
@@ -169,12 +168,107 @@ fn put_source(line: &mut Line, source: &Source)
     }
 }
 
-/// Appends line `i` of the first entry of a record that doesn't see what it must.
+/// Appends a source, and some words and a frame behind it: `.., discarded by Rollback at byte 402`.
+fn put_source_before(line: &mut Line, source: &Source, words: &str, kind: FrameKind, at: u64)
+    requires room { array_vec_len line.old + 159 ≤ LINE_ROOM }
+    requires words { length words.now ≤ 32 }
+    ensures { array_vec_len line.new ≤ array_vec_len line.old + 159 }
+{
+    put_source(line, source);
+    put(line, words);
+    put_frame(line, kind, at);
+}
+
+/// Appends a source, and some words behind it.
+fn put_source_and(line: &mut Line, source: &Source, words: &str)
+    requires room { array_vec_len line.old + 122 ≤ LINE_ROOM }
+    requires words { length words.now ≤ 32 }
+    ensures { array_vec_len line.new ≤ array_vec_len line.old + 122 }
+{
+    put_source(line, source);
+    put(line, words);
+}
+
+/// Appends a source that a rollback discarded, and whether that restores the row.
+fn put_rolled_back(line: &mut Line, source: &Source, by: u64, restores: bool)
+    requires { array_vec_len line.old + 191 ≤ LINE_ROOM }
+    ensures { array_vec_len line.new ≤ array_vec_len line.old + 191 }
+{
+    put_source_before(line, source, ", discarded by ", FrameKind::Rollback, by);
+    put(
+        line,
+        if restores {
+            ", which restores the row"
+        } else {
+            ", which leaves the row out"
+        },
+    );
+}
+
+/// Appends where what an entry saw comes from; no, where that isn't told.
+fn put_seen_from(line: &mut Line, seen: &Option<SeenFrom>) -> bool
+    requires { array_vec_len line.old + LONGEST_REASON ≤ LINE_ROOM }
+    ensures { array_vec_len line.new ≤ array_vec_len line.old + LONGEST_REASON }
+{
+    let Some(from) = seen else {
+        return false;
+    };
+    put(line, "seen from: ");
+    match from {
+        SeenFrom::Overwritten(source) => put_source_and(line, source, ", overwritten since"),
+        SeenFrom::BehindIt(source) => {
+            put_source_and(line, source, ", behind it in the certificate");
+        }
+        SeenFrom::Restored(at) => {
+            put_frame(line, FrameKind::Rollback, *at);
+            put(line, ", which restores that");
+        }
+        SeenFrom::RolledBack {
+            source,
+            by,
+            restores,
+        } => put_rolled_back(line, source, *by, *restores),
+        SeenFrom::Discarded { source, by } => {
+            put_source_before(line, source, ", discarded by ", FrameKind::Transfer, *by);
+        }
+        SeenFrom::BeforeState { source, state } => {
+            put_source_before(line, source, ", before ", FrameKind::Transfer, *state);
+        }
+        SeenFrom::Later(source) => put_source_and(line, source, ", later in the section"),
+        SeenFrom::Nobody => put(line, "nobody"),
+    }
+    true
+}
+
+/// Appends who left what an entry must see: `left by: the opening`.
+fn put_left_by(line: &mut Line, source: &Source)
+    requires { array_vec_len line.old + LONGEST_REASON ≤ LINE_ROOM }
+    ensures { array_vec_len line.new ≤ array_vec_len line.old + LONGEST_REASON }
+{
+    put(line, "left by: ");
+    put_source(line, source);
+}
+
+/// Appends who saw what an entry left, before it in the certificate; no, where that is nobody.
+fn put_seen_by(line: &mut Line, seen_by: &Option<Source>) -> bool
+    requires { array_vec_len line.old + LONGEST_REASON ≤ LINE_ROOM }
+    ensures { array_vec_len line.new ≤ array_vec_len line.old + LONGEST_REASON }
+{
+    let Some(source) = seen_by else {
+        return false;
+    };
+    put(line, "seen by: ");
+    put_source_and(line, source, ", before it in the certificate");
+    true
+}
+
+/// Appends line `i` of the first entry of a record that doesn't see what it must, and of where what it saw comes from.
 pub(crate) fn put_chain(
     line: &mut Line,
     i: usize,
     record: RecordAt<'_, '_>,
     wrong: &WrongEntry,
+    seen: &Option<SeenFrom>,
 ) -> bool
     requires { array_vec_len line.old + LONGEST_REASON ≤ LINE_ROOM }
     ensures { array_vec_len line.new ≤ array_vec_len line.old + LONGEST_REASON }
@@ -183,8 +277,10 @@ pub(crate) fn put_chain(
         0 | 1 | 2 => put_record_at(line, i, record),
         3 => put_entry_line(line, wrong),
         4 => put_has_line(line, "saw: ", wrong.saw),
-        5 => put_has_line(line, "due: ", wrong.due),
-        6 => put_source(line, &wrong.left_by),
+        5 => return put_seen_from(line, seen),
+        6 => put_has_line(line, "due: ", wrong.due),
+        7 => put_left_by(line, &wrong.left_by),
+        8 => return put_seen_by(line, &wrong.seen_by),
         _ => return false,
     }
     true
