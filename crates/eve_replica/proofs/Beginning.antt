@@ -16,8 +16,8 @@ use Rattle.eve_replica.specs.declared.standing.Standing.{Standing}
 use Rattle.eve_replica.specs.Replicas.{Replica}
 use Rattle.eve_replica.specs.Sections.{RunPlan, GoesThrough, AreVotesOf, reached_in}
 use Rattle.eve_replica.specs.Serving.{IsPlanFor, Serves, AreVotesOn, AreOfItsView, plan_with}
-use Rattle.eve_replica.specs.Serving.{standing_of, first_standing, ComesTo, window_at, sections_in}
-use Rattle.eve_replica.specs.Windows.{window_with}
+use Rattle.eve_replica.specs.Serving.{standing_of, first_standing, window_at, sections_in}
+use Rattle.eve_replica.specs.Windows.{ComesTo, window_with}
 use Rattle.eve_replica.specs.Taken.{IsRightlyTaken, AreTakenIn}
 use Rattle.eve_replica.proofs.Going.{stand, standing_with}
 use Rattle.eve_replica.proofs.Through.{reached_through}

@@ -206,7 +206,7 @@ live_by token seq was servers are came =
 -- ---- where all commit
 
 -- each has the token, since each has committed the batch
-all_had : (token : List ℕ) (seq : ℕ) (old mid : Server) → IsReady seq old → CommitsOrWaits token old mid
+pub all_had : (token : List ℕ) (seq : ℕ) (old mid : Server) → IsReady seq old → CommitsOrWaits token old mid
     → mid.replica.ledger.committed ≡ seq → GoesOn (commit_move token) old mid × CommitsNext old mid
 all_had token seq old mid is waits reached = by (is_some_of token (next_token old)) refl
   where

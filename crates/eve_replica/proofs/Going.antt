@@ -14,6 +14,7 @@ use Rattle.std.proofs.lemmas.List.Elements.{All-append, All-cons, All-nil}
 use Rattle.std.proofs.lemmas.Option.{slice_get-map, slice_get_within}
 use Rattle.std.specs.List.{count_by}
 use Rattle.eve_grammar.specs.Trace.{Batch, Attempt, Step, Vote}
+use Rattle.eve_grammar.specs.declared.limits.TheConstants.{MOST_BYTES}
 use Rattle.eve_grammar.proofs.Lists.{all-append}
 use Rattle.eve_write.specs.Data.{batch, section, vote}
 use Rattle.eve_workload.specs.declared.mixer.MixedBatch.{MixedBatch}
@@ -26,12 +27,12 @@ use Rattle.eve_replica.specs.declared.run_state.RunState.{RunState}
 use Rattle.eve_replica.specs.Replicas.{Replica, AttemptsDue, front_of}
 use Rattle.eve_replica.specs.Sections.{RunPlan, AttemptsNext, AreVotesOf, place_due, reaches_batch}
 use Rattle.eve_replica.specs.Serving.{standing_of, after_attempts, AreDue, AreVotesOn, AreOfItsView, IsLeft}
-use Rattle.eve_replica.specs.Serving.{ComesTo, window_at, IsOutvoted, IsLedBy, Serves}
+use Rattle.eve_replica.specs.Serving.{window_at, IsOutvoted, IsLedBy, Serves}
 use Rattle.eve_replica.specs.Deciding.{AreUndecided}
-use Rattle.eve_replica.specs.Taken.{AreTakenIn, AreCommittedByMost}
-use Rattle.eve_replica.specs.Windows.{WindowState}
+use Rattle.eve_replica.specs.Taken.{AreTakenIn, AreCommittedByMost, states_in}
+use Rattle.eve_replica.specs.Windows.{ComesTo, WindowState}
 use Rattle.eve_replica.specs.Serving.{Move, attempt_move, rollback_move, AreBatchesFrom, GoesOn, GivesUpNext}
-use Rattle.eve_replica.specs.Serving.{IsUnderWay, live_in, sections_in}
+use Rattle.eve_replica.specs.Serving.{IsUnderWay, live_in, sections_in, states_len}
 use Rattle.eve_replica.proofs.Counting.{counted_alike}
 use Rattle.eve_replica.proofs.Each.{AreAllOn}
 use Rattle.eve_replica.proofs.Windows.{same_state}
@@ -393,15 +394,17 @@ pub lent_undecided : (p : RunPlan) (d : RunState) (lent : List Server) → IsUnd
 lent_undecided p d lent was same =
     subst (λ (servers : List Server). AreUndecided (sections_in servers)) (sym same) was.undecided
 
--- a run whose replicas have gone on to stand here is under way, with whatever room for states
+-- a run whose replicas have gone on to stand here is under way, with what room is left for states
 pub moved : (p : RunPlan) (d : RunState) (given : List Server) (at : Standing) (votes : Vec VoteData Global) (room : ℕ)
     → IsUnderWay p d → length given ≡ vec_len d.servers
     → at.committed + at.opened ≤ length d.batches.now → AreVotesOn (length d.batches.now) votes.items
     → All (Serves p at (map vote votes.items)) given → length given < 2 * live_in given
     → AreCommittedByMost at.committed (sections_in given) → AreTakenIn p (sections_in given)
     → AreUndecided (sections_in given)
+    → (d.head.version ≡ 2 → MOST_BYTES ≤ room + states_len d.head.customers (states_in (sections_in given)))
     → IsUnderWay p (record d { servers = with_items d.servers given; standing = at; votes = votes; room = room })
-moved p d given at votes room was many due right go majority committed taken undecided = record {
+moved p d given at votes room was many due right go majority committed taken undecided spent = record {
+  none_reached = was.none_reached;
   begun = was.begun;
   customers = was.customers;
   window = was.window;
@@ -423,6 +426,10 @@ moved p d given at votes room was many due right go majority committed taken und
       (sym (with_items_is d.servers given many)) taken;
   undecided = subst (λ (servers : List Server). AreUndecided (sections_in servers))
       (sym (with_items_is d.servers given many)) undecided;
+  spent = λ two.
+      subst (λ (servers : List Server).
+      MOST_BYTES ≤ room + states_len d.head.customers (states_in (sections_in servers)))
+      (sym (with_items_is d.servers given many)) (spent two);
   votes = right;
 }
 

@@ -6,6 +6,8 @@ mod Committing
 mod UnderWay
 mod GivenUp
 mod Undecided
+mod States
+mod CameSoFar
 mod Going
 mod Through
 mod Windows
@@ -15,5 +17,6 @@ mod Sectioned
 mod Answering
 mod WhereWell
 mod Noted
+mod Mismatches
 mod Parts
 mod StatesTaken

@@ -21,8 +21,8 @@ use Rattle.eve_replica.specs.Replicas.{Replica}
 use Rattle.eve_replica.specs.Replicas as replica
 use Rattle.eve_replica.specs.Sections.{RunPlan, GoesThrough, AreVotesOf, commit_vote, rollback_vote, place_due}
 use Rattle.eve_replica.specs.Serving.{standing_of, after_commit, AreDue, AreRightSteps, AreOfItsView}
-use Rattle.eve_replica.specs.Serving.{GoesOn, IsOutvoted, ComesTo, Move, attempt_move, MissesRightly, MayTakeOver}
-use Rattle.eve_replica.specs.Windows.{WindowState, GoByWindows}
+use Rattle.eve_replica.specs.Serving.{GoesOn, IsOutvoted, Move, attempt_move, MissesRightly, MayTakeOver}
+use Rattle.eve_replica.specs.Windows.{ComesTo, WindowState, GoByWindows}
 use Rattle.eve_replica.specs.Deciding.{is_some_of, token_given_up}
 use Rattle.eve_replica.specs.Serving.{commit_move, rollback_move, next_token, CommitsNext, GivesUpNext, server_with}
 use Rattle.eve_replica.proofs.Counting.{is_that, next_by}

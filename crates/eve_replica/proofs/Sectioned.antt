@@ -167,7 +167,7 @@ most_reach p at votes batches none done servers serve more =
     omega arith
 
 -- where replicas stay live their sections reach all batches
-reached_all : (p : RunPlan) (at : Standing) (votes : List Vote) (batches : ℕ) → p.first.committed ≡ 0
+pub reached_all : (p : RunPlan) (at : Standing) (votes : List Vote) (batches : ℕ) → p.first.committed ≡ 0
     → at.committed ≡ batches → p.first.version ≡ 2 → (s : Server) → Serves p at votes s
     → reached_in (section s.steps) ≡ batches
 reached_all p at votes batches none done two s serves =

@@ -1,12 +1,14 @@
 -- What a run under way has of its replicas, as they are lent.
-use Rattle.std.proofs.Common.{◌≡◌, ℕ, ◌+◌, ◌-◌, ◌*◌, ◌<◌, List, length, sym, ap, subst, arith}
+use Rattle.std.proofs.Common.{◌≡◌, ℕ, ◌+◌, ◌-◌, ◌*◌, ◌<◌, ◌≤◌, List, length, sym, ap, subst, arith}
 use Rattle.std.proofs.lemmas.List.{length-map}
+use Rattle.eve_grammar.specs.declared.limits.TheConstants.{MOST_BYTES}
 use Rattle.eve_write.specs.Data.{batch}
 use Rattle.eve_replica.specs.declared.server.Server.{Server}
 use Rattle.eve_replica.specs.declared.run_state.RunState.{RunState}
 use Rattle.eve_replica.specs.Sections.{RunPlan}
-use Rattle.eve_replica.specs.Taken.{AreTakenIn, AreCommittedByMost}
-use Rattle.eve_replica.specs.Serving.{IsLeft, IsUnderWay, live_in, sections_in}
+use Rattle.eve_replica.specs.Taken.{AreTakenIn, AreCommittedByMost, states_in}
+use Rattle.eve_replica.specs.Serving.{IsLeft, IsUnderWay, live_in, sections_in, states_len}
+use Rattle.eve_replica.proofs.States.{states_len_rises}
 
 -- a batch is left where one is awaited
 pub batch_left : (p : RunPlan) (d : RunState) → IsUnderWay p d → IsLeft p.batches d.standing
@@ -41,3 +43,25 @@ pub lent_taken : (p : RunPlan) (d : RunState) (lent : List Server) → IsUnderWa
     → AreTakenIn p (sections_in lent)
 lent_taken p d lent was same =
     subst (λ (servers : List Server). AreTakenIn p (sections_in servers)) (sym same) was.taken
+
+-- what the states took from the room is gone from it, where replicas go on that keep theirs
+pub lent_spent : (p : RunPlan) (d : RunState) (lent given : List Server) → IsUnderWay p d → lent ≡ d.servers.items
+    → states_in (sections_in lent) ≤ states_in (sections_in given) → d.head.version ≡ 2
+    → MOST_BYTES ≤ d.room + states_len d.head.customers (states_in (sections_in given))
+lent_spent p d lent given was same kept two =
+    let before = was.spent two in
+    let here = ap (λ (servers : List Server). states_in (sections_in servers)) same in
+    let more = states_len_rises d.head.customers (states_in (sections_in d.servers.items))
+    (states_in (sections_in given)) (omega (arith, here, kept)) in
+    omega (arith, before, more)
+
+-- and where they spend some
+pub lent_spends : (p : RunPlan) (d : RunState) (lent given : List Server) (room : ℕ) → IsUnderWay p d
+    → lent ≡ d.servers.items → d.head.version ≡ 2
+    → d.room + states_len d.head.customers (states_in (sections_in lent))
+    ≤ room + states_len d.head.customers (states_in (sections_in given))
+    → MOST_BYTES ≤ room + states_len d.head.customers (states_in (sections_in given))
+lent_spends p d lent given room was same two spent =
+    let before = was.spent two in
+    let here = ap (λ (servers : List Server). states_len d.head.customers (states_in (sections_in servers))) same in
+    omega (arith, before, here, spent)

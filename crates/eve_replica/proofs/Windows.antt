@@ -5,8 +5,8 @@ use Rattle.std.proofs.lemmas.Bool.Decides.{nat_tests}
 use Rattle.eve_grammar.specs.Trace.{Batch, Step}
 use Rattle.eve_replica.specs.declared.standing.Standing.{Standing}
 use Rattle.eve_replica.specs.Sections.{RunPlan}
-use Rattle.eve_replica.specs.Windows.{WindowState, GoByWindows, window_with}
-use Rattle.eve_replica.specs.Serving.{ComesTo, AreWholeWindow, window_at, after_attempts, after_commit, after_rollback}
+use Rattle.eve_replica.specs.Windows.{ComesTo, WindowState, GoByWindows, window_with}
+use Rattle.eve_replica.specs.Serving.{AreWholeWindow, window_at, after_attempts, after_commit, after_rollback}
 use Rattle.eve_replica.specs.Serving.{attempt_move, commit_move, rollback_move}
 
 -- states that are equal in their numbers

@@ -4,6 +4,7 @@ pub mod Deciding
 pub mod Taken
 pub mod Sending
 pub mod Run
+pub mod SoFar
 pub mod RunFaults
 pub mod Replicas
 pub mod Serving

@@ -7,7 +7,7 @@ use Rattle.eve_stamps.specs.Applied.{Applied}
 use Rattle.eve_grammar.specs.Trace.{Batch, Attempt, Commit, Transfer}
 use Rattle.eve_attempts.specs.declared.front.AttemptFront.{AttemptFront}
 use Rattle.eve_attempts.specs.Ledgers.{Ledger}
-use Rattle.eve_attempts.specs.Closing.{touched_in_batch, Closes}
+use Rattle.eve_attempts.specs.Closing.{touched_in_batch, AreMismatched, Closes}
 use Rattle.eve_attempts.specs.Discarding.{Commits}
 use Rattle.eve_replica_crew.specs.Recording.{AreNotedOf}
 use Rattle.eve_replica.specs.declared.fault.AttemptFault.{AttemptFault}
@@ -36,6 +36,12 @@ pub record ClosesNoted (front : AttemptFront) (old new : Replica) (b : Batch) (r
 abbrev pub ClosesSome : AttemptFront → Replica → Replica → Batch → Attempt → Type 0
 ClosesSome front old new b a = (records : List Applied) × ClosesNoted front old new b records a
 
+-- Some records that its workers noted of the batch make no attempt of it with this number, view and mode.
+pub record MismatchesNoted (front : AttemptFront) (r : Replica) (b : Batch) : Type 0 where
+  pub records : List Applied
+  pub noted : AreNotedOf r.names b records
+  pub mismatched : AreMismatched front r.ledger b (touched_in_batch r.names b) records
+
 -- number, view and mode of an attempt of the batch that is due, in this view and this mode
 abbrev pub front_of : Ledger → ℕ → Bool → AttemptFront
 front_of s view serial = record { seq = s.committed + 1 + length s.opened; view = view; serial = serial }
@@ -48,6 +54,21 @@ Attempts view serial old new b a = (old.is_broken ≡ false) × ClosesSome (fron
 -- The same, in the view and in the mode that are due.
 abbrev pub AttemptsDue : Replica → Replica → Batch → Attempt → Type 0
 AttemptsDue old new b a = Attempts old.ledger.view old.ledger.is_next_serial old new b a
+
+-- Such records make no attempt of the batch that is due, in the view and in the mode that are due.
+abbrev pub MismatchesDue : Replica → Batch → Type 0
+MismatchesDue r b = MismatchesNoted (front_of r.ledger r.ledger.view r.ledger.is_next_serial) r b
+
+-- a fault that is Mismatch only where this holds
+abbrev pub IsMismatchOnly : Type 0 → AttemptFault → Type 0
+IsMismatchOnly Mismatched attempt_fault.Broken = ⊤
+IsMismatchOnly Mismatched attempt_fault.Memory = ⊤
+IsMismatchOnly Mismatched attempt_fault.TickOrder = ⊤
+IsMismatchOnly Mismatched attempt_fault.Full = ⊤
+IsMismatchOnly Mismatched attempt_fault.Worn = ⊤
+IsMismatchOnly Mismatched attempt_fault.Spent = ⊤
+IsMismatchOnly Mismatched attempt_fault.NoRow = ⊤
+IsMismatchOnly Mismatched attempt_fault.Mismatch = Mismatched
 
 -- its account stays, and it is broken
 abbrev pub Breaks : Replica → Replica → Type 0

@@ -7,7 +7,7 @@ use Rattle.std.specs.Prelude.{Vec}
 use Rattle.std.specs.declared.alloc.Global.{Global}
 use Rattle.std.specs.List.{AllByRecursion, count_by, list_all}
 use Rattle.eve_grammar.specs.Trace.{Batch, Commit, Step, Commits, Transfer, Vote}
-use Rattle.eve_grammar.specs.declared.limits.TheConstants.{MOST_BATCHES}
+use Rattle.eve_grammar.specs.declared.limits.TheConstants.{MOST_BATCHES, MOST_BYTES}
 use Rattle.eve_grammar.specs.declared.head.Head.{Head}
 use Rattle.eve_grammar.specs.Limits.{is_batch, is_step, is_vote, is_sent}
 use Rattle.eve_attempts.specs.Closing.{touched_in_batch}
@@ -19,12 +19,12 @@ use Rattle.eve_write.specs.declared.step.Step as code
 use Rattle.eve_write.specs.declared.vote.VoteData.{VoteData}
 use Rattle.eve_write.specs.declared.sent.SentData.{SentData}
 use Rattle.eve_workload.specs.declared.mixer.MixedBatch.{MixedBatch}
-use Rattle.eve_replica.specs.Replicas.{Replica}
+use Rattle.eve_replica.specs.Replicas.{MismatchesDue, Replica}
 use Rattle.eve_replica.specs.Deciding.{is_some_of, token_given_up, AreUndecided}
 use Rattle.eve_replica.specs.Sections.{RunPlan, GoesThrough, AreVotesOf, place_due, commit_vote, rollback_vote}
 use Rattle.eve_replica.specs.Sections.{reaches_batch}
-use Rattle.eve_replica.specs.Taken.{AreTakenIn, AreCommittedByMost}
-use Rattle.eve_replica.specs.Windows.{WindowState, GoByWindows, window_with}
+use Rattle.eve_replica.specs.Taken.{AreTakenIn, AreCommittedByMost, states_in}
+use Rattle.eve_replica.specs.Windows.{ComesTo, WindowState, window_with}
 use Rattle.eve_replica.specs.declared.standing.Standing.{Standing}
 use Rattle.eve_replica.specs.declared.server.Server.{Server}
 use Rattle.eve_replica.specs.declared.run_state.RunState.{RunState}
@@ -79,12 +79,6 @@ pub record AreDue (many : ℕ) (s : Ledger) : Type 0 where
   pub room : length s.opened + many ≤ s.window
 
 -- ---- windows
-
--- These steps have come to this state of a window: whatever goes on window by window from there does so after them from
--- the first on.
-abbrev pub ComesTo : (window batches : ℕ) → List Step → WindowState → Type 0
-ComesTo window batches steps at =
-    (rest : List Step) → GoByWindows window at rest → GoByWindows window (window_with window batches 0) (steps ++ rest)
 
 -- the state of a window where a replica stands here
 abbrev pub window_at : RunPlan → Standing → WindowState
@@ -320,12 +314,17 @@ sections_in servers = map (λ s. section s.steps) servers
 abbrev pub live_in : List Server → ℕ
 live_in servers = count_by (λ s. s.is_live) servers
 
--- The state of a run by this plan, which begins with nothing open, in version 1 or 2. Its batches are the plan's, and
--- were looked up among its names. Each replica is one of this run, and each live one stands where the run does. More
--- than half of them are live. Each batch so far was committed by more than half of all. What was taken over is what the
--- lowest-numbered of these had committed. What was rolled back wasn't decided. Every vote so far lies within the
--- limits.
+-- the bytes of the frames of this number of states, beside this number of customers
+abbrev pub states_len : (customers states : ℕ) → ℕ
+states_len customers states = states * (13 + 16 * (2 * customers))
+
+-- The state of a run by this plan, which begins with nothing committed and nothing open, in version 1 or 2. Its batches
+-- are the plan's, and were looked up among its names. Each replica is one of this run, and each live one stands where
+-- the run does. More than half of them are live. Each batch so far was committed by more than half of all. What was
+-- taken over is what the lowest-numbered of these had committed, and in version 2 all that it takes from a trace's room
+-- is gone from it. What was rolled back wasn't decided. Every vote so far lies within the limits.
 pub record IsUnderWay (p : RunPlan) (d : RunState) : Type 0 where
+  pub none_reached : p.first.committed ≡ 0
   pub begun : p.first.opened ≡ []
   pub customers : length p.names ≡ d.head.customers
   pub window : p.first.window ≡ d.head.window
@@ -341,6 +340,8 @@ pub record IsUnderWay (p : RunPlan) (d : RunState) : Type 0 where
   pub majority : length d.servers.items < 2 * live_in d.servers.items
   pub committed : AreCommittedByMost d.standing.committed (sections_in d.servers.items)
   pub taken : AreTakenIn p (sections_in d.servers.items)
+  pub spent : d.head.version ≡ 2
+      → MOST_BYTES ≤ d.room + states_len d.head.customers (states_in (sections_in d.servers.items))
   pub undecided : AreUndecided (sections_in d.servers.items)
   pub votes : AreVotesOn (length d.batches.now) d.votes.items
 
@@ -362,6 +363,14 @@ abbrev pub AttemptsAll : List MixedBatch → Replica → Vec code.Step Global �
 AttemptsAll window old before new after =
     GoesOn (attempt_move (length window) (map (λ m. plain m.batch) window)) (server_with old before)
     (server_with new after)
+
+-- Attempts of the first batches were made, and of the next one what the workers noted makes none.
+pub record MismatchesAmid (window : List MixedBatch) (old new : Replica) : Type 0 where
+  pub made : ℕ
+  pub opened : length new.ledger.opened ≡ length old.ledger.opened + made
+  pub mixed : MixedBatch
+  pub next : slice_get window made ≡ Some mixed
+  pub mismatched : MismatchesDue new (plain mixed.batch)
 
 -- ---- a window of attempts of all replicas
 

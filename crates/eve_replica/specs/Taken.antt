@@ -1,6 +1,7 @@
 -- Which states the replicas of a run take over. docs/MODEL.md, "A run".
-use Rattle.std.specs.Prelude.{◌≡◌, ℕ, ◌*◌, ◌<◌, ◌≤◌, ◌==◌, Bool, false, ◌||◌, IsFalse, ⊤, List, [], ◌∷◌, ◌++◌, length}
-use Rattle.std.specs.List.{AllByRecursion, count_by}
+use Rattle.std.specs.Prelude.{◌≡◌, ℕ, ◌+◌, ◌*◌, ◌<◌, ◌≤◌, ◌==◌, Bool, false, ◌||◌, IsFalse, ⊤, List, [], ◌∷◌, ◌++◌}
+use Rattle.std.specs.Prelude.{length}
+use Rattle.std.specs.List.{AllByRecursion, count_by, sum_by}
 use Rattle.eve_grammar.specs.Trace.{Commit, Transfer, Step, Attempts, Commits, RollsBack, TakesOver}
 use Rattle.eve_attempts.specs.Ledgers.{Ledger}
 use Rattle.eve_attempts.specs.TakingOver.{IsStateOf}
@@ -49,3 +50,14 @@ AreTakenIn p sections = AllByRecursion (AllByRecursion (IsRightlyTaken p section
 abbrev pub AreCommittedByMost : ℕ → List (List Step) → Type 0
 AreCommittedByMost batches sections =
     (n : ℕ) → 0 < n → n ≤ batches → length sections < 2 * count_by (commits_batch n) sections
+
+-- the number of states that are taken over in a section, and in all of them
+abbrev pub states_along : List Step → ℕ
+states_along [] = 0
+states_along (Attempts a ∷ steps) = states_along steps
+states_along (Commits c ∷ steps) = states_along steps
+states_along (RollsBack r ∷ steps) = states_along steps
+states_along (TakesOver x ∷ steps) = 1 + states_along steps
+
+abbrev pub states_in : List (List Step) → ℕ
+states_in sections = sum_by states_along sections

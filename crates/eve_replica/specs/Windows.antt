@@ -1,5 +1,5 @@
 -- How a section goes window by window. docs/MODEL.md, "A run".
-use Rattle.std.specs.Prelude.{◌≡◌, ℕ, ◌+◌, ◌-◌, ◌<◌, ◌==◌, min, if◌then◌else◌, List, [], ◌∷◌}
+use Rattle.std.specs.Prelude.{◌≡◌, ℕ, ◌+◌, ◌-◌, ◌<◌, ◌==◌, min, if◌then◌else◌, List, [], ◌∷◌, ◌++◌}
 use Rattle.eve_grammar.specs.Trace.{Step, Attempts, Commits, RollsBack, TakesOver}
 
 -- How far a section is in a window: the numbers of batches that aren't reached, of attempts of the window that are
@@ -28,3 +28,9 @@ GoByWindows window at (Commits c ∷ steps) =
 GoByWindows window at (RollsBack r ∷ steps) = (at.due ≡ 0) × GoByWindows window (window_with window at.left 0) steps
 GoByWindows window at (TakesOver x ∷ steps) =
     (at.due ≡ 0) × GoByWindows window (window_with window (at.left - 1) (at.opened - 1)) steps
+
+-- These steps have come to this state of a window: whatever goes on window by window from there does so after them from
+-- the first on.
+abbrev pub ComesTo : (window batches : ℕ) → List Step → WindowState → Type 0
+ComesTo window batches steps at =
+    (rest : List Step) → GoByWindows window at rest → GoByWindows window (window_with window batches 0) (steps ++ rest)

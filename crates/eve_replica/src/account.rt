@@ -11,7 +11,8 @@ ghost use Rattle.eve_attempts.specs.Discarding.{RollsBack};
 ghost use Rattle.eve_attempts.specs.TakingOver.{TakesOver};
 ghost use Rattle.eve_replica_crew.specs.Recording.{AreNotedOf};
 ghost use Rattle.eve_replica.specs.Replicas.{AttemptsDue, ClosesThese, IsFirstOpen, CommitsFirst};
-ghost use Rattle.eve_replica.specs.Replicas.{FailsAttempt, IsDue, KeepsCrew, MayAttempt, front_of};
+ghost use Rattle.eve_replica.specs.Replicas.{FailsAttempt, IsDue, IsMismatchOnly, KeepsCrew, MayAttempt};
+ghost use Rattle.eve_replica.specs.Replicas.{MismatchesDue, front_of};
 
 use crate::fault::{AttemptFault, CommitFault, TransferFault};
 use eve_accounts::{Balances, Names};
@@ -95,6 +96,7 @@ impl<'n> Account<'n> {
             IfOk result (λ a. ClosesThese front self.old self.new (plain batch.now) records.now (attempt a)) }
         ensures refused { IfErr result (λ why. FailsAttempt why self.old self.new) }
         ensures broken { OnErr result (self.new.is_broken ≡ true) }
+        ensures mismatch { IfErr result (IsMismatchOnly (MismatchesDue self.old (plain batch.now))) }
         ensures same { KeepsCrew self.old self.new }
     {
         let front = self.next_front();

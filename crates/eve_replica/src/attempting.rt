@@ -10,8 +10,9 @@ ghost use Rattle.eve_replica_crew.specs.FirstWorkers.{StaysAt};
 ghost use Rattle.eve_replica_crew.specs.Recording.{AreNotedOf};
 ghost use Rattle.eve_replica_crew.specs.Sharing.{IsRightAssignment};
 ghost use Rattle.eve_replica.specs.Replicas.{AttemptsDue, FailsAttempt, GivesUp, KeepsCrew, MayAttempt};
+ghost use Rattle.eve_replica.specs.Replicas.{IsMismatchOnly, MismatchesDue};
 ghost use Rattle.eve_replica.specs.Serving.{AreDue, GoesOn, IsRightMixed, MayAttemptAll, AttemptsAll, attempt_move};
-ghost use Rattle.eve_replica.specs.Serving.{server_with};
+ghost use Rattle.eve_replica.specs.Serving.{MismatchesAmid, server_with};
 ghost use Rattle.eve_replica.specs.Replicas.{IsFresh};
 ghost use Rattle.eve_replica.specs.RunFaults.{attempt_fault_of};
 
@@ -45,6 +46,8 @@ pub(crate) fn run_and_close<R: Threads + Wait + Sync, G: Gate>(
     ensures attempted { IfOk result (λ a.
         AttemptsDue account.old account.new (plain_batch assignment.entry.batch.now) (attempt a)) }
     ensures refused { IfErr result (λ why. FailsAttempt why account.old account.new) }
+    ensures mismatch { IfErr result
+        (IsMismatchOnly (MismatchesDue account.old (plain_batch assignment.entry.batch.now))) }
     ensures same { KeepsCrew account.old account.new }
 {
     let batch = assignment.batch;
@@ -57,6 +60,8 @@ pub(crate) fn run_and_close<R: Threads + Wait + Sync, G: Gate>(
         ensures attempted { IfOk result (λ a.
             AttemptsDue account.entry.now account.exit.now (plain_batch batch.entry.now) (attempt a)) }
         ensures refused { IfErr result (λ given. GivesUp given account.entry.now account.exit.now) }
+        ensures mismatch { IfErr result (λ given. IfSome given
+            (IsMismatchOnly (MismatchesDue account.entry.now (plain_batch batch.entry.now)))) }
         ensures same { KeepsCrew account.entry.now account.exit.now }
     { lead_one(rt, alloc, lead, account, batch, touched, gate) };
     let ran = run_batches(rt, alloc, floor, workers, &[assignment], gate, &mut own);
@@ -85,6 +90,8 @@ fn lead_one<R: Wait, G: Gate>(
     ensures lead { StaysAt lead.old lead.new }
     ensures attempted { IfOk result (λ a. AttemptsDue account.old account.new (plain_batch batch.now) (attempt a)) }
     ensures refused { IfErr result (λ given. GivesUp given account.old account.new) }
+    ensures mismatch { IfErr result (λ given. IfSome given
+        (IsMismatchOnly (MismatchesDue account.old (plain_batch batch.now)))) }
     ensures same { KeepsCrew account.old account.new }
 {
     if !lead.next(rt, gate) {
@@ -113,6 +120,8 @@ pub(crate) fn lead_each<R: Wait, G: Gate>(
     ensures lead { StaysAt lead.old lead.new }
     ensures on { OnOk result (AttemptsAll window.now account.old steps.old account.new steps.new) }
     ensures broken { IfErr result (λ given. IfSome given (λ _. account.new.is_broken ≡ true)) }
+    ensures mismatch { IfErr result (λ given. IfSome given
+        (IsMismatchOnly (MismatchesAmid window.now account.old account.new))) }
     ensures same { KeepsCrew account.old account.new }
 {
     for place in 0..window.len() {
@@ -142,6 +151,8 @@ fn add_attempt(
     ensures on { OnOk result (GoesOn (attempt_move 1 (plain_batch mixed.now.batch ∷ []))
         (server_with account.old steps.old) (server_with account.new steps.new)) }
     ensures broken { OnErr result (account.new.is_broken ≡ true) }
+    ensures mismatch { IfErr result (IsMismatchOnly (MismatchesDue account.old (plain_batch mixed.now.batch)
+        × (account.new ≡ record account.old { is_broken = true }))) }
     ensures same { KeepsCrew account.old account.new }
 {
     let touched = mixed.touched.as_slice();
@@ -163,13 +174,15 @@ pub(crate) fn add_step(steps: &mut Vec<Step>, step: Step) -> Result<(), AllocErr
     Ok(())
 }
 
-/// The attempt's fault for a worker's. Where no worker has one, what they noted is no attempt.
+/// The attempt's fault for that of a worker that gave a request up. One that did has a fault, which no clause says: so
+/// where none is told the answer is Memory, of which no clause says when it comes.
 pub(crate) fn fault_told(told: Option<ExecFault>) -> AttemptFault
     ensures fresh { IsFresh result }
     ensures same { IfSome told (λ why. result ≡ attempt_fault_of why) }
+    ensures matched { IsMismatchOnly ⊥ result }
 {
     match told {
         Some(why) => fault_of(why),
-        None => AttemptFault::Mismatch,
+        None => AttemptFault::Memory,
     }
 }

@@ -12,9 +12,10 @@ ghost use Rattle.eve_attempts.specs.Ledgers.{ledger_rows, opening};
 ghost use Rattle.eve_attempts.specs.Closing.{touched_in_batch, AreMismatched};
 ghost use Rattle.eve_attempts.specs.Discarding.{RollsBack};
 ghost use Rattle.eve_attempts.specs.TakingOver.{IsStateOf, TakesOver};
-ghost use Rattle.eve_replica.specs.Replicas.{Attempts, FailsAttempt, ClosesOwn};
+ghost use Rattle.eve_replica.specs.Replicas.{Attempts, FailsAttempt, ClosesOwn, IsMismatchOnly, MismatchesNoted};
+ghost use Rattle.eve_replica.specs.Replicas.{front_of};
 ghost use Rattle.eve_replica.specs.Replicas.{IsDue, IsFirstOpen, CommitsFirst, KeepsCrew};
-ghost use Rattle.eve_replica.specs.Serving.{IsRightMixed, MayAttemptAll, AttemptsAll};
+ghost use Rattle.eve_replica.specs.Serving.{IsRightMixed, MayAttemptAll, AttemptsAll, MismatchesAmid};
 ghost use Rattle.eve_replica_crew.specs.FirstWorkers.{StaysAt};
 ghost use Rattle.eve_replica_crew.specs.Parts.{assigned_batches};
 ghost use Rattle.eve_replica_crew.specs.Sharing.{IsRightAssignment};
@@ -191,9 +192,9 @@ impl<'n> Replica<'n> {
     /// docs/TRACE.md, "The deployment's procedure". `has_room`, `next_number`, `view` and `is_next_serial` say what the
     /// conditions ask; the next number is at most `MOST_BATCHES`. The gate is entered before each execution, with the
     /// request's index. Nothing that the threads did is believed: the attempt is what the replica's own account makes
-    /// of the records that they noted (`AreNotedOf`, `Closes`). The fault is one worker's, where several have one. Each
-    /// fault but `Broken` leaves the account as it was, and breaks the replica until `rollback` succeeds. May wait for
-    /// other threads.
+    /// of the records that they noted (`AreNotedOf`, `Closes`). `Mismatch` comes only where some that they noted make
+    /// none. Any other fault is one worker's, where several have one. Each fault but `Broken` leaves the account as it
+    /// was, and breaks the replica until `rollback` succeeds. May wait for other threads.
     pub fn run_attempt<R: Threads + Wait + Sync, G: Gate>(
         &mut self,
         rt: &R,
@@ -210,6 +211,8 @@ impl<'n> Replica<'n> {
         requires batch { IsTrue (is_batch (plain batch.now)) }
         ensures attempted { IfOk result (λ a. Attempts view serial self.old self.new (plain batch.now) (attempt a)) }
         ensures refused { IfErr result (λ why. FailsAttempt why self.old self.new) }
+        ensures mismatch { let front = front_of self.old.ledger view serial in
+            IfErr result (IsMismatchOnly (MismatchesNoted front self.old (plain batch.now))) }
     {
         if self.account.is_broken {
             return Err(AttemptFault::Broken);
@@ -244,6 +247,7 @@ impl<'n> Replica<'n> {
         requires due { MayAttemptAll self.old window.now }
         ensures on { OnOk result (AttemptsAll window.now self.old steps.old self.new steps.new) }
         ensures broken { OnErr result (self.new.is_broken ≡ true) }
+        ensures mismatch { IfErr result (IsMismatchOnly (MismatchesAmid window.now self.old self.new)) }
     {
         let workers = self.workers.many();
         let serial = self.is_next_serial();
@@ -258,6 +262,8 @@ impl<'n> Replica<'n> {
             ensures on { OnOk result
                 (AttemptsAll window.entry.now account.entry.now steps.entry.now account.exit.now steps.exit.now) }
             ensures broken { IfErr result (λ given. IfSome given (λ _. account.exit.now.is_broken ≡ true)) }
+            ensures mismatch { IfErr result (λ given. IfSome given
+                (IsMismatchOnly (MismatchesAmid window.entry.now account.entry.now account.exit.now))) }
             ensures same { KeepsCrew account.entry.now account.exit.now }
         { lead_each(rt, alloc, lead, account, steps, window, gate) };
         let ran = run_batches(

@@ -5,15 +5,15 @@ ghost use Rattle.eve_grammar.specs.Trace.{Vote};
 ghost use Rattle.eve_write.specs.Data.{batch as plain};
 ghost use Rattle.eve_replica.specs.declared.standing.Standing.{Standing};
 ghost use Rattle.eve_replica.specs.Deciding.{AreUndecided};
-ghost use Rattle.eve_replica.specs.RunFaults.{MayEnd};
+ghost use Rattle.eve_replica.specs.RunFaults.{EndsSoFar, IsLongOnly};
 ghost use Rattle.eve_replica.specs.Sections.{RunPlan};
 ghost use Rattle.eve_replica.specs.Serving.{IsRightMixed, Serves, AreBatchesFrom, AreWholeWindow};
 ghost use Rattle.eve_replica.specs.Serving.{IsSameRun, IsUnderWay};
 ghost use Rattle.eve_replica.specs.Serving.{after_attempts, after_commit, after_rollback, commit_move, rollback_move};
-ghost use Rattle.eve_replica.specs.Serving.{IsDecision, IsLeft, count_with, live_in, sections_in};
+ghost use Rattle.eve_replica.specs.Serving.{IsDecision, IsLeft, count_with, live_in, sections_in, states_len};
 ghost use Rattle.eve_replica.specs.Handing.{CommitsOrWaits, IsLentByFirst, MayTakeOverOrStay, TakesOverOrStays};
 ghost use Rattle.std.specs.List.{AllZip, Any};
-ghost use Rattle.eve_replica.specs.Taken.{AreCommittedByMost, AreTakenIn};
+ghost use Rattle.eve_replica.specs.Taken.{AreCommittedByMost, AreTakenIn, states_in};
 ghost use Rattle.std.specs.Prelude.{◌*◌, ◌⊎◌, ℕ, true, false, IsTrue, IfOk, IfErr};
 ghost use Rattle.std.specs.Arc.{arc_value};
 ghost use Rattle.eve_grammar.specs.Bodies.{transfer};
@@ -69,7 +69,10 @@ impl<'n, 'b> RunState<'n, 'b> {
         ensures none_open { OnOk result (self.new.standing.opened ≡ 0) }
         ensures same { OnOk result (IsSameRun self.old self.new) }
         ensures view { OnOk result (self.new.standing.view ≤ self.old.standing.view + 1) }
-        ensures why { IfErr result (MayEnd self.old.head.version) }
+        ensures further { OnOk result (self.old.standing.committed + self.old.standing.view
+            < self.new.standing.committed + self.new.standing.view) }
+        ensures why { IfErr result (λ why. (p : RunPlan) → IsUnderWay p self.old
+            → EndsSoFar p self.old.head.replicas why) }
     {
         let batches = self.batches;
         let from = self.standing.committed as usize;
@@ -94,7 +97,10 @@ impl<'n, 'b> RunState<'n, 'b> {
         ensures view { OnOk result (self.new.standing.view ≤ self.old.standing.view + 1) }
         ensures same_view { 0 < self.new.standing.opened
             → OnOk result (self.new.standing.view ≡ self.old.standing.view) }
-        ensures why { IfErr result (MayEnd self.old.head.version) }
+        ensures further { OnOk result (self.old.standing.committed + self.old.standing.view
+            < self.new.standing.committed + self.new.standing.view) }
+        ensures why { IfErr result (λ why. (p : RunPlan) → IsUnderWay p self.old
+            → EndsSoFar p self.old.head.replicas why) }
     {
         match decided(self.servers.as_slice()) {
             Some(token) => self.commit(alloc, token),
@@ -114,7 +120,8 @@ impl<'n, 'b> RunState<'n, 'b> {
         ensures under_way { (p : RunPlan) → IsUnderWay p self.old → OnOk result (IsUnderWay p self.new) }
         ensures same { OnOk result (IsSameRun self.old self.new) }
         ensures standing { OnOk result (self.new.standing ≡ after_commit self.old.standing) }
-        ensures why { IfErr result (MayEnd self.old.head.version) }
+        ensures why { IfErr result (λ why. (p : RunPlan) → IsUnderWay p self.old
+            → EndsSoFar p self.old.head.replicas why) }
     {
         let seq = self.standing.committed + 1;
         let batches = self.batches.len();
@@ -175,6 +182,7 @@ fn attempt_all<R: Threads + Wait + Sync, G: Gate>(
     ensures taken { (p : RunPlan) (at : Standing) (votes : List Vote) → All (Serves p at votes) servers.old
         → AreTakenIn p (sections_in servers.old) → OnOk result (AreTakenIn p (sections_in servers.new)) }
     ensures undecided { AreUndecided (sections_in servers.old) → OnOk result (AreUndecided (sections_in servers.new)) }
+    ensures states { OnOk result (states_in (sections_in servers.old) ≤ states_in (sections_in servers.new)) }
 {
     attempt_each(rt, alloc, servers, window, gate)?;
     Ok(())
@@ -206,7 +214,11 @@ fn commit_each(
         → IsLeft p.batches at → AreTakenIn p (sections_in servers.old)
         → OnOk result (AreTakenIn p (sections_in servers.new)) }
     ensures undecided { AreUndecided (sections_in servers.old) → OnOk result (AreUndecided (sections_in servers.new)) }
-    ensures why { IfErr result (MayEnd head.now.version) }
+    ensures spent { head.now.version ≡ 2
+        → OnOk result (room.old + states_len head.now.customers (states_in (sections_in servers.old))
+        ≤ room.new + states_len head.now.customers (states_in (sections_in servers.new))) }
+    ensures why { let others = length servers.old - count_with token servers.old in
+        IfErr result (IsLongOnly ((head.now.version ≡ 2) × (room.old < states_len head.now.customers others))) }
 {
     if head.version == 1 {
         commit_all(servers, seq, token)?;
@@ -259,6 +271,9 @@ fn commit_or_take_over(
         → IsLeft p.batches at → AreTakenIn p (sections_in servers.old)
         → OnOk result (AreTakenIn p (sections_in servers.new)) }
     ensures undecided { AreUndecided (sections_in servers.old) → OnOk result (AreUndecided (sections_in servers.new)) }
+    ensures states { let others = length servers.old - count_with token servers.old in
+        OnOk result (states_in (sections_in servers.old) + others ≤ states_in (sections_in servers.new)) }
+    ensures why { IfErr result (IsLongOnly ⊥) }
 {
     commit_or_wait_all(servers, seq, token)?;
     if have_all_committed(servers, seq) {
@@ -302,6 +317,7 @@ fn state_committed(
     requires { Any (λ s. s.replica.ledger.committed ≡ seq) servers.now }
     ensures lent { IfOk result (λ x. IsLentByFirst seq servers.now (transfer (arc_value x))) }
     ensures right { IfOk result (λ x. IsTrue (is_transfer (2 * head.now.customers) (transfer (arc_value x)))) }
+    ensures why { IfErr result (IsLongOnly ⊥) }
 {
     for server in servers {
         if server.replica.committed() == seq {
@@ -325,11 +341,14 @@ fn take_over_all(servers: &mut [Server], state: &Arc<TransferData>) -> Result<()
 
 /// Takes from the room the bytes of a Transfer frame for each replica without this token.
 fn spend(room: &mut u64, head: &Head, servers: &[Server], token: [u8; 32]) -> Result<(), RunFault>
-    ensures { IfErr result (λ why. why ≡ RunFault.TooLong) }
+    ensures spent { let others = length servers.now - count_with token servers.now in
+        OnOk result (room.old ≤ room.new + states_len head.now.customers others) }
+    ensures long { let others = length servers.now - count_with token servers.now in
+        IfErr result (IsLongOnly (room.old < states_len head.now.customers others)) }
 {
     let others = servers.len().saturating_sub(count_with(servers, token));
-    let bytes = TRANSFER_HEAD_LEN.saturating_add(ROW_LEN.saturating_mul(2 * head.customers as u64));
-    let bytes = bytes.saturating_mul(others as u64);
+    let each = TRANSFER_HEAD_LEN + ROW_LEN * (2 * u64::from(head.customers));
+    let bytes = (others as u64).saturating_mul(each);
     if *room < bytes {
         return Err(RunFault::TooLong);
     }
@@ -352,6 +371,7 @@ fn roll_back_all(servers: &mut [Server], alloc: Global) -> Result<(), AllocError
     ensures undecided { (p : RunPlan) (at : Standing) (votes : List Vote) → p.first.opened ≡ []
         → All (Serves p at votes) servers.old → IsDecision None servers.old → AreUndecided (sections_in servers.old)
         → OnOk result (AreUndecided (sections_in servers.new)) }
+    ensures states { OnOk result (states_in (sections_in servers.old) ≤ states_in (sections_in servers.new)) }
 {
     for server in servers.iter_mut() {
         server.roll_back(alloc)?;

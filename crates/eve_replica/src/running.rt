@@ -4,8 +4,8 @@ ghost use Rattle.std.specs.Prelude.{◌≡◌, ◌≤◌, ◌<◌, ◌*◌, ◌�
 ghost use Rattle.eve_grammar.specs.Trace.{opening_rows};
 ghost use Rattle.eve_write.specs.Data.{batch as plain, customer, section, sent};
 ghost use Rattle.eve_workload.specs.Workload.{customer_names};
-ghost use Rattle.eve_replica.specs.Run.{IsRunOf};
-ghost use Rattle.eve_replica.specs.RunFaults.{MayEnd};
+ghost use Rattle.eve_replica.specs.Run.{IsRunOf, run_plan};
+ghost use Rattle.eve_replica.specs.RunFaults.{EndsSoFar, MayEnd};
 ghost use Rattle.eve_replica.specs.Sections.{RunPlan};
 ghost use Rattle.eve_replica.specs.Sending.{sent_from_on};
 ghost use Rattle.eve_replica.specs.Serving.{IsRightMixed, IsPlanFor, Serves, IsUnderWay, IsSameRun, AreReplies};
@@ -38,7 +38,8 @@ use std::thread::Threads;
 /// gate is entered before each execution, with the request's index; in a long window several replicas enter it at once.
 /// It fails with `Memory` where memory runs out, with `Broken` where a replica fails otherwise, or where some batch
 /// isn't committed after two windows for each batch. In format 2 it also fails with `TooLong`, where the states that
-/// are taken over would alone fill a trace. May wait for other threads.
+/// are taken over so far, and those that would be next, have in their frames alone more bytes than a trace may. May
+/// wait for other threads.
 pub fn run<R: Threads + Wait + Sync, G: Gate>(
     rt: &R,
     alloc: Global,
@@ -50,6 +51,7 @@ pub fn run<R: Threads + Wait + Sync, G: Gate>(
     requires { (1 ≤ workload.now.format) × (workload.now.format ≤ NEWEST_VERSION) }
     ensures run { IfOk result (IsRunOf workload.now mixer) }
     ensures why { IfErr result (MayEnd workload.now.format) }
+    ensures so_far { IfErr result (EndsSoFar (run_plan workload.now mixer) workload.now.deployment.replicas) }
 {
     run_consuming(rt, alloc, workload.copy(alloc)?, mixer, random, gate)
 }
@@ -69,6 +71,7 @@ pub fn run_consuming<R: Threads + Wait + Sync, G: Gate>(
     requires { (1 ≤ workload.format) × (workload.format ≤ NEWEST_VERSION) }
     ensures run { IfOk result (IsRunOf workload mixer) }
     ensures why { IfErr result (MayEnd workload.format) }
+    ensures so_far { IfErr result (EndsSoFar (run_plan workload mixer) workload.deployment.replicas) }
 {
     let customers = workload.customers().to_vec(alloc)?;
     let names = names_of(alloc, customers.as_slice(), random)?;
@@ -88,6 +91,7 @@ fn run_named<R: Threads + Wait + Sync, G: Gate>(
     requires format { (1 ≤ workload.format) × (workload.format ≤ NEWEST_VERSION) }
     ensures run { IfOk result (IsRunOf workload mixer) }
     ensures why { IfErr result (MayEnd workload.format) }
+    ensures so_far { IfErr result (EndsSoFar (run_plan workload mixer) workload.deployment.replicas) }
 {
     let head = workload.head();
     let (customers, listed) = workload.into_lists();
@@ -168,7 +172,8 @@ fn run_windows<R: Threads + Wait + Sync, G: Gate>(
     ensures same { OnOk result (IsSameRun state.old state.new) }
     ensures done { OnOk result (state.new.standing.committed ≡ length state.old.batches.now) }
     ensures view { OnOk result (state.new.standing.view ≤ 2 * length state.old.batches.now) }
-    ensures why { IfErr result (MayEnd state.old.head.version) }
+    ensures why { IfErr result (λ why. (p : RunPlan) → IsUnderWay p state.old
+        → EndsSoFar p state.old.head.replicas why) }
 {
     let batches = state.batches;
     for turn in 0..2 * batches.len() {
@@ -178,6 +183,8 @@ fn run_windows<R: Threads + Wait + Sync, G: Gate>(
         state.run_window(rt, alloc, gate)?;
     }
     if (state.standing.committed as usize) < batches.len() {
+        // some batch was the first of those that were rolled back twice
+        prove!(state.standing.view as usize > batches.len());
         return Err(RunFault::Broken);
     }
     Ok(())

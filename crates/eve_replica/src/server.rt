@@ -2,7 +2,7 @@
 
 ghost use Rattle.std.specs.Prelude.{◌≡◌, true, false, ◌+◌, ◌-◌, ◌<◌, ◌^◌, [], ◌∷◌, ◌++◌, IsTrue, IsSome};
 ghost use Rattle.std.specs.Prelude.{OnOk, OnErr, length};
-ghost use Rattle.std.specs.Prelude.{◌≢◌, ◌*◌, ℕ, List, IfOk};
+ghost use Rattle.std.specs.Prelude.{◌≢◌, ◌*◌, ℕ, List, IfErr, IfOk};
 ghost use Rattle.std.specs.Arc.{arc_value};
 ghost use Rattle.eve_grammar.specs.Bodies.{transfer};
 ghost use Rattle.eve_grammar.specs.Limits.{is_step, is_transfer};
@@ -10,6 +10,7 @@ ghost use Rattle.eve_grammar.specs.Trace.{TakesOver};
 ghost use Rattle.eve_attempts.specs.Ledgers.{ledger_rows};
 ghost use Rattle.eve_write.specs.Data.{section, step as plain};
 ghost use Rattle.eve_replica.specs.Deciding.{is_some_of};
+ghost use Rattle.eve_replica.specs.RunFaults.{IsLongOnly};
 ghost use Rattle.eve_replica.specs.Sections.{RunPlan};
 ghost use Rattle.eve_replica.specs.Serving.{AreRightSteps, GoesOn, GivesUpNext};
 ghost use Rattle.eve_replica.specs.Serving.{AttemptsIfLive, AttemptsUnbroken, IsDueTo};
@@ -158,6 +159,7 @@ impl<'n> Server<'n> {
         ensures lent { IfOk result (λ x. IsLentBy self.now (transfer (arc_value x))) }
         ensures right { IfOk result (λ x. IsTrue (is_transfer (2 * head.now.customers) (transfer (arc_value x)))) }
         ensures version { IfOk result (λ x. head.now.version ≡ 2) }
+        ensures why { IfErr result (IsLongOnly ⊥) }
     {
         let state = TransferData {
             seq: self.replica.committed(),

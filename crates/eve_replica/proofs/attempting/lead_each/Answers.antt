@@ -1,5 +1,5 @@
 use Rattle.std.proofs.Common.{◌≡◌, ℕ, ◌+◌, ◌<◌, List, ◌∷◌, refl, sym, ◌∙◌, ap, map, length, drop, get_or, option_map}
-use Rattle.std.proofs.Common.{subst, arith}
+use Rattle.std.proofs.Common.{true, subst, arith}
 use Rattle.std.proofs.lemmas.List.{drop_more, get_or-map, length-map}
 use Rattle.std.proofs.lemmas.Option.{slice_get-map, slice_get_read}
 use Rattle.eve_grammar.specs.Trace.{Batch}
@@ -10,6 +10,9 @@ use Rattle.eve_replica.specs.Serving.{GoesOn, IsRightMixed, attempt_move, server
 use Rattle.eve_stamps.specs.Applied.{Applied}
 use Rattle.eve_replica_crew.specs.Recording.{AreNotedOf}
 use Rattle.eve_replica.proofs.Going.{one_more}
+use Rattle.eve_replica.specs.Replicas.{MismatchesDue, Replica}
+use Rattle.eve_replica.specs.Serving.{MismatchesAmid}
+use Rattle.eve_replica.proofs.Mismatches.{mismatch_so, still_due}
 use Rattle.eve_replica.proofs.Noted.{left_next, noted_next}
 use Rattle.eve_replica.proofs.OneStep.{none_made}
 use Rattle.eve_replica.proofs.attempting.lead_each.Goals as goal
@@ -105,3 +108,21 @@ add_attempt-requires-clause-noted g c =
     c.index-window-place.is)
     c.loop-place.account.names
     (c.loop-place.invariant.stays.1 ∙ c.requires.over ∙ sym c.loop-place.invariant.same.0))
+
+pub returns-in-Err-clause-mismatch : goal.returns-in-Err-clause-mismatch
+returns-in-Err-clause-mismatch g c =
+    let window = c.args.window.now in
+    let mixed : MixedBatch = c.index-window-place.result in
+    let b = batch mixed.batch in
+    let was : Replica = c.loop-place.account in
+    let new : Replica = c.add_attempt.new.account in
+    let stands = ap (λ (s : Standing). s.opened) (c.loop-place.invariant.on.live refl).1 in
+    mismatch_so (MismatchesDue was b × (new ≡ record was { is_broken = true }))
+    (MismatchesAmid window c.args.account.now new) c.in-Err.why
+    (λ made. record {
+      made = c.loop-place.place;
+      opened = let same = ap (λ (r : Replica). length r.ledger.opened) made.1 in omega (arith, same, stands);
+      mixed = mixed;
+      next = slice_get_read window (length window) c.loop-place.place mixed refl (omega arith) c.index-window-place.is;
+      mismatched = subst (λ (r : Replica). MismatchesDue r b) (sym made.1) (still_due was b made.0);
+    }) c.in-Err.ensures.mismatch

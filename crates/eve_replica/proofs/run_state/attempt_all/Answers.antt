@@ -10,6 +10,7 @@ use Rattle.eve_replica.proofs.Going.{serve_on, live_on, due, none_missing}
 use Rattle.eve_replica.proofs.ByMost.{still_by_most}
 use Rattle.eve_replica.proofs.Taking.{still_rightly_taken}
 use Rattle.eve_replica.proofs.Undecided.{still_undecided}
+use Rattle.eve_replica.proofs.States.{states_on}
 use Rattle.eve_replica.proofs.Windows.{window_attempted}
 use Rattle.eve_replica.proofs.run_state.attempt_all.Goals as goal
 
@@ -71,3 +72,11 @@ returns-clause-taken g c = λ p at votes serve right.
     (all_so (AttemptsIfLive c.args.window.now)
     (GoesOn (attempts_of c.args.window.now)) c.args.servers.now c.attempt_each.new.servers
     (λ old new m. m.0) all) serve right
+
+pub returns-clause-states : goal.returns-clause-states
+returns-clause-states g c =
+    let all = c.in_ok-attempt_each.ensures.on in
+    states_on (attempts_of c.args.window.now) c.args.servers.now c.attempt_each.new.servers
+    (all_so (AttemptsIfLive c.args.window.now)
+    (GoesOn (attempts_of c.args.window.now)) c.args.servers.now c.attempt_each.new.servers
+    (λ old new m. m.0) all)

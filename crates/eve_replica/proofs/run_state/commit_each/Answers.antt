@@ -1,6 +1,8 @@
-use Rattle.std.proofs.Common.{◌≡◌, ◌≢◌, ◌⊎◌, ℕ, ◌*◌, ◌<◌, length, ◌∙◌, inl, inr, arith}
+use Rattle.std.proofs.Common.{◌≡◌, ◌≢◌, ◌⊎◌, ℕ, ◌+◌, ◌-◌, ◌*◌, ◌<◌, ◌≤◌, length, ◌∙◌, inl, inr, arith}
 use Rattle.std.proofs.lemmas.Result.{on_ok_weaker}
-use Rattle.eve_replica.specs.Serving.{count_with, live_in}
+use Rattle.eve_replica.specs.Serving.{count_with, live_in, sections_in}
+use Rattle.eve_replica.specs.Taken.{states_in}
+use Rattle.eve_replica.proofs.States.{room_spent}
 use Rattle.eve_replica.proofs.run_state.commit_each.Goals as goal
 
 -- a version that isn't the first
@@ -40,3 +42,14 @@ returns-clause-majority c =
     (λ (same : live_in c.commit_or_take_over.new.servers ≡ live_in c.args.servers.now).
     omega (arith, c.requires.majority, c.commit_or_take_over.auto.servers, same))
     c.commit_or_take_over.ensures.live
+
+pub returns-clause-spent : goal.returns-clause-spent
+returns-clause-spent c = λ two.
+    let customers = c.args.head.now.customers in
+    let was = states_in (sections_in c.args.servers.now) in
+    let all = states_in (sections_in c.commit_or_take_over.new.servers) in
+    let others = length c.args.servers.now - count_with c.args.token c.args.servers.now in
+    on_ok_weaker c.commit_or_take_over.result
+    (λ (more : was + others ≤ all).
+    room_spent customers c.args.room.now c.spend.new.room was others all c.in_ok-spend.ensures.spent more)
+    c.commit_or_take_over.ensures.states

@@ -8,6 +8,7 @@ use Rattle.eve_replica.specs.Handing.{CommitsOrWaits, TakesOverOrStays}
 use Rattle.eve_replica.proofs.Committing.{all_ready, all_came, all_came_taken, some_came, some_came_taken, came_served}
 use Rattle.eve_replica.proofs.Committing.{came_by_most, live_by, any_committed, may_all}
 use Rattle.eve_replica.proofs.Each.{all_in_pairs}
+use Rattle.eve_replica.proofs.States.{all_add, some_add, states_added}
 use Rattle.eve_replica.proofs.Undecided.{still_undecided}
 use Rattle.eve_replica.proofs.run_state.commit_or_take_over.Goals as goal
 
@@ -173,3 +174,28 @@ returns-clause-undecided c =
     let came = some_came c.args.token c.args.seq x was mids servers are (lent.lent.seq ∙ lent.committed) waits takes in
     still_undecided (GoesOn (commit_move c.args.token)) was servers came.on
     (λ view old new goes. goes.given_up view (λ enters. omega arith))
+
+pub returns-then-have_all_committed-clause-states : goal.returns-then-have_all_committed-clause-states
+returns-then-have_all_committed-clause-states c =
+    let r = c.requires.serve in
+    let was = c.args.servers.now in
+    let mids = c.commit_or_wait_all.new.servers in
+    let are = all_ready r.0 r.1 r.2 c.args.seq was r.4 r.6 r.3 in
+    let waits = all_in_pairs (CommitsOrWaits c.args.token) was mids c.in_ok-commit_or_wait_all.ensures in
+    states_added c.args.token was mids
+    (all_add c.args.token c.args.seq was mids are waits (c.have_all_committed.ensures c.if-have_all_committed.true))
+
+pub returns-clause-states : goal.returns-clause-states
+returns-clause-states c =
+    let r = c.requires.serve in
+    let was = c.args.servers.now in
+    let mids = c.commit_or_wait_all.new.servers in
+    let servers = c.take_over_all.new.servers in
+    let x : Transfer = transfer (arc_value c.in_ok-state.state) in
+    let lent = c.in_ok-state.ensures.lent in
+    let are = all_ready r.0 r.1 r.2 c.args.seq was r.4 r.6 r.3 in
+    let waits = all_in_pairs (CommitsOrWaits c.args.token) was mids c.in_ok-commit_or_wait_all.ensures in
+    let takes = all_in_pairs (TakesOverOrStays c.args.token x) mids servers
+    (c.in_ok-take_over_all.ensures c.args.token) in
+    states_added c.args.token was servers
+    (some_add c.args.token c.args.seq x was mids servers are (lent.lent.seq ∙ lent.committed) waits takes)

@@ -3,6 +3,7 @@ use Rattle.eve_replica.specs.declared.standing.Standing.{Standing}
 use Rattle.eve_replica.specs.Serving.{Serves, GoesOn, GivesUpNext, rollback_move}
 use Rattle.eve_replica.proofs.Each.{none_on, one_on, all_on, all_so, still}
 use Rattle.eve_replica.proofs.Going.{Discards, open_there, serve_on, live_on}
+use Rattle.eve_replica.proofs.States.{states_on}
 use Rattle.eve_replica.proofs.Windows.{window_rolled_back}
 use Rattle.eve_replica.proofs.ByMost.{still_by_most}
 use Rattle.eve_replica.proofs.Taking.{still_rightly_taken}
@@ -77,3 +78,10 @@ returns-clause-taken c = λ p at votes serve right.
     c.loop-server.invariant in
     still_rightly_taken p at votes rollback_move c.args.servers.now c.loop-server.servers refl
     (all_so Discards (GoesOn rollback_move) c.args.servers.now c.loop-server.servers (λ old new m. m.0) all) serve right
+
+pub returns-clause-states : goal.returns-clause-states
+returns-clause-states c =
+    let all = all_on Discards c.args.servers.now c.loop-server.server-index c.loop-server.servers (omega arith)
+    c.loop-server.invariant in
+    states_on rollback_move c.args.servers.now c.loop-server.servers
+    (all_so Discards (GoesOn rollback_move) c.args.servers.now c.loop-server.servers (λ old new m. m.0) all)

@@ -33,6 +33,7 @@ returns-clause-under_way c =
     let first = ap (λ zs. opening h.version zs h.workers h.window) (sym c.in_ok-balances.ensures) in
     let serve = c.in_ok-servers.ensures.serve p (refl, first) in
     record {
+      none_reached = refl;
       begun = begun;
       customers = ap length c.requires.named ∙ length-map (map customer c.args.customers.now) (λ x. x.name)
           ∙ length-map c.args.customers.now customer ∙ c.requires.customers;
@@ -56,5 +57,6 @@ returns-clause-under_way c =
       committed = λ n some few. absurd (omega arith);
       taken = begun_taken p servers.items refl serve;
       undecided = begun_undecided p servers.items begun serve;
+      spent = λ two. omega arith;
       votes = none_voted (length c.args.batches.now) c.new.result.items c.new.ensures.items;
     }

@@ -1,6 +1,7 @@
 use Rattle.std.proofs.Common.{◌≡◌, ℕ, zero, suc, ◌≤◌, ◌⊎◌, inl, inr, All, IsTrue, List, length, map, refl, sym, ◌∙◌}
 use Rattle.std.proofs.Common.{ap, subst, arith}
 use Rattle.std.proofs.lemmas.List.{length-map}
+use Rattle.std.proofs.lemmas.Result.{IfErr-weaker}
 use Rattle.std.specs.List.{list_all}
 use Rattle.eve_grammar.specs.Trace.{Customer, Vote, head_of, opening_rows}
 use Rattle.eve_grammar.specs.declared.head.Head as header
@@ -18,10 +19,15 @@ use Rattle.eve_replica.specs.Serving.{IsRightMixed, AreVotesOn, AreReplies, IsUn
 use Rattle.eve_workload.specs.Mixing.{cut, batch_with}
 use Rattle.eve_workload.specs.Workload.{customer_names, head_asked, is_listed}
 use Rattle.eve_replica.specs.Run.{batches_cut, run_plan}
+use Rattle.eve_replica.specs.RunFaults.{EndsSoFar}
+use Rattle.eve_replica.specs.declared.fault.RunFault.{RunFault}
+use Rattle.eve_replica.proofs.CameSoFar.{ends_in}
+use Rattle.eve_replica.specs.Sections.{RunPlan}
 use Rattle.eve_replica.specs.Sending.{sent_from_on}
 use Rattle.eve_grammar.proofs.HeadLimits.{head_has_limits, few_customers}
 use Rattle.eve_replica.proofs.Parts.{same_head, spelled}
 use Rattle.eve_replica.proofs.Sectioned.{run_of, plan_is, copies_gave}
+use Rattle.eve_replica.proofs.WhereWell.{at_err}
 use Rattle.eve_replica.proofs.running.run_named.Goals as goal
 
 -- what is the number of a format
@@ -199,3 +205,36 @@ run_windows-requires-clause-under_way g c κs within =
       plan_with c.args.names.now.items opened c.head-head.result c.as_slice-2.result.now,
       c.in_ok-state.ensures.under_way,
     )
+
+pub returns-in_err-run_windows-clause-so_far : goal.returns-in_err-run_windows-clause-so_far
+returns-in_err-run_windows-clause-so_far g c =
+    let w = c.args.workload in
+    let h : Head = c.head-head.result in
+    let mixed : List MixedBatch = c.in_ok-batches.batches.items in
+    let slice : List MixedBatch = c.as_slice-2.result.now in
+    let opened = opening_rows (map customer c.as_slice.result.now) in
+    let plan = plan_with c.args.names.now.items opened h slice in
+    let asked : h ≡ head_asked w = c.head-head.ensures.head in
+    let cuts : map (λ m. batch m.batch) mixed ≡ batches_cut w c.args.mixer =
+    c.in_ok-batches.ensures.cut
+    ∙ (λ k. map (λ requests. batch_with (cut (c.requires.named k) c.args.mixer requests))
+    (c.into_lists-customers.ensures.batches k)) in
+    let start : opened ≡ opening_rows w.customers =
+    ap (λ (cs : List CustomerData). opening_rows (map customer cs)) c.as_slice.ensures.value
+    ∙ ap opening_rows c.into_lists-customers.ensures.customers in
+    let is : plan ≡ run_plan w c.args.mixer =
+    plan_is w c.args.mixer c.args.names.now.items opened h slice
+    c.requires.named start (ap (λ (x : Head). x.version) asked) (ap (λ (x : Head). x.workers) asked)
+    (ap (λ (x : Head). x.window) asked)
+    (ap (map (λ m. batch m.batch)) c.as_slice-2.ensures.value ∙ cuts) in
+    let why = c.in_err-run_windows.field-0.0 in
+    at_err c.from_residual-in_err-run_windows.result _ why c.from_residual-in_err-run_windows.ensures.1
+    (subst (λ (x : Head). EndsSoFar (run_plan w c.args.mixer) x.replicas why) (c.in_ok-state.ensures.head ∙ asked)
+    (subst (λ (p : RunPlan). EndsSoFar p c.in_ok-state.state.head.replicas why) is
+    (c.in_err-run_windows.ensures.why plan c.in_ok-state.ensures.under_way)))
+
+pub returns-in_err-run_windows-clause-why : goal.returns-in_err-run_windows-clause-why
+returns-in_err-run_windows-clause-why g c =
+    IfErr-weaker c.from_residual-in_err-run_windows.result _ _
+    (λ (why : RunFault). ends_in c.args.workload c.args.mixer c.args.workload.deployment.replicas why)
+    (returns-in_err-run_windows-clause-so_far g c)

@@ -1,4 +1,4 @@
-use Rattle.std.proofs.Common.{◌≡◌, ◌≤◌}
+use Rattle.std.proofs.Common.{◌≡◌, ◌≤◌, ◌+◌}
 use Rattle.eve_replica.specs.Sections.{RunPlan}
 use Rattle.eve_replica.specs.Serving.{IsSameRun, IsUnderWay}
 use Rattle.eve_replica.proofs.running.run_windows.Given as goal
@@ -9,4 +9,5 @@ invariant-loop-turn g l = record {
   same : IsSameRun l.fn.state l.state;
   none_open : l.state.standing.opened ≡ 0;
   view : l.state.standing.view ≤ l.turn;
+  further : l.turn ≤ l.state.standing.committed + l.state.standing.view;
 }

@@ -1,10 +1,14 @@
-use Rattle.std.proofs.Common.{Some, List, All, map, sym, ◌∙◌, subst, arith}
+use Rattle.std.proofs.Common.{◌≡◌, ◌-◌, ◌<◌, Some, List, All, length, map, sym, ◌∙◌, subst, arith}
 use Rattle.eve_grammar.specs.Trace.{Vote}
 use Rattle.eve_write.specs.Data.{vote}
 use Rattle.eve_replica.specs.declared.server.Server.{Server}
-use Rattle.eve_replica.specs.Serving.{Serves, IsDecision, after_commit}
+use Rattle.eve_replica.specs.RunFaults.{IsLongOnly}
+use Rattle.eve_replica.specs.Sections.{RunPlan}
+use Rattle.eve_replica.specs.Serving.{Serves, IsDecision, IsUnderWay, after_commit, count_with, states_len}
+use Rattle.eve_replica.proofs.CameSoFar.{commit_ends}
 use Rattle.eve_replica.proofs.Going.{lent_serve, lent_undecided, moved}
-use Rattle.eve_replica.proofs.UnderWay.{batch_left, lent_majority, lent_before, lent_taken}
+use Rattle.eve_replica.proofs.UnderWay.{batch_left, lent_majority, lent_before, lent_spends, lent_taken}
+use Rattle.eve_replica.proofs.WhereWell.{at_err}
 use Rattle.eve_replica.proofs.run_state.RunState.commit.Goals as goal
 
 pub commit_each-requires-clause-serve : goal.commit_each-requires-clause-serve
@@ -52,3 +56,16 @@ returns-clause-under_way c = λ p was.
     made.majority (made.committed (lent_before p d lent was same))
     (made.taken p d.standing votes serve left (lent_taken p d lent was same))
     (made.undecided (lent_undecided p d lent was same))
+    (λ two. lent_spends p d lent c.commit_each.new.servers c.commit_each.new.room was same two (made.spent two))
+
+pub returns-in_err-commit_each-clause-why : goal.returns-in_err-commit_each-clause-why
+returns-in_err-commit_each-clause-why c =
+    let d = c.args.self.now in
+    let same = c.as_mut_slice.ensures.value in
+    let why = c.in_err-commit_each.field-0.0 in
+    at_err c.from_residual-in_err-commit_each.result _ why c.from_residual-in_err-commit_each.ensures.1
+    (λ (p : RunPlan) (was : IsUnderWay p d).
+    commit_ends p d c.args.token why was (omega (arith, was.due)) c.requires.decided
+    (subst (λ (ss : List Server). IsLongOnly ((d.head.version ≡ 2)
+    × (d.room < states_len d.head.customers (length ss - count_with c.args.token ss))) why) same
+    c.in_err-commit_each.ensures.why))

@@ -4,7 +4,7 @@ use Rattle.eve_write.specs.Data.{vote}
 use Rattle.eve_replica.specs.declared.server.Server.{Server}
 use Rattle.eve_replica.specs.Serving.{Serves, after_rollback, live_in, IsDecision}
 use Rattle.eve_replica.proofs.Going.{lent_serve, lent_undecided, moved, still_majority}
-use Rattle.eve_replica.proofs.UnderWay.{batch_left, lent_majority, lent_by_most, lent_taken}
+use Rattle.eve_replica.proofs.UnderWay.{batch_left, lent_majority, lent_by_most, lent_spent, lent_taken}
 use Rattle.eve_replica.proofs.run_state.RunState.roll_back.Goals as goal
 
 pub roll_back_all-requires : goal.roll_back_all-requires
@@ -40,3 +40,4 @@ returns-clause-under_way c = λ p was.
     (made.undecided p d.standing votes was.begun serve
     (subst (λ (ss : List Server). IsDecision None ss) (sym same) c.requires.undecided)
     (lent_undecided p d lent was same))
+    (lent_spent p d lent c.roll_back_all.new.servers was same made.states)

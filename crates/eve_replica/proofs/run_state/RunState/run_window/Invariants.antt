@@ -8,6 +8,10 @@ invariant-loop-self g l = record {
   under_way : (p : RunPlan) → IsUnderWay p l.fn.self → IsUnderWay p l.self;
   same : IsSameRun l.fn.self l.self;
   view : l.self.standing.view ≤ l.fn.self.standing.view + 1;
+  never_back : l.fn.self.standing.committed + l.fn.self.standing.view
+      ≤ l.self.standing.committed + l.self.standing.view;
+  further : l.self.standing.opened ≡ 0 → l.fn.self.standing.committed + l.fn.self.standing.view
+      < l.self.standing.committed + l.self.standing.view;
   same_view : 0 < l.self.standing.opened → l.self.standing.view ≡ l.fn.self.standing.view;
 }
 
