@@ -24,8 +24,8 @@ use eve_smallbank::Entry;
 use eve_views::Trace;
 use std::alloc::{AllocError, Global};
 
-/// How many entries are put in order at a time, at least: so many that each row mostly has some, and so few that they
-/// stay in a processor's own memory.
+/// How many entries are put in order at a time, at least: most rows have some among them, and all of them stay in a
+/// processor's own memory.
 const LEAST_ENTRIES: usize = 4096;
 
 /// What all entries of an attempt have.
