@@ -9,13 +9,10 @@ use Rattle.eve_write.specs.declared.parts.Parts.{Parts}
 use Rattle.eve_write.specs.Writing.{Stopped}
 use Rattle.eve_tool.specs.declared.fault.ToolFault.{ToolFault}
 use Rattle.eve_tool.specs.declared.fault.ToolFault.TheVariants as fault
-use Rattle.eve_tool_arguments.specs.Formats.{version_of}
-use Rattle.eve_tool_arguments.specs.declared.format.Format.TheVariants as format
-use Rattle.eve_replica.specs.RunFaults.{MayEnd}
 use Rattle.eve_replica.specs.declared.fault.RunFault.{RunFault}
 use Rattle.eve_replica.specs.declared.fault.RunFault.TheVariants as run
 use Rattle.eve_tool.specs.Fault.{fault_of_run}
-use Rattle.eve_tool.specs.Run.{IsRunnable, Runs, IsRunOfText, StopsRun}
+use Rattle.eve_tool.specs.Run.{EndsRun, Runs, IsRunOfText, StopsRun}
 use Rattle.eve_tool.specs.Calls.{Leaves}
 use Rattle.eve_tool_arguments.specs.Arguments.{Run}
 
@@ -48,17 +45,16 @@ failed_run written failures limit mixer asked bytes p old new short few run fits
   },
 )
 
--- where the run of a workload of the format ends without a trace, it stops for that
-pub ended_stops : (asked : Format) (bytes : List ℕ) (why : RunFault) → IsRunnable asked bytes
-    → MayEnd (version_of asked) why → StopsRun asked bytes (fault_of_run why)
-ended_stops asked bytes run.Memory runs may = tt
-ended_stops asked bytes run.Broken runs may = runs
-ended_stops format.One bytes run.TooLong runs may = absurd (omega (arith, may))
-ended_stops format.Two bytes run.TooLong runs may = runs
+-- where the run of a workload ends without a trace, it stops for that
+pub ended_stops : (mixer : Mixer) (asked : Format) (bytes : List ℕ) (why : RunFault) → EndsRun why mixer asked bytes
+    → StopsRun mixer asked bytes (fault_of_run why)
+ended_stops mixer asked bytes run.Memory ends = tt
+ended_stops mixer asked bytes run.Broken ends = ends
+ended_stops mixer asked bytes run.TooLong ends = ends
 
 -- nothing was sent, where the bytes were not run
 pub unrun_left : {O : Type 0} (written : O → Option (List ℕ)) (failures : O → ℕ) (limit : ℕ) (mixer : Mixer)
-    (asked : Format) (bytes : List ℕ) (out : O) (why : ToolFault) → length bytes ≤ limit → StopsRun asked bytes why
+    (asked : Format) (bytes : List ℕ) (out : O) (why : ToolFault) → length bytes ≤ limit → StopsRun mixer asked bytes why
     → Leaves limit written failures (Run mixer asked) (Some bytes) ⊥ out out why
 unrun_left written failures limit mixer asked bytes out fault.Read short stopped = absurd stopped
 unrun_left written failures limit mixer asked bytes out (fault.Line number) short stopped = ((short, stopped), refl)

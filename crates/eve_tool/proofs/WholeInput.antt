@@ -5,12 +5,13 @@ use Rattle.std.specs.Prelude.{IfSome}
 use Rattle.std.proofs.lemmas.Bool.{cases_lt}
 use Rattle.std.proofs.lemmas.List.{append_cancel_left, length-take, take-append-drop, take_all}
 use Rattle.std.specs.Io.KnownBytes.{Consumes}
+use Rattle.eve_replica.specs.declared.fault.RunFault.TheVariants as ended
 use Rattle.eve_tool.specs.declared.fault.ToolFault.{ToolFault}
 use Rattle.eve_tool.specs.declared.fault.ToolFault.TheVariants as fault
 use Rattle.eve_workload.specs.declared.mixer.Mixer.{Mixer}
 use Rattle.eve_workload.specs.Steps.{IsBadLine}
 use Rattle.eve_tool.specs.Calls.{WasRead, Leaves}
-use Rattle.eve_tool.specs.Run.{IsRunnable, IsTooLong, Runs}
+use Rattle.eve_tool.specs.Run.{EndsRun, IsRunnable, IsTooLong, Runs}
 use Rattle.eve_tool_arguments.specs.Arguments.{Run}
 use Rattle.eve_tool_arguments.specs.Formats.{version_of}
 use Rattle.eve_tool_arguments.specs.declared.format.Format.{Format}
@@ -65,7 +66,7 @@ left_of_all limit written failures mixer asked known failed bytes old new (fault
 left_of_all limit written failures mixer asked known failed bytes old new fault.TooLong all left =
     (of_all all (IsTooLong limit mixer asked) left.0, left.1)
 left_of_all limit written failures mixer asked known failed bytes old new fault.Broken all left =
-    (of_all all (λ b. (length b ≤ limit) × IsRunnable asked b) left.0, left.1)
+    (of_all all (λ b. (length b ≤ limit) × EndsRun ended.Broken mixer asked b) left.0, left.1)
 left_of_all limit written failures mixer asked known failed bytes old new fault.Random all left =
     (of_all all (λ b. (length b ≤ limit) × IsRunnable asked b) left.0, left.1)
 left_of_all limit written failures mixer asked known failed bytes old new fault.Memory all (inl same) = inl same

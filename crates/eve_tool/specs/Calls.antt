@@ -6,12 +6,13 @@ use Rattle.eve_streams.specs.Front.{AppendsFront}
 use Rattle.eve_grammar.specs.declared.limits.TheConstants.{MOST_BYTES}
 use Rattle.eve_workload.specs.Steps.{IsBadLine}
 use Rattle.eve_write.specs.Writing.{Wrote, Stopped}
+use Rattle.eve_replica.specs.declared.fault.RunFault.TheVariants as ended
 use Rattle.eve_tool.specs.declared.fault.ToolFault.{ToolFault}
 use Rattle.eve_tool.specs.declared.fault.ToolFault.TheVariants as fault
 use Rattle.eve_tool.specs.Audit.{Audits}
 use Rattle.eve_tool.specs.Explain.{Explains}
 use Rattle.eve_tool.specs.Fault.{error_line, status_of}
-use Rattle.eve_tool.specs.Run.{Runs, IsTooLong, IsRunnable}
+use Rattle.eve_tool.specs.Run.{Runs, IsTooLong, IsRunnable, EndsRun}
 use Rattle.eve_tool.specs.Show.{Shows}
 use Rattle.eve_tool.specs.Long.{ShowsLong, StopsUpTo}
 use Rattle.eve_tool_arguments.specs.Formats.{version_of}
@@ -36,7 +37,7 @@ HasBadLine limit (Run mixer asked) known number =
     IfSome known (λ bytes. (length bytes ≤ limit) × IsBadLine (version_of asked) bytes number)
 HasBadLine limit _ known number = ⊥
 
--- the bytes are too long for `run`, or the trace of them is, or the states that are taken over may be
+-- the bytes are too long for `run`, or the trace of them is, or a run of them would take over too much
 abbrev pub IsTooLongFor : ℕ → Subcommand → Option (List ℕ) → Type 0
 IsTooLongFor limit (Run mixer asked) known = IfSome known (IsTooLong limit mixer asked)
 IsTooLongFor limit _ known = ⊥
@@ -45,6 +46,12 @@ IsTooLongFor limit _ known = ⊥
 abbrev pub CallRuns : ℕ → Subcommand → Option (List ℕ) → Type 0
 CallRuns limit (Run mixer asked) known = IfSome known (λ bytes. (length bytes ≤ limit) × IsRunnable asked bytes)
 CallRuns limit _ known = ⊥
+
+-- the call runs the bytes, which are not too long, and the run may break: it came so far, and some batch is left
+abbrev pub CallBreaks : ℕ → Subcommand → Option (List ℕ) → Type 0
+CallBreaks limit (Run mixer asked) known =
+    IfSome known (λ bytes. (length bytes ≤ limit) × EndsRun ended.Broken mixer asked bytes)
+CallBreaks limit _ known = ⊥
 
 -- the call asks for random words, once the bytes are read
 abbrev pub AsksForRandom : ℕ → Subcommand → Option (List ℕ) → Type 0
@@ -68,7 +75,7 @@ Leaves limit written failures call known failed old new fault.Read = failed × (
 Leaves limit written failures call known failed old new (fault.Line number) =
     HasBadLine limit call known number × (new ≡ old)
 Leaves limit written failures call known failed old new fault.TooLong = IsTooLongFor limit call known × (new ≡ old)
-Leaves limit written failures call known failed old new fault.Broken = CallRuns limit call known × (new ≡ old)
+Leaves limit written failures call known failed old new fault.Broken = CallBreaks limit call known × (new ≡ old)
 Leaves limit written failures call known failed old new fault.Random =
     AsksForRandom limit call known × (new ≡ old)
 Leaves limit written failures call known failed old new fault.Memory =

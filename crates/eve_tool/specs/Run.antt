@@ -9,10 +9,12 @@ use Rattle.eve_workload.specs.Workload.{Workload, IsWorkload}
 use Rattle.eve_workload.specs.Lines.{workload_text}
 use Rattle.eve_workload.specs.Steps.{IsBadLine}
 use Rattle.eve_write.specs.declared.parts.Parts.{Parts}
-use Rattle.eve_replica.specs.Run.{IsRunOf, IsTraceOf}
+use Rattle.eve_replica.specs.Run.{IsRunOf, IsTraceOf, run_plan}
+use Rattle.eve_replica.specs.RunFaults.{EndsSoFar}
+use Rattle.eve_replica.specs.declared.fault.RunFault.{RunFault}
+use Rattle.eve_replica.specs.declared.fault.RunFault.TheVariants as ended
 use Rattle.eve_tool_arguments.specs.Formats.{version_of}
 use Rattle.eve_tool_arguments.specs.declared.format.Format.{Format}
-use Rattle.eve_tool_arguments.specs.declared.format.Format.TheVariants as format
 use Rattle.eve_tool.specs.declared.fault.ToolFault.{ToolFault}
 use Rattle.eve_tool.specs.declared.fault.ToolFault.TheVariants as fault
 
@@ -53,21 +55,22 @@ pub record RunsTooLong (limit : ℕ) (mixer : Mixer) (asked : Format) (bytes : L
   pub run : IsTraceOf workload mixer trace
   pub long : limit < length_of trace
 
--- the bytes are a workload of a format in which states are taken over, which alone may fill a trace
-abbrev pub MayTakeTooMuch : Format → List ℕ → Type 0
-MayTakeTooMuch format.One bytes = ⊥
-MayTakeTooMuch format.Two bytes = IsRunnable format.Two bytes
+-- the bytes are a workload, and a run of it may end so, without a trace: it came so far
+pub record EndsRun (why : RunFault) (mixer : Mixer) (asked : Format) (bytes : List ℕ) : Type 0 where
+  pub workload : Workload
+  pub typed : IsText asked bytes workload
+  pub ends : EndsSoFar (run_plan workload mixer) workload.deployment.replicas why
 
--- the bytes, or a trace of a run of them, are more than `limit`, or the states that are taken over in one may be
+-- the bytes, or a trace of a run of them, are more than `limit`, or a run of them would take over too much
 abbrev pub IsTooLong : ℕ → Mixer → Format → List ℕ → Type 0
 IsTooLong limit mixer asked bytes =
-    (limit < length bytes) ⊎ (RunsTooLong limit mixer asked bytes ⊎ MayTakeTooMuch asked bytes)
+    (limit < length bytes) ⊎ (RunsTooLong limit mixer asked bytes ⊎ EndsRun ended.TooLong mixer asked bytes)
 
 -- why the bytes are not run, before anything is sent
-abbrev pub StopsRun : Format → List ℕ → ToolFault → Type 0
-StopsRun asked bytes (fault.Line number) = IsBadLine (version_of asked) bytes number
-StopsRun asked bytes fault.TooLong = MayTakeTooMuch asked bytes
-StopsRun asked bytes fault.Random = IsRunnable asked bytes
-StopsRun asked bytes fault.Broken = IsRunnable asked bytes
-StopsRun asked bytes fault.Memory = ⊤
-StopsRun asked bytes _ = ⊥
+abbrev pub StopsRun : Mixer → Format → List ℕ → ToolFault → Type 0
+StopsRun mixer asked bytes (fault.Line number) = IsBadLine (version_of asked) bytes number
+StopsRun mixer asked bytes fault.TooLong = EndsRun ended.TooLong mixer asked bytes
+StopsRun mixer asked bytes fault.Random = IsRunnable asked bytes
+StopsRun mixer asked bytes fault.Broken = EndsRun ended.Broken mixer asked bytes
+StopsRun mixer asked bytes fault.Memory = ⊤
+StopsRun mixer asked bytes _ = ⊥

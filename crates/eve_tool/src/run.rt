@@ -56,7 +56,7 @@ fn parts_of<R: RandomSource + Threads + Wait + Sync>(
     format: Format,
 ) -> Result<Parts, ToolFault>
     ensures run { IfOk result (IsRunOfText mixer format bytes.items) }
-    ensures stopped { IfErr result (StopsRun format bytes.items) }
+    ensures stopped { IfErr result (StopsRun mixer format bytes.items) }
 {
     let workload = Workload::read(alloc, bytes.as_slice(), format.version())?;
     drop(bytes);
