@@ -1,11 +1,10 @@
 -- What was found of replicas by themselves. docs/ARCHITECTURE.md, "Threads of an audit".
-use Rattle.std.specs.Prelude.{◌≡◌, ◌<◌, ℕ, List, length, slice_index_or, Result, MatchResult, All}
+use Rattle.std.specs.Prelude.{ℕ, ◌<◌, List, length, Result, MatchResult, All}
 use Rattle.eve_grammar.specs.Trace.{Trace}
 use Rattle.eve_views.specs.Form.{IfFound}
 use Rattle.eve_views.specs.declared.fault.CheckFault.{CheckFault}
 use Rattle.eve_audit.specs.declared.replicas.Report.{Report}
 use Rattle.eve_audit.specs.declared.findings.Finding.{Finding}
-use Rattle.eve_audit.specs.declared.workers.Slot.{Slot}
 use Rattle.eve_audit.specs.Verdict.{IsOwnFault}
 use Rattle.eve_audit.specs.Reports.{IsFirstOf, IsReportOf, IsSettledReportOf}
 
@@ -18,9 +17,6 @@ abbrev pub IsSettledAnswerOf : Trace → ℕ → Result Report CheckFault → Ty
 IsSettledAnswerOf t e answer =
     MatchResult answer (IsSettledReportOf t e) (λ why. IfFound why (IsFirstOf (IsOwnFault t e)))
 
-abbrev pub finding : ℕ → Result Report CheckFault → Finding
-finding e answer = record { replica = e; answer = answer }
-
 -- each finding is of the replica that it names
 abbrev pub AreTrue : Trace → List Finding → Type 0
 AreTrue t = All (λ f. IsAnswerOf t f.replica f.answer)
@@ -29,11 +25,6 @@ AreTrue t = All (λ f. IsAnswerOf t f.replica f.answer)
 abbrev pub AreTrueSoFar : Trace → List Finding → Type 0
 AreTrueSoFar t = All (λ f. IsSettledAnswerOf t f.replica f.answer)
 
--- and in all workers' slots
-abbrev pub AreAllTrueSoFar : Trace → List Slot → Type 0
-AreAllTrueSoFar t = All (λ slot. AreTrueSoFar t slot.findings.items)
-
--- each slot has the share of the worker with its number, among this number of workers
-abbrev pub AreDealt : ℕ → List Slot → Type 0
-AreDealt workers slots = (w : ℕ) (d : Slot) → w < length slots
-    → ((slice_index_or slots w d).share.worker ≡ w) × ((slice_index_or slots w d).share.workers ≡ workers)
+-- each finding is of one of the trace's replicas
+abbrev pub AreOfReplicas : Trace → List Finding → Type 0
+AreOfReplicas t = All (λ f. f.replica < length t.sections)

@@ -16,9 +16,9 @@ ghost use Rattle.eve_audit.specs.declared.verdict.Summary.{Summary as SummaryVal
 ghost use Rattle.eve_audit.specs.declared.verdict.Verdict.TheVariants.{Yes, No};
 ghost use Rattle.eve_views.specs.declared.fault.Fault.{Fault};
 
-use crate::findings::{Finding, judge_side_by_side};
+use crate::findings::{Finding, judge_in_turn, judge_side_by_side};
 use crate::laws::accepted_traces_are_audited;
-use crate::replicas::{Reports, judge_replicas};
+use crate::replicas::{Reports, all_reports};
 use crate::verdict::{AcceptedTrace, AuditFault, Summary, Verdict, WholeVerdict};
 use eve_accounts::Names;
 use eve_agree::{equal_balances, majorities, replies_side_by_side};
@@ -119,7 +119,7 @@ fn judge_trace<'a, R: Threads + Sync>(
     trace.recall_limits();
     right_heads_have_limits();
     requests_take_effect_once();
-    let found = match judge_replicas(rt, alloc, &trace, &names, findings) {
+    let found = match all_reports(rt, alloc, &trace, &names, findings) {
         Ok(found) => found,
         Err(why) => return Err(why),
     };
@@ -198,7 +198,11 @@ pub fn audit_one<R: Threads + Sync>(
         Err(CheckFault::Found(fault)) => return Ok(Verdict::No(fault)),
         Err(CheckFault::Memory) => return Err(AuditFault::Memory),
     };
-    let whole = verdict_on(rt, alloc, opened, &mut [], 1)?;
+    let mut findings = match judge_in_turn(rt, alloc, &opened.trace, &opened.names) {
+        Ok(findings) => findings,
+        Err(AllocError) => return Err(AuditFault::Memory),
+    };
+    let whole = verdict_on(rt, alloc, opened, findings.as_mut_slice(), 1)?;
     Ok(whole.verdict())
 }
 
@@ -209,7 +213,8 @@ pub fn audit_one<R: Threads + Sync>(
 ///
 /// - First the caller reads the trace and judges its orders: the bodies of batches, attempts, access records and states
 ///   taken over, and then the requests' numbers, in up to `workers` threads, which end before a worker begins.
-/// - Then worker e mod `workers` judges replica e by itself, but for its tokens, and enters the gate with e first.
+/// - Then up to `workers` workers judge the replicas, each by itself, but for its tokens. Who judges replica e enters
+///   the gate with e first.
 /// - Of the replicas without a fault so far, the tokens of the one that committed most batches are judged in up to
 ///   `workers` threads, or else of the next. Beside it those of the others are judged, side by side: a batch that came
 ///   to the same there isn't hashed again.

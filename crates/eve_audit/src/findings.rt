@@ -1,17 +1,17 @@
-//! What was found of the replicas, and the tokens of those that are sound otherwise.
+//! What was found of the replicas, each judged by itself.
 
-ghost use Rattle.std.specs.Prelude.{◌≡◌, ◌<◌, ◌≤◌, IfOk, IfSome, length};
+ghost use Rattle.std.specs.Prelude.{◌≡◌, ◌<◌, ◌≤◌, ◌*◌, min, IfOk, IfSome, All, length, slice_index_or};
 ghost use Rattle.std.specs.Thread.{IsSync};
 ghost use Rattle.eve_views.specs.declared.fault.CheckFault.TheVariants.{Memory};
 ghost use Rattle.eve_history.specs.SectionHistory.{names_of};
-ghost use Rattle.eve_audit.specs.Findings.{AreTrueSoFar, AreAllTrueSoFar, AreTrue, IsAnswerOf, IsSettledAnswerOf};
+ghost use Rattle.eve_audit.specs.declared.findings.Finding.{Finding as FindingValue};
+ghost use Rattle.eve_audit.specs.Findings.{AreTrueSoFar, AreTrue, IsAnswerOf, IsSettledAnswerOf, AreOfReplicas};
 ghost use Rattle.eve_audit.specs.Peers.{IsSoundPeer};
 
-use crate::peers::batches_of;
-use crate::replicas::{Report, judge_tokens};
-use crate::workers::Slot;
+use crate::replicas::{Report, settled_report};
 use eve_accounts::Names;
 use eve_agree::Peer;
+use eve_history::History;
 use eve_recorder::Gate;
 use eve_views::{CheckFault, Trace};
 use std::alloc::{AllocError, Global};
@@ -29,14 +29,33 @@ pub struct Finding<'a> {
 }
 
 impl<'a> Finding<'a> {
-    /// Nothing, of whatever replica.
-    pub fn of_nothing() -> Self
-        ensures { result.answer ≡ Err Memory }
+    /// Nothing, of a replica that wasn't judged yet.
+    pub fn of_nothing(replica: u8) -> Self
+        ensures replica { result.replica ≡ replica }
+        ensures nothing { result.answer ≡ Err Memory }
     {
         Finding {
-            replica: 0,
+            replica,
             answer: Err(CheckFault::Memory),
         }
+    }
+
+    /// What the caller alone finds of a replica.
+    pub fn of_replica<R: Threads + Sync>(
+        rt: &R,
+        alloc: Global,
+        trace: &Trace<'a>,
+        names: &Names<'_>,
+        e: u8,
+    ) -> Self
+        requires there { e < length trace.now.sections }
+        requires names { names.now.items ≡ names_of trace.now }
+        ensures { IsAnswerOf trace.now e result.answer }
+    {
+        let mut finding = Finding::of_nothing(e);
+        finding.settle(rt, alloc, trace, names, 1);
+        finding.judge_tokens(rt, alloc, trace, 1, None);
+        finding
     }
 
     /// The replica as one beside which others are judged, if it has a report.
@@ -50,8 +69,26 @@ impl<'a> Finding<'a> {
         }
     }
 
+    /// Judges the replica by itself, but for its tokens, in up to `jobs` threads, at least 1.
+    pub fn settle<R: Threads + Sync>(
+        &mut self,
+        rt: &R,
+        alloc: Global,
+        trace: &Trace<'a>,
+        names: &Names<'_>,
+        jobs: u8,
+    )
+        requires there { self.old.replica < length trace.now.sections }
+        requires names { names.now.items ≡ names_of trace.now }
+        requires jobs { 1 ≤ jobs }
+        ensures settled { IsSettledAnswerOf trace.now self.new.replica self.new.answer }
+        ensures replica { self.new.replica ≡ self.old.replica }
+    {
+        self.answer = settled_report(rt, alloc, trace, names, self.replica, jobs);
+    }
+
     /// Judges the replica's tokens, if nothing was found against it.
-    fn judge_tokens<R: Threads + Sync>(
+    pub fn judge_tokens<R: Threads + Sync>(
         &mut self,
         rt: &R,
         alloc: Global,
@@ -62,10 +99,12 @@ impl<'a> Finding<'a> {
         requires settled { IsSettledAnswerOf trace.now self.old.replica self.old.answer }
         requires jobs { 1 ≤ jobs }
         requires peer { IsSoundPeer trace.now peer }
-        ensures { IsAnswerOf trace.now self.new.replica self.new.answer }
+        ensures answer { IsAnswerOf trace.now self.new.replica self.new.answer }
+        ensures settled { IsSettledAnswerOf trace.now self.new.replica self.new.answer }
+        ensures replica { self.new.replica ≡ self.old.replica }
     {
         let judged = match &self.answer {
-            Ok(report) => judge_tokens(rt, alloc, trace, report, jobs, peer),
+            Ok(report) => report.check_tokens(rt, alloc, trace, jobs, peer),
             Err(_) => return,
         };
         if let Err(why) = judged {
@@ -74,20 +113,42 @@ impl<'a> Finding<'a> {
     }
 }
 
-/// A finding that was taken from its place among the others.
-#[derive(Drop)]
-struct Taken<'a> {
-    /// Its place among them.
-    place: usize,
-    /// What was found.
-    finding: Finding<'a>,
+/// Nothing of each replica, in their order.
+fn nothing_of_each<'a>(alloc: Global, trace: &Trace<'a>) -> Result<Vec<Finding<'a>>, AllocError>
+    ensures { IfOk result (λ findings. AreOfReplicas trace.now findings.items) }
+{
+    let mut findings = Vec::with_capacity(alloc, trace.section_count() as usize)?;
+    for e in 0..trace.section_count() {
+        findings.push(Finding::of_nothing(e))?;
+    }
+    Ok(findings)
+}
+
+/// What the caller alone finds of the replicas, each judged by itself: a finding for each, in their order.
+pub fn judge_in_turn<'a, R: Threads + Sync>(
+    rt: &R,
+    alloc: Global,
+    trace: &Trace<'a>,
+    names: &Names<'_>,
+) -> Result<Vec<Finding<'a>>, AllocError>
+    requires names { names.now.items ≡ names_of trace.now }
+    ensures found { IfOk result (λ findings. AreTrue trace.now findings.items) }
+{
+    let mut findings = Vec::with_capacity(alloc, trace.section_count() as usize)?;
+    for e in 0..trace.section_count() {
+        let mut finding = Finding::of_nothing(e);
+        finding.settle(rt, alloc, trace, names, 1);
+        findings.push(finding)?;
+    }
+    judge_all_tokens(rt, alloc, trace, findings.as_mut_slice(), 1);
+    Ok(findings)
 }
 
 /// What is found of the replicas, each judged by itself by up to `workers` threads: a finding for each, in their order.
 ///
-/// First workers judge all but their tokens (`Slot::settle_side_by_side`). Then of those that have no fault the caller
-/// picks the one that committed most batches, and its tokens are hashed by all workers, in stretches; where one isn't
-/// due, the next one is picked. Beside the one whose tokens are due those of the others are judged, side by side.
+/// First workers judge all but their tokens. Then of those that have no fault the caller picks the one that committed
+/// most batches, and its tokens are hashed by all workers, in stretches; where one isn't due, the next one is picked.
+/// Beside the one whose tokens are due those of the others are judged, side by side.
 pub fn judge_side_by_side<'a, R: Threads + Wait + Sync, G: Gate>(
     rt: &R,
     alloc: Global,
@@ -100,47 +161,64 @@ pub fn judge_side_by_side<'a, R: Threads + Wait + Sync, G: Gate>(
     requires names { names.now.items ≡ names_of trace.now }
     ensures found { IfOk result (λ findings. AreTrue trace.now findings.items) }
 {
-    let mut slots = Slot::settle_side_by_side(rt, alloc, trace, names, workers, gate)?;
-    let mut findings = in_order(alloc, trace, slots.as_mut_slice())?;
+    let mut findings = nothing_of_each(alloc, trace)?;
+    settle_each(
+        rt,
+        alloc,
+        trace,
+        names,
+        gate,
+        findings.as_mut_slice(),
+        workers,
+    );
     judge_all_tokens(rt, alloc, trace, findings.as_mut_slice(), workers);
     Ok(findings)
 }
 
-/// What the workers found, replica by replica.
-fn in_order<'a>(
+/// Judges the replicas but for their tokens, up to `workers` of them side by side. Who judges replica e enters the gate
+/// with e first. Where there are more workers than replicas, each replica has its part of the threads: at most
+/// `workers` threads work at once, and with one worker none is started. The caller does the work of a thread that can't
+/// be started.
+fn settle_each<'a, R: Threads + Wait + Sync, G: Gate>(
+    rt: &R,
     alloc: Global,
     trace: &Trace<'a>,
-    slots: &mut [Slot<'a>],
-) -> Result<Vec<Finding<'a>>, AllocError>
-    requires { AreAllTrueSoFar trace.now slots.old }
-    ensures settled { IfOk result (λ findings. AreTrueSoFar trace.now findings.items) }
+    names: &Names<'_>,
+    gate: &G,
+    findings: &mut [Finding<'a>],
+    workers: u8,
+)
+    requires names { names.now.items ≡ names_of trace.now }
+    requires workers { 1 ≤ workers }
+    requires replicas { AreOfReplicas trace.now findings.old }
+    ensures settled { AreTrueSoFar trace.now findings.new }
 {
-    let mut findings = Vec::with_capacity(alloc, trace.section_count() as usize)?;
-    for e in 0..trace.section_count() {
-        let answer = take_settled(trace, slots, e);
-        findings.push(Finding { replica: e, answer })?;
-    }
-    Ok(findings)
+    let jobs = jobs_of_each(workers, trace.section_count());
+    thread::for_each_mut(
+        rt,
+        findings,
+        workers as usize,
+        &|_: usize, finding: &mut Finding|
+            requires { IsSync R.row × IsSync G.row × (names.now.items ≡ names_of trace.now) × (1 ≤ jobs)
+                × (finding.old.replica < length trace.now.sections) }
+            ensures { IsSettledAnswerOf trace.entry.now finding.new.replica finding.new.answer }
+        {
+            gate.enter(rt, u32::from(finding.replica));
+            finding.settle(rt, alloc, trace, names, jobs);
+        },
+    );
 }
 
-/// Takes what its worker found of a replica, if that comes next in the worker's slot; `Memory` where nothing was found.
-fn take_settled<'a>(
-    trace: &Trace<'a>,
-    slots: &mut [Slot<'a>],
-    e: u8,
-) -> Result<Report<'a>, CheckFault>
-    requires { AreAllTrueSoFar trace.now slots.old }
-    ensures answer { IsSettledAnswerOf trace.now e result }
-    ensures left { AreAllTrueSoFar trace.now slots.new }
+/// In how many threads a replica is judged, so that there are no more than workers.
+fn jobs_of_each(workers: u8, replicas: u8) -> u8
+    requires { 1 ≤ workers }
+    ensures some { 1 ≤ result }
+    ensures bound { result * min workers replicas ≤ workers }
 {
-    if slots.is_empty() {
-        return Err(CheckFault::Memory);
+    if replicas == 0 {
+        return 1;
     }
-    let worker = e as usize % slots.len();
-    match slots[worker].take(e) {
-        Some(answer) => answer,
-        None => Err(CheckFault::Memory),
-    }
+    (workers / replicas).max(1)
 }
 
 /// Judges the tokens of all replicas that are sound otherwise, in up to `jobs` threads.
@@ -155,40 +233,39 @@ fn judge_all_tokens<'a, R: Threads + Sync>(
     requires settled { AreTrueSoFar trace.now findings.old }
     ensures found { AreTrue trace.now findings.new }
 {
-    match take_due(rt, alloc, trace, findings, jobs) {
-        Some(due) => {
-            judge_each(rt, alloc, trace, findings, jobs, due.finding.peer(trace));
-            findings[due.place] = due.finding;
-        }
-        None => judge_each(rt, alloc, trace, findings, jobs, None),
-    }
+    let Some(place) = due_place(rt, alloc, trace, findings, jobs) else {
+        judge_each(rt, alloc, trace, findings, jobs, None);
+        return;
+    };
+    let due = mem::replace(&mut findings[place], Finding::of_nothing(0));
+    judge_each(rt, alloc, trace, findings, jobs, due.peer(trace));
+    findings[place] = due;
 }
 
 /// Judges tokens of one replica in up to `jobs` threads, the one that committed most batches; where they aren't all
-/// due, those of the next one. Takes out the first of which they are.
-fn take_due<'a, R: Threads + Sync>(
+/// due, those of the next one. The place of the first of which they are.
+fn due_place<'a, R: Threads + Sync>(
     rt: &R,
     alloc: Global,
     trace: &Trace<'a>,
     findings: &mut [Finding<'a>],
     jobs: u8,
-) -> Option<Taken<'a>>
+) -> Option<usize>
     requires jobs { 1 ≤ jobs }
     requires settled { AreTrueSoFar trace.now findings.old }
-    ensures there { IfSome result (λ due. due.place < length findings.new) }
-    ensures due { IfSome result (λ due. IsAnswerOf trace.now due.finding.replica due.finding.answer) }
+    ensures there { IfSome result (λ place. place < length findings.new) }
+    ensures due { IfSome result (λ place. (d : FindingValue) → IsAnswerOf trace.now
+        (slice_index_or findings.new place d).replica (slice_index_or findings.new place d).answer) }
     ensures settled { AreTrueSoFar trace.now findings.new }
 {
     for _ in 0..findings.len() {
         let Some(place) = place_of_most(findings) else {
             return None;
         };
-        let mut finding = mem::replace(&mut findings[place], Finding::of_nothing());
-        finding.judge_tokens(rt, alloc, trace, jobs, None);
-        if finding.answer.is_ok() {
-            return Some(Taken { place, finding });
+        findings[place].judge_tokens(rt, alloc, trace, jobs, None);
+        if findings[place].answer.is_ok() {
+            return Some(place);
         }
-        findings[place] = finding;
     }
     None
 }
@@ -210,6 +287,19 @@ fn place_of_most(findings: &[Finding<'_>]) -> Option<usize>
         }
     }
     most
+}
+
+/// How many batches a replica committed.
+pub fn batches_of(history: &History<'_>) -> u32
+    ensures { result ≤ length history.now.landings }
+{
+    let mut batches = 0;
+    for before in 0..history.committed() {
+        if history.by_attempt(before + 1) {
+            batches += 1;
+        }
+    }
+    batches
 }
 
 /// Judges the tokens of each replica that is sound otherwise, up to the given number of replicas side by side, each in

@@ -4,10 +4,8 @@
 mod auditing;
 mod findings;
 pub mod laws;
-mod peers;
 mod replicas;
 mod verdict;
-mod workers;
 
 pub use auditing::{audit, audit_one, audit_whole};
 pub use verdict::{AcceptedTrace, AuditFault, Summary, Verdict, WholeVerdict};

@@ -12,7 +12,6 @@ ghost use Rattle.eve_audit.specs.Reports.{IsFirstOf, IsReportOf, IsSettledReport
 ghost use Rattle.eve_audit.specs.Reports.{IsSoundReplica, IsLeastBelow, IsFaultBelow};
 
 use crate::findings::Finding;
-use crate::peers::most_committed;
 use eve_accounts::Names;
 use eve_agree::{Peer, rollbacks, tokens, tokens_beside};
 use eve_chains::{Settled, check};
@@ -43,6 +42,28 @@ impl<'a> Report<'a> {
             settled: &self.settled,
         }
     }
+
+    /// Judges the tokens of the replica, which is sound otherwise: beside another replica whose tokens are due, if there
+    /// is one, in one thread; else by themselves in up to `jobs` threads, at least 1.
+    pub fn check_tokens<R: Threads + Sync>(
+        &self,
+        rt: &R,
+        alloc: Global,
+        trace: &Trace<'a>,
+        jobs: u8,
+        peer: Option<Peer<'_, 'a>>,
+    ) -> Result<(), CheckFault>
+        requires settled { IsSettledReportOf trace.now self.now.history.replica self.now }
+        requires jobs { 1 ≤ jobs }
+        requires peer { IsSoundPeer trace.now peer }
+        ensures report { IfOk result (λ _. IsReportOf trace.now self.now.history.replica self.now) }
+        ensures first { IfErr result (λ why. IfFound why (IsFirstOf (IsOwnFault trace.now self.now.history.replica))) }
+    {
+        match peer {
+            Some(peer) => tokens_beside(alloc, trace, &self.history, &self.settled, peer),
+            None => tokens(rt, alloc, trace, &self.history, &self.settled, jobs),
+        }
+    }
 }
 
 /// The replicas' reports, in their order.
@@ -58,7 +79,7 @@ pub struct Reports<'a> {
 
 /// The replicas' reports, each replica judged by itself, as was found before or here; or the first of the faults that
 /// they have of their own.
-pub fn judge_replicas<'a, R: Threads + Sync>(
+pub fn all_reports<'a, R: Threads + Sync>(
     rt: &R,
     alloc: Global,
     trace: &Trace<'a>,
@@ -82,8 +103,7 @@ pub fn judge_replicas<'a, R: Threads + Sync>(
         committed: u32::MAX,
     };
     'replicas: for e in 0..trace.section_count() {
-        let peer = most_committed(trace, &kept.histories, &kept.settled);
-        match judge_missing(rt, alloc, trace, names, findings, e, peer) {
+        match report_of(rt, alloc, trace, names, findings, e) {
             Ok(report) => keep(&mut kept, report)?,
             Err(CheckFault::Found(fault)) => {
                 first = first_of(first, Some(fault));
@@ -100,7 +120,7 @@ pub fn judge_replicas<'a, R: Threads + Sync>(
 /// A replica's report but for its tokens, which aren't judged yet, or the first of its own faults, by the replica's
 /// number from 0. Its structure, records and chains are judged in up to `jobs` threads, at least 1; for one job no
 /// thread is started.
-pub fn settle_replica<'a, R: Threads + Sync>(
+pub fn settled_report<'a, R: Threads + Sync>(
     rt: &R,
     alloc: Global,
     trace: &Trace<'a>,
@@ -118,14 +138,14 @@ pub fn settle_replica<'a, R: Threads + Sync>(
         Ok(history) => history,
         Err(why) => return Err(why),
     };
-    match settle(rt, alloc, trace, names, &history, jobs) {
+    match settled_of(rt, alloc, trace, names, &history, jobs) {
         Ok(settled) => Ok(Report { history, settled }),
         Err(why) => Err(why),
     }
 }
 
 /// What a replica with a right section committed, or the first of its own faults but for those of tokens.
-fn settle<'a, R: Threads + Sync>(
+fn settled_of<'a, R: Threads + Sync>(
     rt: &R,
     alloc: Global,
     trace: &Trace<'a>,
@@ -147,78 +167,24 @@ fn settle<'a, R: Threads + Sync>(
     Ok(settled)
 }
 
-/// Judges the tokens of a replica that is sound otherwise: beside another replica whose tokens are due, if there is
-/// one, in one thread; else by themselves in up to `jobs` threads, at least 1.
-pub fn judge_tokens<'a, R: Threads + Sync>(
-    rt: &R,
-    alloc: Global,
-    trace: &Trace<'a>,
-    report: &Report<'a>,
-    jobs: u8,
-    peer: Option<Peer<'_, 'a>>,
-) -> Result<(), CheckFault>
-    requires settled { IsSettledReportOf trace.now report.now.history.replica report.now }
-    requires jobs { 1 ≤ jobs }
-    requires peer { IsSoundPeer trace.now peer }
-    ensures report { IfOk result (λ _. IsReportOf trace.now report.now.history.replica report.now) }
-    ensures first { IfErr result (λ why. IfFound why (IsFirstOf (IsOwnFault trace.now report.now.history.replica))) }
-{
-    let Report { history, settled } = report;
-    match peer {
-        Some(peer) => tokens_beside(alloc, trace, history, settled, peer),
-        None => tokens(rt, alloc, trace, history, settled, jobs),
-    }
-}
-
-/// A replica's report, or the first of its own faults, by the replica's number from 0, all judged in this thread; its
-/// tokens beside another replica's that are due, if there is one.
-fn judge_replica<'a, R: Threads + Sync>(
-    rt: &R,
-    alloc: Global,
-    trace: &Trace<'a>,
-    names: &Names<'_>,
-    e: u8,
-    peer: Option<Peer<'_, 'a>>,
-) -> Result<Report<'a>, CheckFault>
-    requires there { e < length trace.now.sections }
-    requires names { names.now.items ≡ names_of trace.now }
-    requires peer { IsSoundPeer trace.now peer }
-    ensures report { IfOk result (IsReportOf trace.now e) }
-    ensures first { IfErr result (λ why. IfFound why (IsFirstOf (IsOwnFault trace.now e))) }
-{
-    let report = match settle_replica(rt, alloc, trace, names, e, 1) {
-        Ok(report) => report,
-        Err(why) => return Err(why),
-    };
-    match judge_tokens(rt, alloc, trace, &report, 1, peer) {
-        Ok(()) => Ok(report),
-        Err(why) => Err(why),
-    }
-}
-
-/// A replica's report, or the first of its own faults: as was found before, or else as it is judged here, beside a peer
-/// if there is one, which starts no thread and takes no memory for one.
-fn judge_missing<'a, R: Threads + Sync>(
+/// A replica's report, or the first of its own faults: as was found before, or else as it is judged here.
+fn report_of<'a, R: Threads + Sync>(
     rt: &R,
     alloc: Global,
     trace: &Trace<'a>,
     names: &Names<'_>,
     findings: &mut [Finding<'a>],
     e: u8,
-    peer: Option<Peer<'_, 'a>>,
 ) -> Result<Report<'a>, CheckFault>
     requires there { e < length trace.now.sections }
     requires names { names.now.items ≡ names_of trace.now }
     requires findings { AreTrue trace.now findings.old }
-    requires peer { IsSoundPeer trace.now peer }
-    ensures report { IfOk result (IsReportOf trace.now e) }
-    ensures first { IfErr result (λ why. IfFound why (IsFirstOf (IsOwnFault trace.now e))) }
+    ensures answer { IsAnswerOf trace.now e result }
     ensures left { AreTrue trace.now findings.new }
 {
     match take_found(trace, findings, e) {
-        Ok(report) => Ok(report),
-        Err(CheckFault::Found(fault)) => Err(CheckFault::Found(fault)),
-        Err(CheckFault::Memory) => judge_replica(rt, alloc, trace, names, e, peer),
+        Err(CheckFault::Memory) => Finding::of_replica(rt, alloc, trace, names, e).answer,
+        answer => answer,
     }
 }
 
@@ -236,7 +202,7 @@ fn take_found<'a>(
     if place >= findings.len() || findings[place].replica != e {
         return Err(CheckFault::Memory);
     }
-    mem::replace(&mut findings[place], Finding::of_nothing()).answer
+    mem::replace(&mut findings[place], Finding::of_nothing(e)).answer
 }
 
 /// Keeps the next replica's report.

@@ -1,5 +1,5 @@
 use Rattle.eve_audit.specs.Findings.{AreTrueSoFar}
-use Rattle.eve_audit.proofs.findings.take_due.Given as goal
+use Rattle.eve_audit.proofs.findings.due_place.Given as goal
 
 abbrev pub invariant-loop : goal.invariant-loop
 invariant-loop g l = AreTrueSoFar l.trace l.findings

@@ -1,0 +1,5 @@
+use Rattle.eve_audit.specs.Findings.{AreOfReplicas}
+use Rattle.eve_audit.proofs.findings.nothing_of_each.Given as goal
+
+abbrev pub invariant-loop-e : goal.invariant-loop-e
+invariant-loop-e l = AreOfReplicas l.trace l.findings.items

@@ -1,5 +1,0 @@
-use Rattle.eve_audit.specs.Peers.{IsSoundPeer}
-use Rattle.eve_audit.proofs.peers.most_committed.Given as goal
-
-abbrev pub invariant-loop-i : goal.invariant-loop-i
-invariant-loop-i l = IsSoundPeer l.trace l.most

@@ -1,0 +1,8 @@
+-- What was found in the replicas so far, and what was kept of them; and what was found is true.
+use Rattle.eve_audit.specs.Findings.{AreTrue}
+use Rattle.eve_audit.specs.Reports.{IsJudgedBelow}
+use Rattle.eve_audit.proofs.replicas.all_reports.Given as goal
+
+abbrev pub invariant-replicas : goal.invariant-replicas
+invariant-replicas g l = IsJudgedBelow l.trace l.e l.first l.kept.histories.items l.kept.settled.items
+    l.kept.committed × AreTrue l.trace l.findings
