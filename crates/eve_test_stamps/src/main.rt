@@ -1,6 +1,5 @@
 //! Stripes, schedules, recorders and tickets, through their public calls. Each line of the input names a case, of which
-//! one line is printed: how many things were as they are due, or the first that wasn't. `random-events COUNT` draws
-//! COUNT batches with lists of events, and compares each step with a schedule written as lists.
+//! one line is printed: how many things were as they are due, or the first that wasn't.
 //!
 //! A call that is refused memory is made once more, so that what is printed stays the same whichever request is
 //! refused.
@@ -8,8 +7,6 @@
 
 mod drawing;
 mod parts;
-mod plain;
-mod random;
 mod recording;
 mod seen;
 mod stripes;
@@ -91,9 +88,6 @@ fn look<R: Threads + Wait + Sync>(
     name: &str,
     seen: &mut Seen,
 ) {
-    if let Some(count) = name.strip_prefix("random-events ") {
-        return random::play(alloc, random, count.parse::<u32>().unwrap_or(0), seen);
-    }
     match case_of(name) {
         Some(Case::Stripes(case)) => stripes::play(alloc, random, case, seen),
         Some(Case::Schedule(case)) => worked::play(alloc, random, case, seen),

@@ -52,25 +52,17 @@ pub(crate) fn cents(value: i64) -> Cents {
 /// What is asked for, with customers by number.
 #[derive(Clone, Copy)]
 pub(crate) enum Ask {
-    Balance(u8),
     Deposit(u8, i64),
-    Saving(u8, i64),
     Amalgamate(u8, u8),
-    Check(u8, i64),
 }
 
 /// What is asked for, as a transaction.
 fn transaction(ask: &Ask) -> TransactionData {
     match *ask {
-        Ask::Balance(customer) => TransactionData::Balance(name(customer)),
         Ask::Deposit(customer, value) => {
             TransactionData::DepositChecking(name(customer), amount(value))
         }
-        Ask::Saving(customer, value) => {
-            TransactionData::TransactSaving(name(customer), amount(value))
-        }
         Ask::Amalgamate(from, to) => TransactionData::Amalgamate(name(from), name(to)),
-        Ask::Check(customer, value) => TransactionData::WriteCheck(name(customer), amount(value)),
     }
 }
 

@@ -1,11 +1,9 @@
 //! Worked schedules.
 
 use crate::parts::{Ask, Given, opened, plan_of};
-use crate::random::compare;
 use crate::seen::Seen;
 use eve_smallbank::{Abort, Reply};
 use eve_stamps_schedule::{Event, Schedule, StepFault};
-use eve_testing::Draws;
 use std::alloc::{AllocError, Global};
 use std::hash::RandomState;
 
@@ -176,7 +174,7 @@ pub const NOBODY: Case = Case {
 };
 
 /// Takes the step; where no memory was left, once more. Whether it is allowed.
-pub fn stepped(schedule: &mut Schedule, event: Event, seen: &mut Seen) -> bool {
+fn stepped(schedule: &mut Schedule, event: Event, seen: &mut Seen) -> bool {
     let stepped = match schedule.step(event) {
         Err(StepFault::Memory) => schedule.step(event),
         stepped => stepped,
@@ -192,7 +190,7 @@ pub fn stepped(schedule: &mut Schedule, event: Event, seen: &mut Seen) -> bool {
 }
 
 /// The order of what is applied; where no memory was left, asked for again.
-pub fn ordered(alloc: Global, schedule: &Schedule, seen: &mut Seen) -> Vec<u16> {
+fn ordered(alloc: Global, schedule: &Schedule, seen: &mut Seen) -> Vec<u16> {
     let order = match schedule.order(alloc) {
         Err(AllocError) => schedule.order(alloc),
         order => order,
@@ -246,39 +244,13 @@ fn look(alloc: Global, schedule: &mut Schedule, wants: &[Want], seen: &mut Seen)
     }
 }
 
-/// Which events are carried out on a schedule.
-#[derive(Drop)]
-pub enum Events<'e> {
-    /// Those of a worked schedule, at which it is looked.
-    Worked(&'e [Want]),
-    /// Events that are drawn, beside a schedule written as lists.
-    Drawn(&'e mut Draws),
-}
-
-/// Carries out the events on a schedule of what is given, and looks at it. Whether every request is noted at the end.
-pub fn play_events(
-    alloc: Global,
-    random: RandomState,
-    given: &Given<'_>,
-    events: Events<'_>,
-    seen: &mut Seen,
-) -> bool {
-    let Ok(plan) = plan_of(alloc, random, given) else {
-        seen.needs(false);
-        return false;
-    };
-    let Ok(mut schedule) = opened(alloc, &plan, given.workers) else {
-        seen.needs(false);
-        return false;
-    };
-    match events {
-        Events::Worked(wants) => look(alloc, &mut schedule, wants, seen),
-        Events::Drawn(draws) => compare(alloc, draws, &mut schedule, given, seen),
-    }
-    schedule.done()
-}
-
 /// Carries out the worked schedule, and looks at it.
 pub fn play(alloc: Global, random: RandomState, case: &Case, seen: &mut Seen) {
-    play_events(alloc, random, &case.given, Events::Worked(case.wants), seen);
+    let Ok(plan) = plan_of(alloc, random, &case.given) else {
+        return seen.needs(false);
+    };
+    let Ok(mut schedule) = opened(alloc, &plan, case.given.workers) else {
+        return seen.needs(false);
+    };
+    look(alloc, &mut schedule, case.wants, seen);
 }
