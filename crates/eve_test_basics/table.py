@@ -1,7 +1,7 @@
 #!/usr/bin/env python3
-"""Answers the cases of eve_test_basics as its program must, and independently of it.
+"""Answers the cases of eve_test_basics as its program must, and independently of it, but those of workloads.
 
-  python3 table.py < stdin > stdout
+  python3 table.py < stdin
 
 Names, money and rows are those of docs/MODEL.md, and Debug texts those of Rust. A stream is a list of calls, of which
 each moves bytes, is interrupted or fails. Python's hashlib gives the hashes. The levels of a tree are made one from
@@ -301,6 +301,8 @@ TELL = {"token": tell_token, "writes": tell_writes, "random": tell_random}
 
 for line in sys.stdin.read().splitlines():
     what, *words = line.split(" ")
+    if what == "workload":
+        continue
     if what in SAID:
         print(f"{line}:{SAID[what](*words)}")
     else:

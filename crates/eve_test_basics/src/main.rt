@@ -18,9 +18,14 @@
 //!   token
 //! - `writes NAME BALANCES ROW=CENTS..`: the root that a tree gives at first and after each write
 //! - `random NAME COUNT BALANCES`: after how many of COUNT random writes the root is that of a new tree
+//! - `workload read NAME TEXT`: the text read as a workload, or its first bad line; `workload cut NAME TEXT`: the same of
+//!   each front of it; `workload mix NAME TEXT`: its batches cut by both mixers, by the numbers of their requests. In a
+//!   text `/` stands for a line feed
+//! - `workload greatest`: texts with the greatest numbers of customers, requests and batches, and more
 //!
 //! Where a word isn't as it must be, or memory is refused, nothing is printed of the line, and the program ends there.
-//! What must be printed is what table.py, beside the input, answers to the same lines.
+//! What must be printed is what table.py, beside the input, answers to the same lines; of workloads it follows from
+//! docs/TRACE.md, "Workload".
 #![tactic(auto)]
 
 mod buffer;
@@ -31,6 +36,7 @@ mod money;
 mod names;
 mod roots;
 mod streams;
+mod workloads;
 
 use crate::cases::word_at;
 use eve_testing::Text;
@@ -53,22 +59,28 @@ fn tell(rt: &HostRuntime, line: &str, words: &[&str], said: &mut Text) {
     said.needs(is_told);
 }
 
-/// Prints what is said of a line.
-fn answer(rt: &HostRuntime, line: String) -> io::Result<()> {
-    let alloc = rt.alloc();
-    let line = line.as_str();
-    let mut said = Text::new(alloc);
-    match line.split(' ').collect::<Vec<&str>>(alloc) {
-        Ok(words) => tell(rt, line, words.as_slice(), &mut said),
+/// Tells what came of a line.
+fn tell_line(rt: &HostRuntime, line: &str, said: &mut Text) {
+    match line.split(' ').collect::<Vec<&str>>(rt.alloc()) {
+        Ok(words) => tell(rt, line, words.as_slice(), said),
         Err(_) => said.refused(),
     }
     said.words("\n");
+}
+
+/// Prints what is said of a line.
+fn answer(rt: &HostRuntime, line: &str) -> io::Result<()> {
+    let mut said = Text::new(rt.alloc());
+    match line.strip_prefix("workload ") {
+        Some(asked) => workloads::tell(rt, asked, &mut said),
+        None => tell_line(rt, line, &mut said),
+    }
     said.print(rt)
 }
 
 fn main(rt: HostRuntime) -> io::Result<()> {
     for line in rt.lines(rt.alloc()) {
-        answer(&rt, line?)?;
+        answer(&rt, line?.as_str())?;
     }
     Ok(())
 }

@@ -1,6 +1,6 @@
 //! Texts with the greatest numbers of customers, requests and batches.
 
-use crate::texts::{names_of, read};
+use crate::workloads::texts::{names_of, read};
 use eve_testing::Text;
 use eve_workload::{Mixer, Workload, mix};
 use std::alloc::Global;
