@@ -1,2 +1,4 @@
+mod Appending
 pub mod Digits
 mod KindNames
+mod Saying

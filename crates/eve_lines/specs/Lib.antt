@@ -1,1 +1,3 @@
-pub mod Extending
+pub mod Words
+pub mod FrameLines
+pub mod Rest

@@ -9,6 +9,7 @@ mod entry;
 mod frame;
 mod header;
 mod kind;
+pub mod laws;
 mod line;
 mod number;
 mod parts;
@@ -25,8 +26,8 @@ pub use frame::FrameWords;
 pub use header::put_header;
 pub use kind::kind_name;
 pub use line::{
-    LINE_ROOM, LONGEST_NAME, LONGEST_NUMBER, LONGEST_PART, Line, put, put_bytes, put_line_feed,
-    put_name,
+    LINE_ROOM, LONGEST_NAME, LONGEST_NUMBER, LONGEST_PART, Line, TOKEN_LEN, put, put_bytes,
+    put_line_feed, put_name,
 };
 pub use number::{put_number, put_numbered, put_signed};
 pub use reply::put_reply;

@@ -1,7 +1,8 @@
 //! A line in a fixed array.
 
-ghost use Rattle.std.specs.Prelude.{◌≡◌, ◌+◌, ◌≤◌, ◌++◌, [], ◌∷◌, IsTrue, length, take};
+ghost use Rattle.std.specs.Prelude.{◌≡◌, ◌+◌, ◌<◌, ◌≤◌, ◌++◌, [], ◌∷◌, IsTrue, IsFalse, length};
 ghost use Rattle.arrayvec.specs.ArrayVec.{array_vec_len};
+ghost use Rattle.eve_lines.specs.Words.{name_words};
 
 use arrayvec::ArrayVec;
 
@@ -19,6 +20,9 @@ pub const LONGEST_NUMBER: usize = 20;
 
 /// How many bytes a name has at most.
 pub const LONGEST_NAME: usize = 24;
+
+/// How many bytes a token has.
+pub const TOKEN_LEN: usize = 32;
 
 /// Appends bytes.
 #[inline(always)]
@@ -46,7 +50,7 @@ pub fn put(line: &mut Line, text: &str)
 #[inline(always)]
 pub fn put_name(line: &mut Line, name: &[u8])
     requires { array_vec_len line.old + LONGEST_NAME ≤ LINE_ROOM }
-    ensures items { line.new.items ≡ line.old.items ++ take LONGEST_NAME name.now }
+    ensures items { line.new.items ≡ line.old.items ++ name_words name.now }
     ensures len { array_vec_len line.new ≤ array_vec_len line.old + LONGEST_NAME }
 {
     let len = name.len().min(LONGEST_NAME);
@@ -66,7 +70,8 @@ pub fn put_line_feed(line: &mut Line)
 /// Whether there is room for one part more.
 #[inline(always)]
 pub(crate) fn has_room(line: &Line) -> bool
-    ensures { IsTrue result → array_vec_len line.now + LONGEST_PART ≤ LINE_ROOM }
+    ensures room { IsTrue result → array_vec_len line.now + LONGEST_PART ≤ LINE_ROOM }
+    ensures full { IsFalse result → LINE_ROOM < array_vec_len line.now + LONGEST_PART }
 {
     line.len() <= LINE_ROOM - LONGEST_PART
 }

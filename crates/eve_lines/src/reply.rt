@@ -1,8 +1,8 @@
 //! Replies.
 
-ghost use Rattle.std.specs.Prelude.{◌+◌, ◌≤◌, length};
+ghost use Rattle.std.specs.Prelude.{◌≡◌, ◌+◌, ◌≤◌, ◌++◌, length};
 ghost use Rattle.arrayvec.specs.ArrayVec.{array_vec_len};
-ghost use Rattle.eve_lines.specs.Extending.{Extends};
+ghost use Rattle.eve_lines.specs.Words.{abort_words, reply_words};
 
 use crate::line::{LINE_ROOM, Line, put};
 use crate::number::put_signed;
@@ -10,7 +10,8 @@ use eve_smallbank::{Abort, Reply};
 
 /// Why a transaction changed nothing, in one word.
 fn abort_word(why: Abort) -> &'static str
-    ensures { length result.now ≤ 12 }
+    ensures word { result.now ≡ abort_words why }
+    ensures short { length result.now ≤ 12 }
 {
     match why {
         Abort::NoSuchName => "NoSuchName",
@@ -24,7 +25,7 @@ fn abort_word(why: Abort) -> &'static str
 #[inline(always)]
 pub fn put_reply(line: &mut Line, reply: Reply)
     requires { array_vec_len line.old + 26 ≤ LINE_ROOM }
-    ensures extends { Extends line.old.items line.new.items }
+    ensures items { line.new.items ≡ line.old.items ++ reply_words reply }
     ensures len { array_vec_len line.new ≤ array_vec_len line.old + 26 }
 {
     match reply {

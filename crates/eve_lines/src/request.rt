@@ -1,18 +1,21 @@
 //! Requests, in the words of a workload.
 
-ghost use Rattle.std.specs.Prelude.{◌+◌, ◌≤◌, length};
+ghost use Rattle.std.specs.Prelude.{◌≡◌, ◌+◌, ◌≤◌, ◌++◌, length};
 ghost use Rattle.arrayvec.specs.ArrayVec.{array_vec_len};
-ghost use Rattle.eve_lines.specs.Extending.{Extends};
+ghost use Rattle.eve_smallbank.specs.SmallBank.{plain};
+ghost use Rattle.eve_grammar.specs.Bodies.{borrowed_asked};
+ghost use Rattle.eve_lines.specs.Words.{request_word, move_words, operand_words, request_words};
 
 use crate::line::{LINE_ROOM, Line, put, put_name};
-use crate::number::{put_numbered, put_signed};
+use crate::number::{put_number, put_numbered, put_signed};
 use eve_accounts::Amount;
 use eve_grammar::Asked;
 use eve_smallbank::Request;
 
 /// What a line of a workload that asks for it begins with.
 fn request_word(request: &Request) -> &'static str
-    ensures { length result.now ≤ 11 }
+    ensures word { result.now ≡ request_word (plain request.now) }
+    ensures short { length result.now ≤ 11 }
 {
     match request {
         Request::Balance(_) => "balance ",
@@ -26,7 +29,7 @@ fn request_word(request: &Request) -> &'static str
 /// Appends a name and an amount.
 fn put_move(line: &mut Line, name: &[u8], amount: Amount)
     requires { array_vec_len line.old + 45 ≤ LINE_ROOM }
-    ensures extends { Extends line.old.items line.new.items }
+    ensures items { line.new.items ≡ line.old.items ++ move_words name.now amount }
     ensures len { array_vec_len line.new ≤ array_vec_len line.old + 45 }
 {
     put_name(line, name);
@@ -37,7 +40,7 @@ fn put_move(line: &mut Line, name: &[u8], amount: Amount)
 /// Appends what is asked for behind the client's number: the names and the amount.
 fn put_operands(line: &mut Line, request: &Request)
     requires { array_vec_len line.old + 49 ≤ LINE_ROOM }
-    ensures extends { Extends line.old.items line.new.items }
+    ensures items { line.new.items ≡ line.old.items ++ operand_words (plain request.now) }
     ensures len { array_vec_len line.new ≤ array_vec_len line.old + 49 }
 {
     match request {
@@ -56,10 +59,11 @@ fn put_operands(line: &mut Line, request: &Request)
 /// Appends a request as a workload has it: `deposit 7 2 ann 7`.
 pub fn put_request(line: &mut Line, asked: &Asked)
     requires { array_vec_len line.old + 102 ≤ LINE_ROOM }
-    ensures extends { Extends line.old.items line.new.items }
+    ensures items { line.new.items ≡ line.old.items ++ request_words (borrowed_asked asked.now) }
     ensures len { array_vec_len line.new ≤ array_vec_len line.old + 102 }
 {
-    put_numbered(line, request_word(&asked.request), u64::from(asked.client));
+    put(line, request_word(&asked.request));
+    put_number(line, u64::from(asked.client));
     put_numbered(line, " ", asked.number);
     put(line, " ");
     put_operands(line, &asked.request);

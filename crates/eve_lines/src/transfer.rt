@@ -1,76 +1,67 @@
 //! The words of a Transfer frame.
 
-ghost use Rattle.std.specs.Prelude.{◌+◌, ◌-◌, ◌/◌, ◌<◌, ◌≤◌, IsTrue, is_some, length};
-ghost use Rattle.eve_grammar.specs.Reading.{transfer_of};
-ghost use Rattle.eve_frames.specs.Said.{transfer_said};
+ghost use Rattle.std.specs.Prelude.{◌≡◌, ◌+◌, ◌≤◌, ◌++◌, length};
 ghost use Rattle.arrayvec.specs.ArrayVec.{array_vec_len};
-ghost use Rattle.eve_lines.specs.Extending.{Extends};
+ghost use Rattle.eve_grammar.specs.declared.frame_kind.TheConstants.{FRAME_HEAD_LEN};
+ghost use Rattle.eve_frames.specs.Views.{body_in, transfer_in};
+ghost use Rattle.eve_lines.specs.FrameLines.{transfer_words};
+ghost use Rattle.eve_lines.specs.Rest.{PutsPart, is_state_body, rest_left, transfer_left, words_if};
 
+use crate::entry::put_row;
+use crate::frame::Rest;
 use crate::line::{LINE_ROOM, LONGEST_PART, Line, put};
-use crate::parts::Parts;
-use crate::rollback::put_row;
+use crate::parts::parting;
 use crate::short::put_batch_and_view;
 use eve_frames::TransferView;
-use eve_grammar::{MOST_ROWS, is_transfer_body};
+use eve_grammar::{FRAME_HEAD_LEN, MOST_ROWS, is_transfer_body};
 
-/// Whether these bytes are the body of a Transfer frame that has as many rows as its length tells.
-pub(crate) fn is_state_body(body: &[u8]) -> bool
-    ensures { IsTrue result → IsTrue (is_some (transfer_of ((length body.now - 8) / 16) body.now)) }
+/// The words of a state taken over that are still to come, behind ` batch 1 view 0`.
+#[derive(Clone, Copy)]
+pub(crate) struct TransferRest<'a> {
+    transfer: TransferView<'a>,
+    /// How many rows came.
+    came: usize,
+}
+
+/// Whether these bytes are the body of a Transfer frame with as many rows as its length tells, and no more than a trace
+/// has.
+fn is_state_body(body: &[u8]) -> bool
+    ensures { result ≡ is_state_body body.now }
 {
     let rows = body.len().saturating_sub(8) / 16;
     rows <= MOST_ROWS as usize && is_transfer_body(rows as u32, body)
 }
 
-/// The words of a state taken over that are still to come.
-#[derive(Clone, Copy)]
-pub(crate) struct TransferWords<'a> {
-    transfer: TransferView<'a>,
-    /// How many parts came: what stands before the rows, and the rows.
-    came: usize,
+/// Appends ` batch 1 view 0` of a Transfer frame.
+#[tactic(auto, unfolding(crate::specs::FrameLines::transfer_words, crate::specs::Rest::transfer_left))]
+pub(crate) fn begin_transfer<'a>(line: &mut Line, frame: &'a [u8]) -> Rest<'a>
+    requires room { array_vec_len line.old + LONGEST_PART ≤ LINE_ROOM }
+    requires framed { FRAME_HEAD_LEN ≤ length frame.now }
+    ensures { line.new.items ++ rest_left result ≡ line.old.items
+        ++ words_if (is_state_body (body_in frame.now)) (transfer_words (transfer_in frame.now)) }
+{
+    if !is_state_body(&frame[FRAME_HEAD_LEN..]) {
+        return Rest::None;
+    }
+    let transfer = TransferView::new(0, frame);
+    put_batch_and_view(line, transfer.seq(), transfer.view());
+    Rest::Transfer(TransferRest { transfer, came: 0 })
 }
 
-impl<'a> TransferWords<'a> {
-    /// All of them.
-    pub(crate) fn new(transfer: TransferView<'a>) -> TransferWords<'a> {
-        TransferWords { transfer, came: 0 }
-    }
-
-    /// Appends ` batch 1 view 0: `.
-    fn put_front(&self, line: &mut Line)
+impl TransferRest<'_> {
+    /// Appends what the next row has; no, where all have come.
+    #[tactic(auto, unfolding(crate::specs::Rest::transfer_left))]
+    pub(crate) fn put_next(&mut self, line: &mut Line) -> bool
         requires { array_vec_len line.old + LONGEST_PART ≤ LINE_ROOM }
-        ensures extends { Extends line.old.items line.new.items }
+        ensures { PutsPart result line.old.items line.new.items (transfer_left self.old) (transfer_left self.new) }
     {
-        put_batch_and_view(line, self.transfer.seq(), self.transfer.view());
-        put(line, ": ");
-    }
-
-    /// Appends what a row has, behind what parts it from the one before.
-    fn put_row(&self, line: &mut Line, row: usize)
-        requires room { array_vec_len line.old + LONGEST_PART ≤ LINE_ROOM }
-        requires there { row < length (transfer_said self.now.transfer).rows }
-        requires few { row < MOST_ROWS }
-        ensures extends { Extends line.old.items line.new.items }
-    {
-        if row > 0 {
-            put(line, "; ");
-        }
-        put_row(line, row as u32, self.transfer.row(row));
-    }
-}
-
-impl Parts for TransferWords<'_> {
-    fn put_next(&mut self, line: &mut Line) -> bool {
-        let count = self.transfer.len().min(MOST_ROWS as usize);
         let came = self.came;
-        if came > count {
+        if came >= self.transfer.len() {
             return false;
         }
         self.came = came + 1;
-        if came == 0 {
-            self.put_front(line);
-            return true;
-        }
-        self.put_row(line, came - 1);
+        put(line, parting(0 < came));
+        put_row(line, came as u64, self.transfer.row(came));
         true
     }
 }

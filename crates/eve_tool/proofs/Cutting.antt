@@ -1,5 +1,5 @@
 -- What is said of bytes of which only a front was read.
-use Rattle.std.proofs.Common.{◌≡◌, ℕ, ◌+◌, ◌^◌, ◌<◌, ◌≤◌, inl, inr, Bool, true, false, ◌&&◌, List, length, take, Some}
+use Rattle.std.proofs.Common.{◌≡◌, ℕ, ◌+◌, ◌^◌, ◌<◌, ◌≤◌, inl, inr, Bool, true, false, ◌&&◌, List, [], length, take, Some}
 use Rattle.std.proofs.Common.{None, refl, ap, sym, subst, ◌∙◌, arith}
 use Rattle.std.specs.Prelude.{IfSome, IsFalse, Option, nat_le}
 use Rattle.std.proofs.lemmas.Bool.{cases_lt, lt-leb}
@@ -24,7 +24,7 @@ use Rattle.eve_tool.specs.Explain.{Explains}
 use Rattle.eve_tool.specs.Lines.{status_of_verdict}
 use Rattle.eve_grammar.specs.declared.limits.TheConstants.{MOST_BYTES}
 use Rattle.eve_tool.specs.Show.{Shows}
-use Rattle.eve_tool.specs.Long.{ShowsLong}
+use Rattle.eve_tool.specs.Long.{AreLinesBefore, ShowsLong}
 use Rattle.eve_tool_arguments.specs.Arguments.{Audit, Show, ShowLong, Subcommand}
 use Rattle.eve_tool.specs.Writes.{WritesAll, WritesAllOf, WritesFront, WritesFrontOf}
 
@@ -101,6 +101,16 @@ Shows-cut limit bytes text status enough shows =
             found.1,
           )
 
+-- no lines stand before it
+header_lines : (xs ys : List ℕ) (f : Fault) (text : List ℕ) → 2 ^ 30 < length xs
+    → IsLeast (IsFaultOutside StandsInForm xs) f → AreLinesBefore f.code xs f.offset text
+    → AreLinesBefore f.code ys f.offset text
+header_lines xs ys f text long least are =
+    let front = at_front f (least.least length_fault (length_stands xs long)) in
+    let is_its = is_length f.code front.1 in
+    let none : text ≡ [] = subst (λ (c : Code). AreLinesBefore c xs f.offset text) is_its are in
+    subst (λ (c : Code). AreLinesBefore c ys f.offset text) (sym is_its) none
+
 -- a number of bytes that no trace has is enough to say what is to be said of all of them
 pub ShowsLong-cut : (limit : ℕ) (bytes text : List ℕ) (status : ℕ) → 2 ^ 30 ≤ limit
     → ShowsLong (take (limit + 1) bytes) text status → ShowsLong bytes text status
@@ -123,7 +133,9 @@ ShowsLong-cut limit bytes text status enough shows =
               least = same_fault (take (limit + 1) bytes) bytes found.0.fault read long
                   found.0.least;
               before = found.0.before;
-              line = found.0.line;
+              lines = header_lines (take (limit + 1) bytes) bytes found.0.fault found.0.before read found.0.least
+                  found.0.lines;
+              is = found.0.is;
             },
             found.1,
           )

@@ -41,22 +41,23 @@ shown_left written failures bytes text status old new said fault.Write stopped =
     (stopped.counted, record { text = text; status = status; said = said; written = stopped.front })
 
 -- by lines that end with this one
-pub long_stopped : {O : Type 0} (written : O → Option (List ℕ)) (failures : O → ℕ) (bytes last : List ℕ) (old new : O)
-    → ((before : List ℕ) → ShowsLong bytes (before ++ last) 1) → (why : ToolFault)
-    → StopsLong written failures old new last why → Leaves MOST_BYTES written failures ShowLong (Some bytes) ⊥ old new
-    why
-long_stopped written failures bytes last old new said fault.Read stopped = absurd stopped
-long_stopped written failures bytes last old new said (fault.Line number) stopped = absurd stopped
-long_stopped written failures bytes last old new said fault.TooLong stopped = absurd stopped
-long_stopped written failures bytes last old new said fault.Broken stopped = absurd stopped
-long_stopped written failures bytes last old new said fault.Random stopped = absurd stopped
-long_stopped written failures bytes last old new said fault.Memory stopped = inl stopped
-long_stopped written failures bytes last old new said fault.Write stopped = (
+pub long_stopped : {O : Type 0} (written : O → Option (List ℕ)) (failures : O → ℕ) (bytes : List ℕ)
+    (Are : List ℕ → Type 0) (last : List ℕ) (old new : O)
+    → ((before : List ℕ) → Are before → ShowsLong bytes (before ++ last) 1) → (why : ToolFault)
+    → StopsLong written failures old new Are last why → Leaves MOST_BYTES written failures ShowLong (Some bytes) ⊥ old
+    new why
+long_stopped written failures bytes Are last old new said fault.Read stopped = absurd stopped
+long_stopped written failures bytes Are last old new said (fault.Line number) stopped = absurd stopped
+long_stopped written failures bytes Are last old new said fault.TooLong stopped = absurd stopped
+long_stopped written failures bytes Are last old new said fault.Broken stopped = absurd stopped
+long_stopped written failures bytes Are last old new said fault.Random stopped = absurd stopped
+long_stopped written failures bytes Are last old new said fault.Memory stopped = inl stopped
+long_stopped written failures bytes Are last old new said fault.Write stopped = (
   stopped.1,
   record {
     text = stopped.0.before ++ last;
     status = 1;
-    said = said stopped.0.before;
+    said = said stopped.0.before stopped.0.are;
     written = stopped.0.sent;
   },
 )

@@ -1,263 +1,341 @@
--- Lines with words that no clause names, sent one after another.
-use Rattle.std.proofs.Common.{◌≡◌, ℕ, zero, suc, ◌+◌, ◌-◌, ◌<◌, ◌≤◌}
-use Rattle.std.proofs.Common.{List, [], ◌∷◌, ◌++◌, Option, Some, Result, Ok, Err, OnOk, OnErr, length, map, take}
-use Rattle.std.proofs.Common.{drop, codes}
+-- The lines of frames, sent one after another.
+use Rattle.std.proofs.Common.{◌≡◌, ℕ, ◌+◌, ◌-◌, ◌<◌, ◌≤◌}
+use Rattle.std.proofs.Common.{List, [], ◌∷◌, ◌++◌, Option, Some, Result, Ok, Err, OnErr, length, take}
+use Rattle.std.proofs.Common.{drop}
 use Rattle.std.proofs.Common.{refl, ap, sym, subst, ◌∙◌, arith, append_assoc, append-nil, length-append}
-use Rattle.std.specs.Prelude.{decimal, option_map, slice_index}
-use Rattle.std.proofs.lemmas.List.{length-map}
-use Rattle.std.proofs.lemmas.Option.{same_Some, slice_get-map}
+use Rattle.std.specs.Prelude.{IsTrue, slice_index}
+use Rattle.std.proofs.lemmas.List.{drop_at, drop-drop, drop-take, length-take, take_at}
+use Rattle.std.proofs.Math.Seq.{take-take}
 use Rattle.eve_frames.specs.Kinds.{kind_name}
 use Rattle.eve_frames.specs.declared.frame.FrameView.{FrameView}
-use Rattle.eve_grammar.specs.Frames.{Frame, kind_of}
-use Rattle.eve_grammar.specs.Spelling.{body_text, frame_text, frames_text, located}
-use Rattle.eve_views.proofs.Locating.{length-located}
+use Rattle.eve_grammar.specs.Trace.{Trace}
+use Rattle.eve_grammar.specs.Frames.{Frame, frames_of, kind_of, next_place, start_place}
+use Rattle.eve_grammar.specs.Spelling.{body_text, frame_text, frames_text, head_text}
+use Rattle.eve_grammar.specs.Following.{Follow, Spells}
+use Rattle.eve_grammar.specs.Limits.{FitsAt, is_head}
+use Rattle.eve_grammar.specs.Places.{number_in}
+use Rattle.eve_grammar.specs.Reading.{header_of}
+use Rattle.eve_grammar.specs.declared.head.Head.{Head}
+use Rattle.eve_grammar.specs.declared.place.Place.{Place}
+use Rattle.eve_grammar.proofs.FrameLaws.{limits_text, Exact-header}
+use Rattle.eve_grammar.proofs.HeaderParts.{behind_magic, header_parts, in_parts, length-head_text, length-limits_text}
+use Rattle.eve_lines.specs.FrameLines.{frame_words}
+use Rattle.eve_lines.specs.Rest.{words_in}
 use Rattle.std.specs.Io.KnownBytes.{Appends}
-use Rattle.std.proofs.KnownBytes.{Appends-nil, Appends-trans}
-use Rattle.std.specs.List.{slice_get}
-use Rattle.std.proofs.Math.ListN.{drop_of_length-le}
 use Rattle.eve_streams.specs.Front.{AppendsFront}
+use Rattle.std.proofs.KnownBytes.{Appends-trans}
 use Rattle.eve_streams.proofs.Joining.{AppendsFront-after, AppendsFront-more}
-use Rattle.eve_views.specs.Code.{code_name, code_number}
-use Rattle.eve_views.specs.declared.fault.Fault.{Fault}
-use Rattle.eve_tool.specs.Lines.{fault_line, line_feed, line_front, replica_text}
-use Rattle.eve_tool.specs.Long.{AreLongLines, IsLongLine, PutsLine, SendsLines, SendsUpTo, StopsUpTo, StopsInLine}
-use Rattle.eve_tool.specs.Long.{StopsInLines, line_front_of, front_of_view, header_front, long_fronts}
-use Rattle.eve_tool.specs.Sending.{SendsSome, PutsText, PutsSome, StopsInSome}
-use Rattle.eve_lines.specs.Extending.{Extends}
-use Rattle.eve_tool.proofs.Putting.{puts-stops, puts-text, puts-then}
-use Rattle.eve_tool.proofs.SentLines.{AppendsFront-so_far, frame_placed, length-body, placed_at}
+use Rattle.eve_views.specs.Form.{IsReached, SaysHead, StandsInForm, said_by}
+use Rattle.eve_views.specs.declared.fault.Code.{Code}
+use Rattle.eve_views.specs.declared.fault.Code.TheVariants as code
+use Rattle.eve_views.proofs.Bytes.{number_again}
+use Rattle.eve_views.proofs.FrameLaws.{length-frame_text}
+use Rattle.eve_views.proofs.WholeTraces.{spells_frames}
+use Rattle.eve_tool.specs.Lines.{line_feed, line_front}
+use Rattle.eve_tool.specs.Sending.{PutsText}
+use Rattle.eve_tool.specs.Long.{AreLinesBefore, HasFrames, SendsBefore, SendsUpTo, StopsBefore, StopsUpTo, frame_len}
+use Rattle.eve_tool.specs.Long.{front_of_view, line_of_view, lines_from, long_line, long_lines}
+use Rattle.eve_tool.proofs.Putting.{PutsUpTo, puts-begun, puts-stops, puts-text, puts-then, up_to-all, up_to-more}
+use Rattle.eve_tool.proofs.Putting.{up_to-none, up_to-stops}
 
 -- ---- a line
 
-whole : (front words : List ℕ) → IsLongLine front (front ++ (words ++ line_feed))
-whole front words = record { words = words; is = refl }
-
--- the first line: its front, its words and its end were put
-pub line-first : (l k j : List ℕ) (front m : List ℕ) → l ≡ [] → k ≡ l ++ front → Extends k j → m ≡ j ++ line_feed
-    → IsLongLine front m
-line-first l k j front m empty first words last = record {
-  words = words.words;
-  is = last ∙ ap (λ x. x ++ line_feed) (words.is ∙ ap (λ x. x ++ words.words) (first ∙ ap (λ x. x ++ front) empty))
-      ∙ append_assoc front words.words line_feed;
-}
-
--- room was made, and its front, its words and its end were put
-pub line-put : (a b c d : Option (List ℕ)) (held l k j kept front : List ℕ) → PutsText a b held l [] → k ≡ l ++ front
-    → PutsSome b c k j → PutsText c d j kept line_feed → PutsLine a d held kept front
-line-put a b c d held l k j kept front room first words last = record {
-  line = front ++ (words.text ++ line_feed);
-  is = whole front words.text;
-  puts = puts-then a b d held l kept [] (front ++ (words.text ++ line_feed)) room
-      (puts-then b b d l k kept front (words.text ++ line_feed) (puts-text b l k front first)
-      (puts-then b c d k j kept words.text line_feed words.puts last));
-}
-
--- it was stopped before its front
-pub line-stops_at_front : (a b : Option (List ℕ)) (held front : List ℕ) → AppendsFront a b held
-    → StopsInLine a b held front
-line-stops_at_front a b held front stops = record {
-  line = front ++ ([] ++ line_feed);
-  is = whole front [];
-  sent = AppendsFront-more a b held (front ++ ([] ++ line_feed)) stops;
-}
-
--- it was stopped in its words
-pub line-stops_in_words : (a b c : Option (List ℕ)) (held l k front : List ℕ) → PutsText a b held l [] → k ≡ l ++ front
-    → StopsInSome b c k → StopsInLine a c held front
-line-stops_in_words a b c held l k front room first words = record {
-  line = front ++ (words.text ++ line_feed);
-  is = whole front words.text;
-  sent = puts-stops a b c held l [] (front ++ (words.text ++ line_feed)) room
-      (puts-stops b b c l k front (words.text ++ line_feed) (puts-text b l k front first)
-      (subst (AppendsFront b c) (append_assoc k words.text line_feed)
-      (AppendsFront-more b c (k ++ words.text) line_feed words.sent)));
-}
-
--- it was stopped before its end
-pub line-stops_at_end : (a b c d : Option (List ℕ)) (held l k j front : List ℕ) → PutsText a b held l []
-    → k ≡ l ++ front → PutsSome b c k j → AppendsFront c d j → StopsInLine a d held front
-line-stops_at_end a b c d held l k j front room first words last = record {
-  line = front ++ (words.text ++ line_feed);
-  is = whole front words.text;
-  sent = puts-stops a b d held l [] (front ++ (words.text ++ line_feed)) room
-      (puts-stops b b d l k front (words.text ++ line_feed) (puts-text b l k front first)
-      (puts-stops b c d k j words.text line_feed words.puts (AppendsFront-more c d j line_feed last)));
-}
-
--- a line is some text
-pub put_some-line : (a b : Option (List ℕ)) (held kept front : List ℕ) → PutsLine a b held kept front
-    → PutsSome a b held kept
-put_some-line a b held kept front line = record { text = line.line; puts = line.puts }
-
--- ---- lines
-
--- with no words
-plain : (fronts : List (List ℕ)) → (text : List ℕ) × AreLongLines fronts text
-plain [] = ([], refl)
-plain (front ∷ fronts) =
-    let rest = plain fronts in
-    let line = front ++ ([] ++ line_feed) in
-    (line ++ rest.0, (line, rest.0, whole front [], rest.1, refl))
-
--- lines with the first fronts were sent or are held, and lines with the others are to come
-pub record HoldsFar (old new : Option (List ℕ)) (held : List ℕ) (fronts : List (List ℕ)) (i : ℕ) : Type 0 where
-  pub sent : List ℕ
-  pub appended : Appends old new sent
-  pub closes : (rest : List ℕ) → AreLongLines (drop i fronts) rest → AreLongLines fronts ((sent ++ held) ++ rest)
-
--- none yet
-far-none : (a : Option (List ℕ)) (fronts : List (List ℕ)) → HoldsFar a a [] fronts 0
-far-none a fronts = record { sent = []; appended = Appends-nil a; closes = λ rest are. are }
-
--- the fronts from one on
-drop-next : (fronts : List (List ℕ)) (i : ℕ) (front : List ℕ) → slice_get fronts i ≡ Some front
-    → drop i fronts ≡ front ∷ drop (i + 1) fronts
-drop-next [] i front e = cc
-drop-next (f ∷ fs) zero front e = let same : f ≡ front = cc in ap (λ z. z ∷ fs) same
-drop-next (f ∷ fs) (suc i) front e =
-    let behind : suc i + 1 ≡ suc (i + 1) = omega arith in rw behind (drop-next fs i front e)
-
--- one more
-pub far-more : (a b c : Option (List ℕ)) (held kept : List ℕ) (fronts : List (List ℕ)) (i : ℕ) (front : List ℕ)
-    → slice_get fronts i ≡ Some front → PutsLine b c held kept front → HoldsFar a b held fronts i
-    → HoldsFar a c kept fronts (i + 1)
-far-more a b c held kept fronts i front at line far =
-    let further = line.puts.sent in record {
-      sent = far.sent ++ further;
-      appended = Appends-trans a b c far.sent further far.appended line.puts.appended;
-      closes = λ rest are.
-          let next = sym (drop-next fronts i front at) in
-          let with_line : AreLongLines (front ∷ drop (i + 1) fronts) (line.line ++ rest) =
-          (line.line, rest, line.is, are, refl) in
-          let joined : (far.sent ++ held) ++ (line.line ++ rest) ≡ ((far.sent ++ further) ++ kept) ++ rest =
-          sym (append_assoc (far.sent ++ held) line.line rest)
-          ∙ ap (λ l. l ++ rest) (append_assoc far.sent held line.line ∙ ap (λ l. far.sent ++ l) (sym line.puts.whole)
-          ∙ sym (append_assoc far.sent further kept)) in
-          subst (AreLongLines fronts) joined
-          (far.closes (line.line ++ rest) (subst (λ fs. AreLongLines fs (line.line ++ rest)) next with_line));
-    }
-
--- the first is held
-pub far-first : (a : Option (List ℕ)) (line : List ℕ) (fronts : List (List ℕ)) (front : List ℕ)
-    → slice_get fronts 0 ≡ Some front → IsLongLine front line → HoldsFar a a line fronts 1
-far-first a line fronts front at is =
-    far-more a a a [] line fronts 0 front at
-    (record { line = line; is = is; puts = puts-text a [] line line refl }) (far-none a fronts)
-
--- what was sent and what is held are all of them
-far-are : (a b : Option (List ℕ)) (held : List ℕ) (fronts : List (List ℕ)) (i : ℕ) → length fronts ≤ i
-    → (far : HoldsFar a b held fronts i) → AreLongLines fronts (far.sent ++ held)
-far-are a b held fronts i past far =
-    let none : drop i fronts ≡ [] = drop_of_length-le fronts {i = i} past in
-    subst (AreLongLines fronts) (append-nil (far.sent ++ held))
-    (far.closes [] (subst (λ fs. AreLongLines fs []) (sym none) refl))
-
-pub far-all : (a b c : Option (List ℕ)) (held : List ℕ) (fronts : List (List ℕ)) (i : ℕ) → length fronts ≤ i
-    → HoldsFar a b held fronts i → Appends b c held → SendsLines a c fronts
-far-all a b c held fronts i past far sent = record {
-  text = far.sent ++ held;
-  are = far-are a b held fronts i past far;
-  sent = Appends-trans a b c far.sent held far.appended sent;
-}
-
--- the last that are held were stopped
-pub far-stops_at_end : (a b c : Option (List ℕ)) (held : List ℕ) (fronts : List (List ℕ)) (i : ℕ) → length fronts ≤ i
-    → HoldsFar a b held fronts i → AppendsFront b c held → StopsInLines a c fronts
-far-stops_at_end a b c held fronts i past far stops = record {
-  text = far.sent ++ held;
-  are = far-are a b held fronts i past far;
-  sent = AppendsFront-after a b c far.sent held far.appended stops;
-}
-
--- the next was stopped
-pub far-stops : (a b c : Option (List ℕ)) (held : List ℕ) (fronts : List (List ℕ)) (i : ℕ) (front : List ℕ)
-    → slice_get fronts i ≡ Some front → StopsInLine b c held front → HoldsFar a b held fronts i
-    → StopsInLines a c fronts
-far-stops a b c held fronts i front at stops far =
-    let rest = plain (drop (i + 1) fronts) in
-    let next = sym (drop-next fronts i front at) in
-    let with_line : AreLongLines (front ∷ drop (i + 1) fronts) (stops.line ++ rest.0) =
-    (stops.line, rest.0, stops.is, rest.1, refl) in
-    let joined : far.sent ++ ((held ++ stops.line) ++ rest.0) ≡ (far.sent ++ held) ++ (stops.line ++ rest.0) =
-    ap (λ l. far.sent ++ l) (append_assoc held stops.line rest.0)
-    ∙ sym (append_assoc far.sent held (stops.line ++ rest.0))
-    in
-    record {
-      text = (far.sent ++ held) ++ (stops.line ++ rest.0);
-      are = far.closes (stops.line ++ rest.0) (subst (λ fs. AreLongLines fs (stops.line ++ rest.0)) next with_line);
-      sent = subst (AppendsFront a c) joined (AppendsFront-after a b c far.sent ((held ++ stops.line) ++ rest.0)
-          far.appended (AppendsFront-more b c (held ++ stops.line) rest.0 stops.sent));
-    }
-
--- ---- up to a line
-
-pub up_to-sent : (a b c : Option (List ℕ)) (last : List ℕ) → SendsSome a b → Appends b c last → SendsUpTo a c last
-up_to-sent a b c last some sent = record {
-  before = some.text;
-  sent = Appends-trans a b c some.text last some.appended sent;
-}
-
-pub stops-before : (a b : Option (List ℕ)) (last : List ℕ) → 0 < length last → SendsSome a b → StopsUpTo a b last
-stops-before a b last more some = record {
-  before = some.text;
-  sent = AppendsFront-so_far a b some.text last more some.appended;
-}
-
-pub stops-in_last : (a b c : Option (List ℕ)) (last : List ℕ) → SendsSome a b → AppendsFront b c last
-    → StopsUpTo a c last
-stops-in_last a b c last some front = record {
-  before = some.text;
-  sent = AppendsFront-after a b c some.text last some.appended front;
-}
-
--- ---- the fronts of a trace's lines
-
-pub front_at-header : (frames : List Frame) → slice_get (long_fronts frames) 0 ≡ Some header_front
-unfolding long_fronts
-front_at-header frames = refl
-
-pub front_at : (frames : List Frame) (i : ℕ) (p : ℕ × Frame) → slice_get (located frame_text 32 frames) i ≡ Some p
-    → slice_get (long_fronts frames) (i + 1) ≡ Some (line_front_of p)
-unfolding long_fronts
-front_at frames i p at =
-    let behind : i + 1 ≡ suc i = omega arith in
-    let got : slice_get (map line_front_of (located frame_text 32 frames)) i ≡ Some (line_front_of p) =
-    slice_get-map line_front_of (located frame_text 32 frames) i ∙ ap (option_map line_front_of) at in
-    rw behind got
-
-pub length-long_fronts : (frames : List Frame) → length (long_fronts frames) ≡ length frames + 1
-unfolding long_fronts
-length-long_fronts frames =
-    omega (
-      arith,
-      length-map (located frame_text 32 frames) line_front_of,
-      length-located frame_text 32 frames,
-    )
-
--- the front of a frame, from what a view of it says
-pub front_of_frame : (frames : List Frame) (i : ℕ) (f : Frame) (view : FrameView) → i < length frames
-    → slice_get frames i ≡ Some f → view.offset ≡ 32 + length (frames_text (take i frames))
-    → view.bytes.now ≡ frame_text f → slice_get (long_fronts frames) (i + 1) ≡ Some (front_of_view view)
-front_of_frame frames i f view within got at text =
-    let placed = placed_at frames i within in
-    let p = placed.0 in
-    let place = frame_placed 32 frames i p placed.1 in
-    let same : f ≡ p.1 = same_Some f p.1 (sym got ∙ place.0) in
-    let offset_is : view.offset ≡ p.0 = at ∙ sym place.1 in
-    let name_is : kind_name (slice_index view.bytes.now 0) ≡ kind_name (kind_of p.1) =
-    ap (λ b. kind_name (slice_index b 0)) text ∙ ap (λ g. kind_name (kind_of g)) same in
-    let len_is : length view.bytes.now - 5 ≡ length (body_text p.1) =
-    ap (λ b. length b - 5) text ∙ length-body f ∙ ap (λ g. length (body_text g)) same in
-    let front_is : front_of_view view ≡ line_front_of p = rw (offset_is, name_is, len_is) refl in
-    front_at frames i p placed.1 ∙ ap Some (sym front_is)
-
--- that front was put, from what was asked of the view
+-- its front was put, from what was asked of the view
 pub front_put : (l k name : List ℕ) (offset body_len : ℕ) (view : FrameView) → k ≡ l ++ line_front offset name body_len
     → offset ≡ view.offset → name ≡ kind_name (slice_index view.bytes.now 0) → body_len ≡ length view.bytes.now - 5
     → k ≡ l ++ front_of_view view
 front_put l k name offset body_len view put at named counted =
     let is : line_front offset name body_len ≡ front_of_view view = rw (at, named, counted) refl in
     put ∙ ap (λ x. l ++ x) is
+
+-- room was made, and its front, its words and its end were put
+pub line-put : (a b c d : Option (List ℕ)) (held l k j m kept front words left : List ℕ) → PutsText a b held l []
+    → k ≡ l ++ front → j ++ left ≡ k ++ words → PutsText b c j m left → PutsText c d m kept line_feed
+    → PutsText a d held kept (front ++ (words ++ line_feed))
+line-put a b c d held l k j m kept front words left room first begun put last =
+    puts-then a b d held l kept [] (front ++ (words ++ line_feed)) room
+    (puts-then b b d l k kept front (words ++ line_feed) (puts-text b l k front first)
+    (puts-then b c d k m kept words line_feed (puts-begun b c k j m left words begun put) last))
+
+-- it was stopped in its words
+pub line-stops_in_words : (a b c : Option (List ℕ)) (held l k j front words left : List ℕ) → PutsText a b held l []
+    → k ≡ l ++ front → j ++ left ≡ k ++ words → AppendsFront b c (j ++ left)
+    → AppendsFront a c (held ++ (front ++ (words ++ line_feed)))
+line-stops_in_words a b c held l k j front words left room first begun stops =
+    puts-stops a b c held l [] (front ++ (words ++ line_feed)) room
+    (puts-stops b b c l k front (words ++ line_feed) (puts-text b l k front first)
+    (subst (AppendsFront b c) (append_assoc k words line_feed)
+    (AppendsFront-more b c (k ++ words) line_feed (subst (AppendsFront b c) begun stops))))
+
+-- it was stopped before its end
+pub line-stops_at_end : (a b c d : Option (List ℕ)) (held l k j m front words left : List ℕ) → PutsText a b held l []
+    → k ≡ l ++ front → j ++ left ≡ k ++ words → PutsText b c j m left → AppendsFront c d m
+    → AppendsFront a d (held ++ (front ++ (words ++ line_feed)))
+line-stops_at_end a b c d held l k j m front words left room first begun put last =
+    puts-stops a b d held l [] (front ++ (words ++ line_feed)) room
+    (puts-stops b b d l k front (words ++ line_feed) (puts-text b l k front first)
+    (puts-stops b c d k m words line_feed (puts-begun b c k j m left words begun put)
+    (AppendsFront-more c d m line_feed last)))
+
+-- ---- the frame at a place
+
+-- frames say their words
+abbrev pub SayTheirWords : Type 0
+SayTheirWords = (h : Head) (p : Place) (f : Frame) (number : ℕ) → IsTrue (is_head h) → FitsAt h p f
+    → words_in number (frame_text f) ≡ frame_words number f
+
+-- a frame that stands in front of bytes has as many bytes as it says
+len_here : (h : Head) (p : Place) (f : Frame) (bytes rest : List ℕ) → FitsAt h p f → bytes ≡ frame_text f ++ rest
+    → frame_len bytes ≡ length (frame_text f)
+unfolding number_in
+len_here h p f bytes rest fits here =
+    let n = length (body_text f) in
+    let digits = take 4 (drop 1 (frame_text f)) in
+    let number : number_in 4 1 (frame_text f ++ rest) ≡ n =
+    ap (number_in 4 0) (append_assoc digits (body_text f) rest) ∙ number_again n (body_text f ++ rest) fits.short in
+    omega (arith, ap frame_len here, number, length-frame_text f)
+
+-- what stands in front of the bytes at a place
+pub record StandsAt (bytes : List ℕ) (at : ℕ) (h : Head) (p : Place) (f : Frame) (rest : List Frame) : Type 0 where
+  pub fits : FitsAt h p f
+  pub here : drop at bytes ≡ frame_text f ++ frames_text rest
+
+-- it is the view's
+view_is : (bytes : List ℕ) (at : ℕ) (h : Head) (p : Place) (f : Frame) (rest : List Frame) (view : FrameView)
+    → StandsAt bytes at h p f rest → view.bytes.now ≡ take (frame_len (drop at bytes)) (drop at bytes)
+    → view.bytes.now ≡ frame_text f
+view_is bytes at h p f rest view stands cut =
+    let len = len_here h p f (drop at bytes) (frames_text rest) stands.fits stands.here in
+    cut ∙ ap (λ n. take n (drop at bytes)) len ∙ ap (take (length (frame_text f))) stands.here
+    ∙ take_at (frame_text f) (frames_text rest) (length (frame_text f)) refl
+
+-- and so is its line
+line_is : SayTheirWords → (bytes : List ℕ) (at number : ℕ) (h : Head) (p : Place) (f : Frame) (rest : List Frame)
+    (view : FrameView) → IsTrue (is_head h) → StandsAt bytes at h p f rest → view.offset ≡ at
+    → view.bytes.now ≡ take (frame_len (drop at bytes)) (drop at bytes)
+    → line_of_view number view ≡ long_line number at f
+line_is say bytes at number h p f rest view right stands offset cut =
+    let text = view_is bytes at h p f rest view stands cut in
+    let name : kind_name (slice_index view.bytes.now 0) ≡ kind_name (kind_of f) =
+    ap (λ b. kind_name (slice_index b 0)) text in
+    let len : length view.bytes.now - 5 ≡ length (body_text f) = omega (arith, ap length text, length-frame_text f) in
+    let words : words_in number view.bytes.now ≡ frame_words number f =
+    ap (words_in number) text ∙ say h p f number right stands.fits in
+    rw (offset, name, len, words) refl
+
+-- ---- the lines of frames, while they are put
+
+-- the frames from the one with this number on, at this byte, are still to come
+pub record ListsSoFar (old new : Option (List ℕ)) (held kept bytes : List ℕ) (at number : ℕ) (h : Head)
+    (frames : List Frame) : Type 0 where
+  pub limits : IsTrue (is_head h)
+  pub place : Place
+  pub rest : List Frame
+  pub right : Follow h place rest
+  pub here : drop at bytes ≡ frames_text rest
+  pub puts : PutsUpTo old new held kept (lines_from 0 32 frames) (lines_from number at rest)
+
+pub lists-none : (a : Option (List ℕ)) (held bytes : List ℕ) (h : Head) (frames : List Frame) → HasFrames bytes h frames
+    → ListsSoFar a a held held bytes 32 0 h frames
+lists-none a held bytes h frames has = record {
+  limits = has.limits;
+  place = start_place;
+  rest = frames;
+  right = has.right;
+  here = has.spelled;
+  puts = up_to-none a held (lines_from 0 32 frames);
+}
+
+-- the next line was put
+pub lists-more : SayTheirWords → (a b c : Option (List ℕ)) (held kept longer bytes : List ℕ) (at number : ℕ) (h : Head)
+    (frames : List Frame) (view : FrameView) → 5 ≤ length view.bytes.now → view.offset ≡ at
+    → view.bytes.now ≡ take (frame_len (drop at bytes)) (drop at bytes)
+    → ListsSoFar a b held kept bytes at number h frames → PutsText b c kept longer (line_of_view number view)
+    → ListsSoFar a c held longer bytes (at + length view.bytes.now) (number + 1) h frames
+lists-more say a b c held kept longer bytes at number h frames view whole offset cut far put =
+    by far.place far.rest far.right far.here far.puts
+  where
+    by : (p : Place) (rest : List Frame) → Follow h p rest → drop at bytes ≡ frames_text rest
+        → PutsUpTo a b held kept (lines_from 0 32 frames) (lines_from number at rest)
+        → ListsSoFar a c held longer bytes (at + length view.bytes.now) (number + 1) h frames
+    by p [] right here puts =
+        absurd (omega (arith, ap length cut, length-take (frame_len (drop at bytes)) (drop at bytes), ap length here))
+    by p (f ∷ fs) right here puts =
+        let stands : StandsAt bytes at h p f fs = record { fits = right.0; here = here } in
+        let text = view_is bytes at h p f fs view stands cut in
+        let line = line_is say bytes at number h p f fs view far.limits stands offset cut in
+        let behind : drop (at + length (frame_text f)) bytes ≡ frames_text fs =
+        sym (drop-drop (length (frame_text f)) at bytes) ∙ ap (drop (length (frame_text f))) here
+        ∙ drop_at (frame_text f) (frames_text fs) (length (frame_text f)) refl in
+        subst (λ n. ListsSoFar a c held longer bytes (at + n) (number + 1) h frames) (sym (ap length text))
+        (record {
+          limits = far.limits;
+          place = next_place p f;
+          rest = fs;
+          right = right.1;
+          here = behind;
+          puts = up_to-more a b c held kept longer (lines_from 0 32 frames) (long_line number at f)
+              (lines_from (number + 1) (at + length (frame_text f)) fs) puts
+              (subst (PutsText b c kept longer) line put);
+        })
+
+-- the next line was stopped
+pub lists-stops : SayTheirWords → (a b c : Option (List ℕ)) (held kept bytes : List ℕ) (at number : ℕ) (h : Head)
+    (frames : List Frame) (view : FrameView) → 5 ≤ length view.bytes.now → view.offset ≡ at
+    → view.bytes.now ≡ take (frame_len (drop at bytes)) (drop at bytes)
+    → ListsSoFar a b held kept bytes at number h frames → AppendsFront b c (kept ++ line_of_view number view)
+    → AppendsFront a c (held ++ lines_from 0 32 frames)
+lists-stops say a b c held kept bytes at number h frames view whole offset cut far stops =
+    by far.place far.rest far.right far.here far.puts
+  where
+    by : (p : Place) (rest : List Frame) → Follow h p rest → drop at bytes ≡ frames_text rest
+        → PutsUpTo a b held kept (lines_from 0 32 frames) (lines_from number at rest)
+        → AppendsFront a c (held ++ lines_from 0 32 frames)
+    by p [] right here puts =
+        absurd (omega (arith, ap length cut, length-take (frame_len (drop at bytes)) (drop at bytes), ap length here))
+    by p (f ∷ fs) right here puts =
+        let stands : StandsAt bytes at h p f fs = record { fits = right.0; here = here } in
+        let line = line_is say bytes at number h p f fs view far.limits stands offset cut in
+        up_to-stops a b c held kept (lines_from 0 32 frames) (long_line number at f)
+        (lines_from (number + 1) (at + length (frame_text f)) fs) puts
+        (subst (λ l. AppendsFront b c (kept ++ l)) line stops)
+
+-- no frame lies there any more: all lines were put
+pub lists-all : (a b : Option (List ℕ)) (held kept bytes : List ℕ) (at number : ℕ) (h : Head) (frames : List Frame)
+    → length (drop at bytes) < frame_len (drop at bytes) → ListsSoFar a b held kept bytes at number h frames
+    → PutsText a b held kept (lines_from 0 32 frames)
+lists-all a b held kept bytes at number h frames short far =
+    by far.place far.rest far.right far.here far.puts
+  where
+    by : (p : Place) (rest : List Frame) → Follow h p rest → drop at bytes ≡ frames_text rest
+        → PutsUpTo a b held kept (lines_from 0 32 frames) (lines_from number at rest)
+        → PutsText a b held kept (lines_from 0 32 frames)
+    by p [] right here puts = up_to-all a b held kept kept (lines_from 0 32 frames) [] puts (sym (append-nil kept))
+    by p (f ∷ fs) right here puts =
+        let len = len_here h p f (drop at bytes) (frames_text fs) right.0 here in
+        absurd (omega (arith, len, ap length here, length-append (frame_text f) (frames_text fs)))
+
+-- ---- what a header says
+
+said_by_text : (h : Head) (total : ℕ) (rest : List ℕ) → said_by (head_text h total ++ rest) ≡ limits_text h
+said_by_text h total rest =
+    ap said_by (header_parts h total rest) ∙ ap (take 18) (behind_magic h total rest)
+    ∙ take_at (limits_text h) (drop 18 (drop 6 (in_parts h total rest))) 18 (length-limits_text h)
+
+-- it is read as it is said
+pub head_read : (bytes : List ℕ) (h : Head) → SaysHead bytes h → header_of (said_by bytes) ≡ Some h
+head_read bytes h says =
+    ap header_of (says.said ∙ ap said_by (sym (append-nil (head_text h 0))) ∙ said_by_text h 0 [])
+    ∙ Exact-header.again h says.limits
+
+-- a trace's header says its head, and its frames stand behind it
+pub trace_says : (bytes : List ℕ) (t : Trace) → Spells bytes t → SaysHead bytes t.head
+trace_says bytes t spells =
+    let s = spells_frames bytes t spells in record {
+      limits = s.limits;
+      said = ap said_by s.spelled ∙ said_by_text t.head (length bytes) (frames_text (frames_of t))
+          ∙ sym (said_by_text t.head 0 []) ∙ ap said_by (append-nil (head_text t.head 0));
+    }
+
+pub trace_has : (bytes : List ℕ) (t : Trace) → Spells bytes t → HasFrames bytes t.head (frames_of t)
+trace_has bytes t spells =
+    let s = spells_frames bytes t spells in
+    let head = length-head_text t.head (length bytes) in
+    record {
+      long = omega (
+        arith,
+        ap length s.spelled,
+        head,
+        length-append (head_text t.head (length bytes)) (frames_text (frames_of t)),
+      );
+      limits = s.limits;
+      right = spells.follow;
+      spelled = ap (drop 32) s.spelled
+          ∙ drop_at (head_text t.head (length bytes)) (frames_text (frames_of t)) 32 head;
+    }
+
+-- ---- before a fault
+
+says_cut : (bytes : List ℕ) (at : ℕ) (h : Head) → 32 ≤ at → SaysHead bytes h → SaysHead (take at bytes) h
+says_cut bytes at h long says =
+    let sum : at ≡ 6 + (at - 6) = omega arith in record {
+      limits = says.limits;
+      said = ap (λ (n : ℕ). take 18 (drop 6 (take n bytes))) sum ∙ ap (take 18) (drop-take 6 (at - 6) bytes)
+          ∙ take-take 18 (at - 6) (drop 6 bytes) (omega arith) ∙ says.said;
+    }
+
+frames_cut : (bytes : List ℕ) (at : ℕ) (r : IsReached bytes at) → HasFrames (take at bytes) r.head r.front
+frames_cut bytes at r =
+    let place = r.at_is in
+    let within = r.within in
+    record {
+      long = omega (arith, length-take at bytes);
+      limits = r.says.limits;
+      right = r.right;
+      spelled = ap (drop 32) r.before
+          ∙ drop_at (take 32 bytes) (frames_text r.front) 32 (omega (arith, length-take 32 bytes));
+    }
+
+-- the header says a head, and frames that may stand there are the bytes up to the fault's
+pub record Before (bytes : List ℕ) (at : ℕ) (c : Code) : Type 0 where
+  pub reached : IsReached bytes at
+  pub says : SaysHead (take at bytes) reached.head
+  pub has : HasFrames (take at bytes) reached.head reached.front
+  pub are : (text : List ℕ) → text ≡ long_lines reached.head reached.front → AreLinesBefore c bytes at text
+
+before_of : (bytes : List ℕ) (at : ℕ) (c : Code) (r : IsReached bytes at)
+    → ((text : List ℕ) → text ≡ long_lines r.head r.front → AreLinesBefore c bytes at text) → Before bytes at c
+before_of bytes at c r are =
+    let place = r.at_is in record {
+      reached = r;
+      says = says_cut bytes at r.head (omega arith) r.says;
+      has = frames_cut bytes at r;
+      are = are;
+    }
+
+-- where the fault is not the header's
+pub before : (c : Code) (bytes : List ℕ) (at : ℕ) → 32 ≤ at → StandsInForm c bytes at → Before bytes at c
+before code.Length bytes at behind stands = absurd (omega (arith, stands.0))
+before code.Magic bytes at behind stands = absurd (omega (arith, stands.0))
+before code.Head bytes at behind stands = absurd (omega (arith, stands.0))
+before code.Frame bytes at behind stands = before_of bytes at code.Frame stands.0 (λ text e. (stands.0, e))
+before code.Body bytes at behind stands = before_of bytes at code.Body stands.0 (λ text e. (stands.0, e))
+before _ bytes at behind stands = absurd stands
+
+-- where it is
+pub none_before : (c : Code) (bytes : List ℕ) (at : ℕ) → at < 32 → StandsInForm c bytes at → AreLinesBefore c bytes at []
+none_before code.Frame bytes at front stands = let place = stands.0.at_is in absurd (omega arith)
+none_before code.Body bytes at front stands = let place = stands.0.at_is in absurd (omega arith)
+none_before code.Length bytes at front stands = refl
+none_before code.Magic bytes at front stands = refl
+none_before code.Head bytes at front stands = refl
+none_before _ bytes at front stands = absurd stands
+
+-- ---- up to a line
+
+pub up_to-sent : (a b c : Option (List ℕ)) (Are : List ℕ → Type 0) (last : List ℕ) → SendsBefore a b Are
+    → Appends b c last → SendsUpTo a c Are last
+up_to-sent a b c Are last some sent = record {
+  before = some.text;
+  are = some.are;
+  sent = Appends-trans a b c some.text last some.sent sent;
+}
+
+pub stops-before : (a b : Option (List ℕ)) (Are : List ℕ → Type 0) (last : List ℕ) → StopsBefore a b Are
+    → StopsUpTo a b Are last
+stops-before a b Are last stops = record {
+  before = stops.text;
+  are = stops.are;
+  sent = AppendsFront-more a b stops.text last stops.sent;
+}
+
+pub stops-in_last : (a b c : Option (List ℕ)) (Are : List ℕ → Type 0) (last : List ℕ) → SendsBefore a b Are
+    → AppendsFront b c last → StopsUpTo a c Are last
+stops-in_last a b c Are last some front = record {
+  before = some.text;
+  are = some.are;
+  sent = AppendsFront-after a b c some.text last some.sent front;
+}
 
 -- ---- results
 
@@ -266,11 +344,6 @@ pub at_any_err : {A E P : Type 0} (r : Result A E) → P → OnErr r P
 at_any_err (Ok x) p = tt
 at_any_err (Err e) p = p
 
--- what follows from both ways out
-pub either_way : {A E P Q R : Type 0} (r : Result A E) → OnOk r P → OnErr r Q → (P → R) → (Q → R) → R
-either_way (Ok x) p q f g = f p
-either_way (Err e) p q f g = g q
-
 -- four texts that were put one after the other
 pub put_four : (s r q p o a b c d : List ℕ) → r ≡ s ++ a → q ≡ r ++ b → p ≡ q ++ c → o ≡ p ++ d
     → o ≡ s ++ (a ++ (b ++ (c ++ d)))
@@ -278,14 +351,3 @@ put_four s r q p o a b c d first second third fourth =
     fourth ∙ (ap (λ x. x ++ d) third ∙ append_assoc q c d)
     ∙ (ap (λ x. x ++ (c ++ d)) second ∙ append_assoc r b (c ++ d))
     ∙ (ap (λ x. x ++ (b ++ (c ++ d))) first ∙ append_assoc s a (b ++ (c ++ d)))
-
--- the line of a fault is not empty
-pub fault_line-some : (f : Fault) → 0 < length (fault_line f)
-unfolding fault_line
-fault_line-some f =
-    omega (
-      arith,
-      length-append (codes "no: F") (decimal (code_number f.code)
-          ++ (codes " " ++ (code_name f.code ++ (codes " at byte "
-          ++ (decimal f.offset ++ (replica_text f.replica ++ line_feed)))))),
-    )

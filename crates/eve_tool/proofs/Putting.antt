@@ -1,29 +1,16 @@
 -- What is put into a line that is sent where it is full.
-use Rattle.std.proofs.Common.{◌≡◌, ℕ, List, [], ◌++◌, Option, ap, sym, subst, ◌∙◌, append_assoc, append-nil}
+use Rattle.std.proofs.Common.{◌≡◌, ℕ, List, [], ◌++◌, Option, ap, sym, subst, ◌∙◌, append_assoc, refl}
 use Rattle.std.specs.Io.KnownBytes.{Appends}
 use Rattle.std.proofs.KnownBytes.{Appends-nil, Appends-trans}
-use Rattle.eve_lines.specs.Extending.{Extends}
 use Rattle.eve_streams.specs.Front.{AppendsFront}
 use Rattle.eve_streams.proofs.Joining.{AppendsFront-after, AppendsFront-more}
-use Rattle.eve_tool.specs.Sending.{SendsSome, PutsText, PutsSome, StopsInSome}
+use Rattle.eve_tool.specs.Sending.{PutsText}
 
 -- ---- a text
 
 -- a text was put, and nothing sent
 pub puts-text : (a : Option (List ℕ)) (held kept text : List ℕ) → kept ≡ held ++ text → PutsText a a held kept text
 puts-text a held kept text is = record { sent = []; appended = Appends-nil a; whole = is }
-
--- all that was held was sent
-pub puts-sent : (a b : Option (List ℕ)) (held kept : List ℕ) → kept ≡ [] → Appends a b held → PutsText a b held kept []
-puts-sent a b held kept empty sent = record {
-  sent = held;
-  appended = sent;
-  whole = ap (λ l. held ++ l) empty;
-}
-
--- nothing was put
-pub puts-none : (a : Option (List ℕ)) (held : List ℕ) → PutsText a a held held []
-puts-none a held = puts-text a held held [] (sym (append-nil held))
 
 -- one text, and then another
 pub puts-then : (a b c : Option (List ℕ)) (held between kept s t : List ℕ) → PutsText a b held between s
@@ -43,47 +30,79 @@ puts-stops a b c held between s t first stops =
     sym (append_assoc first.sent between t) ∙ ap (λ l. l ++ t) first.whole ∙ append_assoc held s t in
     subst (AppendsFront a c) joined (AppendsFront-after a b c first.sent (between ++ t) first.appended stops)
 
--- ---- some text
-
-pub put_some-none : (a : Option (List ℕ)) (held : List ℕ) → PutsSome a a held held
-put_some-none a held = record { text = []; puts = puts-none a held }
-
--- the line was appended to, after some of it may have been sent
-pub put_some-extended : (a b : Option (List ℕ)) (held between kept : List ℕ) → PutsText a b held between []
-    → Extends between kept → PutsSome a b held kept
-put_some-extended a b held between kept room more = record {
-  text = more.words;
-  puts = puts-then a b b held between kept [] more.words room (puts-text b between kept more.words more.is);
+-- what stands and what is still to come are together what they were
+pub puts-begun : (a b : Option (List ℕ)) (held begun kept left text : List ℕ) → begun ++ left ≡ held ++ text
+    → PutsText a b begun kept left → PutsText a b held kept text
+puts-begun a b held begun kept left text same puts = record {
+  sent = puts.sent;
+  appended = puts.appended;
+  whole = puts.whole ∙ same;
 }
 
-pub put_some-then : (a b c : Option (List ℕ)) (held between kept : List ℕ) → PutsSome a b held between
-    → PutsSome b c between kept → PutsSome a c held kept
-put_some-then a b c held between kept first second = record {
-  text = first.text ++ second.text;
-  puts = puts-then a b c held between kept first.text second.text first.puts second.puts;
+-- what was put was sent, too
+pub puts-sent : (a b c : Option (List ℕ)) (held kept text : List ℕ) → PutsText a b held kept text → Appends b c kept
+    → Appends a c (held ++ text)
+puts-sent a b c held kept text puts sent =
+    subst (Appends a c) puts.whole (Appends-trans a b c puts.sent kept puts.appended sent)
+
+-- what was put was not sent whole
+pub puts-held_stops : (a b c : Option (List ℕ)) (held kept text : List ℕ) → PutsText a b held kept text
+    → AppendsFront b c kept → AppendsFront a c (held ++ text)
+puts-held_stops a b c held kept text puts stops =
+    subst (AppendsFront a c) puts.whole (AppendsFront-after a b c puts.sent kept puts.appended stops)
+
+-- ---- a text, while it is put
+
+-- of what was held and then all of a text, some was sent, some is kept, and the rest is still to come
+pub record PutsUpTo (old new : Option (List ℕ)) (held kept all left : List ℕ) : Type 0 where
+  pub sent : List ℕ
+  pub appended : Appends old new sent
+  pub whole : sent ++ (kept ++ left) ≡ held ++ all
+
+pub up_to-none : (a : Option (List ℕ)) (held all : List ℕ) → PutsUpTo a a held held all all
+up_to-none a held all = record { sent = []; appended = Appends-nil a; whole = refl }
+
+-- more was put
+pub up_to-more : (a b c : Option (List ℕ)) (held between kept all more left : List ℕ)
+    → PutsUpTo a b held between all (more ++ left) → PutsText b c between kept more → PutsUpTo a c held kept all left
+up_to-more a b c held between kept all more left far puts = record {
+  sent = far.sent ++ puts.sent;
+  appended = Appends-trans a b c far.sent puts.sent far.appended puts.appended;
+  whole = append_assoc far.sent puts.sent (kept ++ left)
+      ∙ ap (λ l. far.sent ++ l) (sym (append_assoc puts.sent kept left) ∙ ap (λ l. l ++ left) puts.whole
+      ∙ append_assoc between more left)
+      ∙ far.whole;
 }
 
--- some text, and then what is held was not sent
-pub put_some-stops : (a b c : Option (List ℕ)) (held between : List ℕ) → PutsSome a b held between
-    → AppendsFront b c between → StopsInSome a c held
-put_some-stops a b c held between first stops = record {
-  text = first.text ++ [];
-  sent = puts-stops a b c held between first.text [] first.puts (AppendsFront-more b c between [] stops);
+-- it was put into the line
+pub up_to-filled : (a b : Option (List ℕ)) (held between kept all to_come left : List ℕ)
+    → PutsUpTo a b held between all to_come → kept ++ left ≡ between ++ to_come → PutsUpTo a b held kept all left
+up_to-filled a b held between kept all to_come left far filled = record {
+  sent = far.sent;
+  appended = far.appended;
+  whole = ap (λ l. far.sent ++ l) filled ∙ far.whole;
 }
 
--- ---- what was sent of it
-
-pub some-sent : (a b : Option (List ℕ)) (text : List ℕ) → Appends a b text → SendsSome a b
-some-sent a b text sent = record { text = text; appended = sent }
-
-pub some-front : (a b : Option (List ℕ)) (text : List ℕ) → AppendsFront a b text → SendsSome a b
-some-front a b text front = record { text = _; appended = front.appended }
-
-pub some-then : (a b c : Option (List ℕ)) → SendsSome a b → SendsSome b c → SendsSome a c
-some-then a b c first second = record {
-  text = first.text ++ second.text;
-  appended = Appends-trans a b c first.text second.text first.appended second.appended;
+-- nothing is still to come
+pub up_to-all : (a b : Option (List ℕ)) (held between kept all to_come : List ℕ)
+    → PutsUpTo a b held between all to_come → kept ≡ between ++ to_come → PutsText a b held kept all
+up_to-all a b held between kept all to_come far filled = record {
+  sent = far.sent;
+  appended = far.appended;
+  whole = ap (λ l. far.sent ++ l) filled ∙ far.whole;
 }
 
-pub some-put : (a b : Option (List ℕ)) (held kept : List ℕ) → PutsSome a b held kept → SendsSome a b
-some-put a b held kept some = record { text = some.puts.sent; appended = some.puts.appended }
+-- the rest was stopped
+pub up_to-stops : (a b c : Option (List ℕ)) (held kept all more left : List ℕ)
+    → PutsUpTo a b held kept all (more ++ left) → AppendsFront b c (kept ++ more) → AppendsFront a c (held ++ all)
+up_to-stops a b c held kept all more left far stops =
+    let rest : AppendsFront b c (kept ++ (more ++ left)) =
+    subst (AppendsFront b c) (append_assoc kept more left) (AppendsFront-more b c (kept ++ more) left stops) in
+    subst (AppendsFront a c) far.whole (AppendsFront-after a b c far.sent (kept ++ (more ++ left)) far.appended rest)
+
+-- what is held was stopped
+pub up_to-held_stops : (a b c : Option (List ℕ)) (held kept all left : List ℕ) → PutsUpTo a b held kept all left
+    → AppendsFront b c kept → AppendsFront a c (held ++ all)
+up_to-held_stops a b c held kept all left far stops =
+    subst (AppendsFront a c) far.whole (AppendsFront-after a b c far.sent (kept ++ left) far.appended
+    (AppendsFront-more b c kept left stops))

@@ -97,12 +97,13 @@ StopsInParts written failures old new text fault.Memory =
 StopsInParts written failures old new text fault.Write = Stopped written failures old new text
 StopsInParts written failures old new text _ = ⊥
 
--- what was left of a text that ends with this line: its line is made before any of it is sent
-abbrev pub StopsLong : {O : Type 0} → (O → Option (List ℕ)) → (O → ℕ) → O → O → List ℕ → ToolFault → Type 0
-StopsLong written failures old new last fault.Memory = new ≡ old
-StopsLong written failures old new last fault.Write =
-    StopsUpTo (written old) (written new) last × (failures new ≡ after_failure (failures old))
-StopsLong written failures old new last _ = ⊥
+-- what was left of lines of which the fact holds and then this one, which is made before any of them is sent
+abbrev pub StopsLong : {O : Type 0} → (O → Option (List ℕ)) → (O → ℕ) → O → O → (List ℕ → Type 0) → List ℕ → ToolFault
+    → Type 0
+StopsLong written failures old new Are last fault.Memory = new ≡ old
+StopsLong written failures old new Are last fault.Write =
+    StopsUpTo (written old) (written new) Are last × (failures new ≡ after_failure (failures old))
+StopsLong written failures old new Are last _ = ⊥
 
 -- The input was read, where its bytes are `known`: to its end, but no further than `limit + 1` bytes. `left` is what is
 -- left of them.

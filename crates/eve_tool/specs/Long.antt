@@ -1,97 +1,111 @@
--- What `show --long` says of bytes. docs/USING.md, "Lines and statuses".
--- Of the words behind a frame's front no clause says anything: they are tested.
-use Rattle.std.specs.Prelude.{◌≡◌, ℕ, List, [], ◌∷◌, ◌++◌, ◌-◌, map, length, codes, Option, slice_index, ◌⊎◌}
+-- What `show --long` says of bytes. docs/USING.md, "What `show --long` prints".
+use Rattle.std.specs.Prelude.{◌≡◌, ℕ, ◌+◌, ◌-◌, ◌≤◌, IsTrue, List, [], ◌∷◌, ◌++◌, length, drop, codes, Option}
+use Rattle.std.specs.Prelude.{slice_index, ◌⊎◌}
 use Rattle.std.specs.Io.KnownBytes.{Appends}
 use Rattle.eve_frames.specs.Kinds.{kind_name}
 use Rattle.eve_frames.specs.declared.frame.FrameView.{FrameView}
 use Rattle.eve_grammar.specs.Trace.{Trace}
-use Rattle.eve_grammar.specs.Frames.{Frame, kind_of, frames_of}
-use Rattle.eve_grammar.specs.Spelling.{body_text, frame_text, located}
-use Rattle.eve_grammar.specs.Following.{Spells}
+use Rattle.eve_grammar.specs.Frames.{Frame, kind_of, frames_of, start_place}
+use Rattle.eve_grammar.specs.Spelling.{body_text, frame_text, frames_text}
+use Rattle.eve_grammar.specs.Following.{Follow, Spells}
+use Rattle.eve_grammar.specs.Limits.{is_head}
+use Rattle.eve_grammar.specs.Places.{number_in}
+use Rattle.eve_grammar.specs.declared.head.Head.{Head}
+use Rattle.eve_lines.specs.FrameLines.{frame_words, header_words}
+use Rattle.eve_lines.specs.Rest.{words_in}
 use Rattle.eve_streams.specs.Front.{AppendsFront}
-use Rattle.eve_views.specs.Form.{IsLeast, StandsInForm, IsFaultOutside}
+use Rattle.eve_views.specs.Form.{IsLeast, IsReached, StandsInForm, IsFaultOutside}
+use Rattle.eve_views.specs.declared.fault.Code.{Code}
+use Rattle.eve_views.specs.declared.fault.Code.TheVariants as code
 use Rattle.eve_views.specs.declared.fault.Fault.{Fault}
 use Rattle.eve_tool.specs.Lines.{fault_line, line_feed, line_front}
-use Rattle.eve_tool.specs.Sending.{PutsText}
 
--- the front of a frame's line, with the byte at which it begins
-abbrev pub line_front_of : ℕ × Frame → List ℕ
-line_front_of located = line_front located.0 (kind_name (kind_of located.1)) (length (body_text located.1))
+-- the header's line: what `show` prints of it, and what it says
+abbrev pub header_long_line : Head → List ℕ
+header_long_line head = line_front 0 (codes "Header") 32 ++ (header_words head ++ line_feed)
 
-abbrev pub header_front : List ℕ
-header_front = line_front 0 (codes "Header") 32
+-- the line of a frame, which has this number, from 0, and begins at this byte
+abbrev pub long_line : ℕ → ℕ → Frame → List ℕ
+long_line number at f =
+    line_front at (kind_name (kind_of f)) (length (body_text f)) ++ (frame_words number f ++ line_feed)
 
--- the front of the line of a frame that stands somewhere
-abbrev pub front_of_view : FrameView → List ℕ
-front_of_view view =
-    line_front view.offset (kind_name (slice_index view.bytes.now 0)) (length view.bytes.now - 5)
+-- the lines of frames that stand one behind the other, from the one that has this number and begins at this byte
+abbrev pub lines_from : ℕ → ℕ → List Frame → List ℕ
+lines_from number at [] = []
+lines_from number at (f ∷ fs) = long_line number at f ++ lines_from (number + 1) (at + length (frame_text f)) fs
 
--- the fronts of the lines of the header and of the frames after it
-unfoldable pub long_fronts : List Frame → List (List ℕ)
-long_fronts frames = header_front ∷ map line_front_of (located frame_text 32 frames)
+-- the lines of a header and of the frames behind it
+abbrev pub long_lines : Head → List Frame → List ℕ
+long_lines head frames = header_long_line head ++ lines_from 0 32 frames
 
--- a line begins with this front, has some words behind it, and ends
-pub record IsLongLine (front line : List ℕ) : Type 0 where
-  pub words : List ℕ
-  pub is : line ≡ front ++ (words ++ line_feed)
-
--- the text is lines one after the other, one with each of these fronts
-abbrev pub AreLongLines : List (List ℕ) → List ℕ → Type 0
-AreLongLines [] text = text ≡ []
-AreLongLines (front ∷ fronts) text =
-    (line : List ℕ) × (rest : List ℕ) × IsLongLine front line × AreLongLines fronts rest × (text ≡ line ++ rest)
-
--- the bytes are a trace, and the text is a line for the header and for each of its frames, with the front that `show`
--- prints of it
+-- the bytes are a trace, and the text is the lines of its header and of its frames
 pub record ShowsLongTrace (bytes text : List ℕ) : Type 0 where
   pub trace : Trace
   pub spelled : Spells bytes trace
-  pub lines : AreLongLines (long_fronts (frames_of trace)) text
+  pub lines : text ≡ long_lines trace.head (frames_of trace)
 
--- the bytes are no trace, and the text ends with the line of their first fault
+-- The text is the lines of the header and of the frames before a fault of form: of those of which the header says that
+-- they may stand there, up to the fault's byte. Of a fault of the header there are none.
+abbrev pub AreLinesBefore : Code → List ℕ → ℕ → List ℕ → Type 0
+AreLinesBefore code.Frame bytes at text = (r : IsReached bytes at) × (text ≡ long_lines r.head r.front)
+AreLinesBefore code.Body bytes at text = (r : IsReached bytes at) × (text ≡ long_lines r.head r.front)
+AreLinesBefore _ bytes at text = text ≡ []
+
+-- the bytes are no trace, and the text is the lines before their first fault of form, and then its line
 pub record ShowsLongFault (bytes text : List ℕ) : Type 0 where
   pub fault : Fault
   pub least : IsLeast (IsFaultOutside StandsInForm bytes) fault
   pub before : List ℕ
-  pub line : text ≡ before ++ fault_line fault
+  pub lines : AreLinesBefore fault.code bytes fault.offset before
+  pub is : text ≡ before ++ fault_line fault
 
 -- the text is what `show --long` says of the bytes, and the number is the exit status
 abbrev pub ShowsLong : List ℕ → List ℕ → ℕ → Type 0
 ShowsLong bytes text status =
     (ShowsLongTrace bytes text × (status ≡ 0)) ⊎ (ShowsLongFault bytes text × (status ≡ 1))
 
--- ---- what was sent of them
+-- ---- what is sent of them
 
--- of what was held and then a line with this front, some was sent and the rest is kept
-pub record PutsLine (old new : Option (List ℕ)) (held kept front : List ℕ) : Type 0 where
-  pub line : List ℕ
-  pub is : IsLongLine front line
-  pub puts : PutsText old new held kept line
+-- what `show` prints of a frame, by its bytes
+abbrev pub front_of_view : FrameView → List ℕ
+front_of_view view =
+    line_front view.offset (kind_name (slice_index view.bytes.now 0)) (length view.bytes.now - 5)
 
--- a front of what was held and then a line with this front was sent, and not all of it
-pub record StopsInLine (old new : Option (List ℕ)) (held front : List ℕ) : Type 0 where
-  pub line : List ℕ
-  pub is : IsLongLine front line
-  pub sent : AppendsFront old new (held ++ line)
+-- the line of a frame, by its bytes
+abbrev pub line_of_view : ℕ → FrameView → List ℕ
+line_of_view number view = front_of_view view ++ (words_in number view.bytes.now ++ line_feed)
 
--- lines with these fronts were sent
-pub record SendsLines (old new : Option (List ℕ)) (fronts : List (List ℕ)) : Type 0 where
+-- how many bytes the frame at the front of bytes has, by its length
+abbrev pub frame_len : List ℕ → ℕ
+frame_len bytes = 5 + number_in 4 1 bytes
+
+-- frames that may stand there under this head are the bytes from byte 32 on
+pub record HasFrames (bytes : List ℕ) (head : Head) (frames : List Frame) : Type 0 where
+  pub long : 32 ≤ length bytes
+  pub limits : IsTrue (is_head head)
+  pub right : Follow head start_place frames
+  pub spelled : drop 32 bytes ≡ frames_text frames
+
+-- lines of which the fact holds were sent
+pub record SendsBefore (old new : Option (List ℕ)) (Are : List ℕ → Type 0) : Type 0 where
   pub text : List ℕ
-  pub are : AreLongLines fronts text
+  pub are : Are text
   pub sent : Appends old new text
 
--- a front of lines with these fronts was sent, and not all of them
-pub record StopsInLines (old new : Option (List ℕ)) (fronts : List (List ℕ)) : Type 0 where
+-- a front of such lines was sent, and not all of it
+pub record StopsBefore (old new : Option (List ℕ)) (Are : List ℕ → Type 0) : Type 0 where
   pub text : List ℕ
-  pub are : AreLongLines fronts text
+  pub are : Are text
   pub sent : AppendsFront old new text
 
--- some bytes were sent, and then this line
-pub record SendsUpTo (old new : Option (List ℕ)) (last : List ℕ) : Type 0 where
+-- such lines were sent, and then this one
+pub record SendsUpTo (old new : Option (List ℕ)) (Are : List ℕ → Type 0) (last : List ℕ) : Type 0 where
   pub before : List ℕ
+  pub are : Are before
   pub sent : Appends old new (before ++ last)
 
--- a front of some bytes and this line was sent, and not all of them
-pub record StopsUpTo (old new : Option (List ℕ)) (last : List ℕ) : Type 0 where
+-- a front of such lines and this one was sent, and not all of it
+pub record StopsUpTo (old new : Option (List ℕ)) (Are : List ℕ → Type 0) (last : List ℕ) : Type 0 where
   pub before : List ℕ
+  pub are : Are before
   pub sent : AppendsFront old new (before ++ last)

@@ -1,23 +1,26 @@
 //! The call `show --long`: the frames of a trace with their fields, a line for each.
 
-ghost use Rattle.std.specs.Prelude.{◌≡◌, ◌≢◌, ◌<◌, ◌≤◌, ◌+◌, ◌*◌, ◌++◌, [], length, Some};
-ghost use Rattle.std.specs.Prelude.{IfOk, IfErr, IfSome, OnOk, OnErr};
+ghost use Rattle.std.specs.Prelude.{◌≡◌, ◌≢◌, ◌<◌, ◌≤◌, ◌+◌, ◌*◌, ◌++◌, List, [], length, take, drop, Some};
+ghost use Rattle.std.specs.Prelude.{IfOk, IfErr, IfSome, IfNone, OnOk, OnErr};
 ghost use Rattle.std.specs.Io.KnownBytes.{Appends};
 ghost use Rattle.arrayvec.specs.ArrayVec.{array_vec_len};
-ghost use Rattle.eve_grammar.specs.Frames.{frames_of};
+ghost use Rattle.eve_grammar.specs.Frames.{Frame};
+ghost use Rattle.eve_lines.specs.Rest.{words_left};
 ghost use Rattle.eve_streams.specs.Failures.{after_failure};
 ghost use Rattle.eve_streams.specs.Front.{AppendsFront};
+ghost use Rattle.eve_views.specs.Form.{IsFaultOutside, SaysHead, StandsInForm};
 ghost use Rattle.eve_tool.specs.Calls.{WasRead, Leaves, StopsLong};
 ghost use Rattle.eve_tool.specs.Lines.{fault_line, line_feed, line_front};
-ghost use Rattle.eve_tool.specs.Long.{ShowsLong, IsLongLine, header_front, long_fronts, front_of_view};
-ghost use Rattle.eve_tool.specs.Long.{PutsLine, StopsInLine, SendsLines, SendsUpTo, StopsInLines};
-ghost use Rattle.eve_tool.specs.Sending.{SendsSome, PutsText, PutsSome, StopsInSome};
+ghost use Rattle.eve_tool.specs.Long.{AreLinesBefore, HasFrames, SendsBefore, SendsUpTo, ShowsLong, StopsBefore};
+ghost use Rattle.eve_tool.specs.Long.{frame_len, header_long_line, line_of_view, lines_from, long_lines};
+ghost use Rattle.eve_tool.specs.Sending.{PutsText};
 ghost use Rattle.eve_tool_arguments.specs.Arguments.{ShowLong};
 ghost use Rattle.eve_tool.specs.Writes.{WritesAll, WritesAllOf};
 
 use crate::fault::ToolFault;
 use crate::lines::push_fault_line;
-use eve_grammar::{FRAME_HEAD_LEN, HEADER_LEN, Head, MOST_BYTES, u8_at, u32_at};
+use eve_grammar::{FRAME_HEAD_LEN, HEADER_LEN, Head, MOST_BYTES, u32_at};
+use eve_lines::laws::frames_say_their_words;
 use eve_lines::{
     FrameWords, LINE_ROOM, LONGEST_PART, Line, put, put_header, put_line_feed, put_number,
     put_numbered,
@@ -69,26 +72,25 @@ fn make_room<O: Sink>(line: &mut Line, out: &mut O) -> Result<(), SendFault>
     Ok(())
 }
 
-/// Puts what frame number `number` says, in as many parts as it takes.
+/// Puts the words of a frame that are still to come, in as many parts as it takes.
 fn put_words<O: Sink>(
     line: &mut Line,
-    number: usize,
-    frame: &FrameView<'_>,
+    words: &mut FrameWords<'_>,
     out: &mut O,
 ) -> Result<(), SendFault>
-    ensures puts { OnOk result (PutsSome (O.written out.old) (O.written out.new) line.old.items line.new.items) }
-    ensures front { OnErr result (StopsInSome (O.written out.old) (O.written out.new) line.old.items) }
+    ensures puts { OnOk result (PutsText (O.written out.old) (O.written out.new) line.old.items line.new.items
+        (words_left words.old)) }
+    ensures front { OnErr result (AppendsFront (O.written out.old) (O.written out.new)
+        (line.old.items ++ words_left words.old)) }
     ensures fine { OnOk result (O.failures out.new ≡ O.failures out.old) }
     ensures counted { OnErr result (O.failures out.new ≡ after_failure (O.failures out.old)) }
 {
-    let mut words = FrameWords::of(number, frame.bytes());
-    'parts: for _ in 0..=frame.body_len() {
+    'parts: loop {
         make_room(line, out)?;
         if !words.fill(line) {
-            break;
+            return Ok(());
         }
     }
-    Ok(())
 }
 
 /// Puts the end of a line.
@@ -111,10 +113,10 @@ fn put_frame<O: Sink>(
     frame: &FrameView<'_>,
     out: &mut O,
 ) -> Result<(), SendFault>
-    ensures puts { OnOk result (PutsLine (O.written out.old) (O.written out.new) line.old.items line.new.items
-        (front_of_view frame.now)) }
-    ensures front { OnErr result (StopsInLine (O.written out.old) (O.written out.new) line.old.items
-        (front_of_view frame.now)) }
+    ensures puts { OnOk result (PutsText (O.written out.old) (O.written out.new) line.old.items line.new.items
+        (line_of_view number frame.now)) }
+    ensures front { OnErr result (AppendsFront (O.written out.old) (O.written out.new)
+        (line.old.items ++ line_of_view number frame.now)) }
     ensures fine { OnOk result (O.failures out.new ≡ O.failures out.old) }
     ensures counted { OnErr result (O.failures out.new ≡ after_failure (O.failures out.old)) }
 {
@@ -125,49 +127,28 @@ fn put_frame<O: Sink>(
         frame.kind_name(),
         frame.body_len() as u64,
     );
-    put_words(line, number, frame, out)?;
+    let mut words = FrameWords::begin(line, number, frame.bytes());
+    put_words(line, &mut words, out)?;
     put_end(line, out)
 }
 
-/// Puts the line of the header: the first.
-fn put_header_line(line: &mut Line, head: &Head)
-    requires { line.old.items ≡ [] }
-    ensures { IsLongLine header_front line.new.items }
-{
-    put_front(line, 0, "Header", 32);
-    put_header(line, head);
-    put_line_feed(line);
-}
-
-/// Sends the lines of the header and of all frames, many at a time.
-fn send_trace<O: Sink>(trace: &Trace<'_>, out: &mut O) -> Result<(), SendFault>
-    ensures sent { OnOk result (SendsLines (O.written out.old) (O.written out.new)
-        (long_fronts (frames_of trace.now))) }
-    ensures front { OnErr result (StopsInLines (O.written out.old) (O.written out.new)
-        (long_fronts (frames_of trace.now))) }
-    ensures fine { OnOk result (O.failures out.new ≡ O.failures out.old) }
-    ensures counted { OnErr result (O.failures out.new ≡ after_failure (O.failures out.old)) }
-{
-    let mut line = Line::new();
-    put_header_line(&mut line, &trace.head());
-    'frames: for i in 0..trace.frame_count() {
-        put_frame(&mut line, i, &trace.frame(i), out)?;
-    }
-    send_held(&mut line, out)
-}
-
 /// The frame that begins at this byte, where it lies there as a whole.
+#[tactic(auto, unfolding(eve_grammar::specs::Places::number_in))]
 fn frame_at(bytes: &[u8], at: usize) -> Option<FrameView<'_>>
-    ensures { IfSome result (λ frame. at + length frame.bytes.now ≤ length bytes.now) }
+    ensures offset { IfSome result (λ frame. frame.offset ≡ at) }
+    ensures bytes { IfSome result (λ frame. frame.bytes.now
+        ≡ take (frame_len (drop at bytes.now)) (drop at bytes.now)) }
+    ensures within { IfSome result (λ frame. at + length frame.bytes.now ≤ length bytes.now) }
+    ensures short { IfNone result (length (drop at bytes.now) < frame_len (drop at bytes.now)) }
 {
     if at > bytes.len() {
         return None;
     }
     let frame = &bytes[at..];
-    let Some((_, rest)) = u8_at(frame) else {
+    if frame.len() < FRAME_HEAD_LEN {
         return None;
-    };
-    let Some((body_len, body)) = u32_at(rest) else {
+    }
+    let Some((body_len, body)) = u32_at(&frame[1..]) else {
         return None;
     };
     let body_len = body_len as usize;
@@ -180,25 +161,22 @@ fn frame_at(bytes: &[u8], at: usize) -> Option<FrameView<'_>>
     })
 }
 
-/// Puts the lines of the frames that end by this byte.
-fn put_frames_before<O: Sink>(
-    line: &mut Line,
-    bytes: &[u8],
-    until: usize,
-    out: &mut O,
-) -> Result<(), SendFault>
-    ensures puts { OnOk result (PutsSome (O.written out.old) (O.written out.new) line.old.items line.new.items) }
-    ensures sent { OnErr result (SendsSome (O.written out.old) (O.written out.new)) }
+/// Puts the lines of the frames behind the header.
+fn put_frames<O: Sink>(line: &mut Line, bytes: &[u8], out: &mut O) -> Result<(), SendFault>
+    ensures puts { (head : Head) (frames : List Frame) → HasFrames bytes.now head frames
+        → OnOk result (PutsText (O.written out.old) (O.written out.new) line.old.items line.new.items
+        (lines_from 0 32 frames)) }
+    ensures front { (head : Head) (frames : List Frame) → HasFrames bytes.now head frames
+        → OnErr result (AppendsFront (O.written out.old) (O.written out.new)
+        (line.old.items ++ lines_from 0 32 frames)) }
     ensures fine { OnOk result (O.failures out.new ≡ O.failures out.old) }
     ensures counted { OnErr result (O.failures out.new ≡ after_failure (O.failures out.old)) }
 {
+    frames_say_their_words();
     let mut at = HEADER_LEN;
     'frames: for number in 0..bytes.len() {
-        if at >= until {
-            break;
-        }
         let Some(frame) = frame_at(bytes, at) else {
-            break;
+            return Ok(());
         };
         put_frame(line, number, &frame, out)?;
         at += frame.bytes.len();
@@ -206,13 +184,26 @@ fn put_frames_before<O: Sink>(
     Ok(())
 }
 
-/// Sends the lines of the header and of the frames before a fault at this byte; none where the fault is the header's.
-fn send_before<O: Sink>(bytes: &[u8], until: usize, out: &mut O) -> Result<(), SendFault>
-    ensures sent { SendsSome (O.written out.old) (O.written out.new) }
+/// Puts the line of the header: the first.
+fn put_header_line(line: &mut Line, head: &Head)
+    requires { line.old.items ≡ [] }
+    ensures { line.new.items ≡ header_long_line head.now }
+{
+    put_front(line, 0, "Header", 32);
+    put_header(line, head);
+    put_line_feed(line);
+}
+
+/// Sends the lines of a header within the limits, and of the frames behind it, many at a time.
+fn send_lines<O: Sink>(bytes: &[u8], out: &mut O) -> Result<(), SendFault>
+    ensures sent { (head : Head) (frames : List Frame) → SaysHead bytes.now head → HasFrames bytes.now head frames
+        → OnOk result (Appends (O.written out.old) (O.written out.new) (long_lines head frames)) }
+    ensures front { (head : Head) (frames : List Frame) → SaysHead bytes.now head → HasFrames bytes.now head frames
+        → OnErr result (AppendsFront (O.written out.old) (O.written out.new) (long_lines head frames)) }
     ensures fine { OnOk result (O.failures out.new ≡ O.failures out.old) }
     ensures counted { OnErr result (O.failures out.new ≡ after_failure (O.failures out.old)) }
 {
-    if until < HEADER_LEN || bytes.len() < HEADER_LEN {
+    if bytes.len() < HEADER_LEN {
         return Ok(());
     }
     let Some(head) = Head::read(&bytes[6..24]) else {
@@ -220,8 +211,26 @@ fn send_before<O: Sink>(bytes: &[u8], until: usize, out: &mut O) -> Result<(), S
     };
     let mut line = Line::new();
     put_header_line(&mut line, &head);
-    put_frames_before(&mut line, bytes, until, out)?;
+    put_frames(&mut line, bytes, out)?;
     send_held(&mut line, out)
+}
+
+/// Sends the lines of the header and of the frames before a fault of form; none where the fault is the header's.
+fn send_before<O: Sink>(bytes: &[u8], fault: &Fault, out: &mut O) -> Result<(), SendFault>
+    requires within { fault.now.offset ≤ length bytes.now }
+    requires stands { IsFaultOutside StandsInForm bytes.now fault.now }
+    ensures sent { OnOk result (SendsBefore (O.written out.old) (O.written out.new)
+        (AreLinesBefore fault.now.code bytes.now fault.now.offset)) }
+    ensures front { OnErr result (StopsBefore (O.written out.old) (O.written out.new)
+        (AreLinesBefore fault.now.code bytes.now fault.now.offset)) }
+    ensures fine { OnOk result (O.failures out.new ≡ O.failures out.old) }
+    ensures counted { OnErr result (O.failures out.new ≡ after_failure (O.failures out.old)) }
+{
+    let at = fault.offset as usize;
+    if at < HEADER_LEN {
+        return Ok(());
+    }
+    send_lines(&bytes[..at], out)
 }
 
 /// Sends the lines of the header and of the frames before a fault, and then the line of the fault.
@@ -231,13 +240,17 @@ fn send_faulty<O: Sink>(
     fault: &Fault,
     out: &mut O,
 ) -> Result<(), ToolFault>
-    ensures sent { OnOk result (SendsUpTo (O.written out.old) (O.written out.new) (fault_line fault.now)) }
+    requires within { fault.now.offset ≤ length bytes.now }
+    requires stands { IsFaultOutside StandsInForm bytes.now fault.now }
+    ensures sent { OnOk result (SendsUpTo (O.written out.old) (O.written out.new)
+        (AreLinesBefore fault.now.code bytes.now fault.now.offset) (fault_line fault.now)) }
     ensures fine { OnOk result (O.failures out.new ≡ O.failures out.old) }
-    ensures stopped { IfErr result (StopsLong O.written O.failures out.old out.new (fault_line fault.now)) }
+    ensures stopped { IfErr result (StopsLong O.written O.failures out.old out.new
+        (AreLinesBefore fault.now.code bytes.now fault.now.offset) (fault_line fault.now)) }
 {
     let mut text = String::new(alloc);
     push_fault_line(&mut text, fault)?;
-    send_before(bytes, fault.offset as usize, out)?;
+    send_before(bytes, fault, out)?;
     send_all(out, text.as_str().as_bytes())?;
     Ok(())
 }
@@ -252,7 +265,7 @@ fn show_long_bytes<O: Sink>(alloc: Global, bytes: &[u8], out: &mut O) -> Result<
 {
     match Trace::read(alloc, bytes) {
         Ok(trace) => {
-            send_trace(&trace, out)?;
+            send_lines(trace.bytes(), out)?;
             Ok(0)
         }
         Err(CheckFault::Found(fault)) => {

@@ -4,21 +4,19 @@ use Rattle.eve_streams.specs.Front.{AppendsFront}
 use Rattle.eve_tool.specs.Lines.{fault_line}
 use Rattle.eve_tool.specs.declared.fault.ToolFault.TheVariants.{Write}
 use Rattle.eve_tool.proofs.Leaving.{at_err}
-use Rattle.eve_tool.proofs.LongLines.{fault_line-some, stops-before, stops-in_last}
+use Rattle.eve_tool.proofs.LongLines.{stops-before, stops-in_last}
 use Rattle.eve_tool.proofs.long.send_faulty.Goals as goal
 
 pub returns-in_err-send_before-clause-stopped : goal.returns-in_err-send_before-clause-stopped
 returns-in_err-send_before-clause-stopped g c =
-    at_err c.from_residual-in_err-send_before.result _ Write c.from_residual-in_err-send_before.ensures.1 (
-      stops-before _ _ _ (fault_line-some c.args.fault.now) c.in_err-send_before.ensures.sent,
-      c.in_err-send_before.ensures.counted,
-    )
+    at_err c.from_residual-in_err-send_before.result _ Write c.from_residual-in_err-send_before.ensures.1
+    (stops-before _ _ _ _ c.in_err-send_before.ensures.front, c.in_err-send_before.ensures.counted)
 
 pub returns-in_err-send_all-clause-stopped : goal.returns-in_err-send_all-clause-stopped
 returns-in_err-send_all-clause-stopped g c =
     let front : AppendsFront (g.O.Sink.written c.send_before.new.out) (g.O.Sink.written c.send_all.new.sink)
     (fault_line c.args.fault.now) = search rules in
     at_err c.from_residual-in_err-send_all.result _ Write c.from_residual-in_err-send_all.ensures.1 (
-      stops-in_last _ _ _ _ c.in_ok-send_before.ensures.sent front,
+      stops-in_last _ _ _ _ _ c.in_ok-send_before.ensures.sent front,
       c.in_err-send_all.ensures.counted ∙ ap after_failure c.in_ok-send_before.ensures.fine,
     )

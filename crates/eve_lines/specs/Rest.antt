@@ -1,0 +1,117 @@
+-- What frames say by their bytes, and what is still to come of it while a line is put part by part.
+use Rattle.std.specs.Prelude.{◌≡◌, ℕ, ◌-◌, ◌/◌, ◌<◌, ◌==◌, nat_le, nat_lt, Bool, ◌&&◌, is_some, true, false, if◌then◌else◌, List, [], ◌++◌, map, length}
+use Rattle.std.specs.Prelude.{drop, codes, decimal, slice_index, slice_get, Option, Some, None}
+use Rattle.std.specs.List.{flat_map, enumerate_from}
+use Rattle.eve_grammar.specs.Reading.{number_of, transfer_of}
+use Rattle.eve_grammar.specs.declared.limits.TheConstants.{MOST_ROWS}
+use Rattle.eve_grammar.specs.declared.frame_kind.TheConstants.{CUSTOMER_FRAME, BATCH_FRAME, REPLICA_FRAME}
+use Rattle.eve_grammar.specs.declared.frame_kind.TheConstants.{ATTEMPT_FRAME, ACCESS_FRAME, COMMIT_FRAME}
+use Rattle.eve_grammar.specs.declared.frame_kind.TheConstants.{ROLLBACK_FRAME, TRANSFER_FRAME, VERIFIER_FRAME}
+use Rattle.eve_grammar.specs.declared.frame_kind.TheConstants.{VOTE_FRAME, SENT_FRAME}
+use Rattle.eve_frames.specs.Views.{body_in, has_customer_body, has_batch_body, has_attempt_body, has_access_body}
+use Rattle.eve_frames.specs.Views.{has_commit_body, has_rollback_body, has_vote_body, has_sent_body}
+use Rattle.eve_frames.specs.Views.{customer_in, batch_in, attempt_in, access_in, commit_in, rollback_in, transfer_in}
+use Rattle.eve_frames.specs.Views.{vote_in, sent_in}
+use Rattle.eve_smallbank.specs.declared.entry.Entry.{Entry}
+use Rattle.eve_lines.specs.Words.{token_words, parting, listed, reply_words, request_words, row_words, entry_words}
+use Rattle.eve_lines.specs.FrameLines.{customer_words, index_words, batch_words, attempt_words, access_words}
+use Rattle.eve_lines.specs.FrameLines.{commit_words, restore_words, rollback_words, transfer_words, vote_words}
+use Rattle.eve_lines.specs.FrameLines.{sent_words}
+use Rattle.eve_lines.specs.declared.batch.BatchRest.{BatchRest}
+use Rattle.eve_lines.specs.declared.attempt.AttemptRest.{AttemptRest}
+use Rattle.eve_lines.specs.declared.rollback.RollbackRest.{RollbackRest}
+use Rattle.eve_lines.specs.declared.transfer.TransferRest.{TransferRest}
+use Rattle.eve_lines.specs.declared.frame.Rest.{Rest}
+use Rattle.eve_lines.specs.declared.frame.Rest.TheVariants as of
+use Rattle.eve_lines.specs.declared.frame.FrameWords.{FrameWords}
+
+-- ---- what is still to come
+
+-- of a batch: the sizes from one on, and the requests
+unfoldable pub batch_left : BatchRest → List ℕ
+batch_left r =
+    flat_map index_words (drop r.came (batch_in r.batch.bytes.now).1.sizes)
+    ++ listed r.has_begun (map request_words r.requests)
+
+-- of an attempt: indexes of its certificate, replies, the token
+unfoldable pub attempt_left : AttemptRest → List ℕ
+attempt_left r =
+    flat_map index_words r.certificate
+    ++ (listed r.has_begun (map reply_words r.replies) ++ (codes " token " ++ token_words r.token.now))
+
+-- of a rollback: restores
+unfoldable pub rollback_left : RollbackRest → List ℕ
+rollback_left r = listed r.has_begun (map restore_words r.restores)
+
+-- of a state taken over: the rows from one on
+unfoldable pub transfer_left : TransferRest → List ℕ
+transfer_left r =
+    listed (nat_lt 0 r.came)
+    (map row_words (enumerate_from r.came (drop r.came (transfer_in r.transfer.bytes.now).rows)))
+
+-- of a frame
+abbrev pub rest_left : Rest → List ℕ
+rest_left of.None = []
+rest_left (of.Batch r) = batch_left r
+rest_left (of.Attempt r) = attempt_left r
+rest_left (of.Rollback r) = rollback_left r
+rest_left (of.Transfer r) = transfer_left r
+
+abbrev pub words_left : FrameWords → List ℕ
+words_left w = rest_left w.rest
+
+-- A part of the words was put. Where more may come, what stands and what is still to come are together what they were,
+-- and the line has grown; else all is put.
+abbrev pub PutsPart : (more : Bool) (old new to_come left : List ℕ) → Type 0
+PutsPart true old new to_come left = (new ++ left ≡ old ++ to_come) × (length old < length new)
+PutsPart false old new to_come left = new ≡ old ++ to_come
+
+-- ---- what bytes say
+
+-- the body of a Transfer frame with as many rows as its length tells, and no more than a trace has
+abbrev pub is_state_body : List ℕ → Bool
+is_state_body body =
+    nat_le ((length body - 8) / 16) MOST_ROWS && is_some (transfer_of ((length body - 8) / 16) body)
+
+-- the words, where the body is right
+abbrev pub words_if : Bool → List ℕ → List ℕ
+words_if is_right words = if is_right then words else []
+
+-- the words of a body that is a number
+abbrev pub number_words : List ℕ → Option ℕ → List ℕ
+number_words word (Some number) = word ++ decimal number
+number_words word None = []
+
+-- an entry, where there is one, behind what parts it from what stands before it
+abbrev pub entry_if : Bool → Option Entry → List ℕ
+entry_if has_begun None = []
+entry_if has_begun (Some e) = parting has_begun ++ entry_words e
+
+-- entry number i, from 0, likewise
+abbrev pub nth_entry : ℕ → List Entry → List ℕ
+nth_entry i entries = entry_if (nat_lt 0 i) (slice_get entries i)
+
+-- those of a frame of this kind without lists, which is frame number `number` of its trace
+unfoldable pub short_words : ℕ → ℕ → List ℕ → List ℕ
+short_words kind number bytes =
+    if kind == ACCESS_FRAME then words_if (has_access_body bytes) (access_words (access_in bytes))
+    else if kind == COMMIT_FRAME then words_if (has_commit_body bytes) (commit_words (commit_in bytes))
+    else if kind == CUSTOMER_FRAME then words_if (has_customer_body bytes) (customer_words number (customer_in bytes))
+    else if kind == REPLICA_FRAME then number_words (codes " replica ") (number_of (body_in bytes))
+    else if kind == SENT_FRAME then words_if (has_sent_body bytes) (sent_words (sent_in bytes))
+    else if kind == VERIFIER_FRAME then number_words (codes " verifier ") (number_of (body_in bytes))
+    else if kind == VOTE_FRAME then words_if (has_vote_body bytes) (vote_words (vote_in bytes))
+    else []
+
+-- those of a frame of this kind
+unfoldable pub words_of_kind : ℕ → ℕ → List ℕ → List ℕ
+words_of_kind kind number bytes =
+    if kind == ATTEMPT_FRAME then words_if (has_attempt_body bytes) (attempt_words (attempt_in bytes))
+    else if kind == BATCH_FRAME then words_if (has_batch_body bytes) (batch_words (batch_in bytes).0 (batch_in bytes).1)
+    else if kind == ROLLBACK_FRAME then words_if (has_rollback_body bytes) (rollback_words (rollback_in bytes))
+    else if kind == TRANSFER_FRAME then words_if (is_state_body (body_in bytes)) (transfer_words (transfer_in bytes))
+    else short_words kind number bytes
+
+-- those of a frame with these bytes; none where its body isn't right
+abbrev pub words_in : ℕ → List ℕ → List ℕ
+words_in number bytes = words_of_kind (slice_index bytes 0) number bytes
