@@ -18,10 +18,12 @@ use crate::fault::Fault;
 use crate::limits::changes::{
     Change, LAST_REPLICA, RECORDED, THIRD_OF_CLIENT, tell_changed, tell_changes,
 };
-use crate::limits::lies::sent_again;
+use crate::limits::lies::{sent_again, with_another_customer};
 use crate::limits::places::Places;
 use crate::limits::rerun::{leave_out, rerun, trace_of};
-use crate::limits::sizes::{CLIENTS, FALLING, GREATEST, LONGEST, WIDEST, WINDOW, WINDOWS};
+use crate::limits::sizes::{
+    CLIENTS, CUSTOMERS, FALLING, GREATEST, LONGEST, WIDEST, WINDOW, WINDOWS,
+};
 use crate::limits::together::Matter;
 use crate::limits::verdicts::{Asked, NOWHERE, spot_at, tell, tell_call};
 use crate::limits::workload::{Size, workload};
@@ -29,7 +31,7 @@ use std::random::RandomSource;
 use std::sync::Wait;
 use std::thread::Threads;
 
-/// The trace of a run of this size.
+/// The trace of a run of this size, in the format that has so many customers.
 fn run_of<R: AllocGlobal + RandomSource + Threads + Wait + Sync>(
     rt: &R,
     page: &mut Bytes,
@@ -37,7 +39,13 @@ fn run_of<R: AllocGlobal + RandomSource + Threads + Wait + Sync>(
 ) -> Bytes {
     let text = workload(rt.alloc(), size);
     page.fail_as(&text);
-    out_of(rt, &["eve", "run", "--mixer", "whole"], text.written())
+    let format = if size.customers > GREATEST.customers {
+        "2"
+    } else {
+        "1"
+    };
+    let arguments = ["eve", "run", "--mixer", "whole", "--format", format];
+    out_of(rt, &arguments, text.written())
 }
 
 /// Tells what audits say of a run of this size.
@@ -49,6 +57,14 @@ fn tell_run<R: AllocGlobal + RandomSource + Threads + Wait + Sync>(
 ) {
     let trace = run_of(rt, page, size);
     tell(rt, page, name, &trace, NOWHERE);
+}
+
+/// Tells what audits say of a run of as many customers as there may be, and of its trace with one more.
+fn tell_customers<R: AllocGlobal + RandomSource + Threads + Wait + Sync>(rt: &R, page: &mut Bytes) {
+    let trace = run_of(rt, page, &CUSTOMERS);
+    tell(rt, page, "most customers", &trace, NOWHERE);
+    let more = with_another_customer(rt.alloc(), trace.written(), 65_537);
+    tell(rt, page, "one customer more", &more, NOWHERE);
 }
 
 /// Tells what audits say of a run of this size, of which the first request of a batch gets the client of an earlier
@@ -182,6 +198,7 @@ pub(crate) fn tell_limits<R: AllocGlobal + RandomSource + Threads + Wait + Sync>
             let name = "a request of many clients asked again";
             tell_asked_again(rt, page, name, &CLIENTS, CLIENTS.batches)
         }
+        "most-customers" => tell_customers(rt, page),
         "rolled-back" => tell_reruns(rt, page),
         "widest" => tell_widest(rt, page),
         _ => page.fail(Fault::Word),

@@ -92,3 +92,16 @@ pub(crate) static WINDOW: Size = Size {
     requests: 256,
     clients: Clients::EachBatch,
 };
+
+/// As many customers as there may be, which is in format 2.
+pub(crate) static CUSTOMERS: Size = Size {
+    replicas: 1,
+    verifiers: 1,
+    quorum: 1,
+    window: 1,
+    workers: 1,
+    customers: 65_536,
+    batches: 1,
+    requests: 256,
+    clients: Clients::EachBatch,
+};
