@@ -1,9 +1,9 @@
 //! All that the libraries lend and find of a trace.
 
 use crate::audits::keys;
+use crate::frames::push_frames;
 use crate::histories::{agreement, push_findings};
 use crate::one_thread::push_served_all;
-use crate::parts::{push_frames, push_parts};
 use eve_testing::Text;
 use eve_views::{CheckFault, Fault, Trace};
 use std::alloc::Global;
@@ -19,7 +19,6 @@ fn push_all(
 ) -> Result<(), CheckFault> {
     let trace = Trace::read(alloc, bytes)?;
     push_frames(text, &trace);
-    push_parts(text, &trace);
     push_findings(text, alloc, &trace)?;
     push_served_all(text, alloc, &trace, random)
 }

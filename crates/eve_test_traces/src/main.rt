@@ -16,8 +16,8 @@
 //! - `draw FILE COUNT`: the same of COUNT traces with other values in entries at random places.
 //! - `agree FILE`: what is found of two replicas together, whatever was voted.
 //! - `alone FILE CHANGE..`: what its replicas' rollbacks and tokens come to, each phase by itself.
-//! - `tell FILE CHANGE..`: its frames, the parts that are lent, what is found of its replicas and votes, and what
-//!   SmallBank on one thread makes of its batches.
+//! - `tell FILE CHANGE..`: its frames, what is found of its replicas and votes, and what SmallBank on one thread makes
+//!   of its batches.
 //!
 //! The wanted output follows from docs/TRACE.md and docs/MODEL.md, and was written by their rules, not by this program.
 #![tactic(auto)]
@@ -26,10 +26,10 @@ mod audits;
 mod change;
 mod draws;
 mod findings;
+mod frames;
 mod histories;
 mod meeting;
 mod one_thread;
-mod parts;
 mod phases;
 mod ranges;
 mod sweeps;

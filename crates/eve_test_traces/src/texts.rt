@@ -1,7 +1,7 @@
 //! What a frame's fields hold, and why a text of it can't be written.
 
 use eve_accounts::{Amount, Cents, Row};
-use eve_smallbank::{Abort, Entry, Kind, Reply, Request};
+use eve_smallbank::{Abort, Kind, Reply, Request};
 use eve_testing::Text;
 use std::io::Error;
 
@@ -66,13 +66,6 @@ pub fn push_reply(text: &mut Text, reply: Reply) {
         Reply::Aborted(Abort::Insufficient) => text.words("Insufficient"),
         Reply::Aborted(Abort::OutOfRange) => text.words("OutOfRange"),
     }
-}
-
-/// An entry of a record: what was done to a row, the version and the value seen, and the value after it.
-pub fn push_entry(text: &mut Text, entry: Entry) {
-    push_done(text, entry.kind, entry.row);
-    text.value(" version ", entry.version);
-    push_change(text, entry.seen, entry.after);
 }
 
 /// What is done to a row.
