@@ -2,18 +2,13 @@
 
 ghost use Rattle.std.specs.Prelude.{◌≡◌};
 
-use crossbeam_utils::CachePadded;
+use crossbeam_utils::{Backoff, CachePadded};
 use eve_floor::ExecFault;
-use std::hint::spin_loop;
 use std::sync::Wait;
 use std::sync::atomic::{AtomicU64, Ordering};
-use std::thread::yield_now;
 
 /// By this the word is raised where a worker gives a request up: more than all requests of a window.
 const GIVEN_UP: u64 = 1 << 32;
-
-/// How often a worker looks at the word before it lets another thread run.
-const LOOKS: u32 = 64;
 
 /// A word that counts the requests that were noted, on cache lines of its own. Workers only wait on it: no clause says
 /// what it counts.
@@ -49,18 +44,13 @@ impl Progress {
 
     /// Waits until the given number of requests are noted, or one is given up. Returns whether to go on.
     pub(crate) fn wait_for<R: Wait>(&self, rt: &R, count: u64) -> bool {
-        let mut looks = 0u32;
+        let backoff = Backoff::new();
         for _ in rt.forever() {
             let ended = self.ended.load(Ordering::SeqCst);
             if ended >= count {
                 return ended < GIVEN_UP;
             }
-            looks = looks.wrapping_add(1);
-            if looks % LOOKS == 0 {
-                yield_now();
-            } else {
-                spin_loop();
-            }
+            backoff.snooze();
         }
         unreachable!()
     }

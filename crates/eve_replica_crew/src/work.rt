@@ -13,7 +13,7 @@ ghost use Rattle.eve_replica_crew.specs.Crews.{IsSeated};
 use crate::crew::Member;
 use crate::lone::run_lone;
 use crate::part::{LeadPart, Part, SharedPart};
-use crate::progress::{GivenUp, Pace, Progress};
+use crate::progress::{GivenUp, Pace};
 use crate::shared_batch::SharedBatch;
 use eve_floor::{ExecFault, Worker, execute_kept, execute_touched};
 use eve_grammar::MOST_REQUESTS;
@@ -46,7 +46,7 @@ pub(crate) fn run_parts<R: Wait, G: Gate>(
         let end = claim_and_run(rt, ticks, &shared, &mut worker, &mut claims, gate);
         member.tick = Some(tick_of(worker));
         if let Err(why) = end {
-            member.fault = fault_in(why);
+            member.fault = why.map(GivenUp::why);
             return;
         }
     }
@@ -92,17 +92,9 @@ pub(crate) fn run_lead_part<R: Wait, G: Gate>(
                 records,
             ) {
                 Ok(()) => Ok(()),
-                Err(why) => Err(fault_in(why)),
+                Err(why) => Err(why.map(GivenUp::why)),
             }
         }
-    }
-}
-
-/// The fault of the request that the worker itself gave up, if it did.
-fn fault_in(own: Option<GivenUp>) -> Option<ExecFault> {
-    match own {
-        Some(given_up) => Some(given_up.why()),
-        None => None,
     }
 }
 
@@ -150,7 +142,9 @@ fn run_shared<R: Wait, G: Gate>(
         }
         pace.note();
     }
-    tell(&mut pace, shared.progress)?;
+    if !pace.tell(shared.progress) {
+        return Err(None);
+    }
     take_rest(rt, shared, taker, records)
 }
 
@@ -180,22 +174,6 @@ fn next_due<R: Wait>(
     }
 }
 
-/// The number of requests that are noted once the batch is. It says only for how long the first worker waits.
-fn noted_after(shared: &SharedBatch<'_>) -> u64 {
-    shared
-        .before
-        .saturating_add(shared.batch.requests.len() as u64)
-}
-
-/// Counts for the others what the worker noted, at the end of its part. An error where a request was given up.
-fn tell(pace: &mut Pace, progress: &Progress) -> Result<(), Option<GivenUp>> {
-    if pace.tell(progress) {
-        Ok(())
-    } else {
-        Err(None)
-    }
-}
-
 /// Takes what the others noted of the batch, once all is noted, until there is a record of each request. An error where
 /// another worker gave a request up.
 fn take_rest<R: Wait>(
@@ -213,10 +191,12 @@ fn take_rest<R: Wait>(
     ensures noted { (names : List (List ℕ)) (b : Batch) → AreKeptFrom names b 0 records.old.items
         → OnOk result (AreNotedOf names b records.new.items) }
 {
-    if !shared.progress.wait_for(rt, noted_after(shared)) {
+    let all = shared.batch.requests.len();
+    let noted = shared.before.saturating_add(all as u64);
+    if !shared.progress.wait_for(rt, noted) {
         return Err(None);
     }
-    for place in records.len()..shared.batch.requests.len() {
+    for place in records.len()..all {
         let Some(record) = shared.recorder.take(rt, taker) else {
             break;
         };
@@ -275,7 +255,11 @@ fn claim_and_run<R: Wait, G: Gate>(
         }
         pace.note();
     }
-    tell(&mut pace, shared.progress)
+    if pace.tell(shared.progress) {
+        Ok(())
+    } else {
+        Err(None)
+    }
 }
 
 /// Claims the next request and returns its index.
