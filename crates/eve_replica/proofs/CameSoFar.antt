@@ -19,10 +19,7 @@ use Rattle.eve_replica.specs.declared.run_state.RunState.{RunState}
 use Rattle.eve_replica.specs.declared.server.Server.{Server}
 use Rattle.eve_replica.specs.declared.standing.Standing.{Standing}
 use Rattle.eve_replica.specs.Deciding.{is_some_of, open_after}
-use Rattle.eve_replica.specs.RunFaults.{IsLongOnly, EndsSoFar, MayEnd, StopsAmid, TakesTooMuch, run_fault_of}
-use Rattle.eve_workload.specs.Workload.{Workload}
-use Rattle.eve_workload.specs.declared.mixer.Mixer.{Mixer}
-use Rattle.eve_replica.specs.Run.{run_plan}
+use Rattle.eve_replica.specs.RunFaults.{IsLongOnly, EndsSoFar, StopsAmid, TakesTooMuch, run_fault_of}
 use Rattle.eve_replica.specs.Sections.{RunPlan, reached_in}
 use Rattle.eve_replica.specs.Serving.{IsUnderWay, Serves, count_with, next_token, sections_in, standing_of, states_len}
 use Rattle.eve_replica.specs.Serving.{window_at}
@@ -158,10 +155,3 @@ pub commit_ends : (p : RunPlan) (d : RunState) (token : List ℕ) (why : RunFaul
 commit_ends p d token run.Memory was left most long = tt
 commit_ends p d token run.Broken was left most long = amid p d was left
 commit_ends p d token run.TooLong was left most long = too_much p d token was most long.0 long.1
-
--- what is too long is of format 2
-pub ends_in : (w : Workload) (mixer : Mixer) (replicas : ℕ) (why : RunFault)
-    → EndsSoFar (run_plan w mixer) replicas why → MayEnd w.format why
-ends_in w mixer replicas run.Memory ends = tt
-ends_in w mixer replicas run.Broken ends = tt
-ends_in w mixer replicas run.TooLong ends = ends.version

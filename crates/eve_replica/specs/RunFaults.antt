@@ -63,12 +63,6 @@ EndsSoFar p replicas run.Memory = ⊤
 EndsSoFar p replicas run.Broken = StopsAmid p replicas
 EndsSoFar p replicas run.TooLong = TakesTooMuch p replicas
 
--- and of these, in which format: too long are only the states that are taken over in format 2
-abbrev pub MayEnd : ℕ → RunFault → Type 0
-MayEnd format run.Memory = ⊤
-MayEnd format run.Broken = ⊤
-MayEnd format run.TooLong = format ≡ 2
-
 -- a fault that is TooLong only where this holds
 abbrev pub IsLongOnly : Type 0 → RunFault → Type 0
 IsLongOnly Long run.Memory = ⊤

@@ -5,7 +5,7 @@ ghost use Rattle.eve_grammar.specs.Trace.{opening_rows};
 ghost use Rattle.eve_write.specs.Data.{batch as plain, customer, section, sent};
 ghost use Rattle.eve_workload.specs.Workload.{customer_names};
 ghost use Rattle.eve_replica.specs.Run.{IsRunOf, run_plan};
-ghost use Rattle.eve_replica.specs.RunFaults.{EndsSoFar, MayEnd};
+ghost use Rattle.eve_replica.specs.RunFaults.{EndsSoFar};
 ghost use Rattle.eve_replica.specs.Sections.{RunPlan};
 ghost use Rattle.eve_replica.specs.Sending.{sent_from_on};
 ghost use Rattle.eve_replica.specs.Serving.{IsRightMixed, IsPlanFor, Serves, IsUnderWay, IsSameRun, AreReplies};
@@ -50,7 +50,6 @@ pub fn run<R: Threads + Wait + Sync, G: Gate>(
 ) -> Result<Parts, RunFault>
     requires { (1 ≤ workload.now.format) × (workload.now.format ≤ NEWEST_VERSION) }
     ensures run { IfOk result (IsRunOf workload.now mixer) }
-    ensures why { IfErr result (MayEnd workload.now.format) }
     ensures so_far { IfErr result (EndsSoFar (run_plan workload.now mixer) workload.now.deployment.replicas) }
 {
     run_consuming(rt, alloc, workload.copy(alloc)?, mixer, random, gate)
@@ -70,7 +69,6 @@ pub fn run_consuming<R: Threads + Wait + Sync, G: Gate>(
 ) -> Result<Parts, RunFault>
     requires { (1 ≤ workload.format) × (workload.format ≤ NEWEST_VERSION) }
     ensures run { IfOk result (IsRunOf workload mixer) }
-    ensures why { IfErr result (MayEnd workload.format) }
     ensures so_far { IfErr result (EndsSoFar (run_plan workload mixer) workload.deployment.replicas) }
 {
     let customers = workload.customers().to_vec(alloc)?;
@@ -90,7 +88,6 @@ fn run_named<R: Threads + Wait + Sync, G: Gate>(
     requires named { names.now.items ≡ customer_names workload.customers }
     requires format { (1 ≤ workload.format) × (workload.format ≤ NEWEST_VERSION) }
     ensures run { IfOk result (IsRunOf workload mixer) }
-    ensures why { IfErr result (MayEnd workload.format) }
     ensures so_far { IfErr result (EndsSoFar (run_plan workload mixer) workload.deployment.replicas) }
 {
     let head = workload.head();

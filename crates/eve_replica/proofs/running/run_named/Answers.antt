@@ -1,7 +1,6 @@
 use Rattle.std.proofs.Common.{◌≡◌, ℕ, zero, suc, ◌≤◌, ◌⊎◌, inl, inr, All, IsTrue, List, length, map, refl, sym, ◌∙◌}
 use Rattle.std.proofs.Common.{ap, subst, arith}
 use Rattle.std.proofs.lemmas.List.{length-map}
-use Rattle.std.proofs.lemmas.Result.{IfErr-weaker}
 use Rattle.std.specs.List.{list_all}
 use Rattle.eve_grammar.specs.Trace.{Customer, Vote, head_of, opening_rows}
 use Rattle.eve_grammar.specs.declared.head.Head as header
@@ -20,8 +19,6 @@ use Rattle.eve_workload.specs.Mixing.{cut, batch_with}
 use Rattle.eve_workload.specs.Workload.{customer_names, head_asked, is_listed}
 use Rattle.eve_replica.specs.Run.{batches_cut, run_plan}
 use Rattle.eve_replica.specs.RunFaults.{EndsSoFar}
-use Rattle.eve_replica.specs.declared.fault.RunFault.{RunFault}
-use Rattle.eve_replica.proofs.CameSoFar.{ends_in}
 use Rattle.eve_replica.specs.Sections.{RunPlan}
 use Rattle.eve_replica.specs.Sending.{sent_from_on}
 use Rattle.eve_grammar.proofs.HeadLimits.{head_has_limits, few_customers}
@@ -232,9 +229,3 @@ returns-in_err-run_windows-clause-so_far g c =
     (subst (λ (x : Head). EndsSoFar (run_plan w c.args.mixer) x.replicas why) (c.in_ok-state.ensures.head ∙ asked)
     (subst (λ (p : RunPlan). EndsSoFar p c.in_ok-state.state.head.replicas why) is
     (c.in_err-run_windows.ensures.why plan c.in_ok-state.ensures.under_way)))
-
-pub returns-in_err-run_windows-clause-why : goal.returns-in_err-run_windows-clause-why
-returns-in_err-run_windows-clause-why g c =
-    IfErr-weaker c.from_residual-in_err-run_windows.result _ _
-    (λ (why : RunFault). ends_in c.args.workload c.args.mixer c.args.workload.deployment.replicas why)
-    (returns-in_err-run_windows-clause-so_far g c)
