@@ -31,7 +31,7 @@ use Rattle.eve_replica.specs.Serving.{window_at, IsOutvoted, IsLedBy, Serves}
 use Rattle.eve_replica.specs.Deciding.{AreUndecided}
 use Rattle.eve_replica.specs.Taken.{AreTakenIn, AreCommittedByMost, states_in}
 use Rattle.eve_replica.specs.Windows.{ComesTo, WindowState}
-use Rattle.eve_replica.specs.Serving.{Move, attempt_move, rollback_move, AreBatchesFrom, GoesOn, GivesUpNext}
+use Rattle.eve_replica.specs.Serving.{Move, attempt_move, AreBatchesFrom, GoesOn}
 use Rattle.eve_replica.specs.Serving.{IsUnderWay, live_in, sections_in, states_len}
 use Rattle.eve_replica.proofs.Counting.{counted_alike}
 use Rattle.eve_replica.proofs.Each.{AreAllOn}
@@ -374,11 +374,6 @@ live_on passes was servers on = counted_alike (λ s. s.is_live) passes servers w
 -- a replica went on by this move, and is live where it passed before
 abbrev pub Moves : Move → (Server → Bool) → Server → Server → Type 0
 Moves m passes old new = GoesOn m old new × (new.is_live ≡ passes old)
-
--- a replica rolled back, if it was live
-abbrev pub Discards : Server → Server → Type 0
-Discards old new =
-    GoesOn rollback_move old new × (new.is_live ≡ old.is_live) × ((p : RunPlan) → GivesUpNext p old new)
 
 -- ---- the run
 

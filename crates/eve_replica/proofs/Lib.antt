@@ -20,3 +20,4 @@ mod Noted
 mod Mismatches
 mod Parts
 mod StatesTaken
+mod Together

@@ -388,6 +388,11 @@ AttemptsIfLive window old new =
 abbrev pub AttemptsUnbroken : List MixedBatch → Server → Server → Type 0
 AttemptsUnbroken window old new = new.replica.is_broken ≡ false → AttemptsIfLive window old new
 
+-- a replica rolled back, if it was live
+abbrev pub Discards : Server → Server → Type 0
+Discards old new =
+    GoesOn rollback_move old new × (new.is_live ≡ old.is_live) × ((p : RunPlan) → GivesUpNext p old new)
+
 -- each replica has become what it should
 pub record AreAllOn (Becomes : Server → Server → Type 0) (was servers : List Server) : Type 0 where
   pub many : length servers ≡ length was

@@ -24,7 +24,7 @@ use crate::account::Account;
 use crate::attempting::{fault_told, lead_each, run_and_close};
 use crate::fault::{AttemptFault, CloseFault, CommitFault, TransferFault};
 use eve_accounts::{Balances, Names};
-use eve_attempts::{AttemptFront, CloseFault as Unclosed};
+use eve_attempts::{AttemptFront, CloseFault as Unclosed, Ledger};
 use eve_floor::Floor;
 use eve_grammar::{MOST_BATCHES, MOST_WINDOW, MOST_WORKERS, TransferData};
 use eve_recorder::Gate;
@@ -84,7 +84,15 @@ impl<'n> Replica<'n> {
     {
         let crew = Workers::new(alloc, workers)?;
         let floor = Floor::new(alloc, names, balances)?;
-        let account = Account::new(alloc, version, names, balances, workers, window)?;
+        let settles = Vec::with_capacity(alloc, window as usize)?;
+        let ledger = Ledger::new(alloc, version, balances, workers, window)?;
+        let account = Account {
+            names,
+            ledger,
+            settles,
+            is_broken: false,
+            fault: None,
+        };
         Ok(Replica {
             floor,
             workers: crew,
@@ -300,7 +308,7 @@ impl<'n> Replica<'n> {
 
     /// Why the last attempt that failed did; `Broken` where none has.
     pub(crate) fn fault(&self) -> AttemptFault {
-        self.account.fault()
+        self.account.fault.unwrap_or(AttemptFault::Broken)
     }
 
     /// Makes an attempt of records that a caller took, and opens it.
@@ -362,8 +370,13 @@ impl<'n> Replica<'n> {
         ensures broken { (result ≡ Err CommitFault.Broken) ↔ (self.old.is_broken ≡ true) }
         ensures refused { OnErr result (self.new ≡ self.old) }
     {
-        let (commit, tick) = self.account.commit(seq)?;
-        if let Some(tick) = tick {
+        if self.account.is_broken {
+            return Err(CommitFault::Broken);
+        }
+        let Ok(commit) = self.account.ledger.commit(seq) else {
+            return Err(CommitFault::NotOpen);
+        };
+        if let Some(tick) = self.account.settles.remove(0) {
             self.floor.settle(tick);
         }
         Ok(commit)
@@ -385,7 +398,14 @@ impl<'n> Replica<'n> {
         ensures broken { (result ≡ Err TransferFault.Broken) ↔ (self.old.is_broken ≡ true) }
         ensures refused { OnErr result (self.new ≡ self.old) }
     {
-        self.account.transfer(state)?;
+        if self.account.is_broken {
+            return Err(TransferFault::Broken);
+        }
+        let _many = self.account.names.len();
+        if self.account.ledger.take_over(state).is_err() {
+            return Err(TransferFault::NotDue);
+        }
+        self.account.settles.clear();
         self.floor.install(state);
         Ok(())
     }
@@ -401,7 +421,9 @@ impl<'n> Replica<'n> {
         ensures whole { OnOk result (self.new ≡ record self.old { ledger = self.new.ledger; is_broken = false }) }
         ensures refused { OnErr result (self.new ≡ self.old) }
     {
-        let rollback = self.account.rollback(alloc)?;
+        let rollback = self.account.ledger.rollback(alloc)?;
+        self.account.settles.clear();
+        self.account.is_broken = false;
         self.floor.go_back();
         Ok(rollback)
     }

@@ -1,15 +1,13 @@
 //! The state of a run.
 
-ghost use Rattle.std.specs.Prelude.{◌≡◌, ◌≤◌, ◌+◌, ◌-◌, ◌<◌, ◌++◌, map, All, List, [], OnOk, Some, None, length};
+ghost use Rattle.std.specs.Prelude.{◌≡◌, ◌≤◌, ◌+◌, ◌-◌, ◌<◌, ◌++◌, All, List, OnOk, Some, None, length};
 ghost use Rattle.eve_grammar.specs.Trace.{Vote};
-ghost use Rattle.eve_write.specs.Data.{batch as plain};
 ghost use Rattle.eve_replica.specs.declared.standing.Standing.{Standing};
 ghost use Rattle.eve_replica.specs.Deciding.{AreUndecided};
 ghost use Rattle.eve_replica.specs.RunFaults.{EndsSoFar, IsLongOnly};
 ghost use Rattle.eve_replica.specs.Sections.{RunPlan};
-ghost use Rattle.eve_replica.specs.Serving.{IsRightMixed, Serves, AreBatchesFrom, AreWholeWindow};
-ghost use Rattle.eve_replica.specs.Serving.{IsSameRun, IsUnderWay};
-ghost use Rattle.eve_replica.specs.Serving.{after_attempts, after_commit, after_rollback, commit_move, rollback_move};
+ghost use Rattle.eve_replica.specs.Serving.{Serves, AreAllOn, Discards, IsSameRun, IsUnderWay};
+ghost use Rattle.eve_replica.specs.Serving.{after_commit, after_rollback, commit_move};
 ghost use Rattle.eve_replica.specs.Serving.{IsDecision, IsLeft, count_with, live_in, sections_in, states_len};
 ghost use Rattle.eve_replica.specs.Handing.{CommitsOrWaits, IsLentByFirst, MayTakeOverOrStay, TakesOverOrStays};
 ghost use Rattle.std.specs.List.{AllZip, Any};
@@ -19,12 +17,12 @@ ghost use Rattle.std.specs.Arc.{arc_value};
 ghost use Rattle.eve_grammar.specs.Bodies.{transfer};
 ghost use Rattle.eve_grammar.specs.Limits.{is_transfer};
 
-use crate::fault::{AttemptFault, RunFault};
+use crate::fault::RunFault;
 use crate::server::Server;
 use crate::side_by_side::attempt_each;
 use crate::standing::{MOST_VIEWS, Standing};
 use crate::votes::{vote_for_commit, vote_for_rollback};
-use eve_grammar::{Head, MOST_BATCHES, TransferData};
+use eve_grammar::{Head, TransferData};
 use eve_recorder::Gate;
 use eve_workload::MixedBatch;
 use eve_write::VoteData;
@@ -78,7 +76,7 @@ impl<'n, 'b> RunState<'n, 'b> {
         let from = self.standing.committed as usize;
         let end = batches.len().min(from + self.head.window as usize);
         let window = &batches[from..end];
-        attempt_all(rt, alloc, self.servers.as_mut_slice(), window, gate)?;
+        attempt_each(rt, alloc, self.servers.as_mut_slice(), window, gate)?;
         self.standing.opened = window.len() as u32;
         while self.standing.opened > 0 {
             self.decide(alloc)?;
@@ -158,34 +156,6 @@ impl<'n, 'b> RunState<'n, 'b> {
         self.standing.opened = 0;
         Ok(())
     }
-}
-
-/// Each live replica attempts the batches of the window, which are the next from where they stand (`attempt_each`).
-fn attempt_all<R: Threads + Wait + Sync, G: Gate>(
-    rt: &R,
-    alloc: Global,
-    servers: &mut [Server],
-    window: &[MixedBatch],
-    gate: &G,
-) -> Result<(), AttemptFault>
-    requires serve { (p : RunPlan) × (at : Standing) × (votes : List Vote) × All (IsRightMixed p.names) window.now
-        × AreBatchesFrom p.batches (at.committed + at.opened) (map (λ m. plain m.batch) window.now)
-        × All (Serves p at votes) servers.old × (at.opened ≡ 0) × (length window.now ≤ p.first.window)
-        × (at.committed + length window.now ≤ MOST_BATCHES) }
-    ensures serve { (p : RunPlan) (at : Standing) (votes : List Vote)
-        → AreBatchesFrom p.batches (at.committed + at.opened) (map (λ m. plain m.batch) window.now)
-        → AreWholeWindow p at (length window.now) → All (Serves p at votes) servers.old
-        → OnOk result (All (Serves p (after_attempts (length window.now) at) votes) servers.new) }
-    ensures live { OnOk result (live_in servers.new ≡ live_in servers.old) }
-    ensures committed { (n : ℕ) → AreCommittedByMost n (sections_in servers.old)
-        → OnOk result (AreCommittedByMost n (sections_in servers.new)) }
-    ensures taken { (p : RunPlan) (at : Standing) (votes : List Vote) → All (Serves p at votes) servers.old
-        → AreTakenIn p (sections_in servers.old) → OnOk result (AreTakenIn p (sections_in servers.new)) }
-    ensures undecided { AreUndecided (sections_in servers.old) → OnOk result (AreUndecided (sections_in servers.new)) }
-    ensures states { OnOk result (states_in (sections_in servers.old) ≤ states_in (sections_in servers.new)) }
-{
-    attempt_each(rt, alloc, servers, window, gate)?;
-    Ok(())
 }
 
 /// Each replica with this token commits the batch, which is the next. Any other stops in format 1, and takes over in
@@ -360,18 +330,7 @@ fn spend(room: &mut u64, head: &Head, servers: &[Server], token: [u8; 32]) -> Re
 fn roll_back_all(servers: &mut [Server], alloc: Global) -> Result<(), AllocError>
     requires { (p : RunPlan) × (at : Standing) × (votes : List Vote) × All (Serves p at votes) servers.old
         × (at.view < MOST_VIEWS) × (0 < at.opened) }
-    ensures serve { (p : RunPlan) (at : Standing) (votes : List Vote) → All (Serves p at votes) servers.old
-        → IsLeft p.batches at → OnOk result (All (Serves p (after_rollback at)
-        (votes ++ rollback_move.votes at)) servers.new) }
-    ensures live { OnOk result (live_in servers.new ≡ live_in servers.old) }
-    ensures committed { (n : ℕ) → AreCommittedByMost n (sections_in servers.old)
-        → OnOk result (AreCommittedByMost n (sections_in servers.new)) }
-    ensures taken { (p : RunPlan) (at : Standing) (votes : List Vote) → All (Serves p at votes) servers.old
-        → AreTakenIn p (sections_in servers.old) → OnOk result (AreTakenIn p (sections_in servers.new)) }
-    ensures undecided { (p : RunPlan) (at : Standing) (votes : List Vote) → p.first.opened ≡ []
-        → All (Serves p at votes) servers.old → IsDecision None servers.old → AreUndecided (sections_in servers.old)
-        → OnOk result (AreUndecided (sections_in servers.new)) }
-    ensures states { OnOk result (states_in (sections_in servers.old) ≤ states_in (sections_in servers.new)) }
+    ensures { OnOk result (AreAllOn Discards servers.old servers.new) }
 {
     for server in servers.iter_mut() {
         server.roll_back(alloc)?;

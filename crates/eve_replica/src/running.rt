@@ -227,6 +227,7 @@ fn servers_in<'n>(state: RunState<'n, '_>) -> Vec<Server<'n>>
     servers
 }
 
+/// The replicas of the run, which have done nothing.
 fn servers_of<'n>(
     alloc: Global,
     head: &Head,
@@ -245,41 +246,23 @@ fn servers_of<'n>(
 {
     let mut servers = Vec::with_capacity(alloc, head.replicas as usize)?;
     for number in 0..head.replicas {
-        let server = server_of(alloc, head, names, balances)?;
-        servers.push_reserved(server);
-    }
-    Ok(servers)
-}
-
-/// A replica that has done nothing.
-fn server_of<'n>(
-    alloc: Global,
-    head: &Head,
-    names: &'n Names<'n>,
-    balances: &Balances,
-) -> Result<Server<'n>, AllocError>
-    requires version { (head.now.version ≡ 1) ⊎ (head.now.version ≡ 2) }
-    requires some { 0 < length balances.now }
-    requires rows { length balances.now ≡ 2 * length names.now.items }
-    requires workers { (1 ≤ head.now.workers) × (head.now.workers ≤ MOST_WORKERS) }
-    requires window { (1 ≤ head.now.window) × (head.now.window ≤ MOST_WINDOW) }
-    ensures serve { (p : RunPlan) → IsPlanFor names.now.items balances.now head.now p
-        → IfOk result (Serves p first_standing []) }
-    ensures live { IfOk result (λ s. s.is_live ≡ true) }
-{
-    Ok(Server {
-        replica: Replica::new(
+        let replica = Replica::new(
             alloc,
             head.version,
             names,
             balances,
             head.workers,
             head.window,
-        )?,
-        is_live: true,
-        missing: 0,
-        steps: Vec::new(alloc),
-    })
+        )?;
+        let steps = Vec::new(alloc);
+        servers.push_reserved(Server {
+            replica,
+            is_live: true,
+            missing: 0,
+            steps,
+        });
+    }
+    Ok(servers)
 }
 
 /// The batches, without what their requests touch.

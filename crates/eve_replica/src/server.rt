@@ -1,7 +1,7 @@
 //! Replicas of a run, with what they did.
 
 ghost use Rattle.std.specs.Prelude.{◌≡◌, true, false, ◌+◌, ◌-◌, ◌<◌, ◌^◌, [], ◌∷◌, ◌++◌, IsTrue, IsSome};
-ghost use Rattle.std.specs.Prelude.{OnOk, OnErr, length};
+ghost use Rattle.std.specs.Prelude.{OnOk, length};
 ghost use Rattle.std.specs.Prelude.{◌≢◌, ◌*◌, ℕ, List, IfErr, IfOk};
 ghost use Rattle.std.specs.Arc.{arc_value};
 ghost use Rattle.eve_grammar.specs.Bodies.{transfer};
@@ -13,12 +13,12 @@ ghost use Rattle.eve_replica.specs.Deciding.{is_some_of};
 ghost use Rattle.eve_replica.specs.RunFaults.{IsLongOnly};
 ghost use Rattle.eve_replica.specs.Sections.{RunPlan};
 ghost use Rattle.eve_replica.specs.Serving.{AreRightSteps, GoesOn, GivesUpNext};
-ghost use Rattle.eve_replica.specs.Serving.{AttemptsIfLive, AttemptsUnbroken, IsDueTo};
+ghost use Rattle.eve_replica.specs.Serving.{AttemptsUnbroken, IsDueTo};
 ghost use Rattle.eve_replica.specs.Serving.{commit_move, rollback_move};
 ghost use Rattle.eve_replica.specs.Serving.{next_token, standing_of, CommitsNext, IsLentBy, MayTakeOver, MissesRightly};
 
 use crate::attempting::add_step;
-use crate::fault::{AttemptFault, RunFault};
+use crate::fault::RunFault;
 use crate::replica::Replica;
 use eve_grammar::{Head, TransferData};
 use eve_recorder::Gate;
@@ -46,31 +46,17 @@ impl<'n> Server<'n> {
         alloc: Global,
         window: &[MixedBatch],
         gate: &G,
-    ) -> Result<(), AttemptFault>
-        requires due { IsDueTo window.now self.old }
-        ensures on { OnOk result (AttemptsIfLive window.now self.old self.new) }
-        ensures broken { OnErr result (self.new.replica.is_broken ≡ true) }
-    {
-        if !self.is_live {
-            return Ok(());
-        }
-        self.replica
-            .attempt_window(rt, alloc, &mut self.steps, window, gate)?;
-        Ok(())
-    }
-
-    /// The same, of a replica that others go on beside: the fault is told once all have ended.
-    pub(crate) fn attempt_or_break<R: Threads + Wait + Sync, G: Gate>(
-        &mut self,
-        rt: &R,
-        alloc: Global,
-        window: &[MixedBatch],
-        gate: &G,
     )
         requires due { IsDueTo window.now self.old }
         ensures on { AttemptsUnbroken window.now self.old self.new }
     {
-        match self.attempt(rt, alloc, window, gate) {
+        if !self.is_live {
+            return;
+        }
+        match self
+            .replica
+            .attempt_window(rt, alloc, &mut self.steps, window, gate)
+        {
             Ok(()) => {}
             Err(_) => {}
         }

@@ -20,7 +20,8 @@ const LEAST_WORK: usize = 256;
 /// How many customers' balances are hashed in about the time of a request.
 const CUSTOMERS_A_REQUEST: usize = 4;
 
-/// Each live replica attempts the batches of the window, which are the next from where they stand.
+/// Each live replica attempts the batches of the window, which are the next from where they stand. The fault is that of
+/// the first replica whose attempt failed, and is told once all have ended.
 ///
 /// Where the window is long several replicas attempt it side by side, each with its own workers; else one after
 /// another. An attempt hangs on nothing of another replica, so no trace tells which way it was.
@@ -35,10 +36,15 @@ pub(crate) fn attempt_each<R: Threads + Wait + Sync, G: Gate>(
     ensures on { OnOk result (AreAllOn (AttemptsIfLive window.now) servers.old servers.new) }
 {
     let threads = threads_for(servers, window);
-    if threads < 2 {
-        return attempt_in_turn(rt, alloc, servers, window, gate);
-    }
-    attempt_side_by_side(rt, alloc, servers, threads, window, gate);
+    thread::for_each_mut(
+        rt,
+        servers,
+        threads,
+        &|_: usize, server: &mut Server|
+            requires { IsSync R.row × IsSync G.row × IsDueTo window.now server.old }
+            ensures { AttemptsUnbroken window.entry.now server.old server.new }
+        { server.attempt(rt, alloc, window, gate) },
+    );
     first_fault(servers)
 }
 
@@ -71,48 +77,6 @@ fn work_of(replica: &Replica<'_>, window: &[MixedBatch]) -> usize {
             .saturating_add(mixed.batch.requests.len());
     }
     work
-}
-
-/// Each live replica, one after another, attempts the batches of the window.
-fn attempt_in_turn<R: Threads + Wait + Sync, G: Gate>(
-    rt: &R,
-    alloc: Global,
-    servers: &mut [Server],
-    window: &[MixedBatch],
-    gate: &G,
-) -> Result<(), AttemptFault>
-    requires due { All (IsDueTo window.now) servers.old }
-    ensures on { OnOk result (AreAllOn (AttemptsIfLive window.now) servers.old servers.new) }
-{
-    for server in servers.iter_mut() {
-        server.attempt(rt, alloc, window, gate)?;
-    }
-    Ok(())
-}
-
-/// Each live replica attempts the batches of the window, in up to this many threads. A replica whose attempt failed is
-/// broken.
-fn attempt_side_by_side<R: Threads + Wait + Sync, G: Gate>(
-    rt: &R,
-    alloc: Global,
-    servers: &mut [Server],
-    threads: usize,
-    window: &[MixedBatch],
-    gate: &G,
-)
-    requires threads { 1 ≤ threads }
-    requires due { All (IsDueTo window.now) servers.old }
-    ensures { AreAllOn (AttemptsUnbroken window.now) servers.old servers.new }
-{
-    thread::for_each_mut(
-        rt,
-        servers,
-        threads,
-        &|_: usize, server: &mut Server|
-            requires { IsSync R.row × IsSync G.row × IsDueTo window.now server.old }
-            ensures { AttemptsUnbroken window.entry.now server.old server.new }
-        { server.attempt_or_break(rt, alloc, window, gate) },
-    );
 }
 
 /// The fault of the first replica that is broken, if one is.

@@ -1,38 +1,49 @@
-use Rattle.std.proofs.Common.{◌-◌, ◌<◌, ℕ, All, length, map, take, drop, refl, sym, ap, ◌∙◌, subst, arith}
-use Rattle.std.proofs.lemmas.List.{length-map}
+use Rattle.std.proofs.Common.{◌-◌, ◌<◌, ℕ, List, All, get_or, length, map, take, drop, refl, sym, ap, ◌∙◌, subst, arith}
+use Rattle.std.proofs.lemmas.List.{append-nil, length-map}
 use Rattle.std.proofs.lemmas.List.Elements.{All-drop, All-take}
 use Rattle.eve_grammar.specs.declared.head.Head.{Head}
 use Rattle.eve_write.specs.Data.{batch, vote}
+use Rattle.eve_workload.specs.declared.mixer.MixedBatch.{MixedBatch}
+use Rattle.eve_replica.specs.declared.server.Server.{Server}
 use Rattle.eve_replica.specs.declared.standing.Standing.{Standing}
-use Rattle.eve_replica.specs.Serving.{IsRightMixed, IsUnderWay, AreWholeWindow, Serves, live_in}
+use Rattle.eve_replica.specs.Serving.{AttemptsIfLive, IsRightMixed, IsUnderWay, AreWholeWindow, Move, attempt_move}
 use Rattle.eve_replica.specs.RunFaults.{EndsSoFar, run_fault_of}
 use Rattle.eve_replica.specs.Sections.{RunPlan}
 use Rattle.eve_replica.proofs.CameSoFar.{amid, attempt_ends}
-use Rattle.eve_replica.proofs.Going.{lent_serve, lent_undecided, moved, window_open, window_len, window_due}
-use Rattle.eve_replica.proofs.Going.{still_majority}
-use Rattle.eve_replica.proofs.UnderWay.{lent_majority, lent_by_most, lent_spent, lent_taken}
+use Rattle.eve_replica.proofs.Going.{due, lent_serve, lent_undecided, none_missing, window_open, window_len, window_due}
+use Rattle.eve_replica.proofs.Together.{all_moved}
+use Rattle.eve_replica.proofs.Undecided.{still_undecided}
+use Rattle.eve_replica.proofs.Windows.{window_attempted}
 use Rattle.eve_replica.proofs.WhereWell.{at_err}
 use Rattle.eve_replica.proofs.run_state.RunState.run_window.Goals as goal
 
-pub attempt_all-requires-clause-serve : goal.attempt_all-requires-clause-serve
-attempt_all-requires-clause-serve g c κs within =
+-- the attempts of a window
+abbrev attempts_of : List MixedBatch → Move
+attempts_of window = attempt_move (length window) (map (λ m. batch m.batch) window)
+
+pub attempt_each-requires-clause-due : goal.attempt_each-requires-clause-due
+attempt_each-requires-clause-due g c κs within = λ k s there.
     let p = c.requires.under_way.0 in
     let was = c.requires.under_way.1 in
     let d = c.args.self.now in
     let from : ℕ = d.standing.committed in
+    let window = take (c.min-end.result - from) (drop from d.batches.now) in
     let least = c.min-end.ensures in
-    let many = window_len d.batches.now from c.min-end.result (omega arith) (omega arith) in (
-      p,
-      d.standing,
-      map vote d.votes.items,
-      All-take (IsRightMixed p.names) (c.min-end.result - from) (drop from d.batches.now)
-          (All-drop (IsRightMixed p.names) from d.batches.now was.mixed),
-      window_due p d c.min-end.result was c.requires.none_open,
-      lent_serve p d c.as_mut_slice.result.now was c.as_mut_slice.ensures.value,
-      c.requires.none_open,
-      omega (arith, was.few, was.window),
-      omega (arith, was.few),
-    )
+    let many = window_len d.batches.now from c.min-end.result (omega arith) (omega arith) in
+    let one : Server = get_or c.as_mut_slice.result.now k s in
+    let serves = lent_serve p d c.as_mut_slice.result.now was c.as_mut_slice.ensures.value k s there in record {
+      may = λ live. record {
+        whole = serves.whole;
+        due = due p (length window) d.standing (map vote d.votes.items) one
+            (omega (arith, was.few, was.window, c.requires.none_open))
+            (omega (arith, was.few, c.requires.none_open)) serves live;
+        mixed = subst (λ (ns : List (List ℕ)). All (IsRightMixed ns) window) (sym serves.names)
+            (All-take (IsRightMixed p.names) (c.min-end.result - from) (drop from d.batches.now)
+            (All-drop (IsRightMixed p.names) from d.batches.now was.mixed));
+      };
+      none_missing = λ live.
+          none_missing p d.standing (map vote d.votes.items) one c.requires.none_open serves live;
+    }
 
 pub loop-self-init : goal.loop-self-init
 loop-self-init g c = record {
@@ -49,21 +60,18 @@ loop-self-init g c = record {
         some = some;
         whole = omega (arith, many, was.window, ap length was.batches, length-map d.batches.now (λ m. batch m.batch));
       } in
-      let as_many = c.attempt_all.auto.servers ∙ c.as_mut_slice.ensures.len in
       let lent = c.as_mut_slice.result.now in
+      let given = c.attempt_each.new.servers in
       let same = c.as_mut_slice.ensures.value in
-      moved p d c.attempt_all.new.servers now d.votes d.room was as_many (omega (arith, many)) was.votes
-      (subst (λ (x : Standing). All (Serves p x (map vote d.votes.items)) c.attempt_all.new.servers)
-      (sym (window_open (length window) d.standing c.requires.none_open))
-      (c.in_ok-attempt_all.ensures.serve p d.standing (map vote d.votes.items)
-      (window_due p d c.min-end.result was c.requires.none_open) whole (lent_serve p d lent was same)))
-      (still_majority d lent c.attempt_all.new.servers (live_in lent) same as_many c.in_ok-attempt_all.ensures.live
-      (lent_majority p d lent was same))
-      (c.in_ok-attempt_all.ensures.committed from (lent_by_most p d lent was same))
-      (c.in_ok-attempt_all.ensures.taken p d.standing (map vote d.votes.items) (lent_serve p d lent was same)
-      (lent_taken p d lent was same))
-      (c.in_ok-attempt_all.ensures.undecided (lent_undecided p d lent was same))
-      (lent_spent p d lent c.attempt_all.new.servers was same c.in_ok-attempt_all.ensures.states);
+      let all = c.in_ok-attempt_each.ensures.on in
+      all_moved p d (attempts_of window) now lent given d.votes was same all
+      (λ none. c.requires.none_open, window_due p d c.min-end.result was c.requires.none_open)
+      (λ k s there live. window_attempted p d.standing (length window) (map (λ m. batch m.batch) window) whole)
+      (sym (window_open (length window) d.standing c.requires.none_open)) (sym (append-nil (map vote d.votes.items)))
+      refl refl (omega (arith, many)) was.votes
+      (still_undecided (AttemptsIfLive window) lent given all
+      (λ view old new m. m.0.given_up view (λ enters. omega arith)) (lent_undecided p d lent was same))
+      (c.attempt_each.auto.servers ∙ c.as_mut_slice.ensures.len);
   same = (refl, refl);
   view = omega arith;
   never_back = omega arith;
@@ -74,10 +82,10 @@ loop-self-init g c = record {
   same_view = λ some. refl;
 }
 
-pub returns-in_err-attempt_all-clause-why : goal.returns-in_err-attempt_all-clause-why
-returns-in_err-attempt_all-clause-why g c =
+pub returns-in_err-attempt_each-clause-why : goal.returns-in_err-attempt_each-clause-why
+returns-in_err-attempt_each-clause-why g c =
     let d = c.args.self.now in
-    let why = c.in_err-attempt_all.field-0.0 in
+    let why = c.in_err-attempt_each.field-0.0 in
     at_err c.from_residual.result _ (run_fault_of why) c.from_residual.ensures.1
     (λ (p : RunPlan) (was : IsUnderWay p d). attempt_ends p d.head.replicas why (amid p d was c.requires.left))
 
