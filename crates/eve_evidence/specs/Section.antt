@@ -17,7 +17,7 @@ use Rattle.eve_chains.specs.Visible.{executed_by, visible_to}
 use Rattle.eve_chains.specs.Along.{SeesAnother}
 use Rattle.eve_evidence.specs.declared.evidence.Evidence.{Evidence}
 use Rattle.eve_evidence.specs.declared.evidence.Evidence.TheVariants as shown
-use Rattle.eve_evidence.specs.Told.{IsToldRequest, told_attempt, placed_in}
+use Rattle.eve_evidence.specs.Told.{IsToldRequest, told_attempt, told_transfer, placed_in}
 use Rattle.eve_evidence.specs.Structure.{IsAttemptFault, IsAccessFault, IsCommitFault, IsRollbackFault}
 use Rattle.eve_evidence.specs.Structure.{IsTransferFault, place_numbers}
 use Rattle.eve_evidence.specs.Certificate.{IsCertificateFault}
@@ -109,9 +109,10 @@ TellsRollback c t s r (shown.Rollback x) = (c ≡ code.Rollback) × IsRollbackFa
 TellsRollback c t s r _ = ⊥
 
 -- at a state that is taken over
-abbrev pub TellsTransfer : Code → Trace → SectionState → Transfer → Evidence → Type 0
-TellsTransfer c t s x (shown.Transfer wrong) = (c ≡ code.Transfer) × IsTransferFault t s x wrong
-TellsTransfer c t s x _ = ⊥
+abbrev pub TellsTransfer : Code → Trace → SectionState → ℕ → Transfer → Evidence → Type 0
+TellsTransfer c t s at x (shown.Transfer state wrong) =
+    (c ≡ code.Transfer) × (state ≡ told_transfer at x) × IsTransferFault t s x wrong
+TellsTransfer c t s at x _ = ⊥
 
 -- at this byte, where a step's frames are
 abbrev pub TellsStep : Code → Trace → ℕ → SectionState → ℕ × Step → Evidence → Type 0
@@ -120,7 +121,7 @@ TellsStep c t place s (at, Attempts a) evidence =
     ⊎ SomePlace (accesses_at at a) (λ own x. (x.0 ≡ place) × TellsAccess c t s at a own x evidence)
 TellsStep c t place s (at, Commits d) evidence = (at ≡ place) × TellsCommit c s d evidence
 TellsStep c t place s (at, RollsBack r) evidence = (at ≡ place) × TellsRollback c t s r evidence
-TellsStep c t place s (at, TakesOver x) evidence = (at ≡ place) × TellsTransfer c t s x evidence
+TellsStep c t place s (at, TakesOver x) evidence = (at ≡ place) × TellsTransfer c t s at x evidence
 
 -- and of a wrong entry where what it saw comes from, by the steps in front of it and behind it
 abbrev pub TellsSeen : Trace → List (ℕ × Step) → ℕ × Step → List (ℕ × Step) → Evidence → Type 0

@@ -20,6 +20,32 @@ pub struct ToldAttempt {
     pub at: u64,
 }
 
+/// A state that was taken over, as its own frame says it.
+#[derive(Clone, Copy)]
+pub struct ToldTransfer {
+    /// The number of its batch.
+    pub batch: u32,
+    /// Its view.
+    pub view: u32,
+    /// The byte at which its frame begins.
+    pub at: u64,
+}
+
+/// A reply that was sent, as its own frame says it.
+#[derive(Clone, Copy)]
+pub struct ToldSent {
+    /// The client.
+    pub client: u32,
+    /// The number of the client's request.
+    pub number: u64,
+    /// The replica whose reply it is.
+    pub replica: u8,
+    /// The number of the batch.
+    pub batch: u32,
+    /// The reply.
+    pub reply: Reply,
+}
+
 /// A request of a batch.
 #[derive(Clone, Copy)]
 pub struct ToldRequest<'a> {
@@ -107,6 +133,17 @@ pub enum FrameFault {
         body: u32,
         left: u64,
     },
+}
+
+/// The last attempt before a place behind it or behind one of its access records.
+#[derive(Clone, Copy)]
+pub struct RecordsBefore {
+    /// The byte at which its frame begins.
+    pub attempt: u64,
+    /// How many access records it has to have.
+    pub due: usize,
+    /// How many stand between it and the place.
+    pub found: usize,
 }
 
 /// How many kinds of frames there are.
@@ -371,6 +408,23 @@ pub enum RestoreFault<'a> {
     },
 }
 
+/// A vote of a verifier that has an earlier one on the same batch in the same view.
+#[derive(Clone, Copy)]
+pub struct SecondVote<'a> {
+    /// The verifier's number, from 0.
+    pub verifier: u8,
+    /// The number of the batch.
+    pub batch: u32,
+    /// The view.
+    pub view: u32,
+    /// What the vote is for.
+    pub choice: Choice<'a>,
+    /// The byte at which the frame of the earliest begins.
+    pub first: u64,
+    /// What that one is for.
+    pub first_choice: Choice<'a>,
+}
+
 /// A view in which a batch is decided as commit.
 #[derive(Clone, Copy)]
 pub struct ToldDecision {
@@ -480,31 +534,51 @@ pub enum OutcomeFault<'a> {
 #[derive(Clone, Copy)]
 pub enum SentFault<'a> {
     /// The batch has no request with this client and number.
-    NoRequest {
-        client: u32,
-        number: u64,
-        batch: u32,
-    },
+    NoRequest,
     /// The replica didn't commit the batch by an attempt.
-    NotCommitted {
-        batch: u32,
-        replica: u8,
-    },
+    NotCommitted,
     /// The replica committed another reply to the request.
     Another {
         request: ToldRequest<'a>,
-        found: Reply,
         due: Reply,
     },
+}
+
+/// An attempt that gave a reply and wasn't committed.
+#[derive(Clone, Copy)]
+pub struct GivenBy {
+    /// The byte at which its frame begins.
+    pub at: u64,
+    /// Whether it is open, and not discarded.
+    pub open: bool,
+}
+
+/// In what a token differs from the one that is due, of these the first that makes it.
+#[derive(Clone, Copy)]
+pub enum TokenMatch {
+    /// It is of the balances before the attempt.
+    Before,
+    /// Of the replies in the certificate's order.
+    Ordered,
+    /// Of both.
+    BeforeOrdered,
+    /// Of the batch of this number, which is the one before or the one after.
+    Batch(u32),
+    /// It is made as in this version of the format.
+    Version(u16),
+    /// None of these.
+    Nothing,
 }
 
 /// Why a verdict is no: what is wrong at the frame that the fault names, what was due there, and what says so.
 #[derive(Clone, Copy)]
 pub enum Evidence<'a> {
-    /// F1: how many bytes there are.
+    /// F1: how many bytes there are; and the first six, if there are as many as a header has, and these aren't a
+    /// trace's.
     Length {
         found: u64,
         wrong: LengthFault,
+        magic: Option<[u8; 6]>,
     },
     /// F2: the first six bytes.
     Magic {
@@ -519,10 +593,11 @@ pub enum Evidence<'a> {
         most: u32,
     },
     /// F4: what stands where a frame is due, and whether a frame of each kind may stand there, in the order of
-    /// `frame_kinds`.
+    /// `frame_kinds`. Behind an attempt or an access record also how many records that attempt has so far.
     Frame {
         wrong: FrameFault,
         due: [bool; FRAME_KINDS],
+        records: Option<RecordsBefore>,
     },
     /// F5: the frame, and the first field of its body that is wrong, at byte `field_at`.
     Body {
@@ -568,7 +643,10 @@ pub enum Evidence<'a> {
     /// F25.
     Rollback(RollbackFault),
     /// F26.
-    Transfer(TransferFault),
+    Transfer {
+        state: ToldTransfer,
+        wrong: TransferFault,
+    },
     /// F30, in the Access frame at the fault's byte.
     Record {
         attempt: ToldAttempt,
@@ -587,26 +665,29 @@ pub enum Evidence<'a> {
     },
     /// F50.
     Restore(RestoreFault<'a>),
-    /// F60: the attempt's token, and the one that is due.
+    /// F60: the attempt's token, the one that is due, and what the first is made of.
     Token {
         attempt: ToldAttempt,
         found: &'a [u8],
         due: [u8; 32],
+        matches: TokenMatch,
     },
-    /// F70: the byte at which the verifier's earliest vote on that batch in that view begins.
-    TwoVotes {
-        first: u64,
-    },
-    /// F71: the two least views that are decided, and how many verifiers there are.
+    /// F70.
+    TwoVotes(SecondVote<'a>),
+    /// F71: the batch, the two least views in which it is decided, and how many verifiers there are.
     TwoDecisions {
+        batch: u32,
         first: ToldDecision,
         second: ToldDecision,
         verifiers: u8,
     },
     /// F72 and F73.
     Majority(Poll<'a>),
-    /// F74.
-    TransferMajority(TransferPoll<'a>),
+    /// F74: who voted for the commit of the state taken over at byte `at`.
+    TransferMajority {
+        at: u64,
+        poll: TransferPoll<'a>,
+    },
     /// F80: the lowest-numbered replica that committed the batch, and its attempt's frame.
     Outcome {
         attempt: ToldAttempt,
@@ -615,9 +696,17 @@ pub enum Evidence<'a> {
         wrong: OutcomeFault<'a>,
     },
     /// F81.
-    TransferState(StateFault<'a>),
-    /// F90.
-    Reply(SentFault<'a>),
+    TransferState {
+        state: ToldTransfer,
+        wrong: StateFault<'a>,
+    },
+    /// F90; and where the batch has the request, the first attempt of the replica for it that gave the reply and wasn't
+    /// committed, if there is one.
+    Reply {
+        sent: ToldSent,
+        wrong: SentFault<'a>,
+        given: Option<GivenBy>,
+    },
     /// None: no fault that stands has it.
     Untold,
 }

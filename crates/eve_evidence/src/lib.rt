@@ -17,10 +17,11 @@ mod told;
 
 pub use evidence::{
     AccessFault, AttemptFault, BodyField, CertificateFault, CommitFault, Counts, Evidence,
-    FRAME_KINDS, FrameFault, HeadField, LengthFault, Numbers, OutcomeFault, Poll, REPLICAS,
-    RecordFault, ReplicaCounts, RestoreFault, RollbackFault, SeenFrom, SentFault, Source,
-    StateFault, ToldAttempt, ToldDecision, ToldRequest, ToldRow, ToldState, TransferFault,
-    TransferPoll, VERIFIERS, VerifierChoice, VerifierVote, WrongEntry, frame_kinds,
+    FRAME_KINDS, FrameFault, GivenBy, HeadField, LengthFault, Numbers, OutcomeFault, Poll,
+    REPLICAS, RecordFault, RecordsBefore, ReplicaCounts, RestoreFault, RollbackFault, SecondVote,
+    SeenFrom, SentFault, Source, StateFault, TokenMatch, ToldAttempt, ToldDecision, ToldRequest,
+    ToldRow, ToldSent, ToldState, ToldTransfer, TransferFault, TransferPoll, VERIFIERS,
+    VerifierChoice, VerifierVote, WrongEntry, frame_kinds,
 };
 pub use section::section_evidence;
-pub use told::{told_attempt, told_request, told_row};
+pub use told::{told_attempt, told_request, told_row, told_transfer};

@@ -34,7 +34,7 @@ use crate::seen::seen_from;
 use crate::structure::{
     access_fault, attempt_fault, commit_fault, place_fault, rollback_fault, transfer_fault,
 };
-use crate::told::{told_attempt, told_request};
+use crate::told::{told_attempt, told_request, told_transfer};
 use eve_accounts::Names;
 use eve_frames::{AccessView, AttemptView, CommitView, RollbackView, TransferView};
 use eve_smallbank::Reply;
@@ -356,13 +356,16 @@ fn at_transfer<'a>(
 ) -> Option<Evidence<'a>>
     requires { (s : SectionState) × IsCourse s course.now }
     ensures told { IfSome result (λ x. (s : SectionState) → IsCourse s course.now
-        → TellsTransfer code trace.now s (transfer_said state.now) x) }
+        → TellsTransfer code trace.now s state.now.offset (transfer_said state.now) x) }
     ensures none { IfNone result ((s : SectionState) → IsCourse s course.now
         → ¬ WrongTransfer code trace.now s (transfer_said state.now)) }
 {
     match code {
         Code::Transfer => match transfer_fault(trace, course, state) {
-            Some(wrong) => Some(Evidence::Transfer(wrong)),
+            Some(wrong) => Some(Evidence::Transfer {
+                state: told_transfer(state),
+                wrong,
+            }),
             None => None,
         },
         _ => None,

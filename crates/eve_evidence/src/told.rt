@@ -1,14 +1,14 @@
-//! Attempts, requests and rows, as evidence tells them.
+//! Attempts, states, requests and rows, as evidence tells them.
 
 ghost use Rattle.std.specs.Prelude.{◌≡◌, ◌<◌, length, slice_get, Some};
 ghost use Rattle.eve_grammar.specs.Trace.{no_request};
 ghost use Rattle.eve_grammar.specs.Bodies.{borrowed_asked};
-ghost use Rattle.eve_frames.specs.Said.{attempt_said, batch_said};
-ghost use Rattle.eve_evidence.specs.Told.{told_attempt, request_in, IsToldRequest, IsToldRow};
+ghost use Rattle.eve_frames.specs.Said.{attempt_said, batch_said, transfer_said};
+ghost use Rattle.eve_evidence.specs.Told.{told_attempt, told_transfer, request_in, IsToldRequest, IsToldRow};
 
-use crate::evidence::{ToldAttempt, ToldRequest, ToldRow};
+use crate::evidence::{ToldAttempt, ToldRequest, ToldRow, ToldTransfer};
 use eve_accounts::Row;
-use eve_frames::{AttemptView, BatchView};
+use eve_frames::{AttemptView, BatchView, TransferView};
 use eve_grammar::Asked;
 use eve_smallbank::Request;
 use eve_views::Trace;
@@ -22,6 +22,17 @@ pub fn told_attempt(attempt: &AttemptView<'_>) -> ToldAttempt
         view: attempt.view(),
         serial: attempt.is_serial(),
         at: attempt.offset(),
+    }
+}
+
+/// A state that was taken over, by its own frame.
+pub fn told_transfer(state: &TransferView<'_>) -> ToldTransfer
+    ensures { result ≡ told_transfer state.now.offset (transfer_said state.now) }
+{
+    ToldTransfer {
+        batch: state.seq(),
+        view: state.view(),
+        at: state.offset(),
     }
 }
 

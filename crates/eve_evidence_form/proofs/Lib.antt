@@ -5,5 +5,6 @@ pub mod Counting
 pub mod Asking
 pub mod Unasked
 pub mod Fronts
+pub mod Records
 pub mod Walking
 pub mod FirstWrong

@@ -1,11 +1,12 @@
 -- Going over the frames before a byte.
 use Rattle.std.proofs.Common.{◌≡◌, ℕ, ◌+◌, ◌-◌, ◌<◌, ◌≤◌, List, [], ◌∷◌}
-use Rattle.std.proofs.Common.{◌++◌, length, take, drop, Some, refl, sym, ap, subst, ◌∙◌}
+use Rattle.std.specs.Prelude.{IfSome}
+use Rattle.std.proofs.Common.{◌++◌, length, take, drop, None, Some, refl, sym, ap, subst, ◌∙◌}
 use Rattle.std.proofs.Common.{append_assoc, arith}
 use Rattle.std.proofs.lemmas.List.{append-nil, drop_at, length-append}
 use Rattle.std.proofs.lemmas.List.{length-drop, length-take, take_all, take-append-drop}
 use Rattle.std.proofs.lemmas.List.Concat.{flat_map-append}
-use Rattle.eve_grammar.specs.Frames.{Frame, start_place, next_place}
+use Rattle.eve_grammar.specs.Frames.{Frame, kind_of, start_place, next_place}
 use Rattle.eve_grammar.specs.Spelling.{frame_text, frames_text}
 use Rattle.eve_grammar.specs.Limits.{FitsAt}
 use Rattle.eve_grammar.specs.Following.{Follow, after}
@@ -15,40 +16,65 @@ use Rattle.eve_grammar.specs.declared.place.Place.{Place}
 use Rattle.eve_grammar.proofs.FrameLaws.{Exact-header}
 use Rattle.eve_views.specs.Form.{IsReached, SaysHead, said_by}
 use Rattle.eve_views.proofs.FrameLaws.{length-frame_text}
+use Rattle.eve_views.specs.Places.{accesses_in}
+use Rattle.eve_evidence_form.specs.Records.{TellsRecords, records_after}
 use Rattle.eve_evidence_form.specs.Walk.{BeginsWith}
+use Rattle.eve_evidence_form.specs.declared.walk.PlaceReached.{PlaceReached}
 use Rattle.eve_evidence_form.proofs.Headers.{said_by_text}
+use Rattle.eve_evidence_form.proofs.Records.{few_found, no_records, told_after}
 
 -- what a header says is read
 pub head_again : (bytes : List ℕ) (h : Head) → SaysHead bytes h → header_of (said_by bytes) ≡ Some h
 head_again bytes h s = ap header_of (s.said ∙ said_by_text h) ∙ Exact-header.again h s.limits
 
 -- the frames up to the byte `next` have been gone over
-pub record IsPassed (bytes : List ℕ) (at : ℕ) (r : IsReached bytes at) (next : ℕ) (place : Place) : Type 0 where
+pub record IsPassed (bytes : List ℕ) (at : ℕ) (r : IsReached bytes at) (next : ℕ) (so_far : PlaceReached) : Type 0 where
   pub front : List Frame
   pub rest : List Frame
   pub is : r.front ≡ front ++ rest
   pub next_at : next ≡ 32 + length (frames_text front)
-  pub place_is : place ≡ after start_place front
+  pub place_is : so_far.place ≡ after start_place front
+  pub records_are : TellsRecords front so_far.records
+
+-- how far a frame more comes, which begins at the byte `next`
+pub record IsFurther (next : ℕ) (so_far : PlaceReached) (f : Frame) (further : PlaceReached) : Type 0 where
+  pub place_is : further.place ≡ next_place so_far.place f
+  pub records_are : further.records ≡ records_after so_far.records (kind_of f) next (accesses_in f)
 
 -- the next frame
-pub record IsNext (bytes : List ℕ) (at : ℕ) (r : IsReached bytes at) (next : ℕ) (place : Place) : Type 0 where
+pub record IsNext (bytes : List ℕ) (at : ℕ) (r : IsReached bytes at) (next : ℕ) (so_far : PlaceReached) : Type 0 where
   pub frame : Frame
   pub begins : BeginsWith (drop next bytes) frame
-  pub fits : FitsAt r.head place frame
-  pub passed : IsPassed bytes at r (next + length (frame_text frame)) (next_place place frame)
+  pub fits : FitsAt r.head so_far.place frame
+  pub passed : (further : PlaceReached) → IsFurther next so_far frame further
+      → IsPassed bytes at r (next + length (frame_text frame)) further
+  pub few : IfSome so_far.records (λ records. records.found < next)
   pub within : next + length (frame_text frame) ≤ at
 
-pub none_passed : (bytes : List ℕ) (at : ℕ) (r : IsReached bytes at) → IsPassed bytes at r 32 start_place
-none_passed bytes at r = record { front = []; rest = r.front; is = refl; next_at = refl; place_is = refl }
+pub none_passed : (bytes : List ℕ) (at : ℕ) (r : IsReached bytes at) (so_far : PlaceReached)
+    → so_far.place ≡ start_place → so_far.records ≡ None → IsPassed bytes at r 32 so_far
+none_passed bytes at r so_far place records = record {
+  front = [];
+  rest = r.front;
+  is = refl;
+  next_at = refl;
+  place_is = place;
+  records_are = subst (TellsRecords []) (sym records) no_records;
+}
 
 -- where the byte itself was reached, all have been
-pub all_passed : (bytes : List ℕ) (at : ℕ) (r : IsReached bytes at) (next : ℕ) (place : Place)
-    → IsPassed bytes at r next place
-    → at ≤ next → place ≡ after start_place r.front
-all_passed bytes at r next place passed le = by passed.rest passed.is
+pub all_passed : (bytes : List ℕ) (at : ℕ) (r : IsReached bytes at) (next : ℕ) (so_far : PlaceReached)
+    → IsPassed bytes at r next so_far → at ≤ next
+    → (so_far.place ≡ after start_place r.front) × TellsRecords r.front so_far.records
+all_passed bytes at r next so_far passed le = by passed.rest passed.is
   where
-    by : (rest : List Frame) → r.front ≡ passed.front ++ rest → place ≡ after start_place r.front
-    by [] e = passed.place_is ∙ ap (after start_place) (sym (append-nil passed.front) ∙ sym e)
+    by : (rest : List Frame) → r.front ≡ passed.front ++ rest
+        → (so_far.place ≡ after start_place r.front) × TellsRecords r.front so_far.records
+    by [] e =
+        let whole : passed.front ≡ r.front = sym (append-nil passed.front) ∙ sym e in (
+          passed.place_is ∙ ap (after start_place) whole,
+          subst (λ (fs : List Frame). TellsRecords fs so_far.records) whole passed.records_are,
+        )
     by (f ∷ more) e = absurd (omega (
       arith,
       r.at_is,
@@ -71,8 +97,8 @@ after_one : (p : Place) (front : List Frame) (f : Frame) → after p (front ++ f
 after_one p [] f = refl
 after_one p (g ∷ front) f = after_one (next_place p g) front f
 
-module _ (bytes : List ℕ) (at : ℕ) (r : IsReached bytes at) (next : ℕ) (place : Place)
-    (passed : IsPassed bytes at r next place)
+module _ (bytes : List ℕ) (at : ℕ) (r : IsReached bytes at) (next : ℕ) (so_far : PlaceReached)
+    (passed : IsPassed bytes at r next so_far)
     (f : Frame) (more : List Frame) (e : r.front ≡ passed.front ++ f ∷ more) where
   texts : frames_text r.front ≡ frames_text passed.front ++ (frame_text f ++ frames_text more)
   texts = ap frames_text e ∙ flat_map-append frame_text passed.front (f ∷ more)
@@ -106,23 +132,23 @@ module _ (bytes : List ℕ) (at : ℕ) (r : IsReached bytes at) (next : ℕ) (pl
         passed.next_at,
       ))
 
-  fits : FitsAt r.head place f
+  fits : FitsAt r.head so_far.place f
   fits = subst (λ (p : Place). FitsAt r.head p f) (sym passed.place_is)
       (fits_there r.head start_place passed.front f more (subst (Follow r.head start_place) e r.right))
 
-  next_one : IsNext bytes at r next place
+  next_one : IsNext bytes at r next so_far
   next_one = record {
     frame = f;
     begins = record {
       head = r.head;
-      place = place;
+      place = so_far.place;
       body = fits.body;
       short = fits.short;
       rest = frames_text more ++ drop at bytes;
       is = there;
     };
     fits = fits;
-    passed = record {
+    passed = λ further one. record {
       front = passed.front ++ f ∷ [];
       rest = more;
       is = e ∙ sym (append_assoc passed.front (f ∷ []) more);
@@ -133,18 +159,21 @@ module _ (bytes : List ℕ) (at : ℕ) (r : IsReached bytes at) (next : ℕ) (pl
         length-append (frames_text passed.front) (frames_text (f ∷ [])),
         ap length (append-nil (frame_text f)),
       );
-      place_is = ap (λ (p : Place). next_place p f) passed.place_is ∙ sym (after_one start_place passed.front f);
+      place_is = one.place_is ∙ ap (λ (p : Place). next_place p f) passed.place_is
+          ∙ sym (after_one start_place passed.front f);
+      records_are = subst (TellsRecords (passed.front ++ f ∷ [])) (sym one.records_are)
+          (told_after passed.front f so_far.records next passed.next_at passed.records_are);
     };
+    few = few_found passed.front so_far.records next passed.next_at passed.records_are;
     within = omega (arith, sizes, r.at_is, passed.next_at);
   }
 
 -- and where it wasn't, a frame is next
-pub next_frame : (bytes : List ℕ) (at : ℕ) (r : IsReached bytes at) (next : ℕ) (place : Place)
-    → IsPassed bytes at r next place
-    → next < at → IsNext bytes at r next place
-next_frame bytes at r next place passed lt = by passed.rest passed.is
+pub next_frame : (bytes : List ℕ) (at : ℕ) (r : IsReached bytes at) (next : ℕ) (so_far : PlaceReached)
+    → IsPassed bytes at r next so_far → next < at → IsNext bytes at r next so_far
+next_frame bytes at r next so_far passed lt = by passed.rest passed.is
   where
-    by : (rest : List Frame) → r.front ≡ passed.front ++ rest → IsNext bytes at r next place
+    by : (rest : List Frame) → r.front ≡ passed.front ++ rest → IsNext bytes at r next so_far
     by [] e = absurd (omega (
       arith,
       r.at_is,
@@ -152,12 +181,12 @@ next_frame bytes at r next place passed lt = by passed.rest passed.is
       lt,
       ap (λ (fs : List Frame). length (frames_text fs)) (e ∙ append-nil passed.front),
     ))
-    by (f ∷ more) e = next_one bytes at r next place passed f more e
+    by (f ∷ more) e = next_one bytes at r next so_far passed f more e
 
 -- it stands in front of what is sliced off
-pub begins_there : (bytes : List ℕ) (at : ℕ) (r : IsReached bytes at) (next : ℕ) (place : Place)
-    → (n : IsNext bytes at r next place) → BeginsWith (take (length bytes - next) (drop next bytes)) n.frame
-begins_there bytes at r next place n =
+pub begins_there : (bytes : List ℕ) (at : ℕ) (r : IsReached bytes at) (next : ℕ) (so_far : PlaceReached)
+    → (n : IsNext bytes at r next so_far) → BeginsWith (take (length bytes - next) (drop next bytes)) n.frame
+begins_there bytes at r next so_far n =
     let whole : take (length bytes - next) (drop next bytes) ≡ drop next bytes =
     take_all (length bytes - next) (drop next bytes) (omega (arith, length-drop next bytes)) in
     subst (λ (ys : List ℕ). BeginsWith ys n.frame) (sym whole) n.begins

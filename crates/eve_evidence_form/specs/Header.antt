@@ -1,12 +1,13 @@
 -- What shows a fault of the header. docs/MODEL.md, "Evidence"; docs/TRACE.md, "Header".
-use Rattle.std.specs.Prelude.{◌≡◌, ◌≢◌, ℕ, ◌+◌, ◌/◌, ◌<◌, ◌≤◌, List, [], ◌∷◌, length, drop}
+use Rattle.std.specs.Prelude.{◌≡◌, ◌≢◌, ℕ, ◌+◌, ◌/◌, ◌<◌, ◌≤◌, List, [], ◌∷◌, length, take, drop}
+use Rattle.std.specs.Prelude.{IsTrue, IsFalse, Option, Some, None}
 use Rattle.std.specs.List.{AllByRecursion}
 use Rattle.byteorder.specs.Endian.{big_number}
 use Rattle.eve_grammar.specs.Limits.{most_customers}
 use Rattle.eve_grammar.specs.declared.head.TheConstants.{HEADER_LEN}
 use Rattle.eve_grammar.specs.declared.limits.TheConstants.{MOST_REPLICAS, MOST_VERIFIERS, MOST_WINDOW, MOST_WORKERS}
 use Rattle.eve_grammar.specs.declared.limits.TheConstants.{MOST_BATCHES, MOST_BYTES, NEWEST_VERSION}
-use Rattle.eve_views.specs.Form.{SomePlace}
+use Rattle.eve_views.specs.Form.{SomePlace, has_magic}
 use Rattle.eve_evidence.specs.declared.evidence.LengthFault.{LengthFault}
 use Rattle.eve_evidence.specs.declared.evidence.LengthFault.TheVariants as length_is
 use Rattle.eve_evidence.specs.declared.evidence.HeadField.{HeadField}
@@ -23,6 +24,11 @@ IsLengthFault bytes length_is.TooShort = length bytes < HEADER_LEN
 IsLengthFault bytes length_is.TooLong = MOST_BYTES < length bytes
 IsLengthFault bytes (length_is.Another total) =
     (HEADER_LEN ≤ length bytes) × (length bytes ≤ MOST_BYTES) × (total ≡ said 8 24 bytes) × (total ≢ length bytes)
+
+-- the first six bytes, if there are as many as a header has, and these aren't a trace's
+abbrev pub TellsMagic : List ℕ → Option (List ℕ) → Type 0
+TellsMagic bytes None = HEADER_LEN ≤ length bytes → IsTrue (has_magic bytes)
+TellsMagic bytes (Some six) = (HEADER_LEN ≤ length bytes) × IsFalse (has_magic bytes) × (six ≡ take 6 bytes)
 
 -- a number of the header: its name, its first byte, what it says, and the least and the most that it may say
 abbrev pub number : HeadField → ℕ → ℕ → ℕ → ℕ → HeadNumber

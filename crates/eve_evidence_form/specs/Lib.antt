@@ -1,5 +1,6 @@
 pub mod Header
 pub mod Walk
+pub mod Records
 pub mod Due
 pub mod Fields
 pub mod PlainBody

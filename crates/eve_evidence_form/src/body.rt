@@ -13,7 +13,7 @@ use crate::batch_body::batch_fault;
 use crate::fields::{FieldThere, sliced, there};
 use crate::plain_body::{commit_fault, customer_fault, number_fault, sent_fault, vote_fault};
 use crate::rows_body::{rollback_fault, transfer_fault};
-use crate::walk::{head_said, place_reached};
+use crate::walk::{head_said, reached};
 use byteorder::{BigEndian, ByteOrder};
 use eve_evidence::BodyField;
 use eve_grammar::{FRAME_HEAD_LEN, FrameKind, Head, Place};
@@ -88,7 +88,7 @@ pub fn wrong_body_at(bytes: &[u8], at: u64) -> WrongBody
     ensures { TellsBody bytes.now at result.frame result.field result.at }
 {
     let head = head_said(bytes);
-    let place = place_reached(&head, bytes, at as usize);
+    let place = reached(&head, bytes, at as usize).place;
     let frame = &bytes[at as usize..];
     let kind = kind_there(&head, &place, frame);
     let own = body_fault(&head, &place, kind, body_there(&head, &place, frame));

@@ -6,7 +6,7 @@ ghost use Rattle.eve_evidence_form.specs.Form.{TellsForm};
 
 use crate::body::wrong_body_at;
 use crate::frame::no_frame_at;
-use crate::head::{first_six, head_fault, length_fault};
+use crate::head::{first_six, head_fault, length_fault, other_magic};
 use eve_evidence::Evidence;
 use eve_views::{Code, Fault};
 
@@ -21,6 +21,7 @@ pub fn form_evidence<'a>(bytes: &'a [u8], fault: &Fault) -> Evidence<'a>
         Code::Length => Evidence::Length {
             found: bytes.len() as u64,
             wrong: length_fault(bytes),
+            magic: other_magic(bytes),
         },
         Code::Magic => Evidence::Magic {
             found: first_six(bytes),
@@ -41,6 +42,7 @@ pub fn form_evidence<'a>(bytes: &'a [u8], fault: &Fault) -> Evidence<'a>
             Evidence::Frame {
                 wrong: found.wrong,
                 due,
+                records: found.records,
             }
         }
         Code::Body => {

@@ -6,7 +6,7 @@ ghost use Rattle.std.specs.List.{AllByRecursion};
 ghost use Rattle.eve_grammar.specs.declared.head.Head.{Head as HeadValue};
 ghost use Rattle.eve_views.specs.Form.{is_sized, SaysHead};
 ghost use Rattle.eve_evidence_form.specs.Header.{said, number, head_numbers};
-ghost use Rattle.eve_evidence_form.specs.Header.{LiesWithin, IsLengthFault, IsFirstWrongNumber};
+ghost use Rattle.eve_evidence_form.specs.Header.{LiesWithin, IsLengthFault, TellsMagic, IsFirstWrongNumber};
 
 use byteorder::{BigEndian, ByteOrder};
 use eve_evidence::{HeadField, LengthFault};
@@ -69,6 +69,16 @@ pub fn first_six(bytes: &[u8]) -> [u8; 6]
     let mut found = [0; 6];
     found.copy_from_slice(&bytes[..6]);
     found
+}
+
+/// The first six bytes, if there are as many as a header has, and these aren't a trace's.
+pub fn other_magic(bytes: &[u8]) -> Option<[u8; 6]>
+    ensures { TellsMagic bytes.now result }
+{
+    if bytes.len() < HEADER_LEN || bytes.starts_with(b"EVESBK") {
+        return None;
+    }
+    Some(first_six(bytes))
 }
 
 /// A number of the header that has one byte.

@@ -1,6 +1,6 @@
 //! How far the frames before a byte have come.
 
-ghost use Rattle.std.specs.Prelude.{◌≡◌, ◌≤◌, ℕ, ◌++◌, List, IsTrue, length};
+ghost use Rattle.std.specs.Prelude.{◌≡◌, ◌<◌, ◌≤◌, ℕ, ◌++◌, List, IfSome, IsTrue, length};
 ghost use Rattle.eve_grammar.specs.Kinds.{kind_byte};
 ghost use Rattle.eve_grammar.specs.Frames.{Frame, is_allowed, kind_of, next_place};
 ghost use Rattle.eve_grammar.specs.Limits.{FitsAt};
@@ -9,9 +9,20 @@ ghost use Rattle.eve_grammar.specs.declared.head.Head.{Head as HeadValue};
 ghost use Rattle.eve_views.specs.Form.{IsReached, SaysHead, place_at};
 ghost use Rattle.eve_views.specs.Places.{accesses_in, place_after};
 ghost use Rattle.eve_evidence_form.specs.Walk.{BeginsWith};
+ghost use Rattle.eve_evidence_form.specs.Records.{TellsRecords, records_after};
 
 use byteorder::{BigEndian, ByteOrder};
+use eve_evidence::RecordsBefore;
 use eve_grammar::{FRAME_HEAD_LEN, FrameKind, HEADER_LEN, Head, Place};
+
+/// How far the frames before a byte have come.
+#[derive(Clone, Copy)]
+pub struct PlaceReached {
+    /// The place there.
+    pub place: Place,
+    /// The last attempt, if the byte stands behind it or behind one of its access records.
+    pub records: Option<RecordsBefore>,
+}
 
 /// The head that a header says.
 pub fn head_said(bytes: &[u8]) -> Head
@@ -87,37 +98,77 @@ fn pass(head: &Head, place: Place, kind: FrameKind, accesses: usize) -> Place
     after
 }
 
-/// The place after the frame with which the bytes begin, and which fits there.
-fn step(head: &Head, place: Place, bytes: &[u8]) -> Place
-    requires { (f : Frame) × BeginsWith bytes.now f × FitsAt head.now place f }
-    ensures { (f : Frame) → BeginsWith bytes.now f → FitsAt head.now place f → result ≡ next_place place f }
+/// The last attempt after a frame of this kind, which begins at byte `at`, and which that many access frames have to
+/// follow.
+fn note(
+    before: Option<RecordsBefore>,
+    kind: FrameKind,
+    at: usize,
+    accesses: usize,
+) -> Option<RecordsBefore>
+    requires { IfSome before (λ r. r.found < at) }
+    ensures { result ≡ records_after before (kind_byte kind) at accesses }
+{
+    match kind {
+        FrameKind::Attempt => Some(RecordsBefore {
+            attempt: at as u64,
+            due: accesses,
+            found: 0,
+        }),
+        FrameKind::Access => match before {
+            Some(records) => Some(RecordsBefore {
+                attempt: records.attempt,
+                due: records.due,
+                found: records.found + 1,
+            }),
+            None => None,
+        },
+        _ => None,
+    }
+}
+
+/// How far the frames have come after the one with which the bytes begin: it begins at byte `at`, and fits there.
+fn step(head: &Head, so_far: PlaceReached, bytes: &[u8], at: usize) -> PlaceReached
+    requires fits { (f : Frame) × BeginsWith bytes.now f × FitsAt head.now so_far.place f }
+    requires few { IfSome so_far.records (λ r. r.found < at) }
+    ensures place { (f : Frame) → BeginsWith bytes.now f → FitsAt head.now so_far.place f
+        → result.place ≡ next_place so_far.place f }
+    ensures records { (f : Frame) → BeginsWith bytes.now f
+        → result.records ≡ records_after so_far.records (kind_of f) at (accesses_in f) }
 {
     let kind = kind_in_front(bytes);
     let accesses = accesses_in_front(bytes, kind);
-    pass(head, place, kind, accesses)
+    PlaceReached {
+        place: pass(head, so_far.place, kind, accesses),
+        records: note(so_far.records, kind, at, accesses),
+    }
 }
 
 /// How far the frames before this byte have come.
 ///
 /// docs/TRACE.md, "Order of frames". One pass over them, whose bodies aren't judged.
-pub fn place_reached(head: &Head, bytes: &[u8], at: usize) -> Place
+pub fn reached(head: &Head, bytes: &[u8], at: usize) -> PlaceReached
     requires { (r : IsReached bytes.now at) × (r.head ≡ head.now) }
-    ensures { (r : IsReached bytes.now at) → r.head ≡ head.now → result ≡ place_at r }
+    ensures place { (r : IsReached bytes.now at) → r.head ≡ head.now → result.place ≡ place_at r }
+    ensures records { (r : IsReached bytes.now at) → r.head ≡ head.now → TellsRecords r.front result.records }
 {
-    let mut place = Place {
-        customers: 0,
-        batches: 0,
-        replicas: 0,
-        accesses: 0,
-        verifiers: 0,
-        sending: false,
-        ended: false,
+    let mut so_far = PlaceReached {
+        place: Place {
+            customers: 0,
+            batches: 0,
+            replicas: 0,
+            accesses: 0,
+            verifiers: 0,
+            sending: false,
+            ended: false,
+        },
+        records: None,
     };
     let mut next = HEADER_LEN;
     'frames: while next < at {
         let frame = &bytes[next..];
-        place = step(head, place, frame);
+        so_far = step(head, so_far, frame, next);
         next += len_in_front(frame);
     }
-    place
+    so_far
 }

@@ -10,3 +10,4 @@ pub mod Firsts
 pub mod Taking
 pub mod Comparing
 pub mod Counting
+pub mod Giving

@@ -12,6 +12,7 @@ use Rattle.eve_chains.proofs.Linked.{none≢some}
 use Rattle.eve_agree.specs.ByNumber.{told_state_at}
 use Rattle.eve_agree.specs.Agreement.{HasBalancesOfFirst, StandsInAgreement}
 use Rattle.eve_agree.proofs.ByNumber.{TellsStates, state_told, told_state_there, landing_settled}
+use Rattle.eve_evidence.specs.Told.{told_transfer}
 use Rattle.eve_evidence_outcomes.specs.Outcomes.{IsTakenAt, HasThoseOfFirst, IsRightAt}
 
 module _ (t : Trace) (e n place : ℕ) (h : SectionHistory) (is : h ≡ section_history t e) (one : 1 ≤ n)
@@ -40,11 +41,15 @@ right_state t e n place states those x landed =
 
 -- a state that is told of at this byte was taken over there
 pub taken_at : (t : Trace) (e n place : ℕ) (h : SectionHistory) → h ≡ section_history t e → TellsStates t e n → (o : ℕ)
-    (y : Transfer) → o ≡ place → told_state_at h n ≡ Some (o, y) → IsTakenAt t e place n
-taken_at t e n place h is tells o y at some = record {
-  state = y;
-  is = subst (λ (k : ℕ). landing_at t e n ≡ Some (ByTransfer k y)) at (state_told t e n h is o y tells some);
-}
+    (y : Transfer) → o ≡ place → told_state_at h n ≡ Some (o, y)
+    → (taken : IsTakenAt t e place n) × (told_transfer o y ≡ told_transfer place taken.state)
+taken_at t e n place h is tells o y at some = (
+  record {
+    state = y;
+    is = subst (λ (k : ℕ). landing_at t e n ≡ Some (ByTransfer k y)) at (state_told t e n h is o y tells some);
+  },
+  ap (λ (k : ℕ). told_transfer k y) at,
+)
 
 -- where all states at this byte are right no fault stands there
 pub none_apart : (t : Trace) (e place : ℕ) (s : Settling) (count : ℕ) → s ≡ settling t e → length s.numbers ≤ count

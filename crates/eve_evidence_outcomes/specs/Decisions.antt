@@ -21,7 +21,8 @@ pub record AreFirstDecisions (t : Trace) (n : ℕ) (first second : ToldDecision)
 
 -- the evidence has them
 abbrev pub TellsDecisions : Trace → ℕ → Evidence → Type 0
-TellsDecisions t n (shown.TwoDecisions first second verifiers) = AreFirstDecisions t n first second verifiers
+TellsDecisions t n (shown.TwoDecisions batch first second verifiers) =
+    (batch ≡ n) × AreFirstDecisions t n first second verifiers
 TellsDecisions t n _ = ⊥
 
 -- The evidence shows that the batch at this byte is decided twice.

@@ -3,6 +3,7 @@ pub mod Polls
 pub mod Majority
 pub mod Decisions
 pub mod Committed
+pub mod Given
 pub mod Sent
 pub mod Token
 pub mod Outcomes

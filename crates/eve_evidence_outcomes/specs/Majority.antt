@@ -26,29 +26,31 @@ abbrev pub TellsPoll : Trace → ℕ → ℕ → Choice → Evidence → Type 0
 TellsPoll t n view choice (shown.Majority poll) = IsPoll t n view choice poll
 TellsPoll t n view choice _ = ⊥
 
--- it is who voted for some commit of it
-abbrev pub TellsTransferPoll : Trace → ℕ → ℕ → Evidence → Type 0
-TellsTransferPoll t n view (shown.TransferMajority poll) = IsTransferPoll t n view poll
-TellsTransferPoll t n view _ = ⊥
+-- it is who voted for some commit of it, of a state whose frame stands at this offset
+abbrev pub TellsTransferPoll : Trace → ℕ → ℕ → ℕ → Evidence → Type 0
+TellsTransferPoll t at n view (shown.TransferMajority place poll) = (place ≡ at) × IsTransferPoll t n view poll
+TellsTransferPoll t at n view _ = ⊥
 
--- the evidence has who voted for what the step does
-abbrev pub TellsVoters : Code → Trace → Step → Evidence → Type 0
-TellsVoters code.NoMajority t step evidence = OfCommit step (λ c. TellsPoll t c.seq c.view (ForCommit c.token) evidence)
-TellsVoters code.RollbackNoMajority t step evidence =
+-- the evidence has who voted for what the step does, whose frame stands at this offset
+abbrev pub TellsVoters : Code → Trace → ℕ → Step → Evidence → Type 0
+TellsVoters code.NoMajority t at step evidence =
+    OfCommit step (λ c. TellsPoll t c.seq c.view (ForCommit c.token) evidence)
+TellsVoters code.RollbackNoMajority t at step evidence =
     OfRollback step (λ r. TellsPoll t (r.to + 1) (r.view - 1) ForRollback evidence)
-TellsVoters code.TransferNoMajority t step evidence = OfTransfer step (λ x. TellsTransferPoll t x.seq x.view evidence)
-TellsVoters _ t _ _ = ⊥
+TellsVoters code.TransferNoMajority t at step evidence =
+    OfTransfer step (λ x. TellsTransferPoll t at x.seq x.view evidence)
+TellsVoters _ t at _ _ = ⊥
 
 -- The evidence shows that replica e's step at this byte has no majority: who voted for what it does, and who didn't.
 abbrev pub TellsMajority : Code → Trace → ℕ → ℕ → Evidence → Type 0
 TellsMajority c t e place evidence =
-    SomePlace (steps_at t e) (λ _ step. (step.0 ≡ place) × TellsVoters c t step.1 evidence)
+    SomePlace (steps_at t e) (λ _ step. (step.0 ≡ place) × TellsVoters c t step.0 step.1 evidence)
 
 -- ---- of a step that was met
 
 -- the evidence has who voted for what it does
 abbrev pub TellsVotersOf : Code → Trace → met.Step → Evidence → Type 0
-TellsVotersOf c t step evidence = (is : ℕ × Step) → IsStep step is → TellsVoters c t is.1 evidence
+TellsVotersOf c t step evidence = (is : ℕ × Step) → IsStep step is → TellsVoters c t is.0 is.1 evidence
 
 -- it has no such fault
 abbrev pub LacksNone : Code → Trace → met.Step → Type 0

@@ -10,7 +10,7 @@ use Rattle.eve_evidence.specs.declared.evidence.StateFault.{StateFault}
 use Rattle.eve_evidence.specs.declared.evidence.StateFault.TheVariants.{NoneCommitted, Row}
 use Rattle.eve_evidence.specs.declared.evidence.Evidence.{Evidence}
 use Rattle.eve_evidence.specs.declared.evidence.Evidence.TheVariants as shown
-use Rattle.eve_evidence.specs.Told.{IsToldRow}
+use Rattle.eve_evidence.specs.Told.{IsToldRow, told_transfer}
 use Rattle.eve_evidence_outcomes.specs.declared.apart.RowApart.{RowApart}
 
 -- the lowest-numbered replica that committed the batch by an attempt, and the byte of that attempt's frame
@@ -34,10 +34,10 @@ TellsStateFault t e n NoneCommitted = first_to_commit t n ≡ None
 TellsStateFault t e n (Row first at row found due) =
     IsFirstCommitted t n first at × IsRowApart t (balances_to t e n) (balances_to t first n) row found due
 
--- the evidence is of a state, and tells it
-abbrev pub TellsStateIn : Trace → ℕ → ℕ → Evidence → Type 0
-TellsStateIn t e n (shown.TransferState wrong) = TellsStateFault t e n wrong
-TellsStateIn t e n _ = ⊥
+-- the evidence is of this state, whose frame stands at this offset, and tells it
+abbrev pub TellsStateIn : Trace → ℕ → ℕ → ℕ → Transfer → Evidence → Type 0
+TellsStateIn t e n at x (shown.TransferState state wrong) = (state ≡ told_transfer at x) × TellsStateFault t e n wrong
+TellsStateIn t e n at x _ = ⊥
 
 -- replica e reached the number by a state whose frame stands at this byte
 pub record IsTakenAt (t : Trace) (e place n : ℕ) : Type 0 where
@@ -46,7 +46,8 @@ pub record IsTakenAt (t : Trace) (e place n : ℕ) : Type 0 where
 
 -- The evidence shows that the state taken over at this byte isn't the one that was committed.
 abbrev pub TellsState : Trace → ℕ → ℕ → Evidence → Type 0
-TellsState t e place evidence = (n : ℕ) × IsTakenAt t e place n × TellsStateIn t e n evidence
+TellsState t e place evidence =
+    (n : ℕ) × (taken : IsTakenAt t e place n) × TellsStateIn t e n place taken.state evidence
 
 -- a row that was found apart
 abbrev pub IsRowFoundApart : Trace → List ℤ → List ℤ → RowApart → Type 0

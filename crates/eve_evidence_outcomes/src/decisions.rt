@@ -6,23 +6,11 @@ ghost use Rattle.eve_grammar.specs.Spelling.{batches_at};
 ghost use Rattle.eve_views.specs.declared.fault.Code.TheVariants as code;
 ghost use Rattle.eve_votes.specs.Faults.{HasTwoDecisions, StandsInVotes};
 ghost use Rattle.eve_evidence_outcomes.specs.Decisions.{decided_of, TellsDecisions, TellsTwoDecisions};
-ghost use Rattle.eve_evidence.specs.declared.evidence.Evidence.TheVariants as shown;
 
 use eve_evidence::{Evidence, ToldDecision};
 use eve_views::Trace;
 use eve_votes::{Decided, SortedVotes};
 use std::alloc::{AllocError, Global};
-
-/// The two least views in which a batch is decided.
-#[derive(Clone, Copy)]
-struct FirstDecisions {
-    /// The least.
-    first: ToldDecision,
-    /// The next.
-    second: ToldDecision,
-    /// How many verifiers there are.
-    verifiers: u8,
-}
 
 /// A decision as it is told.
 fn told(decided: Decided) -> ToldDecision
@@ -33,9 +21,13 @@ fn told(decided: Decided) -> ToldDecision
 }
 
 /// The two least views in which a batch is decided, by its number, if there are two. The votes are those of the trace.
-fn first_decisions(trace: &Trace<'_>, votes: &SortedVotes<'_, '_>, n: u32) -> Option<FirstDecisions>
+fn first_decisions<'a>(
+    trace: &Trace<'a>,
+    votes: &SortedVotes<'_, '_>,
+    n: u32,
+) -> Option<Evidence<'a>>
     requires { votes.now ≡ trace.now }
-    ensures told { IfSome result (λ d. TellsDecisions trace.now n (shown.TwoDecisions d.first d.second d.verifiers)) }
+    ensures told { IfSome result (TellsDecisions trace.now n) }
     ensures none { IfNone result (¬ HasTwoDecisions trace.now n) }
 {
     let Some(first) = votes.next_decision(n, 0) else {
@@ -44,7 +36,8 @@ fn first_decisions(trace: &Trace<'_>, votes: &SortedVotes<'_, '_>, n: u32) -> Op
     let Some(second) = votes.next_decision(n, u64::from(first.view) + 1) else {
         return None;
     };
-    Some(FirstDecisions {
+    Some(Evidence::TwoDecisions {
+        batch: n,
         first: told(first),
         second: told(second),
         verifiers: trace.verifier_count(),
@@ -52,17 +45,16 @@ fn first_decisions(trace: &Trace<'_>, votes: &SortedVotes<'_, '_>, n: u32) -> Op
 }
 
 /// The same of the batch with this number from 1, if its frame begins at this byte.
-fn at_batch(
-    trace: &Trace<'_>,
+fn at_batch<'a>(
+    trace: &Trace<'a>,
     votes: &SortedVotes<'_, '_>,
     number: u32,
     place: u64,
-) -> Option<FirstDecisions>
+) -> Option<Evidence<'a>>
     requires votes { votes.now ≡ trace.now }
     requires one { 1 ≤ number }
     requires there { number ≤ length trace.now.batches }
-    ensures told { IfSome result (λ d. TellsTwoDecisions trace.now place
-        (shown.TwoDecisions d.first d.second d.verifiers)) }
+    ensures told { IfSome result (TellsTwoDecisions trace.now place) }
     ensures none { IfNone result ((b : ℕ × (ℕ × BatchValue)) → slice_get (batches_at trace.now) (number - 1) ≡ Some b
         → ¬ ((b.0 ≡ place) × HasTwoDecisions trace.now b.1.0)) }
 {
@@ -89,11 +81,7 @@ pub fn decisions_evidence<'a>(
     let votes = SortedVotes::of(alloc, trace)?;
     for i in 0..trace.batch_count() {
         if let Some(found) = at_batch(trace, &votes, i + 1, place) {
-            return Ok(Evidence::TwoDecisions {
-                first: found.first,
-                second: found.second,
-                verifiers: found.verifiers,
-            });
+            return Ok(found);
         }
     }
     unreachable!()

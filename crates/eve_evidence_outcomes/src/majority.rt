@@ -41,9 +41,10 @@ fn poll<'a>(trace: &Trace<'a>, n: u32, view: u32, choice: Choice<'a>) -> Option<
     }))
 }
 
-/// Who voted for some commit of the batch in the view, where with no token they are a quorum.
-fn transfer_poll<'a>(trace: &Trace<'a>, n: u32, view: u32) -> Option<Evidence<'a>>
-    ensures told { IfSome result (TellsTransferPoll trace.now n view) }
+/// Who voted for some commit of the batch in the view, where with no token they are a quorum, of a state whose frame
+/// begins at byte `at`.
+fn transfer_poll<'a>(trace: &Trace<'a>, at: u64, n: u32, view: u32) -> Option<Evidence<'a>>
+    ensures told { IfSome result (TellsTransferPoll trace.now at n view) }
     ensures none { IfNone result (SomeDecided trace.now n view) }
 {
     trace.recall_limits();
@@ -53,19 +54,22 @@ fn transfer_poll<'a>(trace: &Trace<'a>, n: u32, view: u32) -> Option<Evidence<'a
         return None;
     }
     let votes = told_choices(trace, n, view);
-    Some(Evidence::TransferMajority(TransferPoll {
-        batch: n,
-        view,
-        found,
-        due,
-        verifiers: trace.verifier_count(),
-        votes,
-    }))
+    Some(Evidence::TransferMajority {
+        at,
+        poll: TransferPoll {
+            batch: n,
+            view,
+            found,
+            due,
+            verifiers: trace.verifier_count(),
+            votes,
+        },
+    })
 }
 
 /// Who voted for a commit, where that is asked for and they are no quorum.
 fn of_commit<'a>(trace: &Trace<'a>, commit: &CommitView<'a>, code: Code) -> Option<Evidence<'a>>
-    ensures told { IfSome result (TellsVoters code trace.now (Commits (commit_said commit.now))) }
+    ensures told { IfSome result (TellsVoters code trace.now commit.now.offset (Commits (commit_said commit.now))) }
     ensures none { IfNone result (¬ LacksMajority code trace.now (Commits (commit_said commit.now))) }
 {
     match code {
@@ -86,7 +90,8 @@ fn of_rollback<'a>(
     code: Code,
 ) -> Option<Evidence<'a>>
     requires { HasRoom (RollsBack (rollback_said rollback.now)) }
-    ensures told { IfSome result (TellsVoters code trace.now (RollsBack (rollback_said rollback.now))) }
+    ensures told { IfSome result (TellsVoters code trace.now rollback.now.offset
+        (RollsBack (rollback_said rollback.now))) }
     ensures none { IfNone result (¬ LacksMajority code trace.now
         (RollsBack (rollback_said rollback.now))) }
 {
@@ -107,12 +112,15 @@ fn of_transfer<'a>(
     transfer: &TransferView<'a>,
     code: Code,
 ) -> Option<Evidence<'a>>
-    ensures told { IfSome result (TellsVoters code trace.now (TakesOver (transfer_said transfer.now))) }
+    ensures told { IfSome result (TellsVoters code trace.now transfer.now.offset
+        (TakesOver (transfer_said transfer.now))) }
     ensures none { IfNone result (¬ LacksMajority code trace.now
         (TakesOver (transfer_said transfer.now))) }
 {
     match code {
-        Code::TransferNoMajority => transfer_poll(trace, transfer.seq(), transfer.view()),
+        Code::TransferNoMajority => {
+            transfer_poll(trace, transfer.offset(), transfer.seq(), transfer.view())
+        }
         _ => None,
     }
 }
@@ -152,7 +160,7 @@ fn at_step<'a>(
 ) -> Option<Evidence<'a>>
     requires { (is : ℕ × StepValue) × IsStep step.now is × HasRoom is.1 }
     ensures told { IfSome result (λ evidence. (is : ℕ × StepValue) → IsStep step.now is
-        → (is.0 ≡ place) × TellsVoters code trace.now is.1 evidence) }
+        → (is.0 ≡ place) × TellsVoters code trace.now is.0 is.1 evidence) }
     ensures none { IfNone result ((is : ℕ × StepValue) → IsStep step.now is → is.0 ≡ place
         → ¬ LacksMajority code trace.now is.1) }
 {

@@ -10,11 +10,12 @@ ghost use Rattle.eve_frames.specs.Said.{attempt_said, batch_said, sent_said};
 ghost use Rattle.eve_views.specs.declared.fault.Code.TheVariants as code;
 ghost use Rattle.eve_history.specs.SectionHistory.{section_history, section_histories};
 ghost use Rattle.eve_agree.specs.SentReplies.{IsReplied, StandsInReplies};
-ghost use Rattle.eve_evidence_outcomes.specs.Sent.{NoneHas, IsFoundRequest, TellsSent, TellsReply};
-ghost use Rattle.eve_evidence.specs.declared.evidence.Evidence.TheVariants as shown;
+ghost use Rattle.eve_evidence_outcomes.specs.Sent.{NoneHas, IsFoundRequest, TellsSentIn, TellsReply};
+ghost use Rattle.eve_evidence.specs.Told.{told_sent};
 
 use crate::committed::committed_attempt;
-use eve_evidence::{Evidence, SentFault, ToldRequest};
+use crate::given::given_by;
+use eve_evidence::{Evidence, SentFault, ToldRequest, ToldSent};
 use eve_frames::{AttemptView, BatchView, SentView};
 use eve_grammar::Asked;
 use eve_history::History;
@@ -26,6 +27,19 @@ fn is_of(asked: &Asked<'_>, client: u32, number: u64) -> bool
     ensures { result ≡ (asked.now.client == client) && (asked.now.number == number) }
 {
     asked.client == client && asked.number == number
+}
+
+/// A reply that was sent, by its own frame.
+fn told_sent(sent: &SentView<'_>) -> ToldSent
+    ensures { result ≡ told_sent (sent_said sent.now) }
+{
+    ToldSent {
+        client: sent.client(),
+        number: sent.number(),
+        replica: sent.replica(),
+        batch: sent.seq(),
+        reply: sent.reply(),
+    }
 }
 
 /// The first request of a batch with this client and number, if there is one.
@@ -75,46 +89,46 @@ pub(crate) fn has_reply(attempt: &AttemptView<'_>, index: u16, reply: Reply) -> 
     attempt.reply(index as usize) == reply
 }
 
-/// The first thing that is wrong with a reply that was sent, if it isn't one that its replica committed.
+/// The first thing that is wrong with a reply that was sent, if it isn't one that its replica committed, and who gave it.
 fn wrong_with<'a>(
     trace: &Trace<'a>,
     history: &History<'_>,
     sent: &SentView<'_>,
-) -> Option<SentFault<'a>>
+) -> Option<Evidence<'a>>
     requires history { history.now ≡ section_history trace.now (sent_said sent.now).replica }
     requires one { 1 ≤ (sent_said sent.now).seq }
     requires there { (sent_said sent.now).seq ≤ length trace.now.batches }
-    ensures told { IfSome result (TellsSent trace.now (sent_said sent.now)) }
+    ensures told { IfSome result (TellsSentIn trace.now (sent_said sent.now)) }
     ensures none { IfNone result (IsReplied trace.now (sent_said sent.now)) }
 {
     trace.recall_limits();
     let seq = sent.seq();
-    let client = sent.client();
-    let number = sent.number();
     let batch = trace.batch(seq);
-    let Some(request) = request_with(&batch, seq, client, number) else {
-        return Some(SentFault::NoRequest {
-            client,
-            number,
-            batch: seq,
+    let told = told_sent(sent);
+    let Some(request) = request_with(&batch, seq, told.client, told.number) else {
+        return Some(Evidence::Reply {
+            sent: told,
+            wrong: SentFault::NoRequest,
+            given: None,
         });
     };
-    let Some(attempt) = committed_attempt(history, seq) else {
-        return Some(SentFault::NotCommitted {
-            batch: seq,
-            replica: sent.replica(),
-        });
-    };
-    let found = sent.reply();
     let index = request.index;
-    if has_reply(&attempt, index, found) {
+    let given = given_by(history, seq, index, told.reply);
+    let Some(attempt) = committed_attempt(history, seq) else {
+        return Some(Evidence::Reply {
+            sent: told,
+            wrong: SentFault::NotCommitted,
+            given,
+        });
+    };
+    if has_reply(&attempt, index, told.reply) {
         return None;
     }
     let due = reply_of(&attempt, index);
-    Some(SentFault::Another {
-        request,
-        found,
-        due,
+    Some(Evidence::Reply {
+        sent: told,
+        wrong: SentFault::Another { request, due },
+        given,
     })
 }
 
@@ -124,10 +138,10 @@ fn at_sent<'a>(
     histories: &[History<'_>],
     i: usize,
     place: u64,
-) -> Option<SentFault<'a>>
+) -> Option<Evidence<'a>>
     requires there { i < length trace.now.sent }
     requires histories { histories.now ≡ section_histories trace.now }
-    ensures told { IfSome result (λ wrong. TellsReply trace.now place (shown.Reply wrong)) }
+    ensures told { IfSome result (TellsReply trace.now place) }
     ensures none { IfNone result ((s : ℕ × SentValue) → slice_get (sent_at trace.now) i ≡ Some s
         → s.0 ≡ place → IsReplied trace.now s.1) }
 {
@@ -143,7 +157,8 @@ fn at_sent<'a>(
 /// The evidence of a reply that was sent and not committed, by the byte of its frame.
 ///
 /// It says that the reply's batch has no such request, or that its replica didn't commit the batch by an attempt, or it
-/// has the request with the reply sent and the one committed.
+/// has the request with the reply sent and the one committed; and the first attempt of its replica that gave it and wasn't
+/// committed.
 ///
 /// docs/MODEL.md, "Sent replies" and "Evidence". It takes no memory. One pass over the replies sent, up to that frame,
 /// and one over its batch. The histories are those of all replicas, in their order.
@@ -153,8 +168,8 @@ pub fn reply_evidence<'a>(trace: &Trace<'a>, histories: &[History<'_>], place: u
     ensures told { TellsReply trace.now place result }
 {
     for i in 0..trace.sent_count() {
-        if let Some(wrong) = at_sent(trace, histories, i, place) {
-            return Evidence::Reply(wrong);
+        if let Some(found) = at_sent(trace, histories, i, place) {
+            return found;
         }
     }
     unreachable!()

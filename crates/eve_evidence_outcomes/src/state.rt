@@ -12,7 +12,6 @@ ghost use Rattle.eve_agree.specs.Agreement.{first_to_commit, StandsInAgreement};
 ghost use Rattle.eve_evidence_outcomes.specs.Committed.{IsCommittedBy};
 ghost use Rattle.eve_evidence_outcomes.specs.Outcomes.{IsRowFoundApart, TellsStateFault, TellsState, HasThoseOfFirst};
 ghost use Rattle.eve_evidence_outcomes.specs.Outcomes.{IsRightAt};
-ghost use Rattle.eve_evidence.specs.declared.evidence.Evidence.TheVariants as shown;
 
 use crate::apart::{RowApart, first_apart};
 use crate::balances::balances_to;
@@ -20,7 +19,7 @@ use crate::committed::committed_attempt;
 use eve_accounts::Balances;
 use eve_chains::Settled;
 use eve_chains::laws::states_are_the_balances;
-use eve_evidence::{Evidence, StateFault};
+use eve_evidence::{Evidence, StateFault, told_transfer};
 use eve_frames::{AttemptView, TransferView};
 use eve_history::laws::numbers_are_reached;
 use eve_history::{History, Landing};
@@ -151,13 +150,13 @@ fn at_number<'a>(
     e: u8,
     n: u32,
     place: u64,
-) -> Result<Option<StateFault<'a>>, AllocError>
+) -> Result<Option<Evidence<'a>>, AllocError>
     requires histories { histories.now ≡ section_histories trace.now }
     requires settled { settled.now ≡ settlings trace.now }
     requires there { e < length trace.now.sections }
     requires one { 1 ≤ n }
     requires number { n ≤ length (settling trace.now e).numbers }
-    ensures told { IfOk result (λ x. IfSome x (λ wrong. TellsState trace.now e place (shown.TransferState wrong))) }
+    ensures told { IfOk result (λ x. IfSome x (TellsState trace.now e place)) }
     ensures none { IfOk result (λ x. IfNone x (IsRightAt trace.now e place n)) }
 {
     numbers_are_reached();
@@ -171,7 +170,14 @@ fn at_number<'a>(
     if state.offset() != place {
         return Ok(None);
     }
-    state_fault(alloc, trace, histories, settled, e, n)
+    match state_fault(alloc, trace, histories, settled, e, n) {
+        Ok(Some(wrong)) => Ok(Some(Evidence::TransferState {
+            state: told_transfer(&state),
+            wrong,
+        })),
+        Ok(None) => Ok(None),
+        Err(why) => Err(why),
+    }
 }
 
 /// The evidence of a state that was taken over and isn't the one that was committed, by the replica's number from 0 and
@@ -200,7 +206,7 @@ pub fn state_evidence<'a>(
     for n in 0..count {
         match at_number(alloc, trace, histories, settled, e, n + 1, place) {
             Ok(None) => {}
-            Ok(Some(wrong)) => return Ok(Evidence::TransferState(wrong)),
+            Ok(Some(found)) => return Ok(found),
             Err(why) => return Err(why),
         }
     }

@@ -14,8 +14,9 @@ ghost use Rattle.eve_evidence_outcomes.specs.Token.{TellsToken, IsDueAt};
 
 use crate::balances::balances_to;
 use crate::committed::committed_attempt;
+use crate::matched::token_match;
 use eve_chains::Settled;
-use eve_evidence::{Evidence, ToldAttempt, told_attempt};
+use eve_evidence::{Evidence, TokenMatch, ToldAttempt, told_attempt};
 use eve_frames::AttemptView;
 use eve_history::History;
 use eve_history::laws::numbers_are_reached;
@@ -33,10 +34,12 @@ struct OtherToken<'a> {
     found: &'a [u8],
     /// The one that is due.
     due: [u8; 32],
+    /// Of what the token is made.
+    matches: TokenMatch,
 }
 
 /// The replies of an attempt, by request index.
-fn replies_of(alloc: Global, attempt: &AttemptView<'_>) -> Result<Vec<Reply>, AllocError>
+pub(crate) fn replies_of(alloc: Global, attempt: &AttemptView<'_>) -> Result<Vec<Reply>, AllocError>
     ensures { IfOk result (λ replies. replies.items ≡ (attempt_said attempt.now).replies) }
 {
     let count = attempt.len();
@@ -79,10 +82,11 @@ fn at_number<'a>(
     requires section { AreOfSection trace.now history.now settled.now }
     requires there { n ≤ length settled.now.numbers }
     ensures told { IfOk result (λ x. IfSome x (λ other. TellsToken trace.now history.now.replica place
-        (shown.Token other.attempt other.found other.due))) }
+        (shown.Token other.attempt other.found other.due other.matches))) }
     ensures none { IfOk result (λ x. IfNone x (IsDueAt trace.now history.now.replica place n)) }
 {
     numbers_are_reached();
+    trace.recall_limits();
     history.recall_right();
     let Some(attempt) = committed_attempt(history, n) else {
         return Ok(None);
@@ -95,10 +99,12 @@ fn at_number<'a>(
     if found == due.as_slice() {
         return Ok(None);
     }
+    let matches = token_match(alloc, trace, history, settled, n, &attempt)?;
     Ok(Some(OtherToken {
         attempt: told_attempt(&attempt),
         found,
         due,
+        matches,
     }))
 }
 
@@ -106,7 +112,8 @@ fn at_number<'a>(
 /// one that is due of the balances after its batch and of its replies.
 ///
 /// docs/MODEL.md, "Due tokens" and "Evidence". The history and what it settled are those of the replica. It takes the
-/// balances of all rows once, and in version 2 hashes them all once.
+/// balances of all rows before and after the attempt's batch, and in version 2 hashes the first once and the others
+/// twice.
 pub fn token_evidence<'a>(
     alloc: Global,
     trace: &Trace<'a>,
@@ -127,6 +134,7 @@ pub fn token_evidence<'a>(
                     attempt: other.attempt,
                     found: other.found,
                     due: other.due,
+                    matches: other.matches,
                 });
             }
             Err(why) => return Err(why),

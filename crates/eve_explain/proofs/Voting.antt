@@ -12,6 +12,9 @@ use Rattle.eve_views.specs.Form.{SomePlace}
 use Rattle.eve_history.proofs.Places.{no_place}
 use Rattle.eve_votes.specs.Votes.{is_vote_on}
 use Rattle.eve_votes.specs.Faults.{IsFurther}
+use Rattle.eve_grammar.specs.Bodies.{borrowed_choice}
+use Rattle.eve_evidence.specs.declared.evidence.SecondVote.{SecondVote}
+use Rattle.eve_explain.specs.Votes.{IsFirstOn, IsSecond}
 
 none_on : (xs : List (ℕ × Vote)) (n view : ℕ) → AllByRecursion (λ z. IsFalse (is_vote_on n view z.1)) xs
     → list_any (λ u. is_vote_on n view u.1) xs ≡ false
@@ -24,6 +27,21 @@ pub no_further : (xs : List (ℕ × Vote)) (w : ℕ × Vote) (n view : ℕ) → 
 no_further xs w n view n_is view_is all further =
     false≢true (sym (none_on xs n view all)
     ∙ (λ i. list_any (λ u. is_vote_on (n_is i) (view_is i) u.1) xs) ∙ further)
+
+-- a vote of which all is told, and the first
+pub second_is : (before : List (ℕ × Vote)) (y first : ℕ × Vote) (s : SecondVote) → s.batch ≡ y.1.seq
+    → s.view ≡ y.1.view → borrowed_choice s.choice ≡ y.1.choice → IsFirstOn before s.batch s.view first
+    → s.first ≡ first.0 → borrowed_choice s.first_choice ≡ first.1.choice → IsSecond before y s
+second_is before y first s batch view choice on at its_choice = record {
+  batch_is = batch;
+  view_is = view;
+  choice_is = choice;
+  earliest = first;
+  first = subst (λ (n : ℕ). IsFirstOn before n y.1.view first) batch
+      (subst (λ (n : ℕ). IsFirstOn before s.batch n first) view on);
+  first_is = at;
+  first_choice_is = its_choice;
+}
 
 pub no_votes_there : (t : Trace) (v : ℕ) → length t.verifiers ≤ v → (P : List (ℕ × Vote) → ℕ × Vote → Type 0)
     → SomePlace (votes_at t v) P → ⊥

@@ -43,9 +43,9 @@ is_told_along code.Version = true
 is_told_along code.Value = true
 is_told_along _ = false
 
--- the evidence of a vote that isn't its verifier's first: where the first stands
+-- the evidence of a vote that isn't its verifier's first there: what it says, and the first
 abbrev pub TellsVotes : Trace → ℕ → Evidence → Type 0
-TellsVotes t at (TwoVotes first) = IsVotedAgain t at first
+TellsVotes t at (TwoVotes votes) = IsVotedAgain t at votes
 TellsVotes t at _ = ⊥
 
 -- the codes of a step that no majority voted for

@@ -99,9 +99,7 @@ fn evidence_in<'a>(
         return trace_evidence(alloc, trace, fault);
     }
     match fault.code {
-        Code::TwoVotes => Ok(Evidence::TwoVotes {
-            first: voted_again(trace, fault.offset),
-        }),
+        Code::TwoVotes => Ok(Evidence::TwoVotes(voted_again(trace, fault.offset))),
         Code::TwoDecisions => decisions_evidence(alloc, trace, fault.offset),
         Code::Restore => evidence_of_restore(alloc, trace, fault),
         Code::Token => evidence_of_token(alloc, trace, fault),

@@ -10,10 +10,10 @@ mod votes;
 
 pub use eve_evidence::{
     AccessFault, AttemptFault, BodyField, CertificateFault, CommitFault, Counts, Evidence,
-    FrameFault, HeadField, LengthFault, Numbers, OutcomeFault, Poll, RecordFault, ReplicaCounts,
-    RestoreFault, RollbackFault, SentFault, Source, StateFault, ToldAttempt, ToldDecision,
-    ToldRequest, ToldRow, ToldState, TransferFault, TransferPoll, VerifierChoice, VerifierVote,
-    WrongEntry,
+    FrameFault, GivenBy, HeadField, LengthFault, Numbers, OutcomeFault, Poll, RecordFault,
+    RecordsBefore, ReplicaCounts, RestoreFault, RollbackFault, SecondVote, SentFault, Source,
+    StateFault, TokenMatch, ToldAttempt, ToldDecision, ToldRequest, ToldRow, ToldSent, ToldState,
+    ToldTransfer, TransferFault, TransferPoll, VerifierChoice, VerifierVote, WrongEntry,
 };
 pub use explained::Explained;
 pub use explaining::explain;

@@ -8,8 +8,9 @@ ghost use Rattle.eve_views.specs.Form.{SomePlace};
 ghost use Rattle.eve_votes.specs.Votes.{is_vote_on};
 ghost use Rattle.eve_votes.specs.Faults.{StandsInVotes, IsFurther};
 ghost use Rattle.eve_views.specs.declared.fault.Code.TheVariants as code;
-ghost use Rattle.eve_explain.specs.Votes.{IsFirstOn, IsAgain, IsVotedAgain};
+ghost use Rattle.eve_explain.specs.Votes.{IsFirstOn, IsSecond, IsAgain, IsVotedAgain};
 
+use eve_evidence::SecondVote;
 use eve_frames::VoteView;
 use eve_views::{Trace, Votes};
 
@@ -20,27 +21,33 @@ fn is_on(vote: &VoteView<'_>, n: u32, view: u32) -> bool
     vote.seq() == n && vote.view() == view
 }
 
-/// The byte of the first of a verifier's first votes on a batch in a view, if there is one.
-fn first_on(votes: &Votes<'_, '_>, count: usize, n: u32, view: u32) -> Option<u64>
+/// The first of a verifier's first votes that is on a batch in a view, if there is one.
+fn first_on<'a>(votes: &Votes<'_, 'a>, count: usize, n: u32, view: u32) -> Option<VoteView<'a>>
     requires { count ≤ length votes.now }
-    ensures first { IfSome result (IsFirstOn (take count votes.now) n view) }
+    ensures first { IfSome result (λ w. IsFirstOn (take count votes.now) n view (w.offset, vote_said w)) }
     ensures none { IfNone result (AllByRecursion (λ z. IsFalse (is_vote_on n view z.1)) (take count votes.now)) }
 {
     for i in 0..count {
         let vote = votes.get(i);
         if is_on(&vote, n, view) {
-            return Some(vote.offset());
+            return Some(vote);
         }
     }
     None
 }
 
-/// The byte of the first vote on the same batch in the same view as the vote at this place, if that stands at this byte
-/// and has an earlier one.
-fn first_before(votes: &Votes<'_, '_>, i: usize, at: u64) -> Option<u64>
+/// A verifier's vote at this place with the first on its batch in its view, if it stands at this byte and has an
+/// earlier one.
+fn first_before<'a>(
+    votes: &Votes<'_, 'a>,
+    verifier: u8,
+    i: usize,
+    at: u64,
+) -> Option<SecondVote<'a>>
     requires { i < length votes.now }
-    ensures first { IfSome result (λ first. (w : ℕ × VoteValue) → slice_get votes.now i ≡ Some w
-        → (w.0 ≡ at) × IsFirstOn (take i votes.now) w.1.seq w.1.view first) }
+    ensures first { IfSome result (λ s. (w : ℕ × VoteValue) → slice_get votes.now i ≡ Some w
+        → (w.0 ≡ at) × IsSecond (take i votes.now) w s) }
+    ensures verifier { IfSome result (λ s. s.verifier ≡ verifier) }
     ensures none { IfNone result ((w : ℕ × VoteValue) → slice_get votes.now i ≡ Some w → w.0 ≡ at
         → ¬ IsFurther (take i votes.now) w) }
 {
@@ -48,33 +55,46 @@ fn first_before(votes: &Votes<'_, '_>, i: usize, at: u64) -> Option<u64>
     if vote.offset() != at {
         return None;
     }
-    first_on(votes, i, vote.seq(), vote.view())
+    let n = vote.seq();
+    let view = vote.view();
+    let Some(first) = first_on(votes, i, n, view) else {
+        return None;
+    };
+    Some(SecondVote {
+        verifier,
+        batch: n,
+        view,
+        choice: vote.choice(),
+        first: first.offset(),
+        first_choice: first.choice(),
+    })
 }
 
-/// The byte of a verifier's first vote on the same batch in the same view as its vote at this byte, if it has such a
-/// vote there and an earlier one.
-fn again_among(votes: &Votes<'_, '_>, at: u64) -> Option<u64>
+/// A verifier's vote at this byte with the first on its batch in its view, if it has such a vote there and an earlier
+/// one.
+fn again_among<'a>(votes: &Votes<'_, 'a>, verifier: u8, at: u64) -> Option<SecondVote<'a>>
     ensures first { IfSome result (IsAgain votes.now at) }
+    ensures verifier { IfSome result (λ s. s.verifier ≡ verifier) }
     ensures none { IfNone result (¬ SomePlace votes.now (λ before w. (w.0 ≡ at) × IsFurther before w)) }
 {
     for i in 0..votes.len() {
-        if let Some(first) = first_before(votes, i, at) {
-            return Some(first);
+        if let Some(second) = first_before(votes, verifier, i, at) {
+            return Some(second);
         }
     }
     None
 }
 
-/// The byte of the first of the two votes of which the second stands at this byte.
+/// The vote at this byte, of a verifier that has an earlier one on its batch in its view, and the earliest.
 ///
 /// docs/MODEL.md, "Evidence". One pass over the votes.
-pub fn voted_again(trace: &Trace<'_>, at: u64) -> u64
+pub fn voted_again<'a>(trace: &Trace<'a>, at: u64) -> SecondVote<'a>
     requires { StandsInVotes code.TwoVotes trace.now at }
     ensures { IsVotedAgain trace.now at result }
 {
     for v in 0..trace.verifier_count() {
-        if let Some(first) = again_among(&trace.votes(v), at) {
-            return first;
+        if let Some(second) = again_among(&trace.votes(v), v, at) {
+            return second;
         }
     }
     unreachable!()

@@ -4,10 +4,10 @@ ghost use Rattle.std.specs.Prelude.{◌+◌, ◌≤◌, length};
 ghost use Rattle.arrayvec.specs.ArrayVec.{array_vec_len};
 
 use crate::found::{put_count_line, put_numbers, put_said};
-use crate::words::{LONGEST_REASON, put_attempt_line, put_frame, put_frame_line};
+use crate::words::{LONGEST_REASON, put_attempt_line, put_frame_line};
 use eve_evidence::{AccessFault, AttemptFault, CertificateFault, Numbers, ToldAttempt};
 use eve_grammar::FrameKind;
-use eve_lines::{LINE_ROOM, Line, mode_word, put, put_number};
+use eve_lines::{LINE_ROOM, Line, mode_word, put, put_number, put_numbered};
 
 /// Appends line `i` of a mode that is not the one due.
 fn put_modes(line: &mut Line, i: usize, found: bool, due: bool) -> bool
@@ -49,16 +49,6 @@ fn put_placed(line: &mut Line, index: u16, place: u16)
     put_number(line, u64::from(place));
 }
 
-/// Appends an index at its place, before that of an earlier parallelBatch.
-fn put_placed_before(line: &mut Line, index: u16, place: u16, before: u16)
-    requires { array_vec_len line.old + LONGEST_REASON ≤ LINE_ROOM }
-    ensures { array_vec_len line.new ≤ array_vec_len line.old + LONGEST_REASON }
-{
-    put_placed(line, index, place);
-    put(line, " before index ");
-    put_number(line, u64::from(before));
-}
-
 /// Appends an index at its two places.
 fn put_placed_twice(line: &mut Line, index: u16, first: u16, place: u16)
     requires { array_vec_len line.old + LONGEST_REASON ≤ LINE_ROOM }
@@ -89,18 +79,11 @@ fn put_index_found(line: &mut Line, wrong: &CertificateFault)
             index,
             place,
             before,
-        } => put_placed_before(line, *index, *place, *before),
+        } => {
+            put_placed(line, *index, *place);
+            put_numbered(line, " before index ", u64::from(*before));
+        }
     }
-}
-
-/// Appends the index that is due at a place in serial mode.
-fn put_due_in_order(line: &mut Line, place: u16)
-    requires { array_vec_len line.old + LONGEST_REASON ≤ LINE_ROOM }
-    ensures { array_vec_len line.new ≤ array_vec_len line.old + LONGEST_REASON }
-{
-    put(line, "due: index ");
-    put_number(line, u64::from(place));
-    put(line, ", in serial mode");
 }
 
 /// Appends what was due at a place of a certificate.
@@ -113,7 +96,10 @@ fn put_index_due(line: &mut Line, wrong: &CertificateFault)
             put_count_line(line, "due: below ", u64::from(*requests));
         }
         CertificateFault::Again { .. } => put_said(line, "due", "each index once"),
-        CertificateFault::OutOfOrder { place, .. } => put_due_in_order(line, *place),
+        CertificateFault::OutOfOrder { place, .. } => {
+            put_numbered(line, "due: index ", u64::from(*place));
+            put(line, ", in serial mode");
+        }
         CertificateFault::BeforeGroup { .. } => {
             put_said(line, "due", "parallelBatch after parallelBatch");
         }
@@ -160,19 +146,10 @@ fn put_again(line: &mut Line, i: usize, index: u16, first: u64) -> bool
         0 => put_said(line, "field", "index"),
         1 => put_count_line(line, "found: ", u64::from(index)),
         2 => put_said(line, "due", "once"),
-        3 => put_first_access(line, first),
+        3 => put_frame_line(line, "first: ", FrameKind::Access, first),
         _ => return false,
     }
     true
-}
-
-/// Appends the earlier record.
-fn put_first_access(line: &mut Line, at: u64)
-    requires { array_vec_len line.old + LONGEST_REASON ≤ LINE_ROOM }
-    ensures { array_vec_len line.new ≤ array_vec_len line.old + LONGEST_REASON }
-{
-    put(line, "first: ");
-    put_frame(line, FrameKind::Access, at);
 }
 
 /// Appends line `i` of what is wrong with a record's worker or index, in the Access frame that begins at byte `at`.
@@ -188,7 +165,7 @@ pub(crate) fn put_access_fault(
 {
     match i {
         0 => put_attempt_line(line, attempt),
-        1 => put_frame_line(line, FrameKind::Access, at),
+        1 => put_frame_line(line, "frame: ", FrameKind::Access, at),
         _ => return put_index_fault(line, i - 2, attempt.serial, wrong),
     }
     true
@@ -219,7 +196,7 @@ pub(crate) fn put_worker_order(
 {
     match i {
         0 => put_attempt_line(line, attempt),
-        1 => put_frame_line(line, FrameKind::Access, at),
+        1 => put_frame_line(line, "frame: ", FrameKind::Access, at),
         _ => return put_numbers(line, i - 2, "place", place, "due: "),
     }
     true

@@ -4,10 +4,12 @@ ghost use Rattle.std.specs.Prelude.{◌+◌, ◌≤◌, length};
 ghost use Rattle.arrayvec.specs.ArrayVec.{array_vec_len};
 
 use crate::found::{put_count_line, put_said};
-use crate::words::{LONGEST_REASON, put_frame_line};
-use eve_evidence::{BodyField, FRAME_KINDS, FrameFault, HeadField, LengthFault, frame_kinds};
+use crate::words::{LONGEST_REASON, put_frame, put_frame_line};
+use eve_evidence::{
+    BodyField, FRAME_KINDS, FrameFault, HeadField, LengthFault, RecordsBefore, frame_kinds,
+};
 use eve_grammar::{FrameKind, HEADER_LEN, MOST_BYTES};
-use eve_lines::{LINE_ROOM, Line, kind_name, put, put_bytes, put_number};
+use eve_lines::{LINE_ROOM, Line, kind_name, put, put_bytes, put_number, put_numbered};
 
 /// Appends a line of a number and some words behind it: `found: 301 bytes`.
 fn put_count_of(line: &mut Line, label: &str, count: u64, words: &str)
@@ -33,26 +35,51 @@ fn put_due_length(line: &mut Line, wrong: &LengthFault)
     }
 }
 
+/// Appends the first six bytes, where they aren't a trace's: `magic: 1f8b08000000, not 45564553424b`.
+fn put_other_magic(line: &mut Line, magic: &Option<[u8; 6]>) -> bool
+    requires { array_vec_len line.old + LONGEST_REASON ≤ LINE_ROOM }
+    ensures { array_vec_len line.new ≤ array_vec_len line.old + LONGEST_REASON }
+{
+    let Some(found) = magic else {
+        return false;
+    };
+    put_six(line, "magic: ", found);
+    put(line, ", not ");
+    put(line, MAGIC);
+    true
+}
+
 /// Appends line `i` of what is wrong with the length of the bytes.
-pub(crate) fn put_length(line: &mut Line, i: usize, found: u64, wrong: &LengthFault) -> bool
+pub(crate) fn put_length(
+    line: &mut Line,
+    i: usize,
+    found: u64,
+    wrong: &LengthFault,
+    magic: &Option<[u8; 6]>,
+) -> bool
     requires { array_vec_len line.old + LONGEST_REASON ≤ LINE_ROOM }
     ensures { array_vec_len line.new ≤ array_vec_len line.old + LONGEST_REASON }
 {
     match i {
         0 => put_count_of(line, "found: ", found, " bytes"),
         1 => put_due_length(line, wrong),
+        2 => return put_other_magic(line, magic),
         _ => return false,
     }
     true
 }
 
-/// Appends the first six bytes.
-fn put_first_bytes(line: &mut Line, found: &[u8; 6])
-    requires { array_vec_len line.old + LONGEST_REASON ≤ LINE_ROOM }
-    ensures { array_vec_len line.new ≤ array_vec_len line.old + LONGEST_REASON }
+/// The first six bytes of a trace, in hexadecimal digits.
+const MAGIC: &str = "45564553424b";
+
+/// Appends six bytes in hexadecimal digits, behind a word.
+fn put_six(line: &mut Line, label: &str, found: &[u8; 6])
+    requires room { array_vec_len line.old + 44 ≤ LINE_ROOM }
+    requires label { length label.now ≤ 32 }
+    ensures { array_vec_len line.new ≤ array_vec_len line.old + 44 }
 {
     let mut digits = [0; 12];
-    put(line, "found: ");
+    put(line, label);
     if hex::encode_to_slice(&found[..], &mut digits).is_ok() {
         put_bytes(line, &digits);
     }
@@ -64,8 +91,8 @@ pub(crate) fn put_magic(line: &mut Line, i: usize, found: &[u8; 6]) -> bool
     ensures { array_vec_len line.new ≤ array_vec_len line.old + LONGEST_REASON }
 {
     match i {
-        0 => put_first_bytes(line, found),
-        1 => put_said(line, "due", "45564553424b"),
+        0 => put_six(line, "found: ", found),
+        1 => put_said(line, "due", MAGIC),
         _ => return false,
     }
     true
@@ -205,12 +232,28 @@ fn put_due_kinds(line: &mut Line, due: &[bool; FRAME_KINDS])
     }
 }
 
-/// Appends line `i` of what stands where a frame is due, and of which frames may stand there.
+/// Appends how many access records the last attempt has so far: `records: 1 of 2, of Attempt at byte 126`.
+fn put_records(line: &mut Line, records: &Option<RecordsBefore>) -> bool
+    requires { array_vec_len line.old + LONGEST_REASON ≤ LINE_ROOM }
+    ensures { array_vec_len line.new ≤ array_vec_len line.old + LONGEST_REASON }
+{
+    let Some(before) = records else {
+        return false;
+    };
+    put_numbered(line, "records: ", before.found as u64);
+    put_numbered(line, " of ", before.due as u64);
+    put(line, ", of ");
+    put_frame(line, FrameKind::Attempt, before.attempt);
+    true
+}
+
+/// Appends line `i` of what stands where a frame is due, of which frames may stand there, and of the records before.
 pub(crate) fn put_frame_fault(
     line: &mut Line,
     i: usize,
     wrong: &FrameFault,
     due: &[bool; FRAME_KINDS],
+    records: &Option<RecordsBefore>,
 ) -> bool
     requires { array_vec_len line.old + LONGEST_REASON ≤ LINE_ROOM }
     ensures { array_vec_len line.new ≤ array_vec_len line.old + LONGEST_REASON }
@@ -218,6 +261,7 @@ pub(crate) fn put_frame_fault(
     match i {
         0 => put_no_frame(line, wrong),
         1 => put_due_kinds(line, due),
+        2 => return put_records(line, records),
         _ => return false,
     }
     true
@@ -295,7 +339,7 @@ pub(crate) fn put_body(
     ensures { array_vec_len line.new ≤ array_vec_len line.old + LONGEST_REASON }
 {
     match i {
-        0 => put_frame_line(line, frame.0, frame.1),
+        0 => put_frame_line(line, "frame: ", frame.0, frame.1),
         1 => put_field_at(line, body_word(field), field_at),
         _ => return false,
     }

@@ -8,15 +8,6 @@ use eve_evidence::ToldRequest;
 use eve_grammar::FrameKind;
 use eve_lines::{LINE_ROOM, Line, put, put_name, put_number};
 
-/// Appends the name that stands twice.
-fn put_name_line(line: &mut Line, name: &[u8])
-    requires { array_vec_len line.old + LONGEST_REASON ≤ LINE_ROOM }
-    ensures { array_vec_len line.new ≤ array_vec_len line.old + LONGEST_REASON }
-{
-    put(line, "name: ");
-    put_name(line, name);
-}
-
 /// Appends the first customer that has the name.
 fn put_customer(line: &mut Line, customer: u32, at: u64)
     requires { array_vec_len line.old + LONGEST_REASON ≤ LINE_ROOM }
@@ -34,22 +25,14 @@ pub(crate) fn put_same_name(line: &mut Line, i: usize, name: &[u8], first: u32, 
     ensures { array_vec_len line.new ≤ array_vec_len line.old + LONGEST_REASON }
 {
     match i {
-        0 => put_name_line(line, name),
+        0 => {
+            put(line, "name: ");
+            put_name(line, name);
+        }
         1 => put_customer(line, first, at),
         _ => return false,
     }
     true
-}
-
-/// Appends the earliest request with this client and number, in the Batch frame that begins at byte `at`.
-fn put_first_request(line: &mut Line, first: &ToldRequest, at: u64)
-    requires { array_vec_len line.old + LONGEST_REASON ≤ LINE_ROOM }
-    ensures { array_vec_len line.new ≤ array_vec_len line.old + LONGEST_REASON }
-{
-    put(line, "first: ");
-    put_told_request(line, first);
-    put(line, ", ");
-    put_frame(line, FrameKind::Batch, at);
 }
 
 /// Appends line `i` of a request whose client and number stand earlier, first in the Batch frame that begins at byte
@@ -65,8 +48,13 @@ pub(crate) fn put_same_request(
     ensures { array_vec_len line.new ≤ array_vec_len line.old + LONGEST_REASON }
 {
     match i {
-        0 => put_request_line(line, request),
-        1 => put_first_request(line, first, at),
+        0 => put_request_line(line, "request: ", request),
+        1 => {
+            put(line, "first: ");
+            put_told_request(line, first);
+            put(line, ", ");
+            put_frame(line, FrameKind::Batch, at);
+        }
         _ => return false,
     }
     true

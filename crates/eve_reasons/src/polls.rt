@@ -4,21 +4,47 @@ ghost use Rattle.std.specs.Prelude.{◌+◌, ◌≤◌, length};
 ghost use Rattle.arrayvec.specs.ArrayVec.{array_vec_len};
 
 use crate::found::put_count_line;
-use crate::words::{LONGEST_REASON, put_frame};
-use eve_evidence::{Poll, ToldDecision, TransferPoll, VERIFIERS, VerifierChoice, VerifierVote};
+use crate::words::{LONGEST_REASON, put_batch_and_view, put_frame, put_transfer_line};
+use eve_evidence::{
+    Poll, SecondVote, ToldDecision, ToldTransfer, TransferPoll, VERIFIERS, VerifierChoice,
+    VerifierVote,
+};
 use eve_grammar::{Choice, FrameKind};
-use eve_lines::{LINE_ROOM, Line, put, put_number, put_token};
+use eve_lines::{LINE_ROOM, Line, put, put_number, put_numbered, put_token};
 
-/// Appends line `i` of a verifier's earlier vote, whose frame begins at byte `first`.
-pub(crate) fn put_two_votes(line: &mut Line, i: usize, first: u64) -> bool
+/// Appends what a vote is for, behind a comma: `, rollback`.
+fn put_choice(line: &mut Line, choice: &Choice)
+    requires { array_vec_len line.old + 73 ≤ LINE_ROOM }
+    ensures { array_vec_len line.new ≤ array_vec_len line.old + 73 }
+{
+    match choice {
+        Choice::ForRollback => put(line, ", rollback"),
+        Choice::ForCommit(token) => {
+            put(line, ", commit ");
+            put_token(line, token);
+        }
+    }
+}
+
+/// Appends line `i` of a verifier's vote on a batch on which it has voted in that view, and of its earliest there.
+pub(crate) fn put_two_votes(line: &mut Line, i: usize, second: &SecondVote) -> bool
     requires { array_vec_len line.old + LONGEST_REASON ≤ LINE_ROOM }
     ensures { array_vec_len line.new ≤ array_vec_len line.old + LONGEST_REASON }
 {
-    if i > 0 {
-        return false;
+    match i {
+        0 => {
+            put_numbered(line, "vote: verifier ", u64::from(second.verifier));
+            put(line, ", ");
+            put_batch_and_view(line, second.batch, second.view);
+            put_choice(line, &second.choice);
+        }
+        1 => {
+            put(line, "first: ");
+            put_frame(line, FrameKind::Vote, second.first);
+            put_choice(line, &second.first_choice);
+        }
+        _ => return false,
     }
-    put(line, "first: ");
-    put_frame(line, FrameKind::Vote, first);
     true
 }
 
@@ -46,10 +72,11 @@ fn put_decision(line: &mut Line, decision: &ToldDecision, verifiers: u8)
     put_of_verifiers(line, u64::from(decision.votes), u64::from(verifiers));
 }
 
-/// Appends line `i` of two views in which a batch is decided as commit.
+/// Appends line `i` of a batch and of two views in which it is decided as commit.
 pub(crate) fn put_two_decisions(
     line: &mut Line,
     i: usize,
+    batch: u32,
     first: &ToldDecision,
     second: &ToldDecision,
     verifiers: u8,
@@ -58,22 +85,12 @@ pub(crate) fn put_two_decisions(
     ensures { array_vec_len line.new ≤ array_vec_len line.old + LONGEST_REASON }
 {
     match i {
-        0 => put_decision(line, first, verifiers),
-        1 => put_decision(line, second, verifiers),
+        0 => put_count_line(line, "batch: ", u64::from(batch)),
+        1 => put_decision(line, first, verifiers),
+        2 => put_decision(line, second, verifiers),
         _ => return false,
     }
     true
-}
-
-/// Appends a batch and a view: `batch 1, view 0`.
-fn put_batch_and_view(line: &mut Line, batch: u32, view: u32)
-    requires { array_vec_len line.old + 53 ≤ LINE_ROOM }
-    ensures { array_vec_len line.new ≤ array_vec_len line.old + 53 }
-{
-    put(line, "batch ");
-    put_number(line, u64::from(batch));
-    put(line, ", view ");
-    put_number(line, u64::from(view));
 }
 
 /// Appends what votes are asked for: `for: rollback of batch 2, view 0`.
@@ -156,16 +173,6 @@ pub(crate) fn put_poll(line: &mut Line, i: usize, poll: &Poll) -> bool
     true
 }
 
-/// Appends which commit it is: `for: commit of batch 2, view 1, any token`.
-fn put_any_token(line: &mut Line, poll: &TransferPoll)
-    requires { array_vec_len line.old + LONGEST_REASON ≤ LINE_ROOM }
-    ensures { array_vec_len line.new ≤ array_vec_len line.old + LONGEST_REASON }
-{
-    put(line, "for: commit of ");
-    put_batch_and_view(line, poll.batch, poll.view);
-    put(line, ", any token");
-}
-
 /// Appends what this verifier said; no, where it isn't there.
 fn put_verifier_choice(line: &mut Line, poll: &TransferPoll, verifier: usize) -> bool
     requires { array_vec_len line.old + LONGEST_REASON ≤ LINE_ROOM }
@@ -187,16 +194,29 @@ fn put_verifier_choice(line: &mut Line, poll: &TransferPoll, verifier: usize) ->
     true
 }
 
-/// Appends line `i` of who voted for the commit of a batch whose state was taken over, where no token has a majority.
-pub(crate) fn put_transfer_poll(line: &mut Line, i: usize, poll: &TransferPoll) -> bool
+/// Appends line `i` of who voted for the commit of a batch whose state was taken over at byte `at`, where no token has a
+/// majority.
+pub(crate) fn put_transfer_poll(line: &mut Line, i: usize, at: u64, poll: &TransferPoll) -> bool
     requires { array_vec_len line.old + LONGEST_REASON ≤ LINE_ROOM }
     ensures { array_vec_len line.new ≤ array_vec_len line.old + LONGEST_REASON }
 {
     match i {
-        0 => put_any_token(line, poll),
-        1 => put_votes_found(line, poll.found, poll.verifiers),
-        2 => put_count_line(line, "due: ", u64::from(poll.due)),
-        _ => return put_verifier_choice(line, poll, i - 3),
+        0 => put_transfer_line(
+            line,
+            &ToldTransfer {
+                batch: poll.batch,
+                view: poll.view,
+                at,
+            },
+        ),
+        1 => {
+            put(line, "for: commit of ");
+            put_batch_and_view(line, poll.batch, poll.view);
+            put(line, ", any token");
+        }
+        2 => put_votes_found(line, poll.found, poll.verifiers),
+        3 => put_count_line(line, "due: ", u64::from(poll.due)),
+        _ => return put_verifier_choice(line, poll, i - 4),
     }
     true
 }

@@ -21,7 +21,11 @@ fn put_early(line: &mut Line, i: usize, evidence: &Evidence) -> bool
     ensures { array_vec_len line.new ≤ array_vec_len line.old + LONGEST_REASON }
 {
     match evidence {
-        Evidence::Length { found, wrong } => put_length(line, i, *found, wrong),
+        Evidence::Length {
+            found,
+            wrong,
+            magic,
+        } => put_length(line, i, *found, wrong, magic),
         Evidence::Magic { found } => put_magic(line, i, found),
         Evidence::Head {
             field,
@@ -30,7 +34,11 @@ fn put_early(line: &mut Line, i: usize, evidence: &Evidence) -> bool
             least,
             most,
         } => put_head(line, i, *field, *at, *found, (*least, *most)),
-        Evidence::Frame { wrong, due } => put_frame_fault(line, i, wrong, due),
+        Evidence::Frame {
+            wrong,
+            due,
+            records,
+        } => put_frame_fault(line, i, wrong, due, records),
         Evidence::Body {
             frame,
             at,
@@ -65,7 +73,7 @@ fn put_section(line: &mut Line, i: usize, evidence: &Evidence) -> bool
         }
         Evidence::Commit(wrong) => put_commit_fault(line, i, wrong),
         Evidence::Rollback(wrong) => put_rollback_fault(line, i, wrong),
-        Evidence::Transfer(wrong) => put_transfer_fault(line, i, wrong),
+        Evidence::Transfer { state, wrong } => put_transfer_fault(line, i, state, wrong),
         Evidence::Record {
             attempt,
             request,
@@ -121,23 +129,25 @@ pub fn put_reason(line: &mut Line, i: usize, evidence: &Evidence) -> bool
             attempt,
             found,
             due,
-        } => put_token_fault(line, i, attempt, found, due),
-        Evidence::TwoVotes { first } => put_two_votes(line, i, *first),
+            matches,
+        } => put_token_fault(line, i, attempt, (found, due), *matches),
+        Evidence::TwoVotes(second) => put_two_votes(line, i, second),
         Evidence::TwoDecisions {
+            batch,
             first,
             second,
             verifiers,
-        } => put_two_decisions(line, i, first, second, *verifiers),
+        } => put_two_decisions(line, i, *batch, first, second, *verifiers),
         Evidence::Majority(poll) => put_poll(line, i, poll),
-        Evidence::TransferMajority(poll) => put_transfer_poll(line, i, poll),
+        Evidence::TransferMajority { at, poll } => put_transfer_poll(line, i, *at, poll),
         Evidence::Outcome {
             attempt,
             first,
             first_at,
             wrong,
         } => put_outcome(line, i, attempt, (*first, *first_at), wrong),
-        Evidence::TransferState(wrong) => put_state_fault(line, i, wrong),
-        Evidence::Reply(wrong) => put_sent_fault(line, i, wrong),
+        Evidence::TransferState { state, wrong } => put_state_fault(line, i, state, wrong),
+        Evidence::Reply { sent, wrong, given } => put_sent_fault(line, i, sent, wrong, given),
         _ => put_section(line, i, evidence),
     }
 }

@@ -5,13 +5,12 @@ ghost use Rattle.arrayvec.specs.ArrayVec.{array_vec_len};
 
 use crate::found::{put_amounts, put_count_line, put_replies, put_said, put_words};
 use crate::words::{
-    LONGEST_REASON, put_attempt_line, put_frame, put_frame_line, put_has, put_index,
-    put_request_line, put_row,
+    LONGEST_REASON, put_attempt_line, put_frame, put_frame_line, put_has_line, put_index,
+    put_request_line, put_row, put_row_line,
 };
 use eve_evidence::{RecordFault, SeenFrom, Source, ToldAttempt, ToldRequest, ToldRow, WrongEntry};
 use eve_grammar::FrameKind;
 use eve_lines::{LINE_ROOM, Line, kind_word, put, put_number};
-use eve_smallbank::Versioned;
 
 /// An attempt, a request of it, and the byte at which its Access frame begins.
 #[derive(Clone, Copy)]
@@ -28,8 +27,8 @@ fn put_record_at(line: &mut Line, i: usize, record: RecordAt<'_, '_>)
 {
     match i {
         0 => put_attempt_line(line, record.attempt),
-        1 => put_request_line(line, record.request),
-        _ => put_frame_line(line, FrameKind::Access, record.at),
+        1 => put_request_line(line, "request: ", record.request),
+        _ => put_frame_line(line, "frame: ", FrameKind::Access, record.at),
     }
 }
 
@@ -43,16 +42,6 @@ fn put_field_of(line: &mut Line, field: &str, entry: u8)
     put(line, field);
     put(line, " of entry ");
     put_number(line, u64::from(entry));
-}
-
-/// Appends a line of a row: `found: row 3 (checking of bob)`.
-fn put_row_line(line: &mut Line, label: &str, row: &ToldRow)
-    requires room { array_vec_len line.old + LONGEST_REASON ≤ LINE_ROOM }
-    requires label { length label.now ≤ 32 }
-    ensures { array_vec_len line.new ≤ array_vec_len line.old + LONGEST_REASON }
-{
-    put(line, label);
-    put_row(line, row);
 }
 
 /// Appends line `i` of two rows, from 0.
@@ -140,16 +129,6 @@ fn put_entry_line(line: &mut Line, wrong: &WrongEntry)
     put(line, kind_word(wrong.kind));
     put(line, " of ");
     put_row(line, &wrong.row);
-}
-
-/// Appends a line of a version and a value: `saw: version 0, value 0`.
-fn put_has_line(line: &mut Line, label: &str, has: Versioned)
-    requires room { array_vec_len line.old + LONGEST_REASON ≤ LINE_ROOM }
-    requires label { length label.now ≤ 32 }
-    ensures { array_vec_len line.new ≤ array_vec_len line.old + LONGEST_REASON }
-{
-    put(line, label);
-    put_has(line, has);
 }
 
 /// Appends who left something in a row: `#0 of batch 1, Access at byte 236`.
@@ -240,15 +219,6 @@ fn put_seen_from(line: &mut Line, seen: &Option<SeenFrom>) -> bool
     true
 }
 
-/// Appends who left what an entry must see: `left by: the opening`.
-fn put_left_by(line: &mut Line, source: &Source)
-    requires { array_vec_len line.old + LONGEST_REASON ≤ LINE_ROOM }
-    ensures { array_vec_len line.new ≤ array_vec_len line.old + LONGEST_REASON }
-{
-    put(line, "left by: ");
-    put_source(line, source);
-}
-
 /// Appends who saw what an entry left, before it in the certificate; no, where that is nobody.
 fn put_seen_by(line: &mut Line, seen_by: &Option<Source>) -> bool
     requires { array_vec_len line.old + LONGEST_REASON ≤ LINE_ROOM }
@@ -279,7 +249,10 @@ pub(crate) fn put_chain(
         4 => put_has_line(line, "saw: ", wrong.saw),
         5 => return put_seen_from(line, seen),
         6 => put_has_line(line, "due: ", wrong.due),
-        7 => put_left_by(line, &wrong.left_by),
+        7 => {
+            put(line, "left by: ");
+            put_source(line, &wrong.left_by);
+        }
         8 => return put_seen_by(line, &wrong.seen_by),
         _ => return false,
     }

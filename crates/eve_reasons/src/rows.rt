@@ -4,10 +4,9 @@ ghost use Rattle.std.specs.Prelude.{◌+◌, ◌≤◌, length};
 ghost use Rattle.arrayvec.specs.ArrayVec.{array_vec_len};
 
 use crate::found::put_tokens;
-use crate::words::{LONGEST_REASON, put_attempt_line, put_has, put_state};
-use eve_evidence::{RestoreFault, ToldAttempt, ToldState};
-use eve_lines::{LINE_ROOM, Line, put};
-use eve_smallbank::Versioned;
+use crate::words::{LONGEST_REASON, put_attempt_line, put_has_line, put_state};
+use eve_evidence::{RestoreFault, TokenMatch, ToldAttempt, ToldState};
+use eve_lines::{LINE_ROOM, Line, put, put_numbered};
 
 /// Appends a line of a row and what it has: `missing: row 1 (checking of ann), version 1, value 100`.
 fn put_state_line(line: &mut Line, label: &str, state: &ToldState)
@@ -19,15 +18,6 @@ fn put_state_line(line: &mut Line, label: &str, state: &ToldState)
     put_state(line, state);
 }
 
-/// Appends what a row must have: `due: version 1, value 100`.
-fn put_due_state(line: &mut Line, has: Versioned)
-    requires { array_vec_len line.old + LONGEST_REASON ≤ LINE_ROOM }
-    ensures { array_vec_len line.new ≤ array_vec_len line.old + LONGEST_REASON }
-{
-    put(line, "due: ");
-    put_has(line, has);
-}
-
 /// Appends line `i` of the first row in which restores differ from those that are due.
 pub(crate) fn put_restore_fault(line: &mut Line, i: usize, wrong: &RestoreFault) -> bool
     requires { array_vec_len line.old + LONGEST_REASON ≤ LINE_ROOM }
@@ -37,26 +27,46 @@ pub(crate) fn put_restore_fault(line: &mut Line, i: usize, wrong: &RestoreFault)
         (0, RestoreFault::Missing(state)) => put_state_line(line, "missing: ", state),
         (0, RestoreFault::Extra(state)) => put_state_line(line, "extra: ", state),
         (0, RestoreFault::Another { found, .. }) => put_state_line(line, "found: ", found),
-        (1, RestoreFault::Another { due, .. }) => put_due_state(line, due.has),
+        (1, RestoreFault::Another { due, .. }) => put_has_line(line, "due: ", due.has),
         _ => return false,
     }
     true
 }
 
-/// Appends line `i` of an attempt's token that is not the one due.
+/// Appends of what a token is made that is not the one due: `matches: batch 2`.
+fn put_match(line: &mut Line, matches: TokenMatch)
+    requires { array_vec_len line.old + LONGEST_REASON ≤ LINE_ROOM }
+    ensures { array_vec_len line.new ≤ array_vec_len line.old + LONGEST_REASON }
+{
+    put(line, "matches: ");
+    match matches {
+        TokenMatch::Before => put(line, "the balances before the attempt"),
+        TokenMatch::Ordered => put(line, "the replies in the certificate's order"),
+        TokenMatch::BeforeOrdered => {
+            put(line, "the balances before the attempt and ");
+            put(line, "the replies in the certificate's order");
+        }
+        TokenMatch::Batch(number) => put_numbered(line, "batch ", u64::from(number)),
+        TokenMatch::Version(version) => put_numbered(line, "version ", u64::from(version)),
+        TokenMatch::Nothing => put(line, "nothing that was tried"),
+    }
+}
+
+/// Appends line `i` of an attempt's token that is not the one due, and of what it is made.
 pub(crate) fn put_token_fault(
     line: &mut Line,
     i: usize,
     attempt: &ToldAttempt,
-    found: &[u8],
-    due: &[u8],
+    tokens: (&[u8], &[u8]),
+    matches: TokenMatch,
 ) -> bool
     requires { array_vec_len line.old + LONGEST_REASON ≤ LINE_ROOM }
     ensures { array_vec_len line.new ≤ array_vec_len line.old + LONGEST_REASON }
 {
-    if i == 0 {
-        put_attempt_line(line, attempt);
-        return true;
+    match i {
+        0 => put_attempt_line(line, attempt),
+        3 => put_match(line, matches),
+        _ => return put_tokens(line, i - 1, tokens.0, tokens.1),
     }
-    put_tokens(line, i - 1, found, due)
+    true
 }

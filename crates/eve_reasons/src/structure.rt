@@ -4,8 +4,8 @@ ghost use Rattle.std.specs.Prelude.{◌+◌, ◌≤◌, length};
 ghost use Rattle.arrayvec.specs.ArrayVec.{array_vec_len};
 
 use crate::found::{put_numbers, put_said, put_tokens};
-use crate::words::LONGEST_REASON;
-use eve_evidence::{CommitFault, RollbackFault, TransferFault};
+use crate::words::{LONGEST_REASON, put_transfer_line};
+use eve_evidence::{CommitFault, RollbackFault, ToldTransfer, TransferFault};
 use eve_lines::{LINE_ROOM, Line};
 
 /// Appends line `i` of a commit with no open attempt.
@@ -59,13 +59,22 @@ pub(crate) fn put_rollback_fault(line: &mut Line, i: usize, wrong: &RollbackFaul
 }
 
 /// Appends line `i` of what is wrong with a state that was taken over.
-pub(crate) fn put_transfer_fault(line: &mut Line, i: usize, wrong: &TransferFault) -> bool
+pub(crate) fn put_transfer_fault(
+    line: &mut Line,
+    i: usize,
+    state: &ToldTransfer,
+    wrong: &TransferFault,
+) -> bool
     requires { array_vec_len line.old + LONGEST_REASON ≤ LINE_ROOM }
     ensures { array_vec_len line.new ≤ array_vec_len line.old + LONGEST_REASON }
 {
+    if i == 0 {
+        put_transfer_line(line, state);
+        return true;
+    }
     match wrong {
-        TransferFault::Number(is) => put_numbers(line, i, "number", is, "due: above "),
-        TransferFault::PastBatches(is) => put_numbers(line, i, "number", is, "due: at most "),
-        TransferFault::View(is) => put_numbers(line, i, "view", is, "due: at least "),
+        TransferFault::Number(is) => put_numbers(line, i - 1, "number", is, "due: above "),
+        TransferFault::PastBatches(is) => put_numbers(line, i - 1, "number", is, "due: at most "),
+        TransferFault::View(is) => put_numbers(line, i - 1, "view", is, "due: at least "),
     }
 }

@@ -13,8 +13,8 @@ use Rattle.eve_evidence_form.proofs.body.wrong_body_at.Goals as goal
 sliced_off : (at : ℕ) (bytes : List ℕ) → take (length bytes - at) (drop at bytes) ≡ drop at bytes
 sliced_off at bytes = take_all (length bytes - at) (drop at bytes) (omega (arith, length-drop at bytes))
 
-pub place_reached-place-requires : goal.place_reached-place-requires
-place_reached-place-requires c =
+pub reached-requires : goal.reached-requires
+reached-requires c =
     let r = c.requires.wrong.0 in
     (r, sym (c.head_said-head.ensures r.head r.says))
 
@@ -24,10 +24,10 @@ body_there-requires c =
     let bytes = c.args.bytes.now in
     let at = c.args.at in
     let head = c.head_said-head.ensures r.head r.says in
-    let place = c.place_reached-place.ensures r (sym head) in
-    subst (λ (ys : List ℕ). HasWrongBody c.head_said-head.result c.place_reached-place.result ys)
+    let place = c.reached.ensures.place r (sym head) in
+    subst (λ (ys : List ℕ). HasWrongBody c.head_said-head.result c.reached.result.place ys)
     (sym (sliced_off at bytes))
-    (subst (λ (h : Head). HasWrongBody h c.place_reached-place.result (drop at bytes)) (sym head)
+    (subst (λ (h : Head). HasWrongBody h c.reached.result.place (drop at bytes)) (sym head)
     (subst (λ (p : Place). HasWrongBody r.head p (drop at bytes)) (sym place) c.requires.wrong.1))
 
 pub body_fault-own-requires-clause-few : goal.body_fault-own-requires-clause-few
@@ -57,7 +57,7 @@ returns c =
     let at = c.args.at in
     let kind = c.kind_there-kind.result in
     let head = c.head_said-head.ensures r.head r.says in
-    let place = c.place_reached-place.ensures r (sym head) in
+    let place = c.reached.ensures.place r (sym head) in
     let whole = sliced_off at bytes in
     let body = c.body_there.ensures ∙ ap body_in_front whole in (
       r,

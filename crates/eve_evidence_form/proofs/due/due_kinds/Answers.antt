@@ -1,4 +1,4 @@
-use Rattle.std.proofs.Common.{Bool, List, [], ◌∷◌, ◌++◌, length, length-set, take, map, sym, ap, ◌∙◌, ◌<◌, arith}
+use Rattle.std.proofs.Common.{Bool, [], ◌∷◌, ◌++◌, length, length-set, take, map, sym, ap, ◌∙◌, ◌<◌, arith}
 use Rattle.std.proofs.lemmas.List.{take_all, map-append, take_more_set}
 use Rattle.eve_grammar.specs.Frames.{is_allowed}
 use Rattle.eve_grammar.specs.Kinds.{kind_byte}

@@ -10,8 +10,8 @@ head_said-head-requires c =
     let r = c.requires.0 in
     record { long = omega (arith, r.at_is, r.within); says = (r.head, r.says) }
 
-pub place_reached-place-requires : goal.place_reached-place-requires
-place_reached-place-requires c =
+pub reached-so_far-requires : goal.reached-so_far-requires
+reached-so_far-requires c =
     let r = c.requires.0 in
     (r, sym (c.head_said-head.ensures r.head r.says))
 
@@ -21,14 +21,15 @@ returns c =
     let bytes = c.args.bytes.now in
     let at = c.args.at in
     let head = c.head_said-head.ensures r.head r.says in
-    let place = c.place_reached-place.ensures r (sym head) in
+    let place = c.reached-so_far.ensures.place r (sym head) in
     let whole : take (length bytes - at) (drop at bytes) ≡ drop at bytes =
     take_all (length bytes - at) (drop at bytes) (omega (arith, length-drop at bytes)) in (
       r,
       subst (λ (p : Place). IsFrameFault r.head p (drop at bytes) c.frame_fault.result) place
-          (subst (λ (h : Head). IsFrameFault h c.place_reached-place.result (drop at bytes) c.frame_fault.result) head
+          (subst (λ (h : Head). IsFrameFault h c.reached-so_far.result.place (drop at bytes) c.frame_fault.result) head
           (subst (λ
-          (ys : List ℕ). IsFrameFault c.head_said-head.result c.place_reached-place.result ys c.frame_fault.result)
+          (ys : List ℕ). IsFrameFault c.head_said-head.result c.reached-so_far.result.place ys c.frame_fault.result)
           whole c.frame_fault.ensures)),
       c.due_kinds-due.ensures ∙ (λ i. due_kinds (head i) (place i)),
+      c.reached-so_far.ensures.records r (sym head),
     )

@@ -1,55 +1,68 @@
-use Rattle.std.proofs.Common.{ℕ, ◌+◌, length, sym, subst, arith}
+use Rattle.std.proofs.Common.{ℕ, ◌+◌, refl, sym, subst, arith}
 use Rattle.eve_grammar.specs.Limits.{FitsAt}
-use Rattle.eve_grammar.specs.Spelling.{frame_text}
 use Rattle.eve_grammar.specs.declared.head.Head.{Head}
-use Rattle.eve_grammar.specs.declared.place.Place.{Place}
 use Rattle.eve_views.proofs.FrameLaws.{length-frame_text}
-use Rattle.eve_evidence_form.proofs.Walking.{IsPassed, all_passed, next_frame, begins_there}
-use Rattle.eve_evidence_form.proofs.walk.place_reached.Goals as goal
+use Rattle.eve_evidence_form.proofs.Walking.{IsPassed, all_passed, begins_there, next_frame, none_passed}
+use Rattle.eve_evidence_form.proofs.walk.reached.Goals as goal
 
-pub step-place-requires : goal.step-place-requires
-step-place-requires c =
-    let n = next_frame c.args.bytes.now c.args.at c.requires.0 c.frames.next c.frames.place
+pub frames-init : goal.frames-init
+frames-init c = λ r same. none_passed c.args.bytes.now c.args.at r _ refl refl
+
+pub step-so_far-requires-clause-fits : goal.step-so_far-requires-clause-fits
+step-so_far-requires-clause-fits c =
+    let n = next_frame c.args.bytes.now c.args.at c.requires.0 c.frames.next c.frames.so_far
     (c.frames.invariant c.requires.0 c.requires.1) c.frames-test.true in (
       n.frame,
-      begins_there c.args.bytes.now c.args.at c.requires.0 c.frames.next c.frames.place n,
-      subst (λ (h : Head). FitsAt h c.frames.place n.frame) c.requires.1 n.fits,
+      begins_there c.args.bytes.now c.args.at c.requires.0 c.frames.next c.frames.so_far n,
+      subst (λ (h : Head). FitsAt h c.frames.so_far.place n.frame) c.requires.1 n.fits,
     )
+
+pub step-so_far-requires-clause-few : goal.step-so_far-requires-clause-few
+step-so_far-requires-clause-few c =
+    (next_frame c.args.bytes.now c.args.at c.requires.0 c.frames.next c.frames.so_far
+    (c.frames.invariant c.requires.0 c.requires.1) c.frames-test.true).few
 
 pub len_in_front-next-requires : goal.len_in_front-next-requires
 len_in_front-next-requires c =
-    let n = next_frame c.args.bytes.now c.args.at c.requires.0 c.frames.next c.frames.place
+    let n = next_frame c.args.bytes.now c.args.at c.requires.0 c.frames.next c.frames.so_far
     (c.frames.invariant c.requires.0 c.requires.1) c.frames-test.true in
-    (n.frame, begins_there c.args.bytes.now c.args.at c.requires.0 c.frames.next c.frames.place n)
+    (n.frame, begins_there c.args.bytes.now c.args.at c.requires.0 c.frames.next c.frames.so_far n)
 
 pub overflow_add-next : goal.overflow_add-next
 overflow_add-next c =
-    let n = next_frame c.args.bytes.now c.args.at c.requires.0 c.frames.next c.frames.place
+    let n = next_frame c.args.bytes.now c.args.at c.requires.0 c.frames.next c.frames.so_far
     (c.frames.invariant c.requires.0 c.requires.1) c.frames-test.true in
     let len = c.len_in_front-next.ensures n.frame
-    (begins_there c.args.bytes.now c.args.at c.requires.0 c.frames.next c.frames.place n) in
+    (begins_there c.args.bytes.now c.args.at c.requires.0 c.frames.next c.frames.so_far n) in
     omega (arith, len, n.within, c.ranges.at.fits)
 
 pub frames-smaller : goal.frames-smaller
 frames-smaller c =
-    let n = next_frame c.args.bytes.now c.args.at c.requires.0 c.frames.next c.frames.place
+    let n = next_frame c.args.bytes.now c.args.at c.requires.0 c.frames.next c.frames.so_far
     (c.frames.invariant c.requires.0 c.requires.1) c.frames-test.true in
     let len = c.len_in_front-next.ensures n.frame
-    (begins_there c.args.bytes.now c.args.at c.requires.0 c.frames.next c.frames.place n) in
+    (begins_there c.args.bytes.now c.args.at c.requires.0 c.frames.next c.frames.so_far n) in
     omega (arith, len, c.frames-test.true, length-frame_text n.frame)
 
 pub frames-preserved : goal.frames-preserved
 frames-preserved c = λ r same.
-    let n = next_frame c.args.bytes.now c.args.at r c.frames.next c.frames.place (c.frames.invariant r same)
+    let n = next_frame c.args.bytes.now c.args.at r c.frames.next c.frames.so_far (c.frames.invariant r same)
     c.frames-test.true in
-    let begins = begins_there c.args.bytes.now c.args.at r c.frames.next c.frames.place n in
+    let begins = begins_there c.args.bytes.now c.args.at r c.frames.next c.frames.so_far n in
     let len = c.len_in_front-next.ensures n.frame begins in
-    let place = c.step-place.ensures n.frame begins (subst (λ
-    (h : Head). FitsAt h c.frames.place n.frame) same n.fits) in
-    subst (λ (k : ℕ). IsPassed c.args.bytes.now c.args.at r (c.frames.next + k) c.step-place.result) (sym len)
-    (subst (λ (p : Place). IsPassed c.args.bytes.now c.args.at r (c.frames.next + length (frame_text n.frame)) p)
-    (sym place) n.passed)
+    subst (λ (k : ℕ). IsPassed c.args.bytes.now c.args.at r (c.frames.next + k) c.step-so_far.result) (sym len)
+    (n.passed c.step-so_far.result (record {
+      place_is = c.step-so_far.ensures.place n.frame begins
+          (subst (λ (h : Head). FitsAt h c.frames.so_far.place n.frame) same n.fits);
+      records_are = c.step-so_far.ensures.records n.frame begins;
+    }))
 
-pub returns : goal.returns
-returns c = λ r same.
-    all_passed c.args.bytes.now c.args.at r c.frames.next c.frames.place (c.frames.invariant r same) c.frames-test.false
+pub returns-clause-place : goal.returns-clause-place
+returns-clause-place c = λ r same.
+    (all_passed c.args.bytes.now c.args.at r c.frames.next c.frames.so_far (c.frames.invariant r same)
+    c.frames-test.false).0
+
+pub returns-clause-records : goal.returns-clause-records
+returns-clause-records c = λ r same.
+    (all_passed c.args.bytes.now c.args.at r c.frames.next c.frames.so_far (c.frames.invariant r same)
+    c.frames-test.false).1

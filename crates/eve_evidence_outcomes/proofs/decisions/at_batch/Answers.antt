@@ -4,8 +4,6 @@ use Rattle.eve_grammar.specs.Trace.{Batch}
 use Rattle.eve_grammar.specs.Spelling.{batches_at}
 use Rattle.eve_frames.specs.Said.{batch_said}
 use Rattle.eve_votes.specs.Faults.{HasTwoDecisions}
-use Rattle.eve_evidence.specs.declared.evidence.Evidence.{Evidence}
-use Rattle.eve_evidence.specs.declared.evidence.Evidence.TheVariants as shown
 use Rattle.eve_evidence.proofs.Lists.{place_at, if_some, if_none_weaker}
 use Rattle.eve_evidence_outcomes.specs.Decisions.{TellsDecisions, TellsTwoDecisions}
 use Rattle.eve_evidence_outcomes.proofs.decisions.at_batch.Goals as goal
@@ -15,11 +13,8 @@ returns-clause-told c =
     let t = c.args.trace.now in
     let y : ℕ × (ℕ × Batch) = (c.batch-batch.result.offset, batch_said c.batch-batch.result) in
     let here : y.0 ≡ c.args.place = omega (arith, c.if-offset-place.false, c.offset.ensures) in
-    if_some c.first_decisions.result
-    (λ d. TellsDecisions t c.seq.result (shown.TwoDecisions d.first d.second d.verifiers))
-    (λ d. TellsTwoDecisions t c.args.place (shown.TwoDecisions d.first d.second d.verifiers))
-    (λ d told.
-    let x : Evidence = shown.TwoDecisions d.first d.second d.verifiers in
+    if_some c.first_decisions.result (TellsDecisions t c.seq.result) (TellsTwoDecisions t c.args.place)
+    (λ x told.
     place_at (λ _ b. (b.0 ≡ c.args.place) × TellsDecisions t b.1.0 x) (batches_at t) (c.args.number - 1) y
     c.batch-batch.ensures.says (here, subst (λ (n : ℕ). TellsDecisions t n x) c.seq.ensures told))
     c.first_decisions.ensures.told

@@ -1,4 +1,4 @@
-use Rattle.std.proofs.Common.{◌≡◌, ℕ, ◌+◌, sym, ap, subst, ◌∙◌}
+use Rattle.std.proofs.Common.{◌≡◌, ℕ, ◌+◌, refl, sym, ap, subst, ◌∙◌}
 use Rattle.eve_grammar.specs.Trace.{Trace}
 use Rattle.eve_votes.specs.Faults.{HasTwoDecisions}
 use Rattle.eve_votes.specs.NextDecision.{IsNextDecision}
@@ -31,4 +31,4 @@ returns-clause-told c =
     (subst (λ (k : ℕ). IsNextDecision c.args.votes.now n k (decided_of c.told-2.result)) from
     (subst (IsNextDecision c.args.votes.now n (c.from.result + 1)) (sym c.told-2.ensures)
     c.in-Some-next_decision.ensures.next)) in
-    record { first_is = first; second_is = second; verifiers_are = c.verifier_count.ensures }
+    (refl, record { first_is = first; second_is = second; verifiers_are = c.verifier_count.ensures })

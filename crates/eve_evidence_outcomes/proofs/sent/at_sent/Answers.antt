@@ -7,9 +7,8 @@ use Rattle.eve_history.specs.SectionHistory.{SectionHistory}
 use Rattle.eve_history.proofs.Rights.{as_many_told}
 use Rattle.eve_agree.proofs.Sending.{sent_there, is_possible, told_as}
 use Rattle.eve_agree.specs.SentReplies.{IsReplied}
-use Rattle.eve_evidence.specs.declared.evidence.Evidence.TheVariants as shown
 use Rattle.eve_evidence.proofs.Lists.{place_at, if_some, if_none_weaker}
-use Rattle.eve_evidence_outcomes.specs.Sent.{TellsSent, TellsReply}
+use Rattle.eve_evidence_outcomes.specs.Sent.{TellsSentIn, TellsReply}
 use Rattle.eve_evidence_outcomes.proofs.sent.at_sent.Goals as goal
 
 pub bounds-histories-replica : goal.bounds-histories-replica
@@ -51,8 +50,8 @@ returns-clause-told c =
     let t = c.args.trace.now in
     let y : ℕ × Sent = (c.sent-sent.result.offset, sent_in c.sent-sent.result.bytes.now) in
     let here : y.0 ≡ c.args.place = omega (arith, c.if-offset-place.false, c.offset.ensures) in
-    if_some c.wrong_with.result (TellsSent t y.1) (λ wrong. TellsReply t c.args.place (shown.Reply wrong))
-    (λ wrong told. place_at (λ _ z. (z.0 ≡ c.args.place) × TellsSent t z.1 wrong) (sent_at t) c.args.i y
+    if_some c.wrong_with.result (TellsSentIn t y.1) (TellsReply t c.args.place)
+    (λ x told. place_at (λ _ z. (z.0 ≡ c.args.place) × TellsSentIn t z.1 x) (sent_at t) c.args.i y
     c.sent-sent.ensures.says (here, told)) c.wrong_with.ensures.told
 
 pub returns-clause-none : goal.returns-clause-none

@@ -15,17 +15,17 @@ pub returns-in_default-clause-told : goal.returns-in_default-clause-told
 returns-in_default-clause-told c =
     let s : Sent = sent_said c.args.sent.now in
     let b : ℕ × (ℕ × Batch) = (c.batch-batch.result.offset, batch_said c.batch-batch.result) in
-    no_request c.args.trace.now s c.seq-seq.result c.client-client.result c.number-number.result c.seq-seq.ensures
-    c.client-client.ensures c.number-number.ensures b c.batch-batch.ensures.says c.in_default.ensures.none
+    no_request c.args.trace.now s c.seq-seq.result c.seq-seq.ensures c.told_sent-told.result c.told_sent-told.ensures b
+    c.batch-batch.ensures.says c.in_default.ensures.none
 
 pub returns-in_default-committed_attempt-clause-told : goal.returns-in_default-committed_attempt-clause-told
 returns-in_default-committed_attempt-clause-told c =
     let t = c.args.trace.now in
     let s : Sent = sent_said c.args.sent.now in
     let b : ℕ × (ℕ × Batch) = (c.batch-batch.result.offset, batch_said c.batch-batch.result) in
-    not_committed t s c.seq-seq.result c.client-client.result c.number-number.result c.seq-seq.ensures
-    c.client-client.ensures c.number-number.ensures b c.batch-batch.ensures.says c.in-Some.request
-    c.in-Some.ensures.found c.replica.result c.replica.ensures
+    not_committed t s c.seq-seq.result c.seq-seq.ensures c.told_sent-told.result c.told_sent-told.ensures b
+    c.batch-batch.ensures.says c.in-Some.request c.in-Some.ensures.found c.args.history.now c.requires.history
+    c.given_by-given.result c.given_by-given.ensures
     (c.in_default-committed_attempt.ensures.none t s.replica c.requires.history)
 
 pub returns-then-has_reply-clause-none : goal.returns-then-has_reply-clause-none
@@ -33,10 +33,9 @@ returns-then-has_reply-clause-none c =
     let t = c.args.trace.now in
     let s : Sent = sent_said c.args.sent.now in
     let b : ℕ × (ℕ × Batch) = (c.batch-batch.result.offset, batch_said c.batch-batch.result) in
-    is_replied t s c.seq-seq.result c.client-client.result c.number-number.result c.seq-seq.ensures
-    c.client-client.ensures c.number-number.ensures b c.batch-batch.ensures.says c.in-Some.request
-    c.in-Some.ensures.found c.in-Some-committed_attempt.attempt
-    (c.in-Some-committed_attempt.ensures.some t s.replica c.requires.history) c.reply-found.result c.reply-found.ensures
+    is_replied t s c.seq-seq.result c.seq-seq.ensures c.told_sent-told.result c.told_sent-told.ensures b
+    c.batch-batch.ensures.says c.in-Some.request c.in-Some.ensures.found c.in-Some-committed_attempt.attempt
+    (c.in-Some-committed_attempt.ensures.some t s.replica c.requires.history)
     (c.has_reply.ensures.0 c.if-has_reply.true)
 
 pub returns-clause-told : goal.returns-clause-told
@@ -44,9 +43,8 @@ returns-clause-told c =
     let t = c.args.trace.now in
     let s : Sent = sent_said c.args.sent.now in
     let b : ℕ × (ℕ × Batch) = (c.batch-batch.result.offset, batch_said c.batch-batch.result) in
-    other_reply t s c.seq-seq.result c.client-client.result c.number-number.result c.seq-seq.ensures
-    c.client-client.ensures c.number-number.ensures b c.batch-batch.ensures.says c.in-Some.request
-    c.in-Some.ensures.found c.in-Some-committed_attempt.attempt
-    (c.in-Some-committed_attempt.ensures.some t s.replica c.requires.history) c.reply-found.result c.reply_of-due.result
-    c.in-Some.ensures.batch c.reply-found.ensures c.reply_of-due.ensures
+    other_reply t s c.seq-seq.result c.seq-seq.ensures c.told_sent-told.result c.told_sent-told.ensures b
+    c.batch-batch.ensures.says c.in-Some.request c.in-Some.ensures.found c.in-Some-committed_attempt.attempt
+    (c.in-Some-committed_attempt.ensures.some t s.replica c.requires.history) c.args.history.now c.requires.history
+    c.given_by-given.result c.given_by-given.ensures c.reply_of-due.result c.in-Some.ensures.batch c.reply_of-due.ensures
     (λ has. false≢true (sym c.if-has_reply.false ∙ c.has_reply.ensures.1 has))

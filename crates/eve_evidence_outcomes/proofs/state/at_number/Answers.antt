@@ -1,13 +1,8 @@
-use Rattle.std.proofs.Common.{◌≡◌, ◌<◌, List, length, refl, ap, arith}
-use Rattle.std.specs.Prelude.{IfSome, IfNone}
-use Rattle.std.proofs.lemmas.Result.{IfOk-weaker}
+use Rattle.std.proofs.Common.{◌≡◌, ◌<◌, List, length, refl, ap, ◌∙◌, arith}
 use Rattle.std.proofs.lemmas.Option.{slice_get_read}
 use Rattle.eve_frames.specs.Said.{transfer_said}
 use Rattle.eve_history.specs.SectionHistory.{SectionHistory}
 use Rattle.eve_history.proofs.Rights.{as_many_told}
-use Rattle.eve_evidence.specs.declared.evidence.Evidence.TheVariants as shown
-use Rattle.eve_evidence.proofs.Lists.{if_some, if_none_weaker}
-use Rattle.eve_evidence_outcomes.specs.Outcomes.{TellsStateFault, TellsState, HasThoseOfFirst, IsRightAt}
 use Rattle.eve_evidence_outcomes.proofs.Firsts.{history_as}
 use Rattle.eve_evidence_outcomes.proofs.Taking.{no_state, other_state, right_state, taken_at}
 use Rattle.eve_evidence_outcomes.proofs.state.at_number.Goals as goal
@@ -50,8 +45,8 @@ returns-then-offset-place-clause-none c =
     (c.numbers_are_reached.ensures.told_transfer t e c.args.n) c.in-Some.state.offset (transfer_said c.in-Some.state)
     c.in-Some.ensures.some (λ at. absurd (omega (arith, c.if-offset-place.true, c.offset.ensures, at)))
 
-pub returns-clause-told : goal.returns-clause-told
-returns-clause-told c =
+pub returns-in-Ok-Some-clause-told : goal.returns-in-Ok-Some-clause-told
+returns-in-Ok-Some-clause-told c =
     let t = c.args.trace.now in
     let e = c.args.e in
     let hs = c.args.histories.now in
@@ -65,13 +60,10 @@ returns-clause-told c =
     let taken = taken_at t e c.args.n c.args.place h own.1
     (λ i one got. c.numbers_are_reached.ensures.tells_transfer t e c.args.n i one got) c.in-Some.state.offset
     (transfer_said c.in-Some.state) at c.in-Some.ensures.some in
-    IfOk-weaker c.state_fault.result (λ o. IfSome o (TellsStateFault t e c.args.n)) _
-    (λ o told. if_some o (TellsStateFault t e c.args.n)
-    (λ wrong. TellsState t e c.args.place (shown.TransferState wrong)) (λ wrong holds. (c.args.n, taken, holds)) told)
-    c.state_fault.ensures.told
+    (c.args.n, taken.0, (c.told_transfer.ensures ∙ taken.1, rw c.in-Ok-Some.field-0-is at c.in-Ok-Some.ensures.told))
 
-pub returns-clause-none : goal.returns-clause-none
-returns-clause-none c =
+pub returns-in-Ok-None-clause-none : goal.returns-in-Ok-None-clause-none
+returns-in-Ok-None-clause-none c =
     let t = c.args.trace.now in
     let e = c.args.e in
     let hs = c.args.histories.now in
@@ -81,8 +73,6 @@ returns-clause-none c =
     let here : e < length hs = omega (arith, c.requires.there, many, count) in
     let own = history_as t hs e h c.requires.histories
     (slice_get_read hs (length hs) e h refl here c.index-histories-e.is) in
-    IfOk-weaker c.state_fault.result (λ o. IfNone o (HasThoseOfFirst t e c.args.n)) _
-    (λ o none. if_none_weaker o (HasThoseOfFirst t e c.args.n) (IsRightAt t e c.args.place c.args.n)
-    (λ those. right_state t e c.args.n c.args.place
+    right_state t e c.args.n c.args.place
     (λ at x landed. c.states_are_the_balances.ensures t e c.args.n at x c.recall_limits.ensures
-    (c.recall_right.ensures.section t e own.1) landed) those) none) c.state_fault.ensures.none
+    (c.recall_right.ensures.section t e own.1) landed) (rw c.in-Ok-None.field-0-is at c.in-Ok-None.ensures.none)

@@ -1,25 +1,39 @@
-use Rattle.std.proofs.Common.{◌≡◌, ℕ, Some, slice_get, take, sym, subst, ◌∙◌}
-use Rattle.std.specs.Prelude.{IsFalse}
-use Rattle.std.specs.List.{AllByRecursion}
+use Rattle.std.proofs.Common.{◌≡◌, ℕ, take, sym, subst, ◌∙◌, arith}
 use Rattle.std.proofs.lemmas.Option.{same_Some}
 use Rattle.eve_grammar.specs.Trace.{Vote}
 use Rattle.eve_frames.specs.Said.{vote_said}
 use Rattle.eve_votes.specs.Faults.{IsFurther}
-use Rattle.eve_votes.specs.Votes.{is_vote_on}
-use Rattle.eve_evidence.proofs.Lists.{if_none_weaker}
-use Rattle.eve_explain.proofs.Voting.{no_further}
+use Rattle.eve_evidence.specs.declared.evidence.SecondVote.{SecondVote}
+use Rattle.eve_explain.specs.Votes.{IsSecond}
+use Rattle.eve_explain.proofs.Voting.{no_further, second_is}
 use Rattle.eve_explain.proofs.votes.first_before.Goals as goal
 
-pub returns-clause-none : goal.returns-clause-none
-returns-clause-none c =
+pub returns-in_default-clause-none : goal.returns-in_default-clause-none
+returns-in_default-clause-none c = λ w got at.
     let before = take c.args.i c.args.votes.now in
-    if_none_weaker c.first_on.result
-    (AllByRecursion (λ z. IsFalse (is_vote_on c.seq.result c.view.result z.1)) before)
-    ((w : ℕ × Vote) → slice_get c.args.votes.now c.args.i ≡ Some w
-    → w.0 ≡ c.args.at → ¬ IsFurther before w)
-    (λ all w got at.
     let y : ℕ × Vote = (c.get-vote.result.offset, vote_said c.get-vote.result) in
     let same : y ≡ w = same_Some y w (sym c.get-vote.ensures.says ∙ got) in
     subst (λ (u : ℕ × Vote). ¬ IsFurther before u) same
-    (no_further before y c.seq.result c.view.result c.seq.ensures c.view.ensures all))
-    c.first_on.ensures.none
+    (no_further before y c.seq-n.result c.view-view.result c.seq-n.ensures c.view-view.ensures
+    c.in_default.ensures.none)
+
+pub returns-clause-first : goal.returns-clause-first
+returns-clause-first c = λ w got.
+    let before = take c.args.i c.args.votes.now in
+    let y : ℕ × Vote = (c.get-vote.result.offset, vote_said c.get-vote.result) in
+    let first : ℕ × Vote = (c.in-Some.first.offset, vote_said c.in-Some.first) in
+    let own : SecondVote = record {
+      verifier = c.args.verifier;
+      batch = c.seq-n.result;
+      view = c.view-view.result;
+      choice = c.choice.result;
+      first = c.offset-2.result;
+      first_choice = c.choice-2.result;
+    } in
+    let same : y ≡ w = same_Some y w (sym c.get-vote.ensures.says ∙ got) in
+    let here : y.0 ≡ c.args.at = omega (arith, c.if-offset-at.false, c.offset.ensures) in
+    subst (λ (u : ℕ × Vote). (u.0 ≡ c.args.at) × IsSecond before u own) same (
+      here,
+      second_is before y first own c.seq-n.ensures c.view-view.ensures c.choice.ensures
+          c.in-Some.ensures.first c.offset-2.ensures c.choice-2.ensures,
+    )

@@ -1,4 +1,4 @@
-use Rattle.std.proofs.Common.{◌≡◌, ℕ, sym, ◌∙◌}
+use Rattle.std.proofs.Common.{◌≡◌, ℕ, refl, sym, ◌∙◌}
 use Rattle.std.specs.Prelude.{IsTrue, IsFalse}
 use Rattle.std.specs.List.{AllByRecursion}
 use Rattle.eve_grammar.specs.Trace.{Vote}
@@ -9,11 +9,11 @@ use Rattle.eve_explain.proofs.votes.first_on.Goals as goal
 
 pub returns-then-is_on-clause-first : goal.returns-then-is_on-clause-first
 returns-then-is_on-clause-first c =
-    place_in_front (λ earlier u. (u.0 ≡ c.offset.result) × IsTrue (is_vote_on c.args.n c.args.view u.1)
+    let y : ℕ × Vote = (c.get-vote.result.offset, vote_said c.get-vote.result) in
+    place_in_front (λ earlier u. (u ≡ y) × IsTrue (is_vote_on c.args.n c.args.view u.1)
     × AllByRecursion (λ z. IsFalse (is_vote_on c.args.n c.args.view z.1)) earlier) c.args.votes.now c.args.count
-    c.loop-i.i
-    (c.get-vote.result.offset, vote_said c.get-vote.result) c.loop-i-test.true c.get-vote.ensures.says
-    (sym c.offset.ensures, sym c.is_on.ensures ∙ c.if-is_on.true, c.loop-i.invariant)
+    c.loop-i.i y c.loop-i-test.true c.get-vote.ensures.says
+    (refl, sym c.is_on.ensures ∙ c.if-is_on.true, c.loop-i.invariant)
 
 pub loop-i-preserved : goal.loop-i-preserved
 loop-i-preserved c =
