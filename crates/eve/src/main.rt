@@ -1,96 +1,81 @@
-//! The program `eve`: `serve` over the arguments and the streams of the process.
+//! The program `eve`: `serve_files` over the arguments, the files and the streams of the process.
 #![tactic(auto)]
 
-use eve_streams::{Buffered, Sink, SinkOf, SourceOf};
-use eve_tool::{ToolFault, file_named, serve, stop};
-use std::alloc::{AllocError, Global};
-use std::fs::File;
-use std::io::{Read, Stdin};
+ghost use Rattle.std.specs.Prelude.{None};
+
+use either::Either;
+use eve_streams::{Buffered, Sink, SinkOf, SourceOf, send_all};
+use eve_tool::{Folder, OpenFault, ToolFault, serve_files, stop};
+use std::fs::{File, OpenFile};
+use std::io::{ErrorKind, Stdin};
 use std::process::ExitCode;
-use std::random::RandomSource;
-use std::sync::Wait;
-use std::thread::Threads;
 use std::{env, io};
 
-/// Arguments that are no call.
-fn no_call(alloc: Global) -> Result<Vec<String>, AllocError> {
-    let mut arguments = Vec::with_capacity(alloc, 2)?;
-    arguments.push_reserved("eve".to_string(alloc)?);
-    arguments.push_reserved("\u{fffd}".to_string(alloc)?);
-    Ok(arguments)
-}
+/// What is said of arguments of which one is no text.
+const NOT_TEXT: &str = "eve: arguments have to be UTF-8\n";
 
-fn given_arguments(rt: &HostRuntime) -> io::Result<Vec<String>> {
-    Ok(env::args(rt)?.collect(rt.alloc())?)
-}
-
-/// The arguments. Those that aren't text are no call.
-fn arguments_of(rt: &HostRuntime) -> io::Result<Vec<String>> {
-    match given_arguments(rt) {
-        Err(e) if e.kind() != io::ErrorKind::OutOfMemory => Ok(no_call(rt.alloc())?),
-        arguments => arguments,
-    }
-}
-
-/// Sends on what was said and is still held, where the call came to its end.
-fn finish<O: Sink + Drop, E: Sink>(status: u8, out: &mut Buffered<O>, err: &mut E) -> u8 {
-    if status < 2 && out.flush().is_err() {
-        return stop(ToolFault::Write, err);
-    }
-    status
-}
-
-/// What is read: the file that the arguments name, or standard input where they name none.
+/// This machine, with its files.
 #[derive(Drop)]
-enum Input {
-    File(File),
-    Stdin(Stdin),
+struct Machine {
+    runtime: HostRuntime,
 }
 
-impl Read for Input {
-    fn read(&mut self, buffer: &mut [u8]) -> io::Result<usize> {
-        match self {
-            Input::File(file) => file.read(buffer),
-            Input::Stdin(stdin) => stdin.read(buffer),
+impl Machine {
+    /// Opens a file that is no folder.
+    fn open_file(&self, name: &str) -> io::Result<File> {
+        let file = File::open(&self.runtime, name)?;
+        if file.metadata()?.is_dir() {
+            return Err(io::Error::from(ErrorKind::IsADirectory));
+        }
+        Ok(file)
+    }
+}
+
+impl Folder for Machine {
+    type Input = SourceOf<Either<File, Stdin>>;
+
+    // What a file holds no contract says.
+    ghost bytes = { λ _ _. None };
+
+    fn open(&self, name: &str) -> Result<SourceOf<Either<File, Stdin>>, OpenFault> {
+        if name == "-" {
+            return Ok(SourceOf::new(Either::Right(self.runtime.stdin())));
+        }
+        match self.open_file(name) {
+            Ok(file) => Ok(SourceOf::new(Either::Left(file))),
+            Err(e) => Err(match e.kind() {
+                ErrorKind::NotFound => OpenFault::Missing,
+                ErrorKind::PermissionDenied => OpenFault::Denied,
+                ErrorKind::IsADirectory => OpenFault::IsFolder,
+                _ => OpenFault::Unknown,
+            }),
         }
     }
 }
 
-/// What the arguments say is read.
-fn input_of(rt: &HostRuntime, arguments: &[String]) -> Result<Input, ToolFault> {
-    match file_named(rt.alloc(), arguments)? {
-        Some(path) => match File::open(rt, path.as_str()) {
-            Ok(file) => Ok(Input::File(file)),
-            Err(_) => Err(ToolFault::Read),
-        },
-        None => Ok(Input::Stdin(rt.stdin())),
-    }
+/// The arguments.
+fn arguments_of(rt: &HostRuntime) -> io::Result<Vec<String>> {
+    Ok(env::args(rt)?.collect(rt.alloc())?)
 }
 
-/// Serves the arguments, over what they say is read.
-fn serve_input<
-    R: AllocGlobal + RandomSource + Threads + Wait + Sync,
-    I: Read + Drop,
-    O: Sink,
-    E: Sink,
->(rt: &R, arguments: &[String], input: Result<I, ToolFault>, out: &mut O, err: &mut E) -> u8 {
-    match input {
-        Ok(input) => serve(rt, arguments, &mut SourceOf::new(input), out, err),
-        Err(fault) => stop(fault, err),
+/// Says why there are no arguments, and returns the exit status.
+fn refuse<E: Sink>(why: ErrorKind, err: &mut E) -> u8 {
+    if why == ErrorKind::OutOfMemory {
+        return stop(ToolFault::Memory, err);
     }
+    let _ = send_all(err, NOT_TEXT.as_bytes());
+    2
 }
 
 fn main(rt: HostRuntime) -> ExitCode {
+    let machine = Machine { runtime: rt };
+    let rt = &machine.runtime;
     let mut err = SinkOf::new(rt.stderr());
     let Ok(mut out) = Buffered::new(rt.alloc(), SinkOf::new(rt.stdout())) else {
         return ExitCode::from(stop(ToolFault::Memory, &mut err));
     };
-    let status = match arguments_of(&rt) {
-        Ok(arguments) => {
-            let arguments = arguments.as_slice();
-            serve_input(&rt, arguments, input_of(&rt, arguments), &mut out, &mut err)
-        }
-        Err(_) => stop(ToolFault::Memory, &mut err),
-    };
-    ExitCode::from(finish(status, &mut out, &mut err))
+    ExitCode::from(match arguments_of(rt) {
+        Ok(arguments) => serve_files(rt, arguments.as_slice(), &machine, &mut out, &mut err),
+        Err(e) => refuse(e.kind(), &mut err),
+    })
 }

@@ -2,7 +2,10 @@
 use Rattle.eve_tool_arguments.proofs.PlainArguments.{alone, asks, asks_help, asks_help_by_word, audit_call}
 use Rattle.eve_tool_arguments.proofs.PlainArguments.{explain_asks, explain_call, run_call, show_call}
 use Rattle.eve_tool_arguments.proofs.PlainArguments.{asks_version, first_call, format_1_call, format_2_call, long_call}
-use Rattle.eve_tool_arguments.proofs.PlainArguments.{no_format, no_worker, too_many, two_formats, whole_call}
+use Rattle.eve_tool_arguments.proofs.PlainArguments.{after_dashes, no_format, no_name, no_worker, too_many}
+use Rattle.eve_tool_arguments.proofs.PlainArguments.{two_are_audited}
+use Rattle.eve_tool_arguments.proofs.PlainArguments.{two_are_not_run, two_formats, two_names, whole_call}
+use Rattle.eve_tool_arguments.proofs.PlainArguments.{whole_format_2_call}
 use Rattle.eve_tool.specs.Words.{WordsAreCalls}
 
 pub words_are_calls : WordsAreCalls
@@ -16,6 +19,7 @@ words_are_calls = record {
   run_first = first_call;
   run_format_1 = format_1_call;
   run_format_2 = format_2_call;
+  run_whole_format_2 = whole_format_2_call;
   no_format = no_format;
   two_formats = two_formats;
   one_worker = alone;
@@ -23,6 +27,11 @@ words_are_calls = record {
   explain_workers = λ name n some most. explain_asks name n some most;
   no_worker = no_worker;
   too_many = too_many;
+  no_file = no_name;
+  two_files = two_are_audited;
+  in_order = two_names;
+  one_file = two_are_not_run;
+  after_dashes = after_dashes;
   help = λ name. asks_help name;
   help_word = λ name. asks_help_by_word name;
   version = λ name. asks_version name;

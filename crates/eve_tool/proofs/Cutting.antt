@@ -248,7 +248,7 @@ WritesFrontOf-cut says limit (Some bytes) lent read old new cuts same cut front 
 }
 
 -- where the status is that of a yes, the bytes spell a trace that is audited
-audited : (bytes text : List ℕ) (status : ℕ) → Audits bytes text status → status ≡ 0 → SpellsAudited bytes
+pub audited : (bytes text : List ℕ) (status : ℕ) → Audits bytes text status → status ≡ 0 → SpellsAudited bytes
 audited bytes text status audits is = by audits.verdict (sym audits.ends ∙ is) audits.yes
   where
     by : (v : Verdict) → status_of_verdict v ≡ 0 → ((s : Summary) → v ≡ Yes s → SpellsAudited bytes)

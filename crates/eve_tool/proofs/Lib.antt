@@ -7,3 +7,4 @@ mod Putting
 mod LongLines
 mod Explaining
 mod CallWords
+mod SentFiles

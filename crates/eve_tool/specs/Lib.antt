@@ -9,3 +9,4 @@ pub mod Explain
 pub mod Run
 pub mod Calls
 pub mod Words
+pub mod Files

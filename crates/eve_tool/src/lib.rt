@@ -4,6 +4,7 @@
 mod audit;
 mod explain;
 mod fault;
+mod files;
 mod lines;
 mod long;
 mod program;
@@ -13,7 +14,7 @@ mod sending;
 mod show;
 
 pub use eve_tool_arguments;
-pub use eve_tool_arguments::file_named;
 pub use fault::ToolFault;
+pub use files::{Folder, OpenFault, serve_files};
 pub use program::{serve, stop};
 pub use run::run_within;

@@ -101,7 +101,10 @@ fn answer<
     ensures silent { IfErr result (λ e. status_of e ≡ 2 → out.new ≡ out.old) }
 {
     match read_arguments(rt.alloc(), arguments)? {
-        Asked::Call(call) => answer_call(rt, call, input, out),
+        Asked::Call(call, files) => {
+            drop(files);
+            answer_call(rt, call, input, out)
+        }
         Asked::Help(text) => {
             let sent = send_all(out, text.as_str().as_bytes());
             sent?;

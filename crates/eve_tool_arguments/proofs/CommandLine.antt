@@ -15,8 +15,7 @@ use Rattle.clap.proofs.OnLiterals.{clap_on_literals}
 use Rattle.eve_tool_arguments.proofs.HelpWord.{first_empty, off_help, stands_off, walk_off}
 use Rattle.eve_tool_arguments.specs.Arguments.{Answers, SaysOf, Subcommand, NamesNoRun, run_in, audit}
 use Rattle.eve_tool_arguments.specs.Arguments.{explain, run_shape, show}
-use Rattle.eve_tool_arguments.specs.Arguments.{call_of, call_unless, eve, faults_of, file_for_call, file_of}
-use Rattle.eve_tool_arguments.specs.Arguments.{file_unless}
+use Rattle.eve_tool_arguments.specs.Arguments.{call_of, call_unless, eve, faults_of}
 use Rattle.eve_tool_arguments.specs.Arguments.{program, subcommand_named}
 use Rattle.clap.specs.declared.error.kind.ErrorKind.{ErrorKind}
 use Rattle.clap.specs.declared.error.kind.ErrorKind.TheVariants as kind
@@ -179,26 +178,11 @@ no_call words k among = none_if (faults_of words) k among (option_and_then subco
     none_if [] k among found = absurd among
     none_if (x ∷ xs) k among found = refl
 
--- words without a fault name the file of the call that they are, if any
-pub file_without_faults : (words : List Text) → fault_of eve words ≡ [] → file_of words
-    ≡ file_for_call (subcommand_of eve words)
-unfolding file_of faults_of
-file_without_faults words h = rw h refl
-
--- words with a fault name no file
-pub no_file : (words : List Text) (k : ErrorKind) → IsAmong k (fault_of eve words) → file_of words ≡ None
-unfolding file_of faults_of
-no_file words k among = none_if (fault_of eve words) k among (file_for_call (subcommand_of eve words))
-  where
-    none_if : (kinds : Kinds) (k : ErrorKind) → IsAmong k kinds → (found : Option Text) → file_unless kinds found ≡ None
-    none_if [] k among found = absurd among
-    none_if (x ∷ xs) k among found = refl
-
 -- what is said of a fault is an answer to the arguments
 pub answers_with_fault : (words : List Text) (k : ErrorKind) (a : Asked) → (k ≡ kind.OutOfMemory)
     ⊎ IsAmong k (fault_of eve words) → SaysOf k a → Answers words a
 unfolding faults_of
-answers_with_fault words k (asked.Call call) found says = absurd says
+answers_with_fault words k (asked.Call call names) found says = absurd says
 answers_with_fault words k (asked.Help text) (inl e) (inl says) = cc
 answers_with_fault words k (asked.Help text) (inl e) (inr says) = cc
 answers_with_fault words k (asked.Help text) (inr among) (inl says) =

@@ -4,8 +4,9 @@ use Rattle.clap.specs.Words.{IsAmong, Text}
 use Rattle.std.specs.Fmt.{decimal, digits}
 use Rattle.std.proofs.lemmas.Bool.{cases_lt}
 use Rattle.clap.proofs.OnLiterals.{clap_on_literals}
-use Rattle.eve_tool_arguments.specs.Arguments.{AuditsBy, CallsNothing, ExplainsBy, GetsHelp, Audit, Explain}
-use Rattle.eve_tool_arguments.specs.Arguments.{Run, Show, ShowLong, call_of, faults_of, workers_of}
+use Rattle.eve_tool_arguments.specs.Arguments.{AuditsBy, CallsAudit, CallsNothing, ExplainsBy, GetsHelp}
+use Rattle.eve_tool_arguments.specs.Arguments.{Audit, Explain, Run, Show, ShowLong, call_of, faults_of}
+use Rattle.eve_tool_arguments.specs.Arguments.{files_of, workers_of}
 use Rattle.clap.specs.declared.error.kind.ErrorKind.TheVariants as kind
 use Rattle.eve_workload.specs.declared.mixer.Mixer.TheVariants.{First, Whole}
 use Rattle.eve_tool_arguments.specs.declared.format.Format.TheVariants.{One, Two}
@@ -42,6 +43,12 @@ pub format_2_call : (name : Text)
     → call_of (name ∷ codes "run" ∷ codes "--format" ∷ codes "2" ∷ []) ≡ Some (Run First Two)
 unfolding call_of faults_of clap_on_literals
 format_2_call name = refl
+
+pub whole_format_2_call : (name : Text)
+    → call_of (name ∷ codes "run" ∷ codes "--mixer" ∷ codes "whole" ∷ codes "--format" ∷ codes "2" ∷ [])
+    ≡ Some (Run Whole Two)
+unfolding call_of faults_of clap_on_literals
+whole_format_2_call name = refl
 
 pub no_format : (name : Text) → CallsNothing (name ∷ codes "run" ∷ codes "--format" ∷ codes "3" ∷ [])
 unfolding call_of faults_of clap_on_literals
@@ -201,3 +208,27 @@ too_many name = refl
 pub alone : (name : Text) → workers_of (name ∷ codes "audit" ∷ []) ≡ Some 1
 unfolding workers_of clap_on_literals
 alone name = refl
+
+-- ---- files that are named
+
+pub no_name : (name : Text) → files_of (name ∷ codes "audit" ∷ []) ≡ codes "-" ∷ []
+unfolding files_of clap_on_literals
+no_name name = refl
+
+pub two_names : (name : Text)
+    → files_of (name ∷ codes "audit" ∷ codes "a" ∷ codes "b" ∷ []) ≡ codes "a" ∷ codes "b" ∷ []
+unfolding files_of clap_on_literals
+two_names name = refl
+
+pub two_are_audited : (name : Text) → CallsAudit (name ∷ codes "audit" ∷ codes "a" ∷ codes "b" ∷ [])
+unfolding call_of faults_of clap_on_literals
+two_are_audited name = refl
+
+pub two_are_not_run : (name : Text) → CallsNothing (name ∷ codes "run" ∷ codes "a" ∷ codes "b" ∷ [])
+unfolding call_of faults_of clap_on_literals
+two_are_not_run name = refl
+
+pub after_dashes : (name : Text)
+    → files_of (name ∷ codes "show" ∷ codes "--" ∷ codes "--long" ∷ []) ≡ codes "--long" ∷ []
+unfolding files_of clap_on_literals
+after_dashes name = refl

@@ -1,12 +1,13 @@
 -- What the arguments of a command line ask for. docs/USING.md, "Lines and statuses".
 use Rattle.std.specs.Prelude.{◌≡◌, ◌≢◌, ◌⊎◌, ⊤, ℕ, pos, max, min, Bool, true, false, if◌then◌else◌, List, [], ◌∷◌}
-use Rattle.std.specs.Prelude.{Option, Some, None, codes, find, slice_get, option_and_then, option_map, unwrap_or}
+use Rattle.std.specs.Prelude.{Option, Some, None, codes, find, map, slice_get, option_and_then, option_map, unwrap_or}
 use Rattle.std.specs.Str.{bytes_eq}
+use Rattle.std.specs.String.{string_bytes}
 use Rattle.clap.specs.Words.{App, Rule, Shape, Text, IsAmong, Kinds, fault_of, new_app, new_rule, subcommand_of}
 use Rattle.clap.specs.Words.{with_rule, with_subcommand}
-use Rattle.clap.specs.Walk.{Row, byte_or_zero}
+use Rattle.clap.specs.Walk.{Row, all_of, byte_or_zero}
 use Rattle.clap.specs.declared.builder.value_parser.ValueParser.TheVariants as vp
-use Rattle.clap.specs.declared.builder.action.ArgAction.TheVariants.{SetTrue}
+use Rattle.clap.specs.declared.builder.action.ArgAction.TheVariants.{Append, SetTrue}
 use Rattle.clap.specs.declared.error.kind.ErrorKind.TheVariants as kind
 use Rattle.clap.specs.declared.error.kind.ErrorKind.{ErrorKind}
 use Rattle.eve_workload.specs.declared.mixer.Mixer.{Mixer}
@@ -35,12 +36,16 @@ workers = record (new_rule (codes "workers")) {
   parser = Some (vp.Signed (pos 1) (pos MOST_AUDIT_WORKERS));
 }
 
--- the argument that names a file to read
+-- the argument that names a file to read: `-`, standard input, where none is named
 abbrev pub file : Rule
-file = record (new_rule (codes "file")) { value_names = 1 }
+file = record (new_rule (codes "file")) { value_names = 1; defaults = codes "-" ∷ [] }
+
+-- the argument that names several
+abbrev pub files : Rule
+files = record file { action = Some Append }
 
 abbrev pub audit : Shape
-audit = (with_rule (with_rule (new_app (codes "audit")) workers) file).top
+audit = (with_rule (with_rule (new_app (codes "audit")) workers) files).top
 
 abbrev pub explain : Shape
 explain = (with_rule (with_rule (new_app (codes "explain")) workers) file).top
@@ -154,22 +159,14 @@ workers_behind found = option_map (λ f. workers_in f.1) found
 unfoldable pub workers_of : List Text → Option ℕ
 workers_of arguments = workers_behind (subcommand_of eve arguments)
 
--- the file that is named after the subcommand that was met
-abbrev pub file_behind : Option (Text × List Row) → Option Text
-file_behind found = option_and_then (λ f. value_given (codes "file") f.1) found
+-- the files that are named after the subcommand that was met
+abbrev pub files_behind : Option (Text × List Row) → List Text
+files_behind (Some found) = unwrap_or (all_of (codes "file") found.1) []
+files_behind None = []
 
--- the file that is named for a call after the subcommand that was met
-abbrev pub file_for_call : Option (Text × List Row) → Option Text
-file_for_call found = option_and_then (λ _. file_behind found) (option_and_then subcommand_named found)
-
--- a file only where clap finds nothing wrong
-abbrev pub file_unless : Kinds → Option Text → Option Text
-file_unless [] file = file
-file_unless (k ∷ ks) file = None
-
--- the file that the arguments name to be read: none where they are no call
-unfoldable pub file_of : List Text → Option Text
-file_of arguments = file_unless (faults_of arguments) (file_for_call (subcommand_of eve arguments))
+-- the files that the arguments name
+unfoldable pub files_of : List Text → List Text
+files_of arguments = files_behind (subcommand_of eve arguments)
 
 -- the call has this number of workers, if it is one that has any
 abbrev pub HasWorkers : Option ℕ → Call → Type 0
@@ -179,7 +176,7 @@ HasWorkers _ _ = ⊤
 
 -- what is answered to arguments in which clap finds this wrong
 abbrev pub SaysOf : ErrorKind → Asked → Type 0
-SaysOf k (asked.Call call) = ⊥
+SaysOf k (asked.Call call names) = ⊥
 SaysOf k (asked.Help text) = (k ≡ kind.DisplayHelp) ⊎ (k ≡ kind.DisplayVersion)
 SaysOf k (asked.Refused text) = (k ≢ kind.DisplayHelp) × (k ≢ kind.DisplayVersion) × (k ≢ kind.OutOfMemory)
 
@@ -237,10 +234,11 @@ pub record NamesNoRun (arguments : List Text) : Type 0 where
 abbrev pub IsRefused : List Text → Type 0
 IsRefused arguments = IsWrong arguments ⊎ NamesNoRun arguments
 
--- the answer is the call that the arguments are, with the number of workers that they ask for, help where they ask for
--- it, or a refusal where they are wrong
+-- the answer is the call that the arguments are, with the number of workers that they ask for and the files that they
+-- name, help where they ask for it, or a refusal where they are wrong
 abbrev pub Answers : List Text → Asked → Type 0
-Answers arguments (asked.Call call) =
+Answers arguments (asked.Call call names) =
     (call_of arguments ≡ Some (subcommand_of_call call)) × HasWorkers (workers_of arguments) call
+    × (map string_bytes names.items ≡ files_of arguments)
 Answers arguments (asked.Help text) = GetsHelp arguments
 Answers arguments (asked.Refused text) = CallsNothing arguments × IsRefused arguments

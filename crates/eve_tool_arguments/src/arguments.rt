@@ -1,11 +1,12 @@
 //! What the arguments of a command line ask for.
 
-ghost use Rattle.std.specs.Prelude.{◌≡◌, ℕ, Option, false, IfOk, IfSome, Some, map, option_and_then, option_map, pos};
+ghost use Rattle.std.specs.Prelude.{◌≡◌, ℕ, Option, false, IfOk, IfSome, Some, map, option_and_then};
+ghost use Rattle.std.specs.Prelude.{option_map, pos};
 ghost use Rattle.std.specs.String.{string_bytes};
 ghost use Rattle.clap.specs.Words.{app_of, found_of, kind_of, rule_of, shape_of, subcommand_rows_of};
 ghost use Rattle.clap.specs.Walk.{rows_of};
-ghost use Rattle.eve_tool_arguments.specs.Arguments.{Answers, HasWorkers, SaysOf, audit, eve, explain, file};
-ghost use Rattle.eve_tool_arguments.specs.Arguments.{file_behind, file_for_call, file_of, format, format_in, is_long};
+ghost use Rattle.eve_tool_arguments.specs.Arguments.{Answers, HasWorkers, SaysOf, audit, eve, explain, file, files};
+ghost use Rattle.eve_tool_arguments.specs.Arguments.{files_behind, format, format_in, is_long};
 ghost use Rattle.eve_tool_arguments.specs.Arguments.{listing, long, mixer, mixer_in};
 ghost use Rattle.eve_tool_arguments.specs.Arguments.{program, run_in, run_options, run_shape, show};
 ghost use Rattle.eve_tool_arguments.specs.Arguments.{subcommand_named};
@@ -38,13 +39,16 @@ pub enum Call {
 /// What the arguments of a command line come to.
 #[derive(Drop)]
 pub enum Asked {
-    /// They are a call.
-    Call(Call),
+    /// They are a call over the files of these names, of which `-` is standard input.
+    Call(Call, Vec<String>),
     /// They ask for help, or for the version, which is this text.
     Help(String),
     /// They are no call, and this text says why.
     Refused(String),
 }
+
+/// The version, and what it reads.
+const VERSION: &str = "2.0.0, traces of versions 1 and 2";
 
 /// What is said where another mixer is named.
 const NO_MIXER: &str =
@@ -71,19 +75,21 @@ const EXAMPLES: &str = "Statuses:\n\
     \x20 eve explain examples/two-deposits-in-frame-order.trace\n\
     \x20 eve show --long examples/rollback-and-serial-rerun.trace";
 
-const AUDIT_EXAMPLES: &str = "Statuses:\n\
+const AUDIT_EXAMPLES: &str = "Of several files each has a line, which begins with its name.\n\n\
+    Statuses: of several files the greatest\n\
     \x20 0  yes\n\
     \x20 1  no\n\
-    \x20 2  wrong arguments, or the input can't be read\n\
+    \x20 2  wrong arguments, or a file can't be opened or read\n\
     \x20 3  no memory, no random words, or the output can't be written\n\n\
     Examples:\n\
     \x20 eve audit examples/deposit-committed.trace\n\
-    \x20 eve audit --workers 2 < examples/two-orders-agree.trace";
+    \x20 eve audit --workers 2 < examples/two-orders-agree.trace\n\
+    \x20 eve audit examples/*.trace";
 
 const EXPLAIN_EXAMPLES: &str = "Statuses:\n\
     \x20 0  yes\n\
     \x20 1  no\n\
-    \x20 2  wrong arguments, or the input can't be read\n\
+    \x20 2  wrong arguments, or the file can't be opened or read\n\
     \x20 3  no memory, no random words, or the output can't be written\n\n\
     Examples:\n\
     \x20 eve explain examples/two-deposits-in-frame-order.trace\n\
@@ -91,16 +97,16 @@ const EXPLAIN_EXAMPLES: &str = "Statuses:\n\
 
 const RUN_EXAMPLES: &str = "Statuses:\n\
     \x20 0  the trace is written\n\
-    \x20 2  wrong arguments, a bad workload, or the input can't be read\n\
+    \x20 2  wrong arguments, a bad workload, or the file can't be opened or read\n\
     \x20 3  no memory, no random words, a broken run, or the output can't be written\n\n\
     Examples:\n\
     \x20 eve run examples/two-deposits.workload > run.trace\n\
-    \x20 eve run --format 2 --mixer whole < examples/two-deposits.workload > whole.trace";
+    \x20 eve run --format 2 --mixer whole examples/two-deposits.workload > w.trace";
 
 const SHOW_EXAMPLES: &str = "Statuses:\n\
     \x20 0  all frames are listed\n\
     \x20 1  it is no trace: the last line is the first fault of form\n\
-    \x20 2  wrong arguments, or the input can't be read\n\
+    \x20 2  wrong arguments, or the file can't be opened or read\n\
     \x20 3  no memory, or the output can't be written\n\n\
     Examples:\n\
     \x20 eve show < examples/empty-run.trace\n\
@@ -134,7 +140,7 @@ fn mixer_argument<'a>(alloc: Global) -> Arg<'a>
     Arg::new(alloc, "mixer")
         .long("mixer")
         .value_name("MIXER")
-        .help("How batches are cut: 'first' or 'whole'")
+        .help("How to cut batches: 'first' or 'whole'")
         .default_value("first")
 }
 
@@ -146,7 +152,7 @@ fn format_argument<'a>(alloc: Global) -> Arg<'a>
     Arg::new(alloc, "format")
         .long("format")
         .value_name("FORMAT")
-        .help("The format of the trace: '1', or '2', in which replicas take over states")
+        .help("The format of the trace: '1' or '2'")
         .default_value("1")
 }
 
@@ -168,7 +174,16 @@ fn file_argument<'a>(alloc: Global) -> Arg<'a>
 {
     Arg::new(alloc, "file")
         .value_name("FILE")
-        .help("What is read; standard input where none is named")
+        .help("What is read; '-' is standard input")
+        .default_value("-")
+}
+
+/// Which files are read, one after the other.
+fn files_argument<'a>(alloc: Global) -> Arg<'a>
+    ensures rule { rule_of result ≡ files }
+    ensures local { result.global ≡ false }
+{
+    file_argument(alloc).action(ArgAction::Append)
 }
 
 /// The subcommand that audits.
@@ -176,13 +191,13 @@ fn audit_command<'a>(alloc: Global) -> Result<Command<'a>, AllocError>
     ensures { IfOk result (λ c. shape_of c ≡ audit) }
 {
     let Ok(command) = Command::new(alloc, "audit")
-        .about("Prints the verdict on a trace: yes, or the first fault")
+        .about("Prints the verdict on each trace: yes, or the first fault")
         .after_help(AUDIT_EXAMPLES)
         .arg(workers_argument(alloc))
     else {
         return Err(AllocError);
     };
-    command.arg(file_argument(alloc))
+    command.arg(files_argument(alloc))
 }
 
 /// The subcommand that audits, and says why.
@@ -242,7 +257,7 @@ fn program<'a>(alloc: Global) -> Command<'a>
     ensures { app_of result ≡ program }
 {
     Command::new(alloc, "eve")
-        .version("for traces of formats 1 and 2")
+        .version(VERSION)
         .about("Records runs of replicated SmallBank servers, and audits their traces")
         .after_help(EXAMPLES)
         .subcommand_required(true)
@@ -339,23 +354,28 @@ fn run_of(found: &ArgMatches<'_>) -> Option<Call>
     Some(Call::Run(mixer, format))
 }
 
-/// The file that was named.
-fn file_in<'a>(matches: &ArgMatches<'a>) -> Option<&'a str>
-    ensures { option_map (λ s. s.now) result ≡ file_behind (subcommand_rows_of matches.now) }
+/// Copies of names.
+fn copies_of(alloc: Global, names: &[&str]) -> Result<Vec<String>, AllocError>
+    ensures { IfOk result (λ copies. map string_bytes copies.items ≡ map (λ s. s.now) names.now) }
 {
-    match matches.subcommand() {
-        Some((_, found)) => found.get_str("file"),
-        None => None,
+    let mut copies = Vec::new(alloc);
+    'names: for name in names {
+        let copy = String::from_str(alloc, name)?;
+        copies.push(copy)?;
     }
+    Ok(copies)
 }
 
-/// The file that was named for a call.
-fn file_for_call<'a>(matches: &ArgMatches<'a>) -> Option<&'a str>
-    ensures { option_map (λ s. s.now) result ≡ file_for_call (subcommand_rows_of matches.now) }
+/// The files that were named.
+fn files_in(alloc: Global, matches: &ArgMatches<'_>) -> Result<Vec<String>, AllocError>
+    ensures { IfOk result (λ copies. map string_bytes copies.items ≡ files_behind (subcommand_rows_of matches.now)) }
 {
-    match call_in(matches) {
-        Some(_) => file_in(matches),
-        None => None,
+    match matches.subcommand() {
+        Some((_, found)) => match found.get_strs("file") {
+            Some(names) => copies_of(alloc, names),
+            None => Ok(Vec::new(alloc)),
+        },
+        None => Ok(Vec::new(alloc)),
     }
 }
 
@@ -420,26 +440,9 @@ pub fn read_arguments<S: AsStr>(alloc: Global, arguments: &[S]) -> Result<Asked,
     let command = command(alloc)?;
     match command.try_get_matches_from(arguments) {
         Ok(matches) => match call_in(&matches) {
-            Some(call) => Ok(Asked::Call(call)),
+            Some(call) => Ok(Asked::Call(call, files_in(alloc, &matches)?)),
             None => Ok(Asked::Refused(String::from_str(alloc, unknown_in(&matches))?)),
         },
         Err(error) => answer_of(alloc, &error),
-    }
-}
-
-/// The file that the arguments of a command line name to be read; none where they name none, or are no call.
-pub fn file_named<S: AsStr>(alloc: Global, arguments: &[S]) -> Result<Option<String>, AllocError>
-    ensures { IfOk result (λ file. option_map string_bytes file ≡ file_of (map S.text arguments.now)) }
-{
-    let command = command(alloc)?;
-    match command.try_get_matches_from(arguments) {
-        Ok(matches) => match file_for_call(&matches) {
-            Some(file) => Ok(Some(String::from_str(alloc, file)?)),
-            None => Ok(None),
-        },
-        Err(error) => match error.kind() {
-            ErrorKind::OutOfMemory => Err(AllocError),
-            _ => Ok(None),
-        },
     }
 }

@@ -4,6 +4,6 @@
 mod arguments;
 mod format;
 
-pub use arguments::{Asked, Call, file_named, read_arguments};
+pub use arguments::{Asked, Call, read_arguments};
 pub use eve_grammar::WorkerCount;
 pub use format::Format;

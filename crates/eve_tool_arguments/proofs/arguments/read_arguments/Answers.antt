@@ -6,7 +6,7 @@ use Rattle.clap.specs.Words.{App, HasKind, HasMatchesOf, Text, fault_of, is_simp
 use Rattle.clap.specs.Words.{subcommand_rows_of}
 use Rattle.eve_tool_arguments.specs.Arguments.{Answers, HasWorkers, SaysOf, call_of, eve, subcommand_named}
 use Rattle.eve_tool_arguments.specs.Arguments.{subcommand_of_call}
-use Rattle.eve_tool_arguments.specs.Arguments.{workers_behind, workers_of}
+use Rattle.eve_tool_arguments.specs.Arguments.{files_behind, files_of, workers_behind, workers_of}
 use Rattle.eve_tool_arguments.specs.declared.arguments.Call.{Call}
 use Rattle.eve_tool_arguments.proofs.CommandLine.{answers_with_fault, call_without_faults, eve_is_free, eve_is_simple}
 use Rattle.eve_tool_arguments.proofs.CommandLine.{run_without_faults}
@@ -18,6 +18,12 @@ behind : (words : List Text) (found : Option (Text × List Row)) (call : Call) �
 unfolding workers_of
 behind words found call is has = subst (λ (o : Option (Text × List Row)). HasWorkers (workers_behind o) call) is has
 
+named : (words : List Text) (found : Option (Text × List Row)) (names : List Text) → found ≡ subcommand_of eve words
+    → names ≡ files_behind found
+    → names ≡ files_of words
+unfolding files_of
+named words found names is has = has ∙ ap files_behind is
+
 pub returns-in-Some : goal.returns-in-Some
 returns-in-Some g c =
     let words : List Text = map g.S.AsStr.text c.args.arguments.now in
@@ -28,8 +34,11 @@ returns-in-Some g c =
     in
     let is : call_of words ≡ Some (subcommand_of_call c.in-Some.call) = call_without_faults words right
     ∙ (ap (option_and_then subcommand_named) (sym found.1)
-    ∙ (sym c.call_in.ensures.call ∙ ap (option_map subcommand_of_call) c.in-Some.is)) in
-    (is, behind words (subcommand_rows_of c.in-Ok.matches) c.in-Some.call found.1 c.in-Some.ensures.workers)
+    ∙ (sym c.call_in.ensures.call ∙ ap (option_map subcommand_of_call) c.in-Some.is)) in (
+      is,
+      behind words (subcommand_rows_of c.in-Ok.matches) c.in-Some.call found.1 c.in-Some.ensures.workers,
+      named words (subcommand_rows_of c.in-Ok.matches) _ found.1 c.in_ok-files_in-in-Some.ensures,
+    )
 
 pub returns-in-Ok : goal.returns-in-Ok
 returns-in-Ok g c =
