@@ -24,7 +24,7 @@ use Rattle.eve_tool.specs.Explain.{Explains}
 use Rattle.eve_tool.specs.Lines.{status_of_verdict}
 use Rattle.eve_grammar.specs.declared.limits.TheConstants.{MOST_BYTES}
 use Rattle.eve_tool.specs.Show.{Shows}
-use Rattle.eve_tool.specs.Long.{AreLinesBefore, ShowsLong}
+use Rattle.eve_tool.specs.Long.{AreLinesBefore, AreLinesIf, ShowsLong, is_countable}
 use Rattle.eve_tool_arguments.specs.Arguments.{Audit, Show, ShowLong, Subcommand}
 use Rattle.eve_tool.specs.Writes.{WritesAll, WritesAllOf, WritesFront, WritesFrontOf}
 
@@ -102,14 +102,24 @@ Shows-cut limit bytes text status enough shows =
           )
 
 -- no lines stand before it
-header_lines : (xs ys : List ℕ) (f : Fault) (text : List ℕ) → 2 ^ 30 < length xs
+uncountable : (bytes : List ℕ) → 2 ^ 30 < length bytes → is_countable bytes ≡ false
+uncountable bytes long =
+    rw (lt-leb (length bytes) (2 ^ 30) long) (none (nat_le 32 (length bytes)))
+  where
+    none : (b : Bool) → (b && false) ≡ false
+    none true = refl
+    none false = refl
+
+header_lines : (xs ys : List ℕ) (f : Fault) (text : List ℕ) → 2 ^ 30 < length xs → 2 ^ 30 < length ys
     → IsLeast (IsFaultOutside StandsInForm xs) f → AreLinesBefore f.code xs f.offset text
     → AreLinesBefore f.code ys f.offset text
-header_lines xs ys f text long least are =
+header_lines xs ys f text long longer least are =
     let front = at_front f (least.least length_fault (length_stands xs long)) in
     let is_its = is_length f.code front.1 in
-    let none : text ≡ [] = subst (λ (c : Code). AreLinesBefore c xs f.offset text) is_its are in
-    subst (λ (c : Code). AreLinesBefore c ys f.offset text) (sym is_its) none
+    let none : text ≡ [] = subst (λ (b : Bool). AreLinesIf b xs text) (uncountable xs long)
+    (subst (λ (c : Code). AreLinesBefore c xs f.offset text) is_its are) in
+    subst (λ (c : Code). AreLinesBefore c ys f.offset text) (sym is_its)
+    (subst (λ (b : Bool). AreLinesIf b ys text) (sym (uncountable ys longer)) none)
 
 -- a number of bytes that no trace has is enough to say what is to be said of all of them
 pub ShowsLong-cut : (limit : ℕ) (bytes text : List ℕ) (status : ℕ) → 2 ^ 30 ≤ limit
@@ -133,7 +143,8 @@ ShowsLong-cut limit bytes text status enough shows =
               least = same_fault (take (limit + 1) bytes) bytes found.0.fault read long
                   found.0.least;
               before = found.0.before;
-              lines = header_lines (take (limit + 1) bytes) bytes found.0.fault found.0.before read found.0.least
+              lines = header_lines (take (limit + 1) bytes) bytes found.0.fault found.0.before read long
+                  found.0.least
                   found.0.lines;
               is = found.0.is;
             },

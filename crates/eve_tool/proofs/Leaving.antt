@@ -6,7 +6,8 @@ use Rattle.eve_streams.specs.Failures.{after_failure}
 use Rattle.eve_streams.specs.Front.{AppendsFront}
 use Rattle.eve_tool.specs.declared.fault.ToolFault.{ToolFault}
 use Rattle.eve_tool.specs.declared.fault.ToolFault.TheVariants as fault
-use Rattle.eve_tool.specs.Calls.{Leaves, StopsInParts, StopsLong, StopsSending, CallSays}
+use Rattle.eve_tool.specs.Calls.{Leaves, StopsInParts, StopsListing, StopsLong, StopsSending, CallSays}
+use Rattle.eve_tool.proofs.LongLines.{stops-before, stops_as}
 use Rattle.eve_grammar.specs.declared.limits.TheConstants.{MOST_BYTES}
 use Rattle.eve_tool.specs.Long.{ShowsLong}
 use Rattle.eve_tool_arguments.specs.Arguments.{Subcommand, Show, ShowLong}
@@ -61,6 +62,32 @@ long_stopped written failures bytes Are last old new said fault.Write stopped = 
     written = stopped.0.sent;
   },
 )
+
+-- by the lines before it
+pub listing_left : {O : Type 0} (written : O → Option (List ℕ)) (failures : O → ℕ) (Are : List ℕ → Type 0)
+    (last : List ℕ) (old new : O) (why : ToolFault) → StopsListing written failures old new Are why
+    → StopsLong written failures old new Are last why
+listing_left written failures Are last old new fault.Read stopped = absurd stopped
+listing_left written failures Are last old new (fault.Line number) stopped = absurd stopped
+listing_left written failures Are last old new fault.TooLong stopped = absurd stopped
+listing_left written failures Are last old new fault.Broken stopped = absurd stopped
+listing_left written failures Are last old new fault.Random stopped = absurd stopped
+listing_left written failures Are last old new fault.Memory stopped = stopped
+listing_left written failures Are last old new fault.Write stopped =
+    (stops-before (written old) (written new) Are last stopped.0, stopped.1)
+
+-- of other lines, where the fact holds of these
+pub listing_as : {O : Type 0} (written : O → Option (List ℕ)) (failures : O → ℕ) (P Q : List ℕ → Type 0) (old new : O)
+    → ((text : List ℕ) → P text → Q text) → (why : ToolFault) → StopsListing written failures old new P why
+    → StopsListing written failures old new Q why
+listing_as written failures P Q old new said fault.Read stopped = absurd stopped
+listing_as written failures P Q old new said (fault.Line number) stopped = absurd stopped
+listing_as written failures P Q old new said fault.TooLong stopped = absurd stopped
+listing_as written failures P Q old new said fault.Broken stopped = absurd stopped
+listing_as written failures P Q old new said fault.Random stopped = absurd stopped
+listing_as written failures P Q old new said fault.Memory stopped = stopped
+listing_as written failures P Q old new said fault.Write stopped =
+    (stops_as (written old) (written new) P Q said stopped.0, stopped.1)
 
 -- what stands of a fault stands of what is answered
 pub at_err : {A : Type 0} (result : Result A ToolFault) (P : ToolFault → Type 0) (why : ToolFault)

@@ -1,4 +1,6 @@
 -- The lines of frames, sent one after another.
+use Rattle.std.proofs.Common.{Bool, true, false, leb, ◌^◌}
+use Rattle.std.proofs.lemmas.Bool.{and_from, le-leb}
 use Rattle.std.proofs.Common.{◌≡◌, ℕ, ◌+◌, ◌-◌, ◌<◌, ◌≤◌}
 use Rattle.std.proofs.Common.{List, [], ◌∷◌, ◌++◌, Option, Some, Result, Ok, Err, OnErr, length, take}
 use Rattle.std.proofs.Common.{drop}
@@ -23,7 +25,7 @@ use Rattle.eve_lines.specs.FrameLines.{frame_words}
 use Rattle.eve_lines.specs.Rest.{words_in}
 use Rattle.std.specs.Io.KnownBytes.{Appends}
 use Rattle.eve_streams.specs.Front.{AppendsFront}
-use Rattle.std.proofs.KnownBytes.{Appends-trans}
+use Rattle.std.proofs.KnownBytes.{Appends-nil, Appends-trans}
 use Rattle.eve_streams.proofs.Joining.{AppendsFront-after, AppendsFront-more}
 use Rattle.eve_views.specs.Form.{IsReached, SaysHead, StandsInForm, said_by}
 use Rattle.eve_views.specs.declared.fault.Code.{Code}
@@ -33,7 +35,8 @@ use Rattle.eve_views.proofs.FrameLaws.{length-frame_text}
 use Rattle.eve_views.proofs.WholeTraces.{spells_frames}
 use Rattle.eve_tool.specs.Lines.{line_feed, line_front}
 use Rattle.eve_tool.specs.Sending.{PutsText}
-use Rattle.eve_tool.specs.Long.{AreLinesBefore, HasFrames, SendsBefore, SendsUpTo, StopsBefore, StopsUpTo, frame_len}
+use Rattle.eve_tool.specs.Long.{AreLinesBefore, AreLinesIf, AreLinesOf, AreLinesTo, is_countable, with_total}
+use Rattle.eve_tool.specs.Long.{HasFrames, SendsBefore, SendsUpTo, StopsBefore, StopsUpTo, frame_len}
 use Rattle.eve_tool.specs.Long.{front_of_view, line_of_view, lines_from, long_line, long_lines}
 use Rattle.eve_tool.proofs.Putting.{PutsUpTo, puts-begun, puts-stops, puts-text, puts-then, up_to-all, up_to-more}
 use Rattle.eve_tool.proofs.Putting.{up_to-none, up_to-stops}
@@ -281,10 +284,10 @@ pub record Before (bytes : List ℕ) (at : ℕ) (c : Code) : Type 0 where
   pub reached : IsReached bytes at
   pub says : SaysHead (take at bytes) reached.head
   pub has : HasFrames (take at bytes) reached.head reached.front
-  pub are : (text : List ℕ) → text ≡ long_lines reached.head reached.front → AreLinesBefore c bytes at text
+  pub are : (text : List ℕ) → text ≡ long_lines reached.head reached.front → AreLinesTo c bytes at text
 
 before_of : (bytes : List ℕ) (at : ℕ) (c : Code) (r : IsReached bytes at)
-    → ((text : List ℕ) → text ≡ long_lines r.head r.front → AreLinesBefore c bytes at text) → Before bytes at c
+    → ((text : List ℕ) → text ≡ long_lines r.head r.front → AreLinesTo c bytes at text) → Before bytes at c
 before_of bytes at c r are =
     let place = r.at_is in record {
       reached = r;
@@ -303,13 +306,47 @@ before code.Body bytes at behind stands = before_of bytes at code.Body stands.0 
 before _ bytes at behind stands = absurd stands
 
 -- where it is
-pub none_before : (c : Code) (bytes : List ℕ) (at : ℕ) → at < 32 → StandsInForm c bytes at → AreLinesBefore c bytes at []
+pub none_before : (c : Code) (bytes : List ℕ) (at : ℕ) → at < 32 → StandsInForm c bytes at → AreLinesTo c bytes at []
 none_before code.Frame bytes at front stands = let place = stands.0.at_is in absurd (omega arith)
 none_before code.Body bytes at front stands = let place = stands.0.at_is in absurd (omega arith)
 none_before code.Length bytes at front stands = refl
 none_before code.Magic bytes at front stands = refl
 none_before code.Head bytes at front stands = refl
 none_before _ bytes at front stands = absurd stands
+
+-- of a fault that isn't the number of the bytes
+pub not_counted : (c : Code) (bytes : List ℕ) (at : ℕ) (text : List ℕ) → (c ≡ code.Length → ⊥)
+    → AreLinesTo c bytes at text → AreLinesBefore c bytes at text
+not_counted code.Length bytes at text other are = absurd (other refl)
+not_counted _ bytes at text other are = are
+
+-- of one that is, where there are as many as a trace may have
+pub counted : (c : Code) (bytes : List ℕ) (at : ℕ) (text : List ℕ) → c ≡ code.Length → 32 ≤ length bytes
+    → length bytes ≤ 2 ^ 30 → AreLinesOf (with_total bytes) text → AreLinesBefore c bytes at text
+counted c bytes at text is long short are =
+    let countable : is_countable bytes ≡ true =
+    and_from (leb 32 (length bytes)) (leb (length bytes) (2 ^ 30)) (le-leb 32 (length bytes) long)
+    (le-leb (length bytes) (2 ^ 30) short) in
+    subst (λ (x : Code). AreLinesBefore x bytes at text) (sym is)
+    (subst (λ (b : Bool). AreLinesIf b bytes text) (sym countable) are)
+
+-- and where there are not
+pub uncounted : (c : Code) (bytes : List ℕ) (at : ℕ) → c ≡ code.Length → is_countable bytes ≡ false
+    → AreLinesBefore c bytes at []
+uncounted c bytes at is few =
+    subst (λ (x : Code). AreLinesBefore x bytes at []) (sym is)
+    (subst (λ (b : Bool). AreLinesIf b bytes []) (sym few) refl)
+
+pub sends_none : (a : Option (List ℕ)) (Are : List ℕ → Type 0) → Are [] → SendsBefore a a Are
+sends_none a Are are = record { text = []; are = are; sent = Appends-nil a }
+
+pub sends_as : (a b : Option (List ℕ)) (P Q : List ℕ → Type 0) → ((text : List ℕ) → P text → Q text)
+    → SendsBefore a b P → SendsBefore a b Q
+sends_as a b P Q said sends = record { text = sends.text; are = said sends.text sends.are; sent = sends.sent }
+
+pub stops_as : (a b : Option (List ℕ)) (P Q : List ℕ → Type 0) → ((text : List ℕ) → P text → Q text)
+    → StopsBefore a b P → StopsBefore a b Q
+stops_as a b P Q said stops = record { text = stops.text; are = said stops.text stops.are; sent = stops.sent }
 
 -- ---- up to a line
 

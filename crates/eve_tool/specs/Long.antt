@@ -1,6 +1,7 @@
 -- What `show --long` says of bytes. docs/USING.md, "What `show --long` prints".
-use Rattle.std.specs.Prelude.{◌≡◌, ℕ, ◌+◌, ◌-◌, ◌≤◌, IsTrue, List, [], ◌∷◌, ◌++◌, length, drop, codes, Option}
-use Rattle.std.specs.Prelude.{slice_index, ◌⊎◌}
+use Rattle.std.specs.Prelude.{◌≡◌, ℕ, ◌+◌, ◌-◌, ◌≤◌, nat_le, Bool, true, false, ◌&&◌, IsTrue, List, [], ◌∷◌, ◌++◌}
+use Rattle.std.specs.Prelude.{length, take, drop, codes, Option, slice_index, ◌⊎◌}
+use Rattle.std.specs.Int.{to_be_bytes, w64}
 use Rattle.std.specs.Io.KnownBytes.{Appends}
 use Rattle.eve_frames.specs.Kinds.{kind_name}
 use Rattle.eve_frames.specs.declared.frame.FrameView.{FrameView}
@@ -11,6 +12,8 @@ use Rattle.eve_grammar.specs.Following.{Follow, Spells}
 use Rattle.eve_grammar.specs.Limits.{is_head}
 use Rattle.eve_grammar.specs.Places.{number_in}
 use Rattle.eve_grammar.specs.declared.head.Head.{Head}
+use Rattle.eve_grammar.specs.declared.head.TheConstants.{HEADER_LEN}
+use Rattle.eve_grammar.specs.declared.limits.TheConstants.{MOST_BYTES}
 use Rattle.eve_lines.specs.FrameLines.{frame_words, header_words}
 use Rattle.eve_lines.specs.Rest.{words_in}
 use Rattle.eve_streams.specs.Front.{AppendsFront}
@@ -46,10 +49,36 @@ pub record ShowsLongTrace (bytes text : List ℕ) : Type 0 where
 
 -- The text is the lines of the header and of the frames before a fault of form: of those of which the header says that
 -- they may stand there, up to the fault's byte. Of a fault of the header there are none.
+abbrev pub AreLinesTo : Code → List ℕ → ℕ → List ℕ → Type 0
+AreLinesTo code.Frame bytes at text = (r : IsReached bytes at) × (text ≡ long_lines r.head r.front)
+AreLinesTo code.Body bytes at text = (r : IsReached bytes at) × (text ≡ long_lines r.head r.front)
+AreLinesTo _ bytes at text = text ≡ []
+
+-- The text is the lines that there are of bytes: of a trace all, else those before the first fault of form.
+abbrev pub AreLinesOf : List ℕ → List ℕ → Type 0
+AreLinesOf bytes text =
+    ((t : Trace) × Spells bytes t × (text ≡ long_lines t.head (frames_of t)))
+    ⊎ ((f : Fault) × IsLeast (IsFaultOutside StandsInForm bytes) f × AreLinesTo f.code bytes f.offset text)
+
+-- no fewer and no more bytes than a trace may have
+abbrev pub is_countable : List ℕ → Bool
+is_countable bytes = nat_le HEADER_LEN (length bytes) && nat_le (length bytes) MOST_BYTES
+
+-- the bytes with their number where the header has its total
+abbrev pub with_total : List ℕ → List ℕ
+with_total bytes = take 24 bytes ++ (to_be_bytes w64 (length bytes) ++ drop 32 bytes)
+
+-- those that there would be if the header had the number of the bytes as its total; none where no trace has so few or
+-- so many
+abbrev pub AreLinesIf : (countable : Bool) → List ℕ → List ℕ → Type 0
+AreLinesIf true bytes text = AreLinesOf (with_total bytes) text
+AreLinesIf false bytes text = text ≡ []
+
+-- The text is the lines before a fault of form. Where the number of bytes is not the one due, as in a recording that
+-- broke off, they show what there is all the same.
 abbrev pub AreLinesBefore : Code → List ℕ → ℕ → List ℕ → Type 0
-AreLinesBefore code.Frame bytes at text = (r : IsReached bytes at) × (text ≡ long_lines r.head r.front)
-AreLinesBefore code.Body bytes at text = (r : IsReached bytes at) × (text ≡ long_lines r.head r.front)
-AreLinesBefore _ bytes at text = text ≡ []
+AreLinesBefore code.Length bytes at text = AreLinesIf (is_countable bytes) bytes text
+AreLinesBefore c bytes at text = AreLinesTo c bytes at text
 
 -- the bytes are no trace, and the text is the lines before their first fault of form, and then its line
 pub record ShowsLongFault (bytes text : List ℕ) : Type 0 where

@@ -9,9 +9,10 @@ ghost use Rattle.eve_lines.specs.Rest.{words_left};
 ghost use Rattle.eve_streams.specs.Failures.{after_failure};
 ghost use Rattle.eve_streams.specs.Front.{AppendsFront};
 ghost use Rattle.eve_views.specs.Form.{IsFaultOutside, SaysHead, StandsInForm};
-ghost use Rattle.eve_tool.specs.Calls.{WasRead, Leaves, StopsLong};
+ghost use Rattle.eve_tool.specs.Calls.{WasRead, Leaves, StopsListing, StopsLong};
 ghost use Rattle.eve_tool.specs.Lines.{fault_line, line_feed, line_front};
-ghost use Rattle.eve_tool.specs.Long.{AreLinesBefore, HasFrames, SendsBefore, SendsUpTo, ShowsLong, StopsBefore};
+ghost use Rattle.eve_tool.specs.Long.{AreLinesBefore, AreLinesOf, AreLinesTo, HasFrames, SendsBefore, SendsUpTo};
+ghost use Rattle.eve_tool.specs.Long.{ShowsLong, StopsBefore, with_total};
 ghost use Rattle.eve_tool.specs.Long.{frame_len, header_long_line, line_of_view, lines_from, long_lines};
 ghost use Rattle.eve_tool.specs.Sending.{PutsText};
 ghost use Rattle.eve_tool_arguments.specs.Arguments.{ShowLong};
@@ -26,7 +27,7 @@ use eve_lines::{
     put_numbered,
 };
 use eve_streams::{SendFault, Sink, Source, read_all, send_all};
-use eve_views::{CheckFault, Fault, FrameView, Trace};
+use eve_views::{CheckFault, Code, Fault, FrameView, Trace};
 use std::alloc::Global;
 
 /// How many bytes of lines are sent together, about.
@@ -220,9 +221,9 @@ fn send_before<O: Sink>(bytes: &[u8], fault: &Fault, out: &mut O) -> Result<(), 
     requires within { fault.now.offset ≤ length bytes.now }
     requires stands { IsFaultOutside StandsInForm bytes.now fault.now }
     ensures sent { OnOk result (SendsBefore (O.written out.old) (O.written out.new)
-        (AreLinesBefore fault.now.code bytes.now fault.now.offset)) }
+        (AreLinesTo fault.now.code bytes.now fault.now.offset)) }
     ensures front { OnErr result (StopsBefore (O.written out.old) (O.written out.new)
-        (AreLinesBefore fault.now.code bytes.now fault.now.offset)) }
+        (AreLinesTo fault.now.code bytes.now fault.now.offset)) }
     ensures fine { OnOk result (O.failures out.new ≡ O.failures out.old) }
     ensures counted { OnErr result (O.failures out.new ≡ after_failure (O.failures out.old)) }
 {
@@ -233,47 +234,105 @@ fn send_before<O: Sink>(bytes: &[u8], fault: &Fault, out: &mut O) -> Result<(), 
     send_lines(&bytes[..at], out)
 }
 
-/// Sends the lines of the header and of the frames before a fault, and then the line of the fault.
-fn send_faulty<O: Sink>(
+/// Sends the lines that there are of bytes: of a trace all, else those before the first fault of form.
+fn send_there<O: Sink>(alloc: Global, bytes: &[u8], out: &mut O) -> Result<(), ToolFault>
+    ensures sent { OnOk result (SendsBefore (O.written out.old) (O.written out.new) (AreLinesOf bytes.now)) }
+    ensures fine { OnOk result (O.failures out.new ≡ O.failures out.old) }
+    ensures stopped { IfErr result (StopsListing O.written O.failures out.old out.new (AreLinesOf bytes.now)) }
+{
+    match Trace::read(alloc, bytes) {
+        Ok(trace) => {
+            send_lines(trace.bytes(), out)?;
+            Ok(())
+        }
+        Err(CheckFault::Found(fault)) => {
+            send_before(bytes, &fault, out)?;
+            Ok(())
+        }
+        Err(CheckFault::Memory) => Err(ToolFault::Memory),
+    }
+}
+
+/// Writes their number into bytes, where a header has its total.
+fn set_total(bytes: &mut [u8])
+    requires { HEADER_LEN ≤ length bytes.old }
+    ensures { bytes.new ≡ with_total bytes.old }
+{
+    let total = bytes.len() as u64;
+    bytes[24..HEADER_LEN].copy_from_slice(&total.to_be_bytes());
+}
+
+/// Sends the lines before a fault of form. Where it is that there are more or fewer bytes than the header says, the
+/// header then says how many there are.
+fn send_listed<O: Sink>(
     alloc: Global,
-    bytes: &[u8],
+    bytes: &mut [u8],
     fault: &Fault,
     out: &mut O,
 ) -> Result<(), ToolFault>
-    requires within { fault.now.offset ≤ length bytes.now }
-    requires stands { IsFaultOutside StandsInForm bytes.now fault.now }
+    requires within { fault.now.offset ≤ length bytes.old }
+    requires stands { IsFaultOutside StandsInForm bytes.old fault.now }
+    ensures sent { OnOk result (SendsBefore (O.written out.old) (O.written out.new)
+        (AreLinesBefore fault.now.code bytes.old fault.now.offset)) }
+    ensures fine { OnOk result (O.failures out.new ≡ O.failures out.old) }
+    ensures stopped { IfErr result (StopsListing O.written O.failures out.old out.new
+        (AreLinesBefore fault.now.code bytes.old fault.now.offset)) }
+{
+    match fault.code {
+        Code::Length => {
+            if bytes.len() < HEADER_LEN || bytes.len() > MOST_BYTES {
+                return Ok(());
+            }
+            set_total(bytes);
+            send_there(alloc, bytes, out)
+        }
+        _ => {
+            send_before(bytes, fault, out)?;
+            Ok(())
+        }
+    }
+}
+
+/// Sends the lines of the header and of the frames before a fault, and then the line of the fault.
+fn send_faulty<O: Sink>(
+    alloc: Global,
+    bytes: &mut [u8],
+    fault: &Fault,
+    out: &mut O,
+) -> Result<(), ToolFault>
+    requires within { fault.now.offset ≤ length bytes.old }
+    requires stands { IsFaultOutside StandsInForm bytes.old fault.now }
     ensures sent { OnOk result (SendsUpTo (O.written out.old) (O.written out.new)
-        (AreLinesBefore fault.now.code bytes.now fault.now.offset) (fault_line fault.now)) }
+        (AreLinesBefore fault.now.code bytes.old fault.now.offset) (fault_line fault.now)) }
     ensures fine { OnOk result (O.failures out.new ≡ O.failures out.old) }
     ensures stopped { IfErr result (StopsLong O.written O.failures out.old out.new
-        (AreLinesBefore fault.now.code bytes.now fault.now.offset) (fault_line fault.now)) }
+        (AreLinesBefore fault.now.code bytes.old fault.now.offset) (fault_line fault.now)) }
 {
     let mut text = String::new(alloc);
     push_fault_line(&mut text, fault)?;
-    send_before(bytes, fault, out)?;
+    send_listed(alloc, bytes, fault, out)?;
     send_all(out, text.as_str().as_bytes())?;
     Ok(())
 }
 
 /// Sends what there is to say of the bytes, and returns the exit status.
-fn show_long_bytes<O: Sink>(alloc: Global, bytes: &[u8], out: &mut O) -> Result<u8, ToolFault>
-    ensures all { IfOk result (WritesAll ShowsLong bytes.now (O.written out.old) (O.written out.new)) }
+fn show_long_bytes<O: Sink>(alloc: Global, bytes: &mut [u8], out: &mut O) -> Result<u8, ToolFault>
+    ensures all { IfOk result (WritesAll ShowsLong bytes.old (O.written out.old) (O.written out.new)) }
     ensures status { IfOk result (λ status. status < 2) }
     ensures fine { OnOk result (O.failures out.new ≡ O.failures out.old) }
-    ensures left { IfErr result (Leaves MOST_BYTES O.written O.failures ShowLong (Some bytes.now) ⊥ out.old out.new) }
+    ensures left { IfErr result (Leaves MOST_BYTES O.written O.failures ShowLong (Some bytes.old) ⊥ out.old out.new) }
     ensures wrote { IfErr result (λ why. why ≢ ToolFault.Write → O.failures out.new ≡ O.failures out.old) }
 {
-    match Trace::read(alloc, bytes) {
+    let fault = match Trace::read(alloc, bytes) {
         Ok(trace) => {
             send_lines(trace.bytes(), out)?;
-            Ok(0)
+            return Ok(0);
         }
-        Err(CheckFault::Found(fault)) => {
-            send_faulty(alloc, bytes, &fault, out)?;
-            Ok(1)
-        }
-        Err(CheckFault::Memory) => Err(ToolFault::Memory),
-    }
+        Err(CheckFault::Found(fault)) => fault,
+        Err(CheckFault::Memory) => return Err(ToolFault::Memory),
+    };
+    send_faulty(alloc, bytes, &fault, out)?;
+    Ok(1)
 }
 
 /// Reads a trace, sends its lines with the fields of each frame and returns 0; or sends those of the frames before its
@@ -297,6 +356,6 @@ pub(crate) fn show_long<I: Source, O: Sink>(
     ensures consumed { OnOk result (WasRead MOST_BYTES (I.remaining input.old) (I.remaining input.new)) }
     ensures wrote { IfErr result (λ why. why ≢ ToolFault.Write → O.failures out.new ≡ O.failures out.old) }
 {
-    let bytes = read_all(alloc, input, MOST_BYTES as u32)?;
-    show_long_bytes(alloc, bytes.as_slice(), out)
+    let mut bytes = read_all(alloc, input, MOST_BYTES as u32)?;
+    show_long_bytes(alloc, bytes.as_mut_slice(), out)
 }

@@ -22,8 +22,8 @@ returns-in_err-send_lines-in-Ok-clause-left g c =
       },
     )
 
-pub returns-in_ok-send_lines-in-Ok-clause-all : goal.returns-in_ok-send_lines-in-Ok-clause-all
-returns-in_ok-send_lines-in-Ok-clause-all g c =
+pub returns-in-Ok-clause-all : goal.returns-in-Ok-clause-all
+returns-in-Ok-clause-all g c =
     let t = c.in-Ok.trace in record {
       text = long_lines t.head (frames_of t);
       said = inl (record { trace = t; spelled = c.in-Ok.ensures.trace; lines = refl }, refl);
@@ -31,12 +31,11 @@ returns-in_ok-send_lines-in-Ok-clause-all g c =
           (trace_says c.bytes.result.now t c.bytes.ensures) (trace_has c.bytes.result.now t c.bytes.ensures);
     }
 
-pub returns-in_err-send_faulty-in-Err-Found-clause-left : goal.returns-in_err-send_faulty-in-Err-Found-clause-left
-returns-in_err-send_faulty-in-Err-Found-clause-left g c =
-    let why = c.in_err-send_faulty-in-Err-Found.field-0.0 in
+pub returns-in_err-send_faulty-clause-left : goal.returns-in_err-send_faulty-clause-left
+returns-in_err-send_faulty-clause-left g c =
+    let why = c.in_err-send_faulty.field-0.0 in
     let fault = c.in-Err-Found.fault in
-    at_err c.from_residual-in_err-send_faulty-in-Err-Found.result _ why
-    c.from_residual-in_err-send_faulty-in-Err-Found.ensures.1
+    at_err c.from_residual-in_err-send_faulty.result _ why c.from_residual-in_err-send_faulty.ensures.1
     (long_stopped g.O.Sink.written g.O.Sink.failures c.args.bytes.now
     (AreLinesBefore fault.code c.args.bytes.now fault.offset) (fault_line fault) c.args.out.now c.send_faulty.new.out
     (λ before are. inr (
@@ -49,4 +48,4 @@ returns-in_err-send_faulty-in-Err-Found-clause-left g c =
       },
       refl,
     ))
-    why c.in_err-send_faulty-in-Err-Found.ensures.stopped)
+    why c.in_err-send_faulty.ensures.stopped)
