@@ -29,7 +29,7 @@ use eve_grammar::laws::{
     bytes_are_as_long_as_their_trace, bytes_spell_one_trace, right_heads_have_limits,
 };
 use eve_history::laws::{faults_lie_within, outcomes_come_of_steps};
-use eve_history::{History, orders_side_by_side};
+use eve_history::{History, orders};
 use eve_recorder::Gate;
 use eve_views::laws::parts_stand_in_order;
 use eve_views::{CheckFault, Trace};
@@ -46,7 +46,7 @@ struct Opened<'a> {
     names: Names<'a>,
 }
 
-/// Reads a trace and judges its orders, both with up to `jobs` jobs.
+/// Reads a trace and judges its orders, the first with up to `jobs` jobs.
 fn open<'a, R: Threads + Sync>(
     rt: &R,
     alloc: Global,
@@ -68,7 +68,7 @@ fn open<'a, R: Threads + Sync>(
         Ok(trace) => trace,
         Err(why) => return Err(why),
     };
-    match orders_side_by_side(rt, alloc, &trace, random, jobs) {
+    match orders(alloc, &trace, random) {
         Ok(names) => Ok(Opened { trace, names }),
         Err(why) => Err(why),
     }
@@ -212,7 +212,7 @@ pub fn audit_one<R: Threads + Sync>(
 /// docs/MODEL.md, "Verdict" and "The audit theorem".
 ///
 /// - First the caller reads the trace and judges its orders: the bodies of batches, attempts, access records and states
-///   taken over, and then the requests' numbers, in up to `workers` threads, which end before a worker begins.
+///   taken over in up to `workers` threads, which end before a worker begins.
 /// - Then up to `workers` workers judge the replicas, each by itself, but for its tokens. Who judges replica e enters
 ///   the gate with e first.
 /// - Of the replicas without a fault so far, the tokens of the one that committed most batches are judged in up to

@@ -118,8 +118,8 @@ pub fn all_reports<'a, R: Threads + Sync>(
 }
 
 /// A replica's report but for its tokens, which aren't judged yet, or the first of its own faults, by the replica's
-/// number from 0. Its structure, records and chains are judged in up to `jobs` threads, at least 1; for one job no
-/// thread is started.
+/// number from 0. Its records and chains are judged in up to `jobs` threads, at least 1; for one job no thread is
+/// started.
 pub fn settled_report<'a, R: Threads + Sync>(
     rt: &R,
     alloc: Global,
@@ -134,7 +134,7 @@ pub fn settled_report<'a, R: Threads + Sync>(
     ensures report { IfOk result (IsSettledReportOf trace.now e) }
     ensures first { IfErr result (λ why. IfFound why (IsFirstOf (IsOwnFault trace.now e))) }
 {
-    let history = match History::of_side_by_side(rt, alloc, trace, e, jobs) {
+    let history = match History::of(alloc, trace, e) {
         Ok(history) => history,
         Err(why) => return Err(why),
     };

@@ -19,10 +19,7 @@ pub mod Counted
 pub mod Sorting
 pub mod Arriving
 pub mod Standing
-pub mod SideBySide
-pub mod Ahead
 pub mod Lent
 pub mod Rights
-pub mod Spans
 mod AmongSteps
 mod Faultless

@@ -7,8 +7,6 @@ pub mod FirstWrong
 pub mod Marking
 pub mod Standing
 pub mod Coming
-pub mod SideBySide
 pub mod Rising
 pub mod Repeats
-pub mod Spans
 pub mod AmongSteps

@@ -10,19 +10,16 @@ ghost use Rattle.eve_views.specs.Lent.{HasBytesAt};
 ghost use Rattle.eve_history.specs.SectionHistory.{ExecutedAttempt, section_history, section_histories, IsRightSection};
 ghost use Rattle.eve_history.specs.SectionHistory.{attempts_among, LandedBy, is_by_attempt, landed_at, IsToldOf};
 ghost use Rattle.eve_history.specs.Coming.{kept_section, section_history_of, IsWholeSection};
-ghost use Rattle.eve_history.specs.SideBySide.{AreOrdered};
 ghost use Rattle.eve_history.specs.Structure.{StandsInStructure};
 
 use crate::fate::Fate;
 use crate::frame::{access_at, attempt_at, rollback_at, transfer_at};
 use crate::landing::Landing;
-use crate::side_by_side::order_all;
-use crate::structure::{Notes, take, take_ahead};
+use crate::structure::{Notes, take};
 use eve_frames::{AccessView, AttemptView, RollbackView, TransferView};
 use eve_views::{CheckFault, Trace};
-use std::alloc::{AllocError, Global};
+use std::alloc::Global;
 use std::marker::Model;
-use std::thread::Threads;
 
 /// What a replica did, as its section tells it: its attempts, what became of each and in which order each ran, its
 /// rollbacks, and the states that it took over. Each of the three is numbered from 0, in the order of the frames.
@@ -65,66 +62,6 @@ impl<'a> History<'a> {
         ensures { result ≡ section_history_of replica (kept_section notes.entry) }
     {
         History { replica, notes }
-    }
-
-    /// What a replica did, whose attempts' certificates and access records are right, and whose access records these
-    /// are; nothing where another step of its section isn't right.
-    fn of_ordered(
-        alloc: Global,
-        trace: &Trace<'a>,
-        e: u8,
-        records: Vec<u32>,
-    ) -> Result<Option<History<'a>>, AllocError>
-        requires there { e < length trace.now.sections }
-        requires ordered { AreOrdered trace.now (attempts_among (steps_at trace.now e)) records.items }
-        ensures section_history { IfOk result (λ found. IfSome found (λ history.
-            history ≡ section_history trace.now e)) }
-        ensures replica { IfOk result (λ found. IfSome found (λ history. history.replica ≡ e)) }
-        ensures right { IfOk result (λ found. IfSome found (λ _. IsRightSection trace.now e)) }
-        ensures none { IfOk result (λ found. IfSome found (λ _. HasNone (IsFaultIn StandsInStructure trace.now e))) }
-    {
-        trace.recall_limits();
-        let mut notes = Notes::with_records(alloc, trace.bytes(), records);
-        let mut from = 0;
-        let mut steps = trace.section(e);
-        while let Some(step) = steps.next() {
-            match take_ahead(&mut notes, trace, e, step, from)? {
-                Some(to) => from = to,
-                None => return Ok(None),
-            }
-        }
-        Ok(Some(History::of_notes(e, notes)))
-    }
-
-    /// What a replica did, as `of` says it, with up to `jobs` jobs.
-    ///
-    /// docs/MODEL.md, "Section state, fate" and "Faults". Of two jobs or more the certificates and access records of
-    /// its attempts are judged side by side, whatever came before each, and then one pass goes over the section's steps
-    /// without them. Only where that way finds something wrong, the section is judged again from the start, frame by
-    /// frame, for the first fault. With one job, or with fewer than 64 attempts, it is judged as `of` does. Refused
-    /// memory decides nothing.
-    pub fn of_side_by_side<R: Threads + Sync>(
-        rt: &R,
-        alloc: Global,
-        trace: &Trace<'a>,
-        e: u8,
-        jobs: u8,
-    ) -> Result<History<'a>, CheckFault>
-        requires { e < length trace.now.sections }
-        ensures section_history { IfOk result (λ history. history ≡ section_history trace.now e) }
-        ensures replica { IfOk result (λ history. history.replica ≡ e) }
-        ensures right { IfOk result (λ _. IsRightSection trace.now e) }
-        ensures none { IfOk result (λ _. HasNone (IsFaultIn StandsInStructure trace.now e)) }
-        ensures least { IfErr result (λ x. IfFound x (IsLeast (IsFaultIn StandsInStructure trace.now e))) }
-    {
-        if 1 < jobs {
-            if let Some(records) = order_all(rt, alloc, trace, e, jobs)? {
-                if let Some(history) = History::of_ordered(alloc, trace, e, records)? {
-                    return Ok(history);
-                }
-            }
-        }
-        History::of(alloc, trace, e)
     }
 
     /// What a replica did, by the replica's number from 0, where its section is right; else the first fault of

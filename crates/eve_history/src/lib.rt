@@ -12,13 +12,10 @@ mod landing;
 pub mod laws;
 mod order;
 mod repeats;
-mod side_by_side;
-mod span;
-mod stretches;
 mod structure;
 mod wrong;
 
 pub use fate::Fate;
 pub use history::{History, recall_all_right};
 pub use landing::Landing;
-pub use order::{orders, orders_side_by_side};
+pub use order::orders;

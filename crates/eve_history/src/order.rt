@@ -11,13 +11,11 @@ ghost use Rattle.eve_history.specs.Order.{requests_said, HasDistinctNames, HasDi
 
 use crate::greatest::Greatest;
 use crate::repeats::first_repeat;
-use crate::stretches::stretches_rise;
 use eve_accounts::{NameFault, Names};
 use eve_frames::BatchView;
 use eve_views::{CheckFault, Code, Fault, Trace};
 use std::alloc::Global;
 use std::hash::RandomState;
-use std::thread::Threads;
 
 /// A fault outside the sections.
 fn outside(code: Code, offset: u64) -> CheckFault
@@ -140,43 +138,5 @@ pub fn orders<'a>(
 {
     let names = names_in_order(alloc, trace, random)?;
     requests_apart(alloc, trace, random)?;
-    Ok(names)
-}
-
-/// The same as `requests_apart`, where the batches are first gone over in as many threads as there are jobs.
-fn requests_apart_side_by_side<R: Threads + Sync>(
-    rt: &R,
-    alloc: Global,
-    trace: &Trace<'_>,
-    random: RandomState,
-    jobs: u8,
-) -> Result<(), CheckFault>
-    requires { HasDistinctNames trace.now }
-    ensures apart { IfOk result (λ _. HasDistinctRequests trace.now) }
-    ensures fault { IfErr result (λ e. IfFound e (IsLeast (IsFaultOutside StandsInOrders trace.now))) }
-{
-    if stretches_rise(rt, alloc, trace, jobs)? {
-        return Ok(());
-    }
-    requests_apart(alloc, trace, random)
-}
-
-/// The same as `orders`, where the requests are gone over in as many threads as there are jobs.
-///
-/// With one job, or fewer than 64 batches, it starts no thread. Where the numbers of some client don't rise, or a
-/// client of 4,096 or more comes, it goes the way of `orders` after all. Beyond that of `orders` it takes 100 KB a job.
-pub fn orders_side_by_side<'a, R: Threads + Sync>(
-    rt: &R,
-    alloc: Global,
-    trace: &Trace<'a>,
-    random: RandomState,
-    jobs: u8,
-) -> Result<Names<'a>, CheckFault>
-    ensures names { IfOk result (λ names. names.items ≡ names_of trace.now) }
-    ensures none { IfOk result (λ _. HasNone (IsFaultOutside StandsInOrders trace.now)) }
-    ensures least { IfErr result (λ e. IfFound e (IsLeast (IsFaultOutside StandsInOrders trace.now))) }
-{
-    let names = names_in_order(alloc, trace, random)?;
-    requests_apart_side_by_side(rt, alloc, trace, random, jobs)?;
     Ok(names)
 }

@@ -18,7 +18,6 @@ ghost use Rattle.eve_history.specs.FirstWrong.{wrong_attempt, wrong_step, fault_
 ghost use Rattle.eve_history.specs.Marking.{AreMarked};
 ghost use Rattle.eve_history.specs.Coming.{kept_section, StandsAt, HasCome, ComesNext, AreFramed, AreNotesOf};
 ghost use Rattle.eve_history.specs.Coming.{kept_at_first, seen};
-ghost use Rattle.eve_history.specs.SideBySide.{IsKeptAhead};
 ghost use Rattle.eve_history.specs.Structure.{StandsInStructure};
 
 use crate::access_marks::AccessMarks;
@@ -89,7 +88,7 @@ fn is_of(commit: &CommitView<'_>, attempt: &AttemptView<'_>) -> bool
 }
 
 /// Keeps the access records of an attempt, which are marked, in its certificate's order.
-pub fn keep_records(
+fn keep_records(
     records: &mut Vec<u32>,
     order: &[u16],
     marks: &AccessMarks,
@@ -105,7 +104,7 @@ pub fn keep_records(
 }
 
 /// How many workers an attempt may have.
-pub fn workers_of(trace: &Trace<'_>, attempt: &AttemptView<'_>) -> u8
+fn workers_of(trace: &Trace<'_>, attempt: &AttemptView<'_>) -> u8
     ensures workers { result ≡ worker_count trace.now (attempt_said attempt.now) }
     ensures most { result ≤ MOST_WORKERS }
 {
@@ -127,18 +126,6 @@ impl<'a> Notes<'a> {
         ensures transfers { result.transfers.items ≡ [] }
         ensures kept { kept_section result ≡ kept_at_first [] }
     {
-        Notes::with_records(alloc, bytes, Vec::new(alloc))
-    }
-
-    /// Before the first step, with the access records of all attempts that are to come.
-    pub fn with_records(alloc: Global, bytes: &'a [u8], records: Vec<u32>) -> Notes<'a>
-        ensures bytes { result.bytes.now ≡ bytes.now }
-        ensures attempts { result.attempts.items ≡ [] }
-        ensures records { result.records.items ≡ records.items }
-        ensures rollbacks { result.rollbacks.items ≡ [] }
-        ensures transfers { result.transfers.items ≡ [] }
-        ensures kept { kept_section result ≡ kept_at_first (map (seen bytes.now) records.items) }
-    {
         Notes {
             bytes,
             view: 0,
@@ -147,7 +134,7 @@ impl<'a> Notes<'a> {
             attempts: Vec::new(alloc),
             fates: Vec::new(alloc),
             landings: Vec::new(alloc),
-            records,
+            records: Vec::new(alloc),
             rollbacks: Vec::new(alloc),
             transfers: Vec::new(alloc),
         }
@@ -300,35 +287,6 @@ impl<'a> Notes<'a> {
         Ok(())
     }
 
-    /// Takes the next attempt, whose certificate and access records are right and whose records are kept from this
-    /// place on, and gives the place behind them; nothing where it isn't due.
-    pub fn take_ordered(
-        &mut self,
-        trace: &Trace<'_>,
-        attempt: &AttemptView<'_>,
-        from: usize,
-    ) -> Result<Option<usize>, AllocError>
-        requires { (e : ℕ) × (rest : List (ℕ × StepValue)) × (b : Attempt)
-            × IsKeptAhead trace.now e ((attempt.now.offset, Attempts b) ∷ rest) from self.old
-            × (attempt_said attempt.now ≡ without_accesses b) }
-        ensures { IfOk result (λ next. IfSome next (λ to. (e : ℕ) (rest : List (ℕ × StepValue)) (b : Attempt)
-            → IsKeptAhead trace.now e ((attempt.now.offset, Attempts b) ∷ rest) from self.old
-            → attempt_said attempt.now ≡ without_accesses b → IsKeptAhead trace.now e rest to self.new)) }
-    {
-        if !self.is_due(&trace.head(), attempt) {
-            return Ok(None);
-        }
-        let next = from + attempt.len();
-        let taken = self.transfers.len() as u32;
-        self.attempts.push(Attempted {
-            at: attempt.offset() as u32,
-            taken,
-            from,
-        })?;
-        self.rolled_back = false;
-        Ok(Some(next))
-    }
-
     /// Takes the next commit, of the first open attempt, or says that it is wrong.
     pub fn take_commit(&mut self, e: u8, commit: &CommitView<'_>) -> Result<(), CheckFault>
         requires framed { AreFramed self.old }
@@ -338,7 +296,6 @@ impl<'a> Notes<'a> {
             → HasCome t e ((commit.now.offset, Commits (commit_said commit.now)) ∷ rest) (kept_section self.old)
             → HasCome t e rest (kept_section self.new)) }
         ensures noted { OnOk result ((t : TraceValue) → AreNotesOf t self.old → AreNotesOf t self.new) }
-        ensures records { OnOk result (self.new.records.items ≡ self.old.records.items) }
         ensures wrong { IfErr result
             (λ x. IfFound x (λ f. (t : TraceValue) (rest : List (ℕ × StepValue))
             → HasCome t e ((commit.now.offset, Commits (commit_said commit.now)) ∷ rest) (kept_section self.old)
@@ -378,7 +335,6 @@ impl<'a> Notes<'a> {
             (kept_section self.old)
             → HasCome trace.now e rest (kept_section self.new)) }
         ensures noted { OnOk result (AreNotesOf trace.now self.new) }
-        ensures records { OnOk result (self.new.records.items ≡ self.old.records.items) }
         ensures wrong { IfErr result
             (λ x. IfFound x (λ f. (rest : List (ℕ × StepValue))
             → HasCome trace.now e ((rollback.now.offset, RollsBack (rollback_said rollback.now)) ∷ rest)
@@ -419,7 +375,6 @@ impl<'a> Notes<'a> {
             (kept_section self.old)
             → HasCome trace.now e rest (kept_section self.new)) }
         ensures noted { OnOk result (AreNotesOf trace.now self.new) }
-        ensures records { OnOk result (self.new.records.items ≡ self.old.records.items) }
         ensures wrong { IfErr result
             (λ x. IfFound x (λ f. (rest : List (ℕ × StepValue))
             → HasCome trace.now e ((transfer.now.offset, TakesOver (transfer_said transfer.now)) ∷ rest)
@@ -473,48 +428,5 @@ pub fn take<'a>(
         Step::Commit(commit) => notes.take_commit(e, &commit),
         Step::Rollback(rollback) => notes.take_rollback(trace, e, &rollback),
         Step::Transfer(transfer) => notes.take_transfer(trace, e, &transfer),
-    }
-}
-
-/// Whether a step was taken, where it is right.
-fn is_taken(taken: Result<(), CheckFault>) -> Result<bool, AllocError>
-    ensures { IfOk result (λ right. IsTrue right → IsOk taken) }
-{
-    match taken {
-        Ok(()) => Ok(true),
-        Err(CheckFault::Found(_)) => Ok(false),
-        Err(CheckFault::Memory) => Err(AllocError),
-    }
-}
-
-/// Takes the next step of a replica's section, whose access records are kept already, those of the attempts that come
-/// from this place on; and gives the place of those behind it. Nothing where the step isn't right.
-pub fn take_ahead<'a>(
-    notes: &mut Notes<'a>,
-    trace: &Trace<'a>,
-    e: u8,
-    step: Step<'_, 'a>,
-    from: usize,
-) -> Result<Option<usize>, AllocError>
-    requires { (rest : List (ℕ × StepValue)) × (next : ℕ × StepValue)
-        × IsKeptAhead trace.now e (next ∷ rest) from notes.old × IsStep step next }
-    ensures { IfOk result (λ next. IfSome next (λ to. (rest : List (ℕ × StepValue)) (next : ℕ × StepValue)
-        → IsKeptAhead trace.now e (next ∷ rest) from notes.old → IsStep step.entry next
-        → IsKeptAhead trace.now e rest to notes.new)) }
-{
-    match step {
-        Step::Attempt(attempt, _) => notes.take_ordered(trace, &attempt, from),
-        Step::Commit(commit) => {
-            let right = is_taken(notes.take_commit(e, &commit))?;
-            Ok(if right { Some(from) } else { None })
-        }
-        Step::Rollback(rollback) => {
-            let right = is_taken(notes.take_rollback(trace, e, &rollback))?;
-            Ok(if right { Some(from) } else { None })
-        }
-        Step::Transfer(transfer) => {
-            let right = is_taken(notes.take_transfer(trace, e, &transfer))?;
-            Ok(if right { Some(from) } else { None })
-        }
     }
 }

@@ -11,7 +11,7 @@ returns-clause-fault g c =
     let bytes = c.args.bytes.now in
     let t = c.in-Ok.trace in
     found_weaker (IsLeast (IsFaultOutside StandsInOrders t)) (λ f. IsAnswer bytes (No f))
-    c.in-Err-orders_side_by_side.why
+    c.in-Err-orders.why
     (λ f least. no_for bytes t (record { spells = c.in-Ok.ensures.trace; none = c.in-Ok.ensures.faultless })
     (λ u other. c.bytes_spell_one_trace.ensures bytes u t other c.in-Ok.ensures.trace)
     (c.bytes_are_as_long_as_their_trace.ensures bytes t c.in-Ok.ensures.trace) (c.faults_lie_within.ensures.orders t)
@@ -21,7 +21,7 @@ returns-clause-fault g c =
       each_settled = c.outcomes_come_of_steps.ensures.settled t;
       taken_over = c.outcomes_come_of_steps.ensures.taken_over t;
     }) f (order_first t f least))
-    c.in-Err-orders_side_by_side.ensures.least
+    c.in-Err-orders.ensures.least
 
 pub returns-in-Err-clause-fault : goal.returns-in-Err-clause-fault
 returns-in-Err-clause-fault g c =
