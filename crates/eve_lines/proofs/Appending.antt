@@ -7,7 +7,7 @@ use Rattle.std.proofs.lemmas.Bool.{lt-ltb}
 use Rattle.eve_smallbank.specs.declared.entry.Entry.{Entry}
 use Rattle.eve_smallbank.specs.declared.versioned.Versioned.{Versioned}
 use Rattle.eve_grammar.proofs.Lists.{drop_here}
-use Rattle.eve_lines.specs.Words.{entry_words, listed, listed_or_none, parting, row_words}
+use Rattle.eve_lines.specs.Words.{entry_words, list_words, list_or_none, parting, row_words}
 use Rattle.eve_lines.specs.FrameLines.{index_words}
 use Rattle.eve_lines.specs.Rest.{nth_entry}
 
@@ -20,7 +20,7 @@ pub none_left : (s r a : List ℕ) → r ≡ s ++ a → r ++ [] ≡ s ++ a
 none_left s r a put = append-nil r ∙ put
 
 entries_are : (entries : List Entry) → 0 < length entries → length entries ≤ 3
-    → nth_entry 0 entries ++ (nth_entry 1 entries ++ nth_entry 2 entries) ≡ listed_or_none (map entry_words entries)
+    → nth_entry 0 entries ++ (nth_entry 1 entries ++ nth_entry 2 entries) ≡ list_or_none (map entry_words entries)
 entries_are [] some few = absurd (omega arith)
 entries_are (x ∷ []) some few = refl
 entries_are (x ∷ y ∷ []) some few = refl
@@ -30,7 +30,7 @@ entries_are (x ∷ y ∷ z ∷ w ∷ more) some few = absurd (omega arith)
 -- three entries at most, one by one
 pub puts_entries : (s a b d : List ℕ) (entries : List Entry) → 0 < length entries → length entries ≤ 3
     → a ≡ s ++ nth_entry 0 entries → b ≡ a ++ nth_entry 1 entries → d ≡ b ++ nth_entry 2 entries
-    → d ≡ s ++ listed_or_none (map entry_words entries)
+    → d ≡ s ++ list_or_none (map entry_words entries)
 puts_entries s a b d entries some few first second third =
     puts s a d (nth_entry 0 entries) (nth_entry 1 entries ++ nth_entry 2 entries) first
     (puts a b d (nth_entry 1 entries) (nth_entry 2 entries) second third)
@@ -52,14 +52,14 @@ puts_size s r sizes rest came size at put =
 -- the next row of a state taken over
 pub puts_row : (s q r : List ℕ) (rows : List Versioned) (came : ℕ) (has : Versioned) → slice_get rows came ≡ Some has
     → q ≡ s ++ parting (nat_lt 0 came) → r ≡ q ++ row_words (came, has)
-    → r ++ listed (nat_lt 0 (came + 1)) (map row_words (enumerate_from (came + 1) (drop (came + 1) rows)))
-    ≡ s ++ listed (nat_lt 0 came) (map row_words (enumerate_from came (drop came rows)))
+    → r ++ list_words (nat_lt 0 (came + 1)) (map row_words (enumerate_from (came + 1) (drop (came + 1) rows)))
+    ≡ s ++ list_words (nat_lt 0 came) (map row_words (enumerate_from came (drop came rows)))
 puts_row s q r rows came has at first second =
-    let rest = listed true (map row_words (enumerate_from (came + 1) (drop (came + 1) rows))) in
+    let rest = list_words true (map row_words (enumerate_from (came + 1) (drop (came + 1) rows))) in
     let begun : nat_lt 0 (came + 1) ≡ true = lt-ltb 0 (came + 1) (omega arith) in
-    let next = ap (λ l. s ++ listed (nat_lt 0 came) (map row_words (enumerate_from came l))) (drop_here rows came has at)
-    in
-    ap (λ b. r ++ listed b (map row_words (enumerate_from (came + 1) (drop (came + 1) rows)))) begun
+    let next = ap (λ l. s ++ list_words (nat_lt 0 came) (map row_words (enumerate_from came l)))
+    (drop_here rows came has at) in
+    ap (λ b. r ++ list_words b (map row_words (enumerate_from (came + 1) (drop (came + 1) rows)))) begun
     ∙ puts s q (r ++ rest) (parting (nat_lt 0 came)) (row_words (came, has) ++ rest) first
     (puts q r (r ++ rest) (row_words (came, has)) rest second refl)
     ∙ sym next

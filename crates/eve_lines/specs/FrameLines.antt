@@ -8,8 +8,8 @@ use Rattle.eve_grammar.specs.Frames.{Frame, OfCustomer, OfBatch, OfReplica, OfAt
 use Rattle.eve_grammar.specs.Frames.{OfTransfer, OfVerifier, OfVote, OfSent, End}
 use Rattle.eve_grammar.specs.declared.head.Head.{Head}
 use Rattle.eve_grammar.specs.declared.restore.Restore.{Restore}
-use Rattle.eve_lines.specs.Words.{name_words, token_words, mode_words, listed, listed_or_none, reply_words}
-use Rattle.eve_lines.specs.Words.{request_words, row_words, entry_words}
+use Rattle.eve_lines.specs.Words.{name_words, token_words, mode_words, list_words, list_or_none, reply_words}
+use Rattle.eve_lines.specs.Words.{asked_words, row_words, entry_words}
 
 -- the version, who takes part, and how many decide: ` version 1 replicas 2 verifiers 3 quorum 2`
 unfoldable pub party_words : Head → List ℕ
@@ -44,7 +44,7 @@ index_words index = codes " " ++ decimal index
 unfoldable pub batch_words : ℕ → Batch → List ℕ
 batch_words number b =
     (codes " batch " ++ (decimal number ++ codes " sizes"))
-    ++ (flat_map index_words b.sizes ++ listed false (map request_words b.requests))
+    ++ (flat_map index_words b.sizes ++ list_words false (map asked_words b.requests))
 
 -- ` batch 1 view 0`
 unfoldable pub batch_and_view : ℕ → ℕ → List ℕ
@@ -54,14 +54,14 @@ batch_and_view seq view = codes " batch " ++ (decimal seq ++ (codes " view " ++ 
 unfoldable pub attempt_words : Attempt → List ℕ
 attempt_words a =
     (batch_and_view a.seq a.view ++ (codes " " ++ (mode_words a.serial ++ codes " order")))
-    ++ (flat_map index_words a.certificate ++ (listed false (map reply_words a.replies)
+    ++ (flat_map index_words a.certificate ++ (list_words false (map reply_words a.replies)
     ++ (codes " token " ++ token_words a.token)))
 
 -- ` worker 0 place 0 request 0: read row 0 version 0 value 0; ..`
 unfoldable pub access_words : Access → List ℕ
 access_words x =
     codes " worker " ++ (decimal x.worker ++ (codes " place " ++ (decimal x.place ++ (codes " request "
-    ++ (decimal x.index ++ listed_or_none (map entry_words x.entries))))))
+    ++ (decimal x.index ++ list_or_none (map entry_words x.entries))))))
 
 -- ` batch 1 view 0 token ..`
 unfoldable pub commit_words : Commit → List ℕ
@@ -75,11 +75,11 @@ restore_words r = row_words (r.row, record { version = r.version; value = r.valu
 unfoldable pub rollback_words : Rollback → List ℕ
 rollback_words r =
     codes " to " ++ (decimal r.to ++ (codes " view " ++ (decimal r.view
-    ++ listed_or_none (map restore_words r.restores))))
+    ++ list_or_none (map restore_words r.restores))))
 
 -- ` batch 1 view 0: row 0 version 1 value 100; ..`
 unfoldable pub transfer_words : Transfer → List ℕ
-transfer_words x = batch_and_view x.seq x.view ++ listed false (map row_words (enumerate_from 0 x.rows))
+transfer_words x = batch_and_view x.seq x.view ++ list_words false (map row_words (enumerate_from 0 x.rows))
 
 -- what a vote is for
 abbrev pub choice_words : Choice → List ℕ

@@ -13,7 +13,7 @@ use Rattle.eve_frames.specs.Views.{has_commit_body, has_rollback_body, has_vote_
 use Rattle.eve_frames.specs.Views.{customer_in, batch_in, attempt_in, access_in, commit_in, rollback_in, transfer_in}
 use Rattle.eve_frames.specs.Views.{vote_in, sent_in}
 use Rattle.eve_smallbank.specs.declared.entry.Entry.{Entry}
-use Rattle.eve_lines.specs.Words.{token_words, parting, listed, reply_words, request_words, row_words, entry_words}
+use Rattle.eve_lines.specs.Words.{token_words, parting, list_words, reply_words, asked_words, row_words, entry_words}
 use Rattle.eve_lines.specs.FrameLines.{customer_words, index_words, batch_words, attempt_words, access_words}
 use Rattle.eve_lines.specs.FrameLines.{commit_words, restore_words, rollback_words, transfer_words, vote_words}
 use Rattle.eve_lines.specs.FrameLines.{sent_words}
@@ -31,22 +31,22 @@ use Rattle.eve_lines.specs.declared.frame.FrameWords.{FrameWords}
 unfoldable pub batch_left : BatchRest → List ℕ
 batch_left r =
     flat_map index_words (drop r.came (batch_in r.batch.bytes.now).1.sizes)
-    ++ listed r.has_begun (map request_words r.requests)
+    ++ list_words r.has_begun (map asked_words r.requests)
 
 -- of an attempt: indexes of its certificate, replies, the token
 unfoldable pub attempt_left : AttemptRest → List ℕ
 attempt_left r =
     flat_map index_words r.certificate
-    ++ (listed r.has_begun (map reply_words r.replies) ++ (codes " token " ++ token_words r.token.now))
+    ++ (list_words r.has_begun (map reply_words r.replies) ++ (codes " token " ++ token_words r.token.now))
 
 -- of a rollback: restores
 unfoldable pub rollback_left : RollbackRest → List ℕ
-rollback_left r = listed r.has_begun (map restore_words r.restores)
+rollback_left r = list_words r.has_begun (map restore_words r.restores)
 
 -- of a state taken over: the rows from one on
 unfoldable pub transfer_left : TransferRest → List ℕ
 transfer_left r =
-    listed (nat_lt 0 r.came)
+    list_words (nat_lt 0 r.came)
     (map row_words (enumerate_from r.came (drop r.came (transfer_in r.transfer.bytes.now).rows)))
 
 -- of a frame

@@ -34,14 +34,14 @@ abbrev pub parting : Bool → List ℕ
 parting has_begun = if has_begun then codes "; " else codes ": "
 
 -- the words of the items of a list that are still to come
-abbrev pub listed : Bool → List (List ℕ) → List ℕ
-listed has_begun [] = []
-listed has_begun (words ∷ rest) = parting has_begun ++ (words ++ listed true rest)
+abbrev pub list_words : Bool → List (List ℕ) → List ℕ
+list_words has_begun [] = []
+list_words has_begun (words ∷ rest) = parting has_begun ++ (words ++ list_words true rest)
 
 -- the words of a list's items, `none` where it has none
-abbrev pub listed_or_none : List (List ℕ) → List ℕ
-listed_or_none [] = codes ": none"
-listed_or_none (words ∷ rest) = listed false (words ∷ rest)
+abbrev pub list_or_none : List (List ℕ) → List ℕ
+list_or_none [] = codes ": none"
+list_or_none (words ∷ rest) = list_words false (words ∷ rest)
 
 -- ---- replies
 
@@ -81,8 +81,8 @@ operand_words (Amalgamate from to) = name_words from ++ (codes " " ++ name_words
 operand_words (WriteCheck name amount) = move_words name amount
 
 -- `deposit 7 2 ann 7`: what is asked for, the client, the client's number for it, the operands
-unfoldable pub request_words : Asked → List ℕ
-request_words a =
+unfoldable pub asked_words : Asked → List ℕ
+asked_words a =
     request_word a.request ++ (decimal a.client ++ (codes " " ++ (decimal a.number ++ (codes " "
     ++ operand_words a.request))))
 

@@ -4,7 +4,7 @@ ghost use Rattle.std.specs.Prelude.{◌≡◌, ◌+◌, ◌≤◌, ◌<◌, ◌+
 ghost use Rattle.arrayvec.specs.ArrayVec.{array_vec_len};
 ghost use Rattle.eve_grammar.specs.declared.frame_kind.TheConstants.{FRAME_HEAD_LEN};
 ghost use Rattle.eve_frames.specs.Views.{has_access_body, access_in};
-ghost use Rattle.eve_lines.specs.Words.{entry_words, listed_or_none};
+ghost use Rattle.eve_lines.specs.Words.{entry_words, list_or_none};
 ghost use Rattle.eve_lines.specs.FrameLines.{access_words};
 ghost use Rattle.eve_lines.specs.Rest.{nth_entry, words_if};
 
@@ -32,7 +32,7 @@ fn put_nth(line: &mut Line, access: &AccessView, i: usize)
 fn put_entries(line: &mut Line, access: &AccessView)
     requires { array_vec_len line.old + 336 ≤ LINE_ROOM }
     ensures { line.new.items ≡ line.old.items
-        ++ listed_or_none (map entry_words (access_in access.now.bytes.now).entries) }
+        ++ list_or_none (map entry_words (access_in access.now.bytes.now).entries) }
 {
     if access.len() == 0 {
         return put(line, ": none");

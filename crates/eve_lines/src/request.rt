@@ -4,7 +4,7 @@ ghost use Rattle.std.specs.Prelude.{◌≡◌, ◌+◌, ◌≤◌, ◌++◌, len
 ghost use Rattle.arrayvec.specs.ArrayVec.{array_vec_len};
 ghost use Rattle.eve_smallbank.specs.SmallBank.{plain};
 ghost use Rattle.eve_grammar.specs.Bodies.{borrowed_asked};
-ghost use Rattle.eve_lines.specs.Words.{request_word, move_words, operand_words, request_words};
+ghost use Rattle.eve_lines.specs.Words.{request_word, move_words, operand_words, asked_words};
 
 use crate::line::{LINE_ROOM, Line, put, put_name};
 use crate::number::{put_number, put_numbered, put_signed};
@@ -59,7 +59,7 @@ fn put_operands(line: &mut Line, request: &Request)
 /// Appends a request as a workload has it: `deposit 7 2 ann 7`.
 pub fn put_request(line: &mut Line, asked: &Asked)
     requires { array_vec_len line.old + 102 ≤ LINE_ROOM }
-    ensures items { line.new.items ≡ line.old.items ++ request_words (borrowed_asked asked.now) }
+    ensures items { line.new.items ≡ line.old.items ++ asked_words (borrowed_asked asked.now) }
     ensures len { array_vec_len line.new ≤ array_vec_len line.old + 102 }
 {
     put(line, request_word(&asked.request));

@@ -36,7 +36,7 @@ use Rattle.eve_views.proofs.WholeTraces.{spells_frames}
 use Rattle.eve_tool.specs.Lines.{line_feed, line_front}
 use Rattle.eve_tool.specs.Sending.{PutsText}
 use Rattle.eve_tool.specs.Long.{AreLinesBefore, AreLinesIf, AreLinesOf, AreLinesTo, is_countable, with_total}
-use Rattle.eve_tool.specs.Long.{HasFrames, SendsBefore, SendsUpTo, StopsBefore, StopsUpTo, frame_len}
+use Rattle.eve_tool.specs.Long.{HasFrames, SendsLines, SendsUpTo, StopsInLines, StopsUpTo, frame_len}
 use Rattle.eve_tool.specs.Long.{front_of_view, line_of_view, lines_from, long_line, long_lines}
 use Rattle.eve_tool.proofs.Putting.{PutsUpTo, puts-begun, puts-stops, puts-text, puts-then, up_to-all, up_to-more}
 use Rattle.eve_tool.proofs.Putting.{up_to-none, up_to-stops}
@@ -337,20 +337,20 @@ uncounted c bytes at is few =
     subst (λ (x : Code). AreLinesBefore x bytes at []) (sym is)
     (subst (λ (b : Bool). AreLinesIf b bytes []) (sym few) refl)
 
-pub sends_none : (a : Option (List ℕ)) (Are : List ℕ → Type 0) → Are [] → SendsBefore a a Are
+pub sends_none : (a : Option (List ℕ)) (Are : List ℕ → Type 0) → Are [] → SendsLines a a Are
 sends_none a Are are = record { text = []; are = are; sent = Appends-nil a }
 
 pub sends_as : (a b : Option (List ℕ)) (P Q : List ℕ → Type 0) → ((text : List ℕ) → P text → Q text)
-    → SendsBefore a b P → SendsBefore a b Q
+    → SendsLines a b P → SendsLines a b Q
 sends_as a b P Q said sends = record { text = sends.text; are = said sends.text sends.are; sent = sends.sent }
 
 pub stops_as : (a b : Option (List ℕ)) (P Q : List ℕ → Type 0) → ((text : List ℕ) → P text → Q text)
-    → StopsBefore a b P → StopsBefore a b Q
+    → StopsInLines a b P → StopsInLines a b Q
 stops_as a b P Q said stops = record { text = stops.text; are = said stops.text stops.are; sent = stops.sent }
 
 -- ---- up to a line
 
-pub up_to-sent : (a b c : Option (List ℕ)) (Are : List ℕ → Type 0) (last : List ℕ) → SendsBefore a b Are
+pub up_to-sent : (a b c : Option (List ℕ)) (Are : List ℕ → Type 0) (last : List ℕ) → SendsLines a b Are
     → Appends b c last → SendsUpTo a c Are last
 up_to-sent a b c Are last some sent = record {
   before = some.text;
@@ -358,7 +358,7 @@ up_to-sent a b c Are last some sent = record {
   sent = Appends-trans a b c some.text last some.sent sent;
 }
 
-pub stops-before : (a b : Option (List ℕ)) (Are : List ℕ → Type 0) (last : List ℕ) → StopsBefore a b Are
+pub stops-before : (a b : Option (List ℕ)) (Are : List ℕ → Type 0) (last : List ℕ) → StopsInLines a b Are
     → StopsUpTo a b Are last
 stops-before a b Are last stops = record {
   before = stops.text;
@@ -366,7 +366,7 @@ stops-before a b Are last stops = record {
   sent = AppendsFront-more a b stops.text last stops.sent;
 }
 
-pub stops-in_last : (a b c : Option (List ℕ)) (Are : List ℕ → Type 0) (last : List ℕ) → SendsBefore a b Are
+pub stops-in_last : (a b c : Option (List ℕ)) (Are : List ℕ → Type 0) (last : List ℕ) → SendsLines a b Are
     → AppendsFront b c last → StopsUpTo a c Are last
 stops-in_last a b c Are last some front = record {
   before = some.text;

@@ -14,7 +14,7 @@ use Rattle.eve_tool.specs.Explain.{Explains}
 use Rattle.eve_tool.specs.Fault.{error_line, status_of}
 use Rattle.eve_tool.specs.Run.{Runs, IsTooLong, IsRunnable, EndsRun}
 use Rattle.eve_tool.specs.Show.{Shows}
-use Rattle.eve_tool.specs.Long.{ShowsLong, StopsBefore, StopsUpTo}
+use Rattle.eve_tool.specs.Long.{ShowsLong, StopsInLines, StopsUpTo}
 use Rattle.eve_tool_arguments.specs.Formats.{version_of}
 use Rattle.eve_tool_arguments.specs.Arguments.{Subcommand, Audit, Explain, Run, Show, ShowLong, call_of}
 use Rattle.eve_tool.specs.Writes.{WritesFrontOf}
@@ -101,7 +101,7 @@ StopsInParts written failures old new text _ = ⊥
 abbrev pub StopsListing : {O : Type 0} → (O → Option (List ℕ)) → (O → ℕ) → O → O → (List ℕ → Type 0) → ToolFault → Type 0
 StopsListing written failures old new Are fault.Memory = new ≡ old
 StopsListing written failures old new Are fault.Write =
-    StopsBefore (written old) (written new) Are × (failures new ≡ after_failure (failures old))
+    StopsInLines (written old) (written new) Are × (failures new ≡ after_failure (failures old))
 StopsListing written failures old new Are _ = ⊥
 
 -- what was left of lines of which the fact holds and then this one, which is made before any of them is sent

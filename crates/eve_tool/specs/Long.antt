@@ -116,13 +116,13 @@ pub record HasFrames (bytes : List ℕ) (head : Head) (frames : List Frame) : Ty
   pub spelled : drop 32 bytes ≡ frames_text frames
 
 -- lines of which the fact holds were sent
-pub record SendsBefore (old new : Option (List ℕ)) (Are : List ℕ → Type 0) : Type 0 where
+pub record SendsLines (old new : Option (List ℕ)) (Are : List ℕ → Type 0) : Type 0 where
   pub text : List ℕ
   pub are : Are text
   pub sent : Appends old new text
 
 -- a front of such lines was sent, and not all of it
-pub record StopsBefore (old new : Option (List ℕ)) (Are : List ℕ → Type 0) : Type 0 where
+pub record StopsInLines (old new : Option (List ℕ)) (Are : List ℕ → Type 0) : Type 0 where
   pub text : List ℕ
   pub are : Are text
   pub sent : AppendsFront old new text

@@ -11,8 +11,8 @@ ghost use Rattle.eve_streams.specs.Front.{AppendsFront};
 ghost use Rattle.eve_views.specs.Form.{IsFaultOutside, SaysHead, StandsInForm};
 ghost use Rattle.eve_tool.specs.Calls.{WasRead, Leaves, StopsListing, StopsLong};
 ghost use Rattle.eve_tool.specs.Lines.{fault_line, line_feed, line_front};
-ghost use Rattle.eve_tool.specs.Long.{AreLinesBefore, AreLinesOf, AreLinesTo, HasFrames, SendsBefore, SendsUpTo};
-ghost use Rattle.eve_tool.specs.Long.{ShowsLong, StopsBefore, with_total};
+ghost use Rattle.eve_tool.specs.Long.{AreLinesBefore, AreLinesOf, AreLinesTo, HasFrames, SendsLines, SendsUpTo};
+ghost use Rattle.eve_tool.specs.Long.{ShowsLong, StopsInLines, with_total};
 ghost use Rattle.eve_tool.specs.Long.{frame_len, header_long_line, line_of_view, lines_from, long_lines};
 ghost use Rattle.eve_tool.specs.Sending.{PutsText};
 ghost use Rattle.eve_tool_arguments.specs.Arguments.{ShowLong};
@@ -220,9 +220,9 @@ fn send_lines<O: Sink>(bytes: &[u8], out: &mut O) -> Result<(), SendFault>
 fn send_before<O: Sink>(bytes: &[u8], fault: &Fault, out: &mut O) -> Result<(), SendFault>
     requires within { fault.now.offset ≤ length bytes.now }
     requires stands { IsFaultOutside StandsInForm bytes.now fault.now }
-    ensures sent { OnOk result (SendsBefore (O.written out.old) (O.written out.new)
+    ensures sent { OnOk result (SendsLines (O.written out.old) (O.written out.new)
         (AreLinesTo fault.now.code bytes.now fault.now.offset)) }
-    ensures front { OnErr result (StopsBefore (O.written out.old) (O.written out.new)
+    ensures front { OnErr result (StopsInLines (O.written out.old) (O.written out.new)
         (AreLinesTo fault.now.code bytes.now fault.now.offset)) }
     ensures fine { OnOk result (O.failures out.new ≡ O.failures out.old) }
     ensures counted { OnErr result (O.failures out.new ≡ after_failure (O.failures out.old)) }
@@ -236,7 +236,7 @@ fn send_before<O: Sink>(bytes: &[u8], fault: &Fault, out: &mut O) -> Result<(), 
 
 /// Sends the lines that there are of bytes: of a trace all, else those before the first fault of form.
 fn send_there<O: Sink>(alloc: Global, bytes: &[u8], out: &mut O) -> Result<(), ToolFault>
-    ensures sent { OnOk result (SendsBefore (O.written out.old) (O.written out.new) (AreLinesOf bytes.now)) }
+    ensures sent { OnOk result (SendsLines (O.written out.old) (O.written out.new) (AreLinesOf bytes.now)) }
     ensures fine { OnOk result (O.failures out.new ≡ O.failures out.old) }
     ensures stopped { IfErr result (StopsListing O.written O.failures out.old out.new (AreLinesOf bytes.now)) }
 {
@@ -272,7 +272,7 @@ fn send_listed<O: Sink>(
 ) -> Result<(), ToolFault>
     requires within { fault.now.offset ≤ length bytes.old }
     requires stands { IsFaultOutside StandsInForm bytes.old fault.now }
-    ensures sent { OnOk result (SendsBefore (O.written out.old) (O.written out.new)
+    ensures sent { OnOk result (SendsLines (O.written out.old) (O.written out.new)
         (AreLinesBefore fault.now.code bytes.old fault.now.offset)) }
     ensures fine { OnOk result (O.failures out.new ≡ O.failures out.old) }
     ensures stopped { IfErr result (StopsListing O.written O.failures out.old out.new

@@ -1,9 +1,9 @@
 use Rattle.std.proofs.Common.{append_assoc}
-use Rattle.eve_lines.specs.Words.{request_words}
+use Rattle.eve_lines.specs.Words.{asked_words}
 use Rattle.eve_lines.proofs.request.put_request.Goals as goal
 
 pub returns-clause-items : goal.returns-clause-items
-unfolding request_words
+unfolding asked_words
 returns-clause-items c =
     rw (
       c.put_operands.ensures.items,
