@@ -8,7 +8,7 @@ use Rattle.eve_grammar.specs.declared.frame_kind.TheConstants.{ATTEMPT_FRAME, AC
 use Rattle.eve_grammar.specs.declared.head.TheConstants.{HEADER_LEN}
 use Rattle.eve_evidence.specs.declared.evidence.RecordsBefore.{RecordsBefore}
 
--- The frames behind a header end with this attempt and so many of its access records.
+-- The frames behind a header end with this attempt and as many of its access records as were found.
 pub record EndWithRecords (front : List Frame) (r : RecordsBefore) : Type 0 where
   pub before : List Frame
   pub attempt : Attempt

@@ -157,8 +157,8 @@ fn at_sent<'a>(
 /// The evidence of a reply that was sent and not committed, by the byte of its frame.
 ///
 /// It says that the reply's batch has no such request, or that its replica didn't commit the batch by an attempt, or it
-/// has the request with the reply sent and the one committed; and the first attempt of its replica that gave it and wasn't
-/// committed.
+/// has the request with the reply sent and the one committed. For the last two it also has the first attempt of the
+/// replica that gave the reply and wasn't committed.
 ///
 /// docs/MODEL.md, "Sent replies" and "Evidence". It takes no memory. One pass over the replies sent, up to that frame,
 /// and one over its batch. The histories are those of all replicas, in their order.

@@ -31,7 +31,7 @@ use std::random::RandomSource;
 use std::sync::Wait;
 use std::thread::Threads;
 
-/// The trace of a run of this size, in the format that has so many customers.
+/// The trace of a run of this size, in a format that may have its customers.
 fn run_of<R: AllocGlobal + RandomSource + Threads + Wait + Sync>(
     rt: &R,
     page: &mut Bytes,

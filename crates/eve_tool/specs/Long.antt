@@ -68,8 +68,7 @@ is_countable bytes = nat_le HEADER_LEN (length bytes) && nat_le (length bytes) M
 abbrev pub with_total : List ℕ → List ℕ
 with_total bytes = take 24 bytes ++ (to_be_bytes w64 (length bytes) ++ drop 32 bytes)
 
--- those that there would be if the header had the number of the bytes as its total; none where no trace has so few or
--- so many
+-- those that there would be if the header had the number of the bytes as its total; none where no trace has that number
 abbrev pub AreLinesIf : (countable : Bool) → List ℕ → List ℕ → Type 0
 AreLinesIf true bytes text = AreLinesOf (with_total bytes) text
 AreLinesIf false bytes text = text ≡ []
