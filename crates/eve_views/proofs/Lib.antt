@@ -5,7 +5,6 @@ pub mod Keeping
 pub mod StartLaws
 pub mod Reaching
 pub mod Unjudged
-pub mod RunLaws
 pub mod HeaderLaws
 pub mod FormLaws
 pub mod TraceLaws

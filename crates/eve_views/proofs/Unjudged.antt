@@ -1,9 +1,10 @@
 -- Frames of which bodies were not judged.
-use Rattle.std.proofs.Common.{◌≡◌, ℕ, ◌+◌, ◌-◌, ◌≤◌, Bool, true, List, [], ◌∷◌, ◌++◌, length, take, drop, Option}
+use Rattle.std.proofs.Common.{◌≡◌, ℕ, ◌+◌, ◌-◌, ◌≤◌, ◌<◌, Bool, true, List, [], ◌∷◌, ◌++◌, length, take, drop, Option}
 use Rattle.std.proofs.Common.{Some, None, refl, sym, ap, ap₂, subst, ◌∙◌, eqb, cond, is_some, arith}
 use Rattle.std.specs.Prelude.{IsTrue, All, slice_index}
 use Rattle.std.specs.Option.{option_map}
 use Rattle.std.proofs.lemmas.Bool.{eq-eqb}
+use Rattle.std.proofs.lemmas.Bool.Decides.{nat_tests}
 use Rattle.std.proofs.lemmas.List.{take_rest, take-append-drop, take_at}
 use Rattle.std.proofs.lemmas.List.Elements.{All-cons, All-head, All-tail, All-append}
 use Rattle.byteorder.specs.Endian.{big_number}
@@ -107,6 +108,16 @@ pub access_framed : (h : Head) (p : Place) (bytes : List ℕ) (kind : ℕ) (body
 access_framed h p bytes kind body is front allowed =
     framed_unjudged h p bytes 18 0 body (subst (λ (k : ℕ). IsFrontOf bytes k body) is front) allowed
     (access_followed h p body)
+
+-- while access frames have to follow, they may
+pub access_again : (h g : Head) (p q : Place) → g ≡ h → q ≡ place_after p 18 0 → is_allowed h p 18 ≡ true
+    → 0 < q.accesses → is_allowed g q 18 ≡ true
+access_again h g p q same moved allowed more =
+    ap (λ (i : Head). is_allowed i q 18) same ∙ ap (λ (r : Place). is_allowed h r 18) moved
+    ∙ there (subst (λ (r : Place). 0 < r.accesses) moved more)
+  where
+    there : 0 < p.accesses - 1 → is_allowed h (place_after p 18 0) 18 ≡ true
+    there one = grind (arith, nat_tests)
 
 -- ---- stretches
 

@@ -10,7 +10,6 @@ pub mod Starting
 pub mod Indexing
 pub mod Walking
 pub mod SideBySide
-pub mod Runs
 pub mod Held
 pub mod Fronts
 pub mod Parts

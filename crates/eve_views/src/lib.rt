@@ -12,7 +12,6 @@ pub mod laws;
 mod least;
 mod progress;
 mod reached;
-mod runs;
 mod side_by_side;
 mod starts;
 mod steps;
@@ -27,7 +26,6 @@ pub use eve_frames::{
     Replies, Requests, Restores, RollbackView, SentView, VoteView,
 };
 pub use eve_grammar;
-pub use eve_streams::{Sink, SinkOf, Source, SourceOf};
 pub use fault::{CheckFault, Code, Fault};
 pub use first::first_of;
 pub use frames::Frames;

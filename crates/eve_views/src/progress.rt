@@ -15,7 +15,6 @@ ghost use Rattle.eve_views.specs.SideBySide.{access_kept, FindsUnjudged, IsWalke
 
 use crate::body::accesses_behind;
 use crate::reached::Reached;
-use crate::runs::pass_sent;
 use crate::starts::Starts;
 use crate::walk::{Framed, Index, kind_and_body};
 use byteorder::{BigEndian, ByteOrder};
@@ -169,15 +168,13 @@ impl Progress {
         Ok(true)
     }
 
-    /// Goes on until there are `most` frames, or this byte is reached, or up to the end, where that comes before;
-    /// nothing where anything is wrong on the way, but for the bodies that aren't judged. Access frames aren't parted
-    /// from their attempt.
+    /// Goes on until there are `most` frames, or up to the end, where that comes before; nothing where anything is wrong
+    /// on the way, but for the bodies that aren't judged. Access frames aren't parted from their attempt.
     pub fn go_on(
         self,
         head: Head,
         bytes: &[u8],
         most: usize,
-        until: usize,
     ) -> Result<Option<Progress>, AllocError>
         requires says { SaysHead bytes.now head }
         requires length { length bytes.now ≤ MOST_BYTES }
@@ -187,14 +184,11 @@ impl Progress {
     {
         let mut walked = self;
         'frames: while walked.offsets.len() < most
-            && walked.at < until
             && (!walked.reached.place.ended || walked.at < bytes.len())
         {
             if !walked.pass_frame(head, bytes)? || !walked.pass_accesses(head, bytes)? {
                 return Ok(None);
             }
-            let at = walked.at;
-            walked.at = pass_sent(&mut walked.offsets, &walked.reached, bytes, at, until)?;
         }
         Ok(Some(walked))
     }

@@ -97,15 +97,14 @@ fn are_right<R: Threads + Sync>(
     first && second
 }
 
-/// Whether the frames at these offsets have right bodies, in threads; and what the walk finds that goes on from
-/// there up to a byte, or to the end, by the caller beside them.
+/// Whether the frames at these offsets have right bodies, in threads; and what the walk finds that goes on from there to
+/// the end, by the caller beside them.
 fn judge_and_go_on<R: Threads + Sync>(
     rt: &R,
     head: Head,
     bytes: &[u8],
     found: Vec<u32>,
     walked: Progress,
-    until: usize,
     fewer: usize,
 ) -> (bool, Result<Option<Progress>, AllocError>)
     requires says { SaysHead bytes.now head }
@@ -126,27 +125,23 @@ fn judge_and_go_on<R: Threads + Sync>(
         requires walked { IsWalkedUnjudged head bytes.now walked }
         ensures walked { IfOk result (λ found. IfSome found (IsWalkedUnjudged head bytes.entry.now)) }
         ensures kept { IfOk result (λ found. IfSome found (WalksOn walked)) }
-    { walked.go_on(head, bytes, usize::MAX, until) };
+    { walked.go_on(head, bytes, usize::MAX) };
     thread::join(rt, judge, go_on)
 }
 
-/// Goes on up to a byte, or to the end, while all threads but one judge the bodies of the frames that were
-/// found before, from the first on that wasn't judged; nothing where anything is wrong.
+/// Goes on to the end, while all threads but one judge the bodies of the frames that were found before; nothing where
+/// anything is wrong.
 fn go_on_and_judge<R: Threads + Sync>(
     rt: &R,
     alloc: Global,
     head: Head,
     bytes: &[u8],
     walked: Progress,
-    judged: usize,
-    until: usize,
     threads: usize,
 ) -> Result<Option<Progress>, AllocError>
     requires says { SaysHead bytes.now head }
     requires length { length bytes.now ≤ MOST_BYTES }
     requires walked { IsWalkedUnjudged head bytes.now walked }
-    requires there { judged ≤ length walked.offsets.items }
-    requires judged { AreRightFrames (row_count head) bytes.now (take judged walked.offsets.items) }
     requires threads { 1 ≤ threads }
     ensures walked { IfOk result (λ found. IfSome found (IsWalkedUnjudged head bytes.now)) }
     ensures there { IfOk result (λ found. IfSome found (λ on.
@@ -154,9 +149,8 @@ fn go_on_and_judge<R: Threads + Sync>(
     ensures judged { IfOk result (λ found. IfSome found (λ on.
         AreRightFrames (row_count head) bytes.now (take (length walked.offsets.items) on.offsets.items))) }
 {
-    let (_, behind) = walked.offsets.as_slice().split_at(judged);
-    let last = Vec::from_slice(alloc, behind)?;
-    let (right, found) = judge_and_go_on(rt, head, bytes, last, walked, until, threads - 1);
+    let before = Vec::from_slice(alloc, walked.offsets.as_slice())?;
+    let (right, found) = judge_and_go_on(rt, head, bytes, before, walked, threads - 1);
     let Some(on) = found? else {
         return Ok(None);
     };
@@ -187,53 +181,11 @@ fn judge_behind<R: Threads + Sync>(
     }
 }
 
-/// The frames up to the end: the walk goes on to there, if it hasn't come so far, and all bodies are judged but the
-/// first ones, which were; nothing where anything is wrong.
-fn judge_to_end<R: Threads + Sync>(
-    rt: &R,
-    alloc: Global,
-    head: Head,
-    bytes: &[u8],
-    walked: Progress,
-    judged: usize,
-    threads: usize,
-) -> Result<Option<Index>, AllocError>
-    requires says { SaysHead bytes.now head }
-    requires length { length bytes.now ≤ MOST_BYTES }
-    requires walked { IsWalkedUnjudged head bytes.now walked }
-    requires there { judged ≤ length walked.offsets.items }
-    requires judged { AreRightFrames (row_count head) bytes.now (take judged walked.offsets.items) }
-    requires threads { 1 ≤ threads }
-    ensures { IfOk result (λ found. IfSome found (IsIndex head bytes.now)) }
-{
-    if bytes.len() <= walked.at {
-        return Ok(judge_behind(rt, head, bytes, walked, judged, threads));
-    }
-    let count = walked.offsets.len();
-    let found = go_on_and_judge(rt, alloc, head, bytes, walked, judged, usize::MAX, threads)?;
-    let Some(on) = found else {
-        return Ok(None);
-    };
-    Ok(judge_behind(rt, head, bytes, on, count, threads))
-}
-
-/// Up to which byte the caller walks while the other threads judge the batches, which end at this byte.
-///
-/// With two threads that is the end. With more, the others judge what was found up to there about as long as the caller
-/// walks on from there.
-fn first_stop(at: usize, end: usize, threads: usize) -> usize {
-    if threads < 3 || end <= at {
-        return usize::MAX;
-    }
-    at + (end - at) / 5 * 3
-}
-
 /// Finds the frames after a header, with the bodies of batches, attempts, access records and transfers judged in
 /// threads; nothing where anything is wrong.
 ///
 /// The caller walks over the customers and the batches, which have most bytes in few frames. The other threads judge
-/// their bodies while the caller walks on. Where there are three threads or more, they then judge what it found while
-/// it walks to the end. All of them judge the bodies that are left.
+/// their bodies while the caller walks on. All of them judge the bodies that are left.
 fn index_judged<R: Threads + Sync>(
     rt: &R,
     alloc: Global,
@@ -248,16 +200,15 @@ fn index_judged<R: Threads + Sync>(
     ensures { IfOk result (λ found. IfSome found (IsIndex head bytes.now)) }
 {
     let most = head.customers as usize + head.batches as usize;
-    let Some(walked) = Progress::start(alloc, head).go_on(head, bytes, most, usize::MAX)? else {
+    let Some(walked) = Progress::start(alloc, head).go_on(head, bytes, most)? else {
         return Ok(None);
     };
     let count = walked.offsets.len();
-    let until = first_stop(walked.at, bytes.len(), threads);
-    let found = go_on_and_judge(rt, alloc, head, bytes, walked, 0, until, threads)?;
+    let found = go_on_and_judge(rt, alloc, head, bytes, walked, threads)?;
     let Some(on) = found else {
         return Ok(None);
     };
-    judge_to_end(rt, alloc, head, bytes, on, count, threads)
+    Ok(judge_behind(rt, head, bytes, on, count, threads))
 }
 
 /// Finds the frames after a header, with the bodies of batches, attempts, access records and transfers judged in

@@ -11,7 +11,6 @@ ghost use Rattle.eve_views.specs.Indexing.{answer_in, kept, IsIndex};
 use crate::body::accesses_behind;
 use crate::fault::{CheckFault, Code, Fault};
 use crate::reached::Reached;
-use crate::runs::{pass_accesses, pass_sent};
 use crate::starts::Starts;
 use eve_grammar::{
     FRAME_HEAD_LEN, FrameKind, HEADER_LEN, Head, MOST_BYTES, MOST_CUSTOMERS, u8_at, u32_at,
@@ -101,8 +100,7 @@ pub fn index_of(alloc: Global, head: Head, bytes: &[u8]) -> Result<Index, CheckF
                 starts.note(&reached.place, frame.kind, offsets.len() as u32);
                 offsets.push(at as u32)?;
                 reached.pass(frame.kind, frame.accesses);
-                at = pass_accesses(&mut offsets, &mut reached, bytes, at + frame.len)?;
-                at = pass_sent(&mut offsets, &reached, bytes, at, bytes.len())?;
+                at += frame.len;
             }
         }
     }

@@ -1,10 +1,10 @@
-use Rattle.std.proofs.Common.{◌≡◌, ◌∙◌, ap, subst, Option, IfOk, IfSome, drop, length, length-append, arith}
+use Rattle.std.proofs.Common.{◌≡◌, ◌∙◌, ap, subst, Option, IfOk, IfSome, length, length-append, arith}
 use Rattle.std.specs.Prelude.{Result}
 use Rattle.std.specs.declared.alloc.AllocError.{AllocError}
 use Rattle.eve_grammar.specs.Limits.{row_count}
-use Rattle.eve_views.specs.SideBySide.{IsWalkedUnjudged, WalksOn}
+use Rattle.eve_views.specs.SideBySide.{AreRightFrames, IsWalkedUnjudged, WalksOn}
 use Rattle.eve_views.specs.declared.progress.Progress.{Progress}
-use Rattle.eve_views.proofs.Unjudged.{right_whole, right_front}
+use Rattle.eve_views.proofs.Unjudged.{right_front}
 use Rattle.eve_views.proofs.side_by_side.go_on_and_judge.Goals as goal
 
 pub returns-then-right-clause-judged : goal.returns-then-right-clause-judged
@@ -13,15 +13,14 @@ returns-then-right-clause-judged g c =
     let bytes = c.args.bytes.now in
     let before = c.args.walked in
     let both = c.judge_and_go_on-right in
-    let last : c.in_ok-last.last.items ≡ drop c.args.judged before.offsets.items =
-    c.in_ok-last.ensures.items ∙ c.split_at.ensures.back ∙ ap (drop c.args.judged) c.as_slice.ensures.value in
+    let all : c.in_ok-before.before.items ≡ before.offsets.items = c.in_ok-before.ensures.items
+    ∙ c.as_slice.ensures.value in
     let found = subst (λ (r : Result (Option Progress) AllocError). IfOk r (λ o. IfSome o (WalksOn before)))
     c.in_ok-on.was both.ensures.kept in
     let goes : WalksOn before c.in-Some.on = subst (λ (o : Option Progress). IfSome o (WalksOn before)) c.in-Some.is
     found in
     right_front rows bytes before.offsets.items goes.more c.in-Some.on.offsets.items goes.offsets
-    (right_whole rows bytes before.offsets.items c.in_ok-last.last.items c.args.judged last c.requires.judged
-    (both.ensures.right c.if-right.true))
+    (subst (AreRightFrames rows bytes) all (both.ensures.right c.if-right.true))
 
 pub judge_and_go_on-right-requires-clause-walked : goal.judge_and_go_on-right-requires-clause-walked
 judge_and_go_on-right-requires-clause-walked g c = λ _ _. c.requires.walked

@@ -1,14 +1,11 @@
-use Rattle.std.proofs.Common.{◌≡◌, ℕ, Option, IfSome, length, take, sym, subst, arith, rules}
+use Rattle.std.proofs.Common.{◌≡◌, ℕ, Option, IfSome, length, take, sym, subst, rules}
 use Rattle.eve_grammar.specs.Limits.{row_count}
 use Rattle.eve_views.specs.SideBySide.{AreRightFrames}
 use Rattle.eve_views.specs.declared.progress.Progress.{Progress}
 use Rattle.eve_views.proofs.side_by_side.index_judged.Goals as goal
 
-pub go_on_and_judge-requires-clause-judged : goal.go_on_and_judge-requires-clause-judged
-go_on_and_judge-requires-clause-judged g c = λ _ _ k d lt. absurd (omega arith)
-
-pub judge_to_end-requires-clause-judged : goal.judge_to_end-requires-clause-judged
-judge_to_end-requires-clause-judged g c = λ _ _.
+pub judge_behind-requires-clause-judged : goal.judge_behind-requires-clause-judged
+judge_behind-requires-clause-judged g c = λ _ _.
     let rows = row_count c.args.head in
     let bytes = c.args.bytes.now in
     let count = length c.in-Some.walked.offsets.items in

@@ -13,7 +13,6 @@ use Rattle.eve_views.specs.declared.starts.Starts.{Starts}
 use Rattle.eve_views.specs.Walking.{Walking}
 use Rattle.eve_views.proofs.Reaching.{step_here, fault_here, step_allowed, reached_fault, few_offsets}
 use Rattle.eve_views.proofs.Reaching.{walking_start, walking_more, walking_end, room_of, replica_room, verifier_room}
-use Rattle.eve_views.proofs.RunLaws.{goes_walking}
 use Rattle.eve_views.proofs.walk.index_of.Goals as goal
 use Rattle.eve_views.proofs.walk.index_of.Goals.{then-not-reached, else-not-reached+then-at-bytes}
 
@@ -96,18 +95,7 @@ frames-smaller c =
     let s = step_here h c.frames.reached.head p c.args.bytes.now c.frames.at
     (kept_in c.in-Ok.frame) c.requires.says.limits (λ i. omega (arith, c.type_inv.bytes i))
     c.frames.invariant.0.reached.within c.frames.invariant.1 c.in-Ok.ensures in
-    let accesses = c.in_ok-at-in-Ok.ensures in
-    let sent = c.in_ok-at-in-Ok-2.ensures in
-    omega (arith, s.within, s.len, accesses.on, sent.on)
-
-pub pass_accesses-requires-clause-within : goal.pass_accesses-requires-clause-within
-pass_accesses-requires-clause-within c =
-    let h = c.args.head in
-    let p = c.frames.reached.place in
-    let s = step_here h c.frames.reached.head p c.args.bytes.now c.frames.at
-    (kept_in c.in-Ok.frame) c.requires.says.limits (λ i. omega (arith, c.type_inv.bytes i))
-    c.frames.invariant.0.reached.within c.frames.invariant.1 c.in-Ok.ensures in
-    s.within
+    omega (arith, s.within, s.len)
 
 pub frames-preserved : goal.frames-preserved
 frames-preserved c =
@@ -133,17 +121,7 @@ frames-preserved c =
     (sym c.in_ok-push-in-Ok.ensures.items) one in
     let three = subst (λ (t : Starts). Walking h c.args.bytes.now (c.frames.at + c.in-Ok.frame.len)
     c.pass.new.self.place c.push.new.self.items t) noted_is two in
-    let same : c.pass.new.self.head ≡ h = c.pass.ensures.head ∙ c.frames.invariant.1 in
-    let accesses = c.in_ok-at-in-Ok.ensures in
-    let four = goes_walking h bytes (c.frames.at + c.in-Ok.frame.len) c.in_ok-at-in-Ok.at c.pass.new.self
-    c.pass_accesses.new.reached c.push.new.self.items c.pass_accesses.new.offsets.items c.note.new.self same accesses
-    three in
-    let on = accesses.head ∙ same in (
-      goes_walking h bytes c.in_ok-at-in-Ok.at c.in_ok-at-in-Ok-2.at c.pass_accesses.new.reached
-          c.pass_accesses.new.reached c.pass_accesses.new.offsets.items c.pass_sent.new.offsets.items c.note.new.self on
-          c.in_ok-at-in-Ok-2.ensures four,
-      on,
-    )
+    (three, c.pass.ensures.head ∙ c.frames.invariant.1)
 
 pub frames-init : goal.frames-init
 frames-init c =

@@ -5,8 +5,7 @@ use Rattle.eve_grammar.specs.Limits.{row_count}
 use Rattle.eve_grammar.specs.declared.place.Place.{Place}
 use Rattle.eve_views.specs.SideBySide.{AreRightFrames, access_kept}
 use Rattle.eve_views.specs.Walking.{Walking}
-use Rattle.eve_views.proofs.RunLaws.{access_again}
-use Rattle.eve_views.proofs.Unjudged.{walking_unjudged}
+use Rattle.eve_views.proofs.Unjudged.{access_again, walking_unjudged}
 use Rattle.eve_views.proofs.progress.Progress.pass_accesses.Goals as goal
 
 pub frames-preserved : goal.frames-preserved
