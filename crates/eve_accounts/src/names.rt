@@ -79,8 +79,8 @@ impl<'a> Names<'a> {
 
     /// Adds a name, and returns its number.
     ///
-    /// Refused, in the order of the tests: what is no name, a name that is there already, a name past the limit, and
-    /// where memory runs out. A refused name changes nothing.
+    /// Refused, in the order of the tests: `BadName`, what is no name; `SameName`, a name that is there already;
+    /// `Full`, a name past the limit; `Memory`. A refused name changes nothing.
     pub fn add(&mut self, name: &'a [u8]) -> Result<u32, NameFault>
         ensures added { OnOk result (self.new ≡ record self.old { items = self.old.items ++ name.now ∷ [] }) }
         ensures number { IfOk result (λ n. n ≡ length self.old.items) }

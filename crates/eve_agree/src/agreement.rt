@@ -29,7 +29,7 @@ use std::alloc::{AllocError, Global};
 
 /// Judges what all replicas came to: each has the balances after a batch that it committed, and the replies to it, of
 /// the lowest-numbered replica that committed it; and each state that a replica took over has that replica's balances
-/// after its number. Else the first attempt or state where it is not so.
+/// after its number. Else `Found`, the first attempt or state where it is not so.
 ///
 /// docs/MODEL.md, "Agreement". Balances and replies are compared themselves. It keeps the balances of each replica
 /// once, and goes with all of them from number to number. Once a fault was found only the replicas below it are judged:

@@ -354,7 +354,7 @@ pub(crate) fn answer(
 }
 
 /// Judges the tokens of a replica's committed attempts: each is that of the balances after its batch and of its
-/// replies; else the first that is not.
+/// replies; else `Found`, the first that is not.
 ///
 /// docs/MODEL.md, "Due tokens"; docs/TRACE.md, "Token" and "Merkle token". In version 1 it hashes each batch's balances
 /// once, in version 2 what the batch changed of a tree over them. The batches are cut into as many stretches as there

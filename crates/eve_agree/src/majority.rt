@@ -103,8 +103,8 @@ fn first_in(trace: &Trace<'_>, tally: &Tally<'_, '_>, e: u8) -> Option<Fault>
     None
 }
 
-/// Judges the commits, rollbacks and transfers of all replicas: a majority of the verifiers voted for each; else the
-/// first without. Of a transfer some commit of its number is decided in its view, whatever the token.
+/// Judges the commits, rollbacks and transfers of all replicas: a majority of the verifiers voted for each; else
+/// `Found`, the first without. Of a transfer some commit of its number is decided in its view, whatever the token.
 ///
 /// docs/MODEL.md, "Majority". The votes are those of the trace. It takes no memory, and never answers Memory. For a
 /// commit or a transfer it looks up the decision that is kept of its number; for a rollback it counts votes.

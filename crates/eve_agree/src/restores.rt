@@ -119,7 +119,7 @@ pub(crate) fn judge(
 }
 
 /// Judges a replica's rollbacks: each restores exactly the rows that the attempts which it discards wrote, with version
-/// and value as they are committed; else the first that does not.
+/// and value as they are committed; else `Found`, the first that does not.
 ///
 /// docs/MODEL.md, "Working table, committed table". The replica's attempts were judged before: `sound` is what `check`
 /// ensures, under the same name, where it gives `settled`. The time is linear in what discarded attempts wrote; the

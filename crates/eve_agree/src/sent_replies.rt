@@ -17,7 +17,7 @@ use std::thread;
 use std::thread::Threads;
 
 /// Judges the replies that were sent: the replica committed the batch, which has a request of that client under that
-/// number, and its reply is the one that was sent; else the first that is not so.
+/// number, and its reply is the one that was sent; else `Found`, the first that is not so.
 ///
 /// docs/MODEL.md, "Sent replies". It takes no memory, and never answers Memory. Where replies are sent batch by batch,
 /// each batch is read once; else a batch is read again for each reply that turns to it from another.
@@ -149,7 +149,7 @@ fn are_all_replied<R: Threads + Sync>(
     }
 }
 
-/// Judges the replies that were sent as `replies` does, in up to `jobs` threads: the same answer.
+/// Judges the replies that were sent as `replies` does, in up to `jobs` threads: the same answer, `Found` too.
 ///
 /// docs/MODEL.md, "Sent replies". Each thread has a stretch of the replies, 4,096 at least but for the last. With one
 /// job, or fewer than 8,192 replies, no thread is started. Where a thread finds a fault, or memory for the threads is

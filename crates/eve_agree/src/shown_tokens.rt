@@ -252,7 +252,7 @@ fn first_beside(
 }
 
 /// Judges the tokens of a replica's committed attempts, as `tokens` does, beside another replica whose tokens are due:
-/// each is that of the balances after its batch and of its replies; else the first that is not.
+/// each is that of the balances after its batch and of its replies; else `Found`, the first that is not.
 ///
 /// docs/MODEL.md, "Due tokens"; docs/TRACE.md, "Token" and "Merkle token". A batch that both committed with one token,
 /// the same replies and the same balances after it has its due token here as it has there, and nothing of it is hashed;

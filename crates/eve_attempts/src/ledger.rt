@@ -244,7 +244,8 @@ impl Ledger {
 
     /// Commits the batch with this number, which the first open attempt must be of. It takes no memory.
     ///
-    /// docs/MODEL.md, "Section state, fate". A refusal changes nothing.
+    /// docs/MODEL.md, "Section state, fate". `NotOpen` comes where none is open or the first is of another batch, and
+    /// changes nothing.
     pub fn commit(&mut self, seq: u32) -> Result<CommitData, NotOpen>
         ensures committed { IfOk result (λ c. Commits self.old self.new (commit c)) }
         ensures there { IsOk result ↔ ((seq ≡ self.old.committed + 1) × (0 < length self.old.opened)) }
@@ -288,7 +289,8 @@ impl Ledger {
     /// Takes over a state of a batch that isn't committed here, in a view that isn't behind: rows, number and view are
     /// its, nothing is open any more, and the next attempt is parallel. It takes no memory.
     ///
-    /// docs/MODEL.md, "Section state, fate". A refusal changes nothing.
+    /// docs/MODEL.md, "Section state, fate". `NotDue` comes where the state is of no later batch or of an earlier view,
+    /// and changes nothing.
     pub fn take_over(&mut self, state: &TransferData) -> Result<(), NotDue>
         requires rows { length state.now.rows.items ≡ ledger_rows self.old }
         requires few { ledger_rows self.old ≤ MOST_ROWS }

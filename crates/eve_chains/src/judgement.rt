@@ -105,8 +105,8 @@ fn chains(history: &History<'_>, trace: &Trace<'_>, first: Option<Fault>) -> Res
     }
 }
 
-/// Judges a replica's settled attempts: each record fits its request by itself, and each entry sees what its path
-/// left; else the first fault, those of records before those of chains, then by offset, then by number.
+/// Judges a replica's settled attempts: each record fits its request by itself, and each entry sees what its path left;
+/// else `Found`, the first fault, those of records before those of chains, then by offset, then by number.
 ///
 /// docs/MODEL.md, "A record fits its request", "What an entry must see" and "Faults". Each record is judged by itself,
 /// by what its request touches and what is decided on the values that it saw. Then the entries of each row are gathered

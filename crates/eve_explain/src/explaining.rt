@@ -159,8 +159,8 @@ fn explained_yes<'a>(accepted: &AcceptedTrace<'_>) -> Explained<'a>
 /// The verdict on the bytes of a trace, as `audit` gives it. For a yes it has what the trace has, in numbers; for a no
 /// what shows it: what is wrong at the frame that the fault names, what was due there, and what says so.
 ///
-/// docs/MODEL.md, "Verdict" and "Evidence". The trace is audited first. Only where the verdict is no it is read again,
-/// and once more gone through up to the fault.
+/// docs/MODEL.md, "Verdict" and "Evidence". Refused memory decides nothing. The trace is audited first. Only where the
+/// verdict is no it is read again, and once more gone through up to the fault.
 pub fn explain<'a, R: Threads + Wait + Sync, G: Gate>(
     rt: &R,
     alloc: Global,

@@ -52,8 +52,8 @@ pub fn execute<R: Wait, G: Gate>(
     )
 }
 
-/// Executes the request as `execute` does, with the rows that it touches as they were looked up among the floor's
-/// names.
+/// Executes the request, or refuses it, as `execute` does, with the rows that it touches as they were looked up among
+/// the floor's names.
 ///
 /// docs/MODEL.md, "Executions".
 pub fn execute_touched<R: Wait, G: Gate>(
@@ -95,8 +95,8 @@ pub fn execute_touched<R: Wait, G: Gate>(
     }
 }
 
-/// Executes the request as `execute_touched` does, for a first worker that keeps its records itself: the record is
-/// returned, of worker 0 and with this place, and noted nowhere.
+/// Executes the request, or refuses it, as `execute` does, for a first worker that keeps its records itself: the record
+/// is returned, of worker 0 and with this place, and noted nowhere. So it is never `Full`.
 ///
 /// docs/MODEL.md, "Executions".
 pub fn execute_kept<R: Wait, G: Gate>(
@@ -135,8 +135,8 @@ fn request_at(batch: &BatchData, index: u16) -> Request<'_>
     batch.requests[index as usize].request()
 }
 
-/// Notes the record that waits, if there is one. It is refused with Full where the queue is full at one moment. May
-/// wait for other threads.
+/// Notes the record that waits, if there is one. It is refused with `Full` alone, where the queue is full at one
+/// moment. May wait for other threads.
 ///
 /// docs/MODEL.md, "Executions".
 pub fn flush<R: Wait>(rt: &R, recorder: &Recorder, worker: &mut Worker) -> Result<(), ExecFault>

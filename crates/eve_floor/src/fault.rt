@@ -26,7 +26,8 @@ pub enum ExecFault {
 }
 
 impl ExecFault {
-    /// The fault that is told of two workers: that of the lower one, or where it has none, that of the higher one.
+    /// The fault that is told of two workers: that of the lower one, or where it has none, that of the higher one;
+    /// `None` where neither has.
     pub fn first_of(lower: Option<ExecFault>, higher: Option<ExecFault>) -> Option<ExecFault>
         ensures { result ≡ option_or lower higher }
     {

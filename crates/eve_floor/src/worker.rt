@@ -41,7 +41,7 @@ impl Worker {
         }
     }
 
-    /// The seats; where a record waits, the worker is returned as it is.
+    /// The seats; where a record waits, the `Worker` is returned as it is.
     pub fn into_seats(self) -> Result<(WorkerSeat, TicketSeat), Worker>
         ensures seats { IfOk result (λ s. (s.0 ≡ self.seat) × (s.1 ≡ self.tickets) × (self.waiting ≡ None)) }
         ensures waits { IfErr result (λ w. (w ≡ self) × IsSome self.waiting) }
@@ -53,7 +53,8 @@ impl Worker {
         Ok((seat, tickets))
     }
 
-    /// Takes out the record that waits, if there is one. It is noted no more, and the worker can be taken apart.
+    /// Takes out the record that waits; `None`, where none does. It is noted no more, and the worker can be taken
+    /// apart.
     pub fn take_waiting(&mut self) -> Option<AccessRecord>
         ensures out { result ≡ self.old.waiting }
         ensures rest { self.new ≡ record self.old { waiting = None } }

@@ -8,7 +8,7 @@ ghost use Rattle.eve_grammar.specs.Reading.{token_at, number_of};
 use byteorder::{BigEndian, ByteOrder};
 use eve_accounts::{Amount, Cents, is_name};
 
-/// One byte.
+/// One byte; `None` where there is none.
 pub fn u8_at(bytes: &[u8]) -> Option<(u8, &[u8])>
     ensures { Gives (λ x. (x.0, x.1.now)) result (number_at 1 bytes.now) }
 {
@@ -18,7 +18,7 @@ pub fn u8_at(bytes: &[u8]) -> Option<(u8, &[u8])>
     }
 }
 
-/// A number of two bytes, the highest first.
+/// A number of two bytes, the highest first; `None` where fewer are there.
 pub fn u16_at(bytes: &[u8]) -> Option<(u16, &[u8])>
     ensures { Gives (λ x. (x.0, x.1.now)) result (number_at 2 bytes.now) }
 {
@@ -28,7 +28,7 @@ pub fn u16_at(bytes: &[u8]) -> Option<(u16, &[u8])>
     Some((BigEndian::read_u16(bytes), &bytes[2..]))
 }
 
-/// A number of four bytes, the highest first.
+/// A number of four bytes, the highest first; `None` where fewer are there.
 pub fn u32_at(bytes: &[u8]) -> Option<(u32, &[u8])>
     ensures { Gives (λ x. (x.0, x.1.now)) result (number_at 4 bytes.now) }
 {
@@ -38,7 +38,7 @@ pub fn u32_at(bytes: &[u8]) -> Option<(u32, &[u8])>
     Some((BigEndian::read_u32(bytes), &bytes[4..]))
 }
 
-/// A number of eight bytes, the highest first.
+/// A number of eight bytes, the highest first; `None` where fewer are there.
 pub fn u64_at(bytes: &[u8]) -> Option<(u64, &[u8])>
     ensures { Gives (λ x. (x.0, x.1.now)) result (number_at 8 bytes.now) }
 {

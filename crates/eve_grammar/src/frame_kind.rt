@@ -76,7 +76,7 @@ impl FrameKind {
     ghost use Rattle.std.specs.Prelude.{◌≡◌, IfSome, IfNone};
     ghost use Rattle.eve_grammar.specs.Kinds.{kind_byte, BeginsNone};
 
-    /// The kind of the frames that begin with this byte, where there is one.
+    /// The kind of the frames that begin with this byte, and `None` where no kind has it.
     #[inline(always)]
     pub fn of(byte: u8) -> Option<FrameKind>
         ensures kind { IfSome result (λ kind. kind_byte kind ≡ byte) }

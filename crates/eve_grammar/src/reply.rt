@@ -33,7 +33,8 @@ pub(crate) fn is_reply(code: u8, value: i64) -> bool
     code == 1 || value == 0 && code <= 5
 }
 
-/// A reply in nine bytes: a code and a value in cents, which is 0 except for a total.
+/// A reply in nine bytes: a code and a value in cents, which is 0 except for a total; `None` where the bytes begin with
+/// none.
 pub fn reply_at(bytes: &[u8]) -> Option<(Reply, &[u8])>
     ensures { Gives (λ x. (x.0, x.1.now)) result (reply_at bytes.now) }
 {

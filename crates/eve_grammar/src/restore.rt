@@ -21,7 +21,7 @@ pub struct Restore {
 
 /// A restore in 20 bytes, of one of this many rows.
 ///
-/// docs/TRACE.md, "Parts": a version of at most `MOST_VERSIONS`.
+/// docs/TRACE.md, "Parts": a version of at most `MOST_VERSIONS`. `None` where the bytes begin with none.
 pub fn restore_at(rows: u32, bytes: &[u8]) -> Option<(Restore, &[u8])>
     requires { rows ≤ MOST_ROWS }
     ensures { Gives (λ x. (x.0, x.1.now)) result (restore_at rows bytes.now) }

@@ -7,7 +7,8 @@ use crate::places::{bytes_from, i64_in, u64_in};
 use eve_accounts::Cents;
 use eve_smallbank::Versioned;
 
-/// A row's version, which is at most `MOST_VERSIONS`, and its value, in 16 bytes.
+/// A row's version, which is at most `MOST_VERSIONS`, and its value, in 16 bytes; `None` where the bytes begin with
+/// none.
 ///
 /// docs/TRACE.md, "Version 2".
 pub fn versioned_at(bytes: &[u8]) -> Option<(Versioned, &[u8])>

@@ -121,8 +121,8 @@ fn requests_apart(alloc: Global, trace: &Trace<'_>, random: RandomState) -> Resu
     }
 }
 
-/// The customers' names, in order, where no two customers share a name and no two requests share client and
-/// number; else the first fault of orders.
+/// The customers' names, in order, where no two customers share a name and no two requests share client and number;
+/// else `Found`, the first fault of orders.
 ///
 /// docs/MODEL.md, "Faults". One look-up for each customer and each request, of a client below 4,096 in a table. Where
 /// some client's numbers don't rise, or more than 4,096 other clients come, the requests are sorted, in 16 bytes each.

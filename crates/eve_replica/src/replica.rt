@@ -201,8 +201,9 @@ impl<'n> Replica<'n> {
     /// conditions ask; the next number is at most `MOST_BATCHES`. The gate is entered before each execution, with the
     /// request's index. Nothing that the threads did is believed: the attempt is what the replica's own account makes
     /// of the records that they noted (`AreNotedOf`, `Closes`). `Mismatch` comes only where some that they noted make
-    /// none. Any other fault is one worker's, where several have one. Each fault but `Broken` leaves the account as it
-    /// was, and breaks the replica until `rollback` succeeds. May wait for other threads.
+    /// none. Any other fault is one worker's, where several have one: `Full`, `Spent`, `NoRow`, `TickOrder`, `Worn`,
+    /// `Memory`. Each fault but `Broken` leaves the account as it was, and breaks the replica until `rollback`
+    /// succeeds. May wait for other threads.
     pub fn run_attempt<R: Threads + Wait + Sync, G: Gate>(
         &mut self,
         rt: &R,
@@ -316,7 +317,8 @@ impl<'n> Replica<'n> {
     /// `has_room`, `next_number`, `view` and `is_next_serial` say what the conditions ask; the number is at most
     /// `MOST_BATCHES`. The stripes stay as they were: a later `run_attempt` over the rows that it wrote can be
     /// `Mismatch` until a rollback discards it, and for good once it is committed. `Broken` is tested first, and comes
-    /// exactly where the replica is broken. After a refusal nothing has changed.
+    /// exactly where the replica is broken. `Mismatch` comes where the records make none. After a refusal, of memory
+    /// too, nothing has changed.
     pub fn close_attempt(
         &mut self,
         alloc: Global,

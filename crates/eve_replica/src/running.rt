@@ -58,7 +58,7 @@ pub fn run<R: Threads + Wait + Sync, G: Gate>(
 /// Runs the workload as `run` does, and uses it up. The list of a batch is dropped once the batch is cut into
 /// parallelBatches, so that only one batch at a time stands in memory twice.
 ///
-/// docs/TRACE.md, "The deployment's procedure". It fails where `run` does.
+/// docs/TRACE.md, "The deployment's procedure". It is refused where `run` is, and the workload is gone then too.
 pub fn run_consuming<R: Threads + Wait + Sync, G: Gate>(
     rt: &R,
     alloc: Global,

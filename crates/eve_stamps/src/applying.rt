@@ -27,8 +27,10 @@ use std::collections::VecDeque;
 
 /// Runs the request on the stripe's rows as they are now, and notes it in the stripe's journal.
 ///
-/// `touched` is the answer of `touched` for this request and the customers; all its rows have to lie in the stripe.
-/// A request that touches no row is noted too, with no entries. A refusal changes nothing.
+/// `touched` is the answer of `touched` for this request and the customers; all its rows have to lie in the stripe. A
+/// request that touches no row is noted too, with no entries. Refused, in the order of the tests: `NoRow`, where a row
+/// that it touches lies in no stripe that is lent; `TickOrder`, where the tick isn't above the greatest of each;
+/// `Worn`, where a row to be written is at version 2^40; `Memory`. A refusal changes nothing.
 ///
 /// docs/MODEL.md, "Stripe", "Entries", "A record fits its request".
 pub fn apply(
@@ -74,7 +76,7 @@ pub fn apply(
 /// first alone.
 ///
 /// The first stripe's journal gains the entries of its rows, the second's the others, each at the tick, and an empty
-/// item where there are none. Conditions and refusals are those of `apply`, with both stripes. A refusal changes
+/// item where there are none. Conditions and refusals are as those of `apply`, with both stripes. A refusal changes
 /// nothing.
 ///
 /// docs/MODEL.md, "Stripe", "Entries", "A record fits its request".

@@ -77,7 +77,8 @@ impl<'s> Schedule<'s> {
         })
     }
 
-    /// Takes a step.
+    /// Takes a step, or answers `NotAllowed` where that event isn't allowed now. `Memory` comes at Apply and Note
+    /// alone.
     ///
     /// A claim looks through the sizes of the parallelBatches; an Apply searches rows in their stripes and goes back
     /// over the records that others applied since its tick; every other step takes constant time. After a refusal

@@ -20,9 +20,9 @@ pub enum ReadFault {
 /// How many bytes one fetch has room for.
 const CHUNK: usize = 64 * 1024;
 
-/// Reads the source to its end, and no further than `limit + 1` bytes: more than `limit` bytes
-/// say that the source has too many. `Read` comes only where the source failed in this call.
-/// After a fault what was read is lost.
+/// Reads the source to its end, and no further than `limit + 1` bytes: more than `limit` bytes say that the source has
+/// too many. `Read` comes only where the source failed in this call, `Memory` where it ran out. After a fault what was
+/// read is lost.
 pub fn read_all<S: Source>(alloc: Global, source: &mut S, limit: u32) -> Result<Vec<u8>, ReadFault>
     ensures bytes { IfOk result
         (λ v. IfSome (S.remaining source.old) (λ bytes. v.items ≡ take (limit + 1) bytes)) }

@@ -39,8 +39,8 @@ impl<W: Write + Drop> SinkOf<W> {
         &self.writer
     }
 
-    /// Sends as `send` does, and calls the writer `tries` times at most: that is how often a write that is interrupted
-    /// is tried.
+    /// Sends, or fails, as `send` does, and calls the writer `tries` times at most: that is how often a write that is
+    /// interrupted is tried.
     pub fn send_within(&mut self, bytes: &[u8], tries: u32) -> Result<usize, SendFault>
         ensures within { IfOk result (λ n. n ≤ length bytes.now) }
         ensures some { IfOk result (λ n. 0 < length bytes.now → 0 < n) }

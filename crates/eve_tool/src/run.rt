@@ -96,9 +96,11 @@ fn run_bytes<R: RandomSource + Threads + Wait + Sync, O: Sink>(
 /// Reads a workload in this format, asks for random words once it is accepted, runs it, and sends the trace, with the
 /// answer 0: as `eve run` does, but of a workload and a trace of at most `limit` bytes.
 ///
-/// docs/TRACE.md, "Workload" and "The deployment's procedure". A workload of more bytes is too long, and so is
-/// one whose trace would be; nothing is sent then, nor where a line of it is bad. So what is too long can be
-/// tried with little; for `eve run` the limit is 2^30.
+/// docs/TRACE.md, "Workload" and "The deployment's procedure". A workload of more bytes is too long, and so is one
+/// whose trace would be; nothing is sent then, nor where a line of it is bad. So what is too long can be tried with
+/// little; for `eve run` the limit is 2^30. Refused, in the order of the tests: `Read`; `TooLong` of the workload;
+/// `Line`; `Random`; `Broken`, or `TooLong` of the run; `TooLong` of the trace; `Write`; and `Memory` where it is met.
+/// Then nothing is sent, but a front of the trace after `Write`.
 pub fn run_within<R: AllocGlobal + RandomSource + Threads + Wait + Sync, I: Source, O: Sink>(
     rt: &R,
     mixer: Mixer,

@@ -15,7 +15,7 @@ pub enum Format {
 }
 
 impl Format {
-    /// The format of that name: `1` or `2`.
+    /// The format of that name: `1` or `2`; `None` of another.
     pub fn named(name: &str) -> Option<Self>
         ensures { result ≡ format_named name.now }
     {

@@ -5,8 +5,8 @@ ghost use Rattle.eve_views.specs.First.{is_before_in_phase, is_before, first_of}
 
 use crate::fault::Fault;
 
-/// Of two faults, where there are two, the one that comes first: by phase, then by offset, then by number. Of two of
-/// which neither comes before the other it is the first given.
+/// Of two faults, where there are two, the one that comes first, and `None` where there is none: by phase, then by
+/// offset, then by number. Of two of which neither comes before the other it is the first given.
 ///
 /// docs/MODEL.md, "Verdict".
 #[inline(always)]

@@ -37,7 +37,7 @@ impl<'t, 'a> Frames<'t, 'a> {
         Frames { trace, at: 0 }
     }
 
-    /// The next frame.
+    /// The next frame; `None` behind the last, and nothing comes again.
     pub fn next(&mut self) -> Option<FrameView<'a>>
         ensures none { IfNone result (self.old ≡ []) }
         ensures left { IfNone result (self.new ≡ self.old) }

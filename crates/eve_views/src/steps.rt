@@ -59,7 +59,7 @@ impl<'t, 'a> Steps<'t, 'a> {
         Steps { trace, at, to }
     }
 
-    /// The next step.
+    /// The next step; `None` behind the last, and nothing comes again.
     pub fn next(&mut self) -> Option<Step<'t, 'a>>
         ensures none { IfNone result (self.old ≡ []) }
         ensures left { IfNone result (self.new ≡ self.old) }

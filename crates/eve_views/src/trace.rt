@@ -53,8 +53,8 @@ impl<'a> Model for Trace<'a> {
 }
 
 impl<'a> Trace<'a> {
-    /// Reads a trace, or finds the first fault of form: the one at the least offset, and of those at one offset
-    /// the one with the least number.
+    /// Reads a trace, or answers `Found`, the first fault of form: the one at the least offset, and of those at one
+    /// offset the one with the least number.
     ///
     /// docs/TRACE.md, "Faults of form". One pass over the bytes, and no memory but for the frames' offsets, as
     /// they come. Refused memory decides nothing.
@@ -72,7 +72,7 @@ impl<'a> Trace<'a> {
         Trace::of_index(head, bytes, index_of(alloc, head, bytes))
     }
 
-    /// Reads a trace as `read` does, with up to `jobs` jobs: the same trace, or the same fault.
+    /// Reads a trace as `read` does, with up to `jobs` jobs: the same trace, or `Found` with the same fault.
     ///
     /// docs/TRACE.md, "Faults of form". With two jobs or more the bodies of batches, attempts, access records and
     /// transfers are judged side by side, in as many threads at most, and in no more than the trace has whole 64 KiB.

@@ -66,7 +66,7 @@ fn outside(code: Code, found: Option<u64>) -> Option<Fault>
 }
 
 impl<'t, 'a> Tally<'t, 'a> {
-    /// Counts the votes, or finds the first fault of votes.
+    /// Counts the votes, or answers `Found`, the first fault of votes.
     ///
     /// docs/MODEL.md, "Faults": a further vote of a verifier on a batch in a view stands at that Vote, two views
     /// of a batch decided as commit stand at the Batch. The votes are sorted once; then those on a batch in a view are

@@ -30,7 +30,7 @@ pub enum Mixer {
 }
 
 impl Mixer {
-    /// The mixer of that name: `first` or `whole`.
+    /// The mixer of that name: `first` or `whole`; `None` of another.
     pub fn named(name: &str) -> Option<Self>
         ensures { result ≡ mixer_named name.now }
     {

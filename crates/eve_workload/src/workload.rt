@@ -47,7 +47,7 @@ impl Model for Workload {
 }
 
 impl Workload {
-    /// Reads a workload in a format, or finds the first line that isn't right, counted from 1.
+    /// Reads a workload in a format, or answers `Line`, the first line that isn't right, counted from 1.
     ///
     /// docs/TRACE.md, "Workload". The format is 1 or 2: there may be 4,096 customers in the first, 65,536 in the
     /// second. One pass over the text. While the requests' numbers rise, for each of 256 places of
