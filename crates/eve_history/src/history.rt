@@ -64,7 +64,7 @@ impl<'a> History<'a> {
         History { replica, notes }
     }
 
-    /// What a replica did, by the replica's number from 0, where its section is right; else the first fault of
+    /// What a replica did, by the replica's number from 0, where its section is right; else `Found`, the first fault of
     /// structure in it.
     ///
     /// docs/MODEL.md, "Section state, fate" and "Faults". One pass over the section's frames. Refused memory decides

@@ -60,7 +60,8 @@ pub trait Folder {
     // The bytes of the file of this name, where they are known.
     ghost bytes: { Self → List ℕ → Option (List ℕ) };
 
-    /// Opens the file of this name. `-` names standard input.
+    /// Opens the file of this name. `-` names standard input. Refused with `Missing`, `Denied` or `IsFolder`, where
+    /// that is why, else with `Unknown`.
     fn open(&self, name: &str) -> Result<Self::Input, OpenFault>
         ensures { IfOk result (λ input. IfSome (bytes self.now name.now)
             (λ known. Self.Input.remaining input ≡ Some known)) };
