@@ -86,11 +86,13 @@ module _ (t : Trace) (accepted : IsAccepted t) where
       reached = laws.lands;
       taken_over = taken_over;
       restored = laws.restored;
+      apart = accepted.apart;
       once = laws.once;
       replied = reply_given;
       majority = laws.head.majority;
       decided = attempt_decided;
       commits = λ e k at c found. commit_backed t (steps_at t e) k at c (accepted.backed e) found;
       rollbacks = λ e k at r found. rollback_backed t (steps_at t e) k at r (accepted.backed e) found;
+      tokens = λ e n p at. accepted.tokens e n p at;
       one_decision = same_decision;
     }

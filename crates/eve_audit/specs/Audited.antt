@@ -11,8 +11,9 @@ use Rattle.eve_history.specs.Section.{Placed, ByTransfer, batch_at}
 use Rattle.eve_history.specs.SectionHistory.{landing_at, committed_at, is_reached, ByAttemptsTo, IsRightSection}
 use Rattle.eve_chains.specs.Visible.{execution, executions}
 use Rattle.eve_chains.specs.Committed.{opening_bank, bank_after, committed_to, Leads, IsSerialBetween}
-use Rattle.eve_chains.specs.Committed.{committed_request_ids}
+use Rattle.eve_chains.specs.Committed.{batch_request_ids, committed_request_ids}
 use Rattle.eve_votes.specs.Votes.{IsDecided, IsRolledBack}
+use Rattle.eve_agree.specs.DueTokens.{due_token}
 use Rattle.eve_agree.specs.Agreement.{first_to_commit, HasBalancesOfFirst}
 use Rattle.eve_agree.specs.Majority.{SomeDecided}
 use Rattle.eve_agree.specs.SentReplies.{IsReplied}
@@ -88,7 +89,9 @@ pub record IsAudited (t : Trace) : Type 0 where
   -- after each rollback a replica works on what is committed
   pub restored : (e k at : ℕ) (r : Rollback) → slice_get (steps_at t e) k ≡ Some (at, RollsBack r)
       → working_table t e (suc k) ≡ committed_table t e (suc k)
-  -- no request took effect twice
+  -- No two requests of the batches have one client and number, so no request took effect twice: not by an attempt, nor
+  -- by a state that was transferred.
+  pub apart : AllPairs (λ a b. a ≢ b) (batch_request_ids t)
   pub once : (e : ℕ) → AllPairs (λ a b. a ≢ b) (committed_request_ids t e)
   -- each reply sent comes from a batch that its replica committed, and so a majority decided
   pub replied : (k : ℕ) (s : Sent) → slice_get t.sent k ≡ Some s → IsReplied t s
@@ -101,6 +104,8 @@ pub record IsAudited (t : Trace) : Type 0 where
       → IsDecided t c.seq c.view c.token
   pub rollbacks : (e k at : ℕ) (r : Rollback) → slice_get (steps_at t e) k ≡ Some (at, RollsBack r)
       → IsRolledBack t (r.to + 1) (r.view - 1)
+  -- the token of each batch that a replica committed is made of its number, of the balances after it and of its replies
+  pub tokens : (e n : ℕ) (p : Placed) → committed_at t e n ≡ Some p → p.attempt.token ≡ due_token t e p
   -- all who committed a batch did so in one view, with one token
   pub one_decision : (e f n : ℕ) (p q : Placed) → committed_at t e n ≡ Some p → committed_at t f n ≡ Some q
       → (p.attempt.view ≡ q.attempt.view) × (p.attempt.token ≡ q.attempt.token)
