@@ -2,19 +2,6 @@
 //! without memory.
 #![tactic(auto)]
 
-mod attempts;
-mod counts;
-mod form;
-mod found;
-mod orders;
-mod outcomes;
-mod polls;
-mod reasons;
-mod records;
-mod rows;
-mod structure;
-mod words;
-
-pub use counts::put_count;
-pub use reasons::put_reason;
-pub use words::LONGEST_REASON;
+mod lines;
+mod shared;
+mod word;

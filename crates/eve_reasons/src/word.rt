@@ -1,0 +1,183 @@
+//! The words of a line, and their text.
+
+ghost use Rattle.std.specs.Prelude.{◌≡◌, ◌+◌, ◌≤◌, ◌++◌, length};
+ghost use Rattle.arrayvec.specs.ArrayVec.{array_vec_len};
+ghost use Rattle.eve_reasons.specs.Words.{balance_words, batch_and_view, frame_words, has_words, index_words, request_words, row_words};
+ghost use Rattle.eve_reasons.specs.Words.{source_words, word_words, words_text, word_room, words_room};
+
+use eve_evidence::{Source, ToldRequest, ToldRow};
+use eve_grammar::FrameKind;
+use eve_lines::{
+    LINE_ROOM, Line, kind_name, kind_word, mode_word, put, put_name, put_number, put_numbered,
+    put_reply, put_request, put_signed, put_token,
+};
+use eve_smallbank::{Kind, Reply, Versioned};
+
+/// How many bytes a word has at most that is no text.
+pub(crate) const LONGEST_WORD: usize = 162;
+
+/// A word of a line.
+#[derive(Clone, Copy)]
+pub(crate) enum Word<'e> {
+    /// These letters.
+    Text(&'e str),
+    /// A number.
+    Number(u64),
+    /// A number that may be negative: cents.
+    Signed(i64),
+    /// A name.
+    Name(&'e [u8]),
+    /// A token, or fewer bytes, in hexadecimal digits.
+    Digits(&'e [u8]),
+    /// `serial` or `parallel`.
+    Mode(bool),
+    /// `read` or `write`.
+    Access(Kind),
+    /// A kind of frames.
+    Kind(FrameKind),
+    /// The number of a batch, and a view: `batch 1, view 0`.
+    Batch(u32, u32),
+    /// A frame, and the byte at which it begins: `Access at byte 196`.
+    Frame(FrameKind, u64),
+    /// A row: `row 1 (checking of ann)`.
+    Row(&'e ToldRow<'e>),
+    /// What a row has: `version 2, value 12`.
+    Has(Versioned),
+    /// A request: `#1 of batch 1: deposit 7 2 ann 7`.
+    Request(&'e ToldRequest<'e>),
+    /// A reply.
+    Reply(Reply),
+    /// Who left something in a row: `#0 of batch 1, Access at byte 236`.
+    Source(&'e Source),
+}
+
+/// Appends a frame: `Access at byte 196`.
+fn put_frame(line: &mut Line, kind: FrameKind, at: u64)
+    requires { array_vec_len line.old + 40 ≤ LINE_ROOM }
+    ensures items { line.new.items ≡ line.old.items ++ frame_words kind at }
+    ensures len { array_vec_len line.new ≤ array_vec_len line.old + 40 }
+{
+    put(line, kind_name(kind));
+    put_numbered(line, " at byte ", at);
+}
+
+/// Appends the number of a batch, and a view: `batch 1, view 0`.
+fn put_batch_and_view(line: &mut Line, batch: u32, view: u32)
+    requires { array_vec_len line.old + 54 ≤ LINE_ROOM }
+    ensures items { line.new.items ≡ line.old.items ++ batch_and_view batch view }
+    ensures len { array_vec_len line.new ≤ array_vec_len line.old + 54 }
+{
+    put_numbered(line, "batch ", u64::from(batch));
+    put_numbered(line, ", view ", u64::from(view));
+}
+
+/// Appends which request it is: `#1 of batch 1`.
+fn put_index(line: &mut Line, index: u16, batch: u32)
+    requires { array_vec_len line.old + 58 ≤ LINE_ROOM }
+    ensures items { line.new.items ≡ line.old.items ++ index_words index batch }
+    ensures len { array_vec_len line.new ≤ array_vec_len line.old + 58 }
+{
+    put_numbered(line, "#", u64::from(index));
+    put_numbered(line, " of batch ", u64::from(batch));
+}
+
+/// Appends a request: `#1 of batch 1: deposit 7 2 ann 7`.
+fn put_told_request(line: &mut Line, request: &ToldRequest)
+    requires { array_vec_len line.old + LONGEST_WORD ≤ LINE_ROOM }
+    ensures items { line.new.items ≡ line.old.items ++ request_words request.now }
+    ensures len { array_vec_len line.new ≤ array_vec_len line.old + LONGEST_WORD }
+{
+    put_index(line, request.index, request.batch);
+    put(line, ": ");
+    put_request(line, &request.asked);
+}
+
+/// Whose balance a row of this number is.
+fn balance_word(row: u64) -> &'static str
+    ensures word { result.now ≡ balance_words row }
+    ensures short { length result.now ≤ 14 }
+{
+    if row % 2 == 0 {
+        " (saving of "
+    } else {
+        " (checking of "
+    }
+}
+
+/// Appends a row: `row 1 (checking of ann)`.
+fn put_row(line: &mut Line, row: &ToldRow)
+    requires { array_vec_len line.old + 64 ≤ LINE_ROOM }
+    ensures items { line.new.items ≡ line.old.items ++ row_words row.now }
+    ensures len { array_vec_len line.new ≤ array_vec_len line.old + 64 }
+{
+    let number = u64::from(row.row.number());
+    put_numbered(line, "row ", number);
+    put(line, balance_word(number));
+    put_name(line, row.name);
+    put(line, ")");
+}
+
+/// Appends what a row has: `version 2, value 12`.
+fn put_has(line: &mut Line, has: Versioned)
+    requires { array_vec_len line.old + 56 ≤ LINE_ROOM }
+    ensures items { line.new.items ≡ line.old.items ++ has_words has }
+    ensures len { array_vec_len line.new ≤ array_vec_len line.old + 56 }
+{
+    put_numbered(line, "version ", has.version);
+    put(line, ", value ");
+    put_signed(line, has.value.get());
+}
+
+/// Appends who left something in a row: `#0 of batch 1, Access at byte 236`.
+fn put_source(line: &mut Line, source: &Source)
+    requires { array_vec_len line.old + 100 ≤ LINE_ROOM }
+    ensures items { line.new.items ≡ line.old.items ++ source_words source.now }
+    ensures len { array_vec_len line.new ≤ array_vec_len line.old + 100 }
+{
+    match source {
+        Source::Opening => put(line, "the opening"),
+        Source::Write { index, batch, at } => {
+            put_index(line, *index, *batch);
+            put(line, ", ");
+            put_frame(line, FrameKind::Access, *at);
+        }
+        Source::Transfer { at } => put_frame(line, FrameKind::Transfer, *at),
+    }
+}
+
+/// Appends a word.
+fn put_word(line: &mut Line, word: &Word<'_>)
+    requires { array_vec_len line.old + word_room word.now ≤ LINE_ROOM }
+    ensures items { line.new.items ≡ line.old.items ++ word_words word.now }
+    ensures len { array_vec_len line.new ≤ array_vec_len line.old + word_room word.now }
+{
+    match word {
+        Word::Text(text) => put(line, text),
+        Word::Number(number) => put_number(line, *number),
+        Word::Signed(amount) => put_signed(line, *amount),
+        Word::Name(name) => put_name(line, name),
+        Word::Digits(bytes) => put_token(line, bytes),
+        Word::Mode(serial) => put(line, mode_word(*serial)),
+        Word::Access(kind) => put(line, kind_word(*kind)),
+        Word::Kind(kind) => put(line, kind_name(*kind)),
+        Word::Batch(batch, view) => put_batch_and_view(line, *batch, *view),
+        Word::Frame(kind, at) => put_frame(line, *kind, *at),
+        Word::Row(row) => put_row(line, row),
+        Word::Has(has) => put_has(line, *has),
+        Word::Request(request) => put_told_request(line, request),
+        Word::Reply(reply) => put_reply(line, *reply),
+        Word::Source(source) => put_source(line, source),
+    }
+}
+
+/// Appends words.
+#[tactic(auto, using(crate::proofs::Words::words_steps))]
+pub(crate) fn put_words(line: &mut Line, words: &[Word<'_>])
+    requires { array_vec_len line.old + words_room words.now ≤ LINE_ROOM }
+    ensures items { line.new.items ≡ line.old.items ++ words_text words.now }
+    ensures len { array_vec_len line.new ≤ array_vec_len line.old + words_room words.now }
+{
+    'words: for word in words {
+        put_word(line, word);
+    }
+}
