@@ -18,6 +18,10 @@ abbrev pub transfer_line : ToldTransfer → List ℕ
 transfer_line s =
     codes "transfer: " ++ (batch_and_view s.batch s.view ++ (codes ", " ++ frame_words kind.Transfer s.at))
 
+-- an Access frame: `frame: Access at byte 196`
+abbrev pub access_line : ℕ → List ℕ
+access_line at = codes "frame: " ++ frame_words kind.Access at
+
 -- a field, the number that was found in it, and the one that was due, behind how that bounds it
 abbrev pub numbers_lines : List ℕ → Numbers → List ℕ → List (List ℕ)
 numbers_lines field is due =

@@ -2,6 +2,10 @@
 //! without memory.
 #![tactic(auto)]
 
+mod attempts;
 mod lines;
+mod records;
+mod rows;
 mod shared;
+mod structure;
 mod word;

@@ -2,7 +2,7 @@
 
 ghost use Rattle.std.specs.Prelude.{◌≡◌, ◌≤◌, length};
 ghost use Rattle.eve_reasons.specs.Lines.{and_line, and_lines};
-ghost use Rattle.eve_reasons.specs.Shared.{attempt_line, numbers_lines, transfer_line};
+ghost use Rattle.eve_reasons.specs.Shared.{access_line, attempt_line, numbers_lines, transfer_line};
 
 use crate::lines::Lines;
 use crate::word::Word::{Batch, Frame, Mode, Number, Text};
@@ -33,6 +33,13 @@ pub(crate) fn say_transfer(lines: &mut Lines, state: &ToldTransfer)
         Text(", "),
         Frame(FrameKind::Transfer, state.at),
     ]);
+}
+
+/// Says an Access frame: `frame: Access at byte 196`.
+pub(crate) fn say_access(lines: &mut Lines, at: u64)
+    ensures { lines.new ≡ and_line (access_line at) lines.old }
+{
+    lines.say(&[Text("frame: "), Frame(FrameKind::Access, at)]);
 }
 
 /// Says a field, the number that was found in it, and the one that was due, behind how that bounds it.

@@ -5,6 +5,7 @@ ghost use Rattle.arrayvec.specs.ArrayVec.{array_vec_len};
 ghost use Rattle.eve_reasons.specs.Words.{balance_words, batch_and_view, frame_words, has_words, index_words, request_words, row_words};
 ghost use Rattle.eve_reasons.specs.Words.{source_words, word_words, words_text, word_room, words_room};
 
+use eve_accounts::Cents;
 use eve_evidence::{Source, ToldRequest, ToldRow};
 use eve_grammar::FrameKind;
 use eve_lines::{
@@ -23,8 +24,8 @@ pub(crate) enum Word<'e> {
     Text(&'e str),
     /// A number.
     Number(u64),
-    /// A number that may be negative: cents.
-    Signed(i64),
+    /// An amount of money, which may be negative.
+    Signed(Cents),
     /// A name.
     Name(&'e [u8]),
     /// A token, or fewer bytes, in hexadecimal digits.
@@ -154,7 +155,7 @@ fn put_word(line: &mut Line, word: &Word<'_>)
     match word {
         Word::Text(text) => put(line, text),
         Word::Number(number) => put_number(line, *number),
-        Word::Signed(amount) => put_signed(line, *amount),
+        Word::Signed(amount) => put_signed(line, amount.get()),
         Word::Name(name) => put_name(line, name),
         Word::Digits(bytes) => put_token(line, bytes),
         Word::Mode(serial) => put(line, mode_word(*serial)),

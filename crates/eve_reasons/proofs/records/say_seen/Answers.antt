@@ -1,0 +1,5 @@
+use Rattle.std.proofs.Common.{refl}
+use Rattle.eve_reasons.proofs.records.say_seen.Goals as goal
+
+pub returns-in-RolledBack : goal.returns-in-RolledBack
+returns-in-RolledBack c = rw (c.in-RolledBack.is, c.say-in-RolledBack.ensures, c.restoring.ensures.word) refl
