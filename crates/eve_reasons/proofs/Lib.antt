@@ -1,2 +1,4 @@
 pub mod Words
+pub mod Items
+pub mod KindLists
 pub mod Keeping

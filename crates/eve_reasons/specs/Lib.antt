@@ -1,7 +1,13 @@
 pub mod Lines
 pub mod Words
+pub mod Kinds
 pub mod Shared
+pub mod Form
+pub mod Orders
 pub mod Attempts
 pub mod Structure
 pub mod Rows
 pub mod Records
+pub mod Polls
+pub mod Outcomes
+pub mod Counts

@@ -1,5 +1,5 @@
 -- The words of a line. docs/USING.md, "What `explain` prints".
-use Rattle.std.specs.Prelude.{ℕ, ◌+◌, ◌%◌, ◌==◌, if◌then◌else◌, List, [], ◌∷◌, ◌++◌, codes, decimal, length}
+use Rattle.std.specs.Prelude.{ℕ, ◌+◌, ◌%◌, ◌==◌, Bool, true, false, if◌then◌else◌, List, [], ◌∷◌, ◌++◌, codes, decimal, length}
 use Rattle.std.specs.Fmt.{signed_decimal}
 use Rattle.eve_smallbank.specs.declared.versioned.Versioned.{Versioned}
 use Rattle.eve_grammar.specs.Bodies.{borrowed_asked}
@@ -8,6 +8,7 @@ use Rattle.eve_grammar.specs.declared.frame_kind.FrameKind.{FrameKind}
 use Rattle.eve_grammar.specs.declared.frame_kind.FrameKind.TheVariants as kind
 use Rattle.eve_frames.specs.Kinds.{kind_name}
 use Rattle.eve_lines.specs.Words.{asked_words, kind_word, mode_words, name_words, reply_words, token_words}
+use Rattle.eve_evidence.specs.FrameKinds.{all_kinds}
 use Rattle.eve_evidence.specs.declared.evidence.Source.{Source}
 use Rattle.eve_evidence.specs.declared.evidence.Source.TheVariants as source
 use Rattle.eve_evidence.specs.declared.evidence.ToldRequest.{ToldRequest}
@@ -19,6 +20,26 @@ use Rattle.eve_reasons.specs.declared.word.Word.TheVariants as word
 -- a kind of frames: `Access`
 abbrev pub kind_words : FrameKind → List ℕ
 kind_words k = kind_name (kind_byte k)
+
+-- kinds of frames behind others
+abbrev pub more_kinds : List FrameKind → List ℕ
+more_kinds [] = []
+more_kinds (k ∷ kinds) = codes ", " ++ (kind_words k ++ more_kinds kinds)
+
+-- kinds of frames: `Sent, End`
+abbrev pub listed_kinds : List FrameKind → List ℕ
+listed_kinds [] = codes "nothing"
+listed_kinds (k ∷ kinds) = kind_words k ++ more_kinds kinds
+
+-- the kinds of which it is told that they may stand there
+abbrev pub told_kinds : List FrameKind → List Bool → List FrameKind
+told_kinds (k ∷ kinds) (true ∷ told) = k ∷ told_kinds kinds told
+told_kinds (k ∷ kinds) (false ∷ told) = told_kinds kinds told
+told_kinds _ _ = []
+
+-- those of all kinds, which are told in the order of their bytes
+unfoldable pub kinds_words : List Bool → List ℕ
+kinds_words told = listed_kinds (told_kinds all_kinds told)
 
 -- a frame, and the byte at which it begins: `Access at byte 196`
 abbrev pub frame_words : FrameKind → ℕ → List ℕ
@@ -72,6 +93,7 @@ word_words (word.Has has) = has_words has
 word_words (word.Request r) = request_words r.now
 word_words (word.Reply r) = reply_words r
 word_words (word.Source s) = source_words s.now
+word_words (word.Kinds told) = kinds_words told.now
 
 -- words one after another
 abbrev pub words_text : List Word → List ℕ

@@ -3,7 +3,13 @@
 #![tactic(auto)]
 
 mod attempts;
+mod counts;
+mod form;
+mod kinds;
 mod lines;
+mod orders;
+mod outcomes;
+mod polls;
 mod records;
 mod rows;
 mod shared;

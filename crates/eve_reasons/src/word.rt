@@ -5,8 +5,9 @@ ghost use Rattle.arrayvec.specs.ArrayVec.{array_vec_len};
 ghost use Rattle.eve_reasons.specs.Words.{balance_words, batch_and_view, frame_words, has_words, index_words, request_words, row_words};
 ghost use Rattle.eve_reasons.specs.Words.{source_words, word_words, words_text, word_room, words_room};
 
+use crate::kinds::put_kinds;
 use eve_accounts::Cents;
-use eve_evidence::{Source, ToldRequest, ToldRow};
+use eve_evidence::{FRAME_KINDS, Source, ToldRequest, ToldRow};
 use eve_grammar::FrameKind;
 use eve_lines::{
     LINE_ROOM, Line, kind_name, kind_word, mode_word, put, put_name, put_number, put_numbered,
@@ -50,6 +51,8 @@ pub(crate) enum Word<'e> {
     Reply(Reply),
     /// Who left something in a row: `#0 of batch 1, Access at byte 236`.
     Source(&'e Source),
+    /// Kinds of frames, of which it is told whether they may stand there: `Sent, End`.
+    Kinds(&'e [bool; FRAME_KINDS]),
 }
 
 /// Appends a frame: `Access at byte 196`.
@@ -168,6 +171,7 @@ fn put_word(line: &mut Line, word: &Word<'_>)
         Word::Request(request) => put_told_request(line, request),
         Word::Reply(reply) => put_reply(line, *reply),
         Word::Source(source) => put_source(line, source),
+        Word::Kinds(told) => put_kinds(line, told),
     }
 }
 

@@ -1,0 +1,41 @@
+//! What a trace without a fault has.
+
+ghost use Rattle.std.specs.Prelude.{◌≡◌};
+ghost use Rattle.eve_reasons.specs.Lines.{and_line, and_lines};
+ghost use Rattle.eve_reasons.specs.Counts.{count_lines, replica_line};
+
+use crate::lines::Lines;
+use crate::word::Word::{Number, Text};
+use eve_evidence::{Counts, REPLICAS, ReplicaCounts};
+
+/// Says what a replica did: `replica 0: 1 committed, 0 taken over, 0 discarded, 0 open, 0 rollbacks`.
+fn say_replica(lines: &mut Lines, replica: usize, did: &ReplicaCounts)
+    ensures { lines.new ≡ and_line (replica_line (replica, did.now)) lines.old }
+{
+    lines.say(&[
+        Text("replica "),
+        Number(replica as u64),
+        Text(": "),
+        Number(did.committed as u64),
+        Text(" committed, "),
+        Number(did.taken_over as u64),
+        Text(" taken over, "),
+        Number(did.discarded as u64),
+        Text(" discarded, "),
+        Number(did.open as u64),
+        Text(" open, "),
+        Number(did.rollbacks as u64),
+        Text(" rollbacks"),
+    ]);
+}
+
+/// Says what a trace without a fault has: its requests, and then what each replica did.
+pub(crate) fn say_counts(lines: &mut Lines, counts: &Counts)
+    ensures { lines.new ≡ and_lines (count_lines counts.now) lines.old }
+{
+    lines.say(&[Text("requests: "), Number(counts.requests as u64)]);
+    let replicas = &counts.replicas[..(counts.many as usize).min(REPLICAS)];
+    'replicas: for i in 0..replicas.len() {
+        say_replica(lines, i, &replicas[i]);
+    }
+}

@@ -1,0 +1,215 @@
+//! Who voted, and for what.
+
+ghost use Rattle.std.specs.Prelude.{◌≡◌};
+ghost use Rattle.eve_reasons.specs.Lines.{and_line, and_lines};
+ghost use Rattle.eve_reasons.specs.Polls.{asked_line, choice_line, found_lines, decision_line, earliest_line, poll_lines};
+ghost use Rattle.eve_reasons.specs.Polls.{second_line, transfer_poll_lines, two_decisions_lines, two_votes_lines, vote_line};
+
+use crate::lines::Lines;
+use crate::shared::say_transfer;
+use crate::word::Word::{Batch, Digits, Frame, Number, Text};
+use eve_evidence::{
+    Poll, SecondVote, ToldDecision, ToldTransfer, TransferPoll, VERIFIERS, VerifierChoice,
+    VerifierVote,
+};
+use eve_grammar::{Choice, FrameKind};
+
+/// Says a verifier's second vote on a batch in a view: `vote: verifier 1, batch 1, view 0, rollback`.
+fn say_second<'e>(lines: &mut Lines, verifier: u8, batch: u32, view: u32, choice: &'e Choice<'e>)
+    ensures { lines.new ≡ and_line (second_line verifier batch view choice.now) lines.old }
+{
+    match choice {
+        Choice::ForRollback => lines.say(&[
+            Text("vote: verifier "),
+            Number(verifier as u64),
+            Text(", "),
+            Batch(batch, view),
+            Text(", rollback"),
+        ]),
+        Choice::ForCommit(token) => lines.say(&[
+            Text("vote: verifier "),
+            Number(verifier as u64),
+            Text(", "),
+            Batch(batch, view),
+            Text(", commit "),
+            Digits(token),
+        ]),
+    }
+}
+
+/// Says its earliest vote there: `first: Vote at byte 251, rollback`.
+fn say_earliest<'e>(lines: &mut Lines, at: u64, choice: &'e Choice<'e>)
+    ensures { lines.new ≡ and_line (earliest_line at choice.now) lines.old }
+{
+    match choice {
+        Choice::ForRollback => lines.say(&[
+            Text("first: "),
+            Frame(FrameKind::Vote, at),
+            Text(", rollback"),
+        ]),
+        Choice::ForCommit(token) => lines.say(&[
+            Text("first: "),
+            Frame(FrameKind::Vote, at),
+            Text(", commit "),
+            Digits(token),
+        ]),
+    }
+}
+
+/// Says a verifier's second vote on a batch in a view, and its earliest there.
+pub(crate) fn say_two_votes<'e>(lines: &mut Lines, second: &'e SecondVote<'e>)
+    ensures { lines.new ≡ and_lines (two_votes_lines second.now) lines.old }
+{
+    say_second(
+        lines,
+        second.verifier,
+        second.batch,
+        second.view,
+        &second.choice,
+    );
+    say_earliest(lines, second.first, &second.first_choice);
+}
+
+/// Says a view in which a batch is decided as commit.
+fn say_decision(lines: &mut Lines, decision: &ToldDecision, verifiers: u8)
+    ensures { lines.new ≡ and_line (decision_line decision.now verifiers) lines.old }
+{
+    lines.say(&[
+        Text("decided: view "),
+        Number(decision.view as u64),
+        Text(", token "),
+        Digits(&decision.token[..]),
+        Text(", by "),
+        Number(decision.votes as u64),
+        Text(" of "),
+        Number(verifiers as u64),
+        Text(" verifiers"),
+    ]);
+}
+
+/// Says a batch, and two views in which it is decided as commit.
+pub(crate) fn say_two_decisions(
+    lines: &mut Lines,
+    batch: u32,
+    first: &ToldDecision,
+    second: &ToldDecision,
+    verifiers: u8,
+)
+    ensures { lines.new ≡ and_lines (two_decisions_lines batch first.now second.now verifiers) lines.old }
+{
+    lines.say(&[Text("batch: "), Number(batch as u64)]);
+    say_decision(lines, first, verifiers);
+    say_decision(lines, second, verifiers);
+}
+
+/// Says what votes are asked for: `for: rollback of batch 2, view 0`.
+fn say_asked<'e>(lines: &mut Lines, batch: u32, view: u32, choice: &'e Choice<'e>)
+    ensures { lines.new ≡ and_line (asked_line batch view choice.now) lines.old }
+{
+    match choice {
+        Choice::ForRollback => lines.say(&[Text("for: rollback of "), Batch(batch, view)]),
+        Choice::ForCommit(token) => lines.say(&[
+            Text("for: commit of "),
+            Batch(batch, view),
+            Text(", token "),
+            Digits(token),
+        ]),
+    }
+}
+
+/// Says how many verifiers count for it, of how many, and how many must.
+fn say_found(lines: &mut Lines, found: u8, verifiers: u8, due: u8)
+    ensures { lines.new ≡ and_lines (found_lines found verifiers due) lines.old }
+{
+    lines.say(&[
+        Text("found: "),
+        Number(found as u64),
+        Text(" of "),
+        Number(verifiers as u64),
+        Text(" verifiers"),
+    ]);
+    lines.say(&[Text("due: "), Number(due as u64)]);
+}
+
+/// Says what the verifier of a number did: `verifier 0: for it, Vote at byte 251`.
+fn say_vote(lines: &mut Lines, verifier: usize, vote: &VerifierVote)
+    ensures { lines.new ≡ and_line (vote_line (verifier, vote.now)) lines.old }
+{
+    match vote {
+        VerifierVote::For(at) => lines.say(&[
+            Text("verifier "),
+            Number(verifier as u64),
+            Text(": for it, "),
+            Frame(FrameKind::Vote, *at),
+        ]),
+        VerifierVote::Otherwise(at) => lines.say(&[
+            Text("verifier "),
+            Number(verifier as u64),
+            Text(": otherwise, "),
+            Frame(FrameKind::Vote, *at),
+        ]),
+        VerifierVote::NoVote => lines.say(&[
+            Text("verifier "),
+            Number(verifier as u64),
+            Text(": no vote"),
+        ]),
+    }
+}
+
+/// Says who voted for a commit or a rollback that has no majority.
+pub(crate) fn say_poll<'e>(lines: &mut Lines, poll: &'e Poll<'e>)
+    ensures { lines.new ≡ and_lines (poll_lines poll.now) lines.old }
+{
+    say_asked(lines, poll.batch, poll.view, &poll.choice);
+    say_found(lines, poll.found, poll.verifiers, poll.due);
+    let votes = &poll.votes[..(poll.verifiers as usize).min(VERIFIERS)];
+    'votes: for i in 0..votes.len() {
+        say_vote(lines, i, &votes[i]);
+    }
+}
+
+/// Says what the verifier of a number said: `verifier 0: rollback, Vote at byte 251`.
+fn say_choice<'e>(lines: &mut Lines, verifier: usize, choice: &'e VerifierChoice<'e>)
+    ensures { lines.new ≡ and_line (choice_line (verifier, choice.now)) lines.old }
+{
+    match choice {
+        VerifierChoice::Commit { token, at } => lines.say(&[
+            Text("verifier "),
+            Number(verifier as u64),
+            Text(": commit "),
+            Digits(token),
+            Text(", "),
+            Frame(FrameKind::Vote, *at),
+        ]),
+        VerifierChoice::Rollback(at) => lines.say(&[
+            Text("verifier "),
+            Number(verifier as u64),
+            Text(": rollback, "),
+            Frame(FrameKind::Vote, *at),
+        ]),
+        VerifierChoice::NoVote => lines.say(&[
+            Text("verifier "),
+            Number(verifier as u64),
+            Text(": no vote"),
+        ]),
+    }
+}
+
+/// Says who voted for the commit of a batch whose state was transferred at byte `at`, where no token has a majority.
+pub(crate) fn say_transfer_poll<'e>(lines: &mut Lines, at: u64, poll: &'e TransferPoll<'e>)
+    ensures { lines.new ≡ and_lines (transfer_poll_lines at poll.now) lines.old }
+{
+    let batch = poll.batch;
+    let view = poll.view;
+    say_transfer(lines, &ToldTransfer { batch, view, at });
+    lines.say(&[
+        Text("for: commit of "),
+        Batch(batch, view),
+        Text(", any token"),
+    ]);
+    say_found(lines, poll.found, poll.verifiers, poll.due);
+    let votes = &poll.votes[..(poll.verifiers as usize).min(VERIFIERS)];
+    'votes: for i in 0..votes.len() {
+        say_choice(lines, i, &votes[i]);
+    }
+}
