@@ -6,8 +6,9 @@ pub mod Form
 pub mod Orders
 pub mod Attempts
 pub mod Structure
-pub mod Rows
 pub mod Records
+pub mod Rows
 pub mod Polls
 pub mod Outcomes
 pub mod Counts
+pub mod Reasons

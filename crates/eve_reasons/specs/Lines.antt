@@ -10,6 +10,10 @@ pub record Kept : Type 0 where
   pub before : ℕ
   pub line : Option (List ℕ)
 
+-- where none was said
+abbrev pub none_yet : ℕ → Kept
+none_yet i = record { before = i; line = None }
+
 -- with one line more
 abbrev pub keeping : List ℕ → ℕ → Option (List ℕ) → Kept
 keeping words zero None = record { before = 0; line = Some (ended words) }

@@ -1,12 +1,14 @@
 //! What a trace without a fault has.
 
-ghost use Rattle.std.specs.Prelude.{◌≡◌};
-ghost use Rattle.eve_reasons.specs.Lines.{and_line, and_lines};
+ghost use Rattle.std.specs.Prelude.{◌≡◌, map, slice_get};
+ghost use Rattle.std.specs.Option.{option_map};
+ghost use Rattle.eve_reasons.specs.Lines.{and_line, and_lines, ended};
 ghost use Rattle.eve_reasons.specs.Counts.{count_lines, replica_line};
 
 use crate::lines::Lines;
 use crate::word::Word::{Number, Text};
 use eve_evidence::{Counts, REPLICAS, ReplicaCounts};
+use eve_lines::Line;
 
 /// Says what a replica did: `replica 0: 1 committed, 0 taken over, 0 discarded, 0 open, 0 rollbacks`.
 fn say_replica(lines: &mut Lines, replica: usize, did: &ReplicaCounts)
@@ -38,4 +40,15 @@ pub(crate) fn say_counts(lines: &mut Lines, counts: &Counts)
     'replicas: for i in 0..replicas.len() {
         say_replica(lines, i, &replicas[i]);
     }
+}
+
+/// Line `i`, from 0, of what a trace without a fault has, with its line feed; none, where there is no such line.
+///
+/// docs/USING.md, "What `explain` prints". The first has the requests, and behind it comes one for each replica.
+pub fn count_line(i: usize, counts: &Counts) -> Option<Line>
+    ensures { option_map (λ line. line.items) result ≡ slice_get (map ended (count_lines counts.now)) i }
+{
+    let mut lines = Lines::keeping(i);
+    say_counts(&mut lines, counts);
+    lines.kept()
 }

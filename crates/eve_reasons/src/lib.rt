@@ -10,8 +10,13 @@ mod lines;
 mod orders;
 mod outcomes;
 mod polls;
+mod reasons;
 mod records;
 mod rows;
 mod shared;
 mod structure;
 mod word;
+
+pub use counts::count_line;
+pub use lines::MOST_LINES;
+pub use reasons::reason_line;

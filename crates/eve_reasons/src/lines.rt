@@ -1,13 +1,16 @@
 //! Lines that are said one after another, of which one is kept.
 
-ghost use Rattle.std.specs.Prelude.{◌≡◌, ◌<◌, List, ℕ, Option, None};
+ghost use Rattle.std.specs.Prelude.{◌≡◌, ◌<◌};
 ghost use Rattle.std.specs.Option.{option_map};
-ghost use Rattle.eve_reasons.specs.Lines.{and_line};
+ghost use Rattle.eve_reasons.specs.Lines.{and_line, none_yet};
 ghost use Rattle.eve_reasons.specs.Words.{words_room, words_text};
 
 use crate::word::{Word, put_words};
 use eve_lines::{LINE_ROOM, Line, put_line_feed};
 use std::marker::Model;
+
+/// How many lines there are at most.
+pub const MOST_LINES: usize = 64;
 
 /// Lines, of which the one of a number is kept.
 #[derive(Drop)]
@@ -30,8 +33,7 @@ impl Model for Lines {
 impl Lines {
     /// No line yet. Number `i` is kept, from 0.
     pub(crate) fn keeping(i: usize) -> Lines
-        ensures before { result.before ≡ i }
-        ensures line { result.line ≡ None }
+        ensures { result ≡ none_yet i }
     {
         Lines {
             before: i,

@@ -1,59 +1,71 @@
--- A verdict's line, and lines that no clause names, sent one after another.
-use Rattle.std.proofs.Common.{◌≡◌, ◌≤◌, ◌+◌, ◌^◌, ℕ, List, [], ◌∷◌, ◌++◌, Option, Some, take}
-use Rattle.std.proofs.Common.{inl, inr, refl, ap, sym, subst, ◌∙◌, append-nil}
-use Rattle.std.proofs.lemmas.List.{flat_map_more}
-use Rattle.std.proofs.KnownBytes.{Appends-nil, Appends-trans}
+-- A verdict's line, and the lines behind it, sent one after another.
+use Rattle.std.proofs.Common.{◌≡◌, ◌≤◌, ◌+◌, ◌^◌, ℕ, zero, suc, List, [], ◌∷◌, ◌++◌, map, length, take, drop, Option, Some}
+use Rattle.std.proofs.Common.{None, inl, inr, refl, ap, sym, subst, ◌∙◌, append-nil, append_assoc, add-one, arith, lit≤}
+use Rattle.std.specs.Prelude.{slice_get}
+use Rattle.std.specs.List.{flat_map}
+use Rattle.std.proofs.lemmas.List.{take-take, take_all}
+use Rattle.std.proofs.KnownBytes.{Appends-trans}
+use Rattle.std.proofs.Math.Seq.{take-nil}
 use Rattle.std.specs.Io.KnownBytes.{Appends}
 use Rattle.eve_grammar.specs.declared.limits.TheConstants.{MOST_BYTES}
+use Rattle.eve_reasons.specs.Lines.{ended}
+use Rattle.eve_reasons.proofs.Few.{few_counts, few_reasons}
+use Rattle.eve_reasons.specs.declared.lines.TheConstants.{MOST_LINES}
 use Rattle.eve_streams.specs.Front.{AppendsFront}
-use Rattle.eve_streams.proofs.Joining.{AppendsFront-after}
+use Rattle.eve_streams.proofs.Joining.{AppendsFront-after, AppendsFront-more}
 use Rattle.eve_tool.specs.declared.fault.ToolFault.{ToolFault}
 use Rattle.eve_tool.specs.declared.fault.ToolFault.TheVariants as fault
 use Rattle.eve_tool.specs.Audit.{Audits}
-use Rattle.eve_tool.specs.Calls.{Leaves}
-use Rattle.eve_tool.specs.Explain.{AreLines, Explains, SendsReasons, StopsInReasons, ended}
+use Rattle.eve_tool.specs.Calls.{Leaves, StopsSending}
+use Rattle.eve_tool.specs.Explain.{Explains, lines_behind, read_of, text_behind}
 use Rattle.eve_audit.specs.Verdict.{IsVerdict, SpellsAudited}
 use Rattle.eve_audit.specs.declared.verdict.Summary.{Summary}
 use Rattle.eve_audit.specs.declared.verdict.Verdict.{Verdict}
 use Rattle.eve_audit.specs.declared.verdict.Verdict.TheVariants.{Yes}
-use Rattle.eve_explain.specs.Explained.{verdict_in}
+use Rattle.eve_explain.specs.Explained.{IsExplained, verdict_in}
 use Rattle.eve_explain.specs.declared.explained.Explained.{Explained}
-use Rattle.eve_tool.specs.Lines.{line_feed, status_of_verdict, verdict_line}
+use Rattle.eve_explain.specs.declared.explained.Explained.TheVariants as explained
+use Rattle.eve_tool.specs.Lines.{status_of_verdict, verdict_line}
 use Rattle.eve_tool.specs.Writes.{WritesAll, WritesFront, WritesFrontOf}
 use Rattle.eve_tool_arguments.specs.Arguments.{Explain}
 use Rattle.eve_tool.proofs.Cutting.{Audits-cut}
 
 -- ---- lines
 
-none_are : AreLines []
-none_are = record { words = []; each = refl }
+-- the text of the lines before number i
+abbrev pub text_before : ℕ → List (List ℕ) → List ℕ
+text_before i lines = flat_map ended (take i lines)
 
-one_more : (text words : List ℕ) → AreLines text → AreLines (text ++ (words ++ line_feed))
-one_more text words are = record {
-  words = are.words ++ words ∷ [];
-  each = ap (λ l. l ++ ended words) are.each ∙ flat_map_more ended [] are.words words;
-}
+-- where there is a line of that number, it comes behind them, and something behind it
+pub next_line : (lines : List (List ℕ)) (i : ℕ) (line : List ℕ) → Some line ≡ slice_get (map ended lines) i
+    → (text_before (i + 1) lines ≡ text_before i lines ++ line)
+    × (flat_map ended lines ≡ (text_before i lines ++ line) ++ flat_map ended (drop (i + 1) lines))
+next_line lines i line is = rw (add-one i) (by lines i is)
+  where
+    by : (lines : List (List ℕ)) (i : ℕ) → Some line ≡ slice_get (map ended lines) i
+        → (text_before (suc i) lines ≡ text_before i lines ++ line)
+        × (flat_map ended lines ≡ (text_before i lines ++ line) ++ flat_map ended (drop (suc i) lines))
+    by [] i is = absurd cc
+    by (l ∷ rest) zero is =
+        let same : line ≡ ended l = cc in
+        rw same (append-nil (ended l), rw (append-nil (ended l)) refl)
+    by (l ∷ rest) (suc i) is =
+        let more = by rest i is in (
+          ap (λ t. ended l ++ t) more.0 ∙ sym (append_assoc (ended l) _ _),
+          ap (λ t. ended l ++ t) more.1 ∙ grind append_assoc,
+        )
 
-pub reasons-none : (a : Option (List ℕ)) → SendsReasons a a
-reasons-none a = record { text = []; lines = none_are; sent = Appends-nil a }
+-- where there is none, they are all
+pub no_line : (lines : List (List ℕ)) (i : ℕ) → None ≡ slice_get (map ended lines) i
+    → text_before i lines ≡ flat_map ended lines
+no_line [] i is = ap (flat_map ended) (take-nil i)
+no_line (l ∷ rest) zero is = absurd cc
+no_line (l ∷ rest) (suc i) is = ap (λ t. ended l ++ t) (no_line rest i is)
 
--- one more line was sent
-pub reasons-more : (a b c : Option (List ℕ)) (words line : List ℕ) → line ≡ words ++ line_feed → SendsReasons a b
-    → Appends b c line → SendsReasons a c
-reasons-more a b c words line is so_far sent = record {
-  text = so_far.text ++ line;
-  lines = subst (λ (l : List ℕ). AreLines (so_far.text ++ l)) (sym is) (one_more so_far.text words so_far.lines);
-  sent = Appends-trans a b c so_far.text line so_far.sent sent;
-}
-
--- it was stopped
-pub reasons-stop : (a b c : Option (List ℕ)) (words line : List ℕ) → line ≡ words ++ line_feed → SendsReasons a b
-    → AppendsFront b c line → StopsInReasons a c
-reasons-stop a b c words line is so_far front = record {
-  text = so_far.text ++ line;
-  lines = subst (λ (l : List ℕ). AreLines (so_far.text ++ l)) (sym is) (one_more so_far.text words so_far.lines);
-  sent = AppendsFront-after a b c so_far.text line so_far.sent front;
-}
+-- there are few
+pub few_behind : (x : Explained) → length (lines_behind x) ≤ MOST_LINES
+few_behind (explained.Yes s counts) = few_counts counts
+few_behind (explained.No f evidence) = few_reasons evidence
 
 -- ---- behind the verdict's line
 
@@ -69,43 +81,61 @@ audits-of bytes x v status is ends verdict spells = record {
   ends = ends;
 }
 
--- that line alone is what may be said
-pub explains-alone : (bytes line : List ℕ) (status : ℕ) → Audits bytes line status → Explains bytes line status
-explains-alone bytes line status audits = record {
-  verdict = line;
+-- that line, and those behind it, are said of bytes that are read whole
+pub explains-of : (bytes : List ℕ) (x : Explained) (v : Verdict) (status : ℕ) → v ≡ verdict_in x
+    → Audits bytes (verdict_line v) status → IsExplained bytes x → length bytes ≤ MOST_BYTES + 1
+    → Explains bytes (verdict_line v ++ text_behind x) status
+explains-of bytes x v status is audits shown fits = record {
+  verdict = verdict_line v;
   audits = audits;
-  reasons = [];
-  lines = none_are;
-  whole = sym (append-nil line);
+  explained = x;
+  line = ap verdict_line is;
+  shown = subst (λ (b : List ℕ). IsExplained b x) (sym (take_all (MOST_BYTES + 1) bytes fits)) shown;
+  whole = refl;
 }
 
-pub explained-all : (a b c : Option (List ℕ)) (bytes line : List ℕ) (status : ℕ) → Audits bytes line status
-    → Appends a b line → SendsReasons b c → WritesAll Explains bytes a c status
-explained-all a b c bytes line status audits first more = record {
-  text = line ++ more.text;
-  said = record { verdict = line; audits = audits; reasons = more.text; lines = more.lines; whole = refl };
-  written = Appends-trans a b c line more.text first more.sent;
+pub explained-all : (a b c : Option (List ℕ)) (bytes first more : List ℕ) (status : ℕ)
+    → Explains bytes (first ++ more) status → Appends a b first → Appends b c more → WritesAll Explains bytes a c status
+explained-all a b c bytes first more status said one two = record {
+  text = first ++ more;
+  said = said;
+  written = Appends-trans a b c first more one two;
 }
 
-pub explained-front : (a b c : Option (List ℕ)) (bytes line : List ℕ) (status : ℕ) → Audits bytes line status
-    → Appends a b line → StopsInReasons b c → WritesFront Explains bytes a c
-explained-front a b c bytes line status audits first more = record {
-  text = line ++ more.text;
+pub explained-front : (a b c : Option (List ℕ)) (bytes first more : List ℕ) (status : ℕ)
+    → Explains bytes (first ++ more) status → Appends a b first → AppendsFront b c more → WritesFront Explains bytes a c
+explained-front a b c bytes first more status said one two = record {
+  text = first ++ more;
   status = status;
-  said = record { verdict = line; audits = audits; reasons = more.text; lines = more.lines; whole = refl };
-  written = AppendsFront-after a b c line more.text first more.sent;
+  said = said;
+  written = AppendsFront-after a b c first more one two;
 }
+
+-- where a text was not sent, one that begins with it wasn't
+pub stops-further : {O : Type 0} (written : O → Option (List ℕ)) (failures : O → ℕ) (old new : O) (text more : List ℕ)
+    (why : ToolFault) → StopsSending written failures old new text why
+    → StopsSending written failures old new (text ++ more) why
+stops-further written failures old new text more fault.Read stopped = absurd stopped
+stops-further written failures old new text more (fault.Line number) stopped = absurd stopped
+stops-further written failures old new text more fault.TooLong stopped = absurd stopped
+stops-further written failures old new text more fault.Broken stopped = absurd stopped
+stops-further written failures old new text more fault.Random stopped = absurd stopped
+stops-further written failures old new text more fault.Memory stopped = stopped
+stops-further written failures old new text more fault.Write stopped =
+    record { front = AppendsFront-more (written old) (written new) text more stopped.front; counted = stopped.counted }
 
 -- ---- bytes of which only a front was read
 
 -- a number of bytes that no trace has is enough to say what is to be said of all of them
-pub Explains-cut : (limit : ℕ) (bytes text : List ℕ) (status : ℕ) → 2 ^ 30 ≤ limit
-    → Explains (take (limit + 1) bytes) text status → Explains bytes text status
-Explains-cut limit bytes text status enough said = record {
+pub Explains-cut : (bytes text : List ℕ) (status : ℕ) → Explains (take (2 ^ 30 + 1) bytes) text status
+    → Explains bytes text status
+Explains-cut bytes text status said = record {
   verdict = said.verdict;
-  audits = Audits-cut limit bytes said.verdict status enough said.audits;
-  reasons = said.reasons;
-  lines = said.lines;
+  audits = Audits-cut (2 ^ 30) bytes said.verdict status (lit≤ tt) said.audits;
+  explained = said.explained;
+  line = said.line;
+  shown = subst (λ (b : List ℕ). IsExplained b said.explained)
+      (take-take (2 ^ 30 + 1) (2 ^ 30 + 1) bytes (lit≤ tt)) said.shown;
   whole = said.whole;
 }
 

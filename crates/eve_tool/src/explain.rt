@@ -1,10 +1,13 @@
 //! The call `explain`: the verdict on a trace, and why it is so.
 
-ghost use Rattle.std.specs.Prelude.{◌≡◌, ◌≢◌, ◌+◌, ◌<◌, ◌≤◌, length, Some, IfOk, IfErr, OnOk, OnErr};
-ghost use Rattle.arrayvec.specs.ArrayVec.{array_vec_len};
+ghost use Rattle.std.specs.Prelude.{◌≡◌, ◌≢◌, ◌+◌, ◌<◌, ◌≤◌, length, map, slice_get, Some, IfOk, IfErr, OnOk, OnErr};
+ghost use Rattle.std.specs.Option.{option_map};
+ghost use Rattle.std.specs.Io.KnownBytes.{Appends};
+ghost use Rattle.eve_reasons.specs.Lines.{ended};
 ghost use Rattle.eve_streams.specs.Failures.{after_failure};
+ghost use Rattle.eve_streams.specs.Front.{AppendsFront};
 ghost use Rattle.eve_tool.specs.Calls.{WasRead, Leaves};
-ghost use Rattle.eve_tool.specs.Explain.{Explains, SendsReasons, StopsInReasons};
+ghost use Rattle.eve_tool.specs.Explain.{Explains, lines_behind, text_behind};
 ghost use Rattle.eve_tool.specs.Writes.{WritesAll, WritesAllOf};
 ghost use Rattle.eve_tool_arguments.specs.Arguments.{Explain};
 
@@ -13,8 +16,8 @@ use crate::fault::ToolFault;
 use crate::random::random_words;
 use eve_explain::Explained;
 use eve_grammar::MOST_BYTES;
-use eve_lines::{LINE_ROOM, Line, put_line_feed};
-use eve_reasons::{LONGEST_REASON, put_count, put_reason};
+use eve_lines::Line;
+use eve_reasons::{MOST_LINES, count_line, reason_line};
 use eve_recorder::OpenGate;
 use eve_streams::{SendFault, Sink, Source, read_all, send_all};
 use eve_tool_arguments::WorkerCount;
@@ -24,31 +27,27 @@ use std::random::RandomSource;
 use std::sync::Wait;
 use std::thread::Threads;
 
-/// Appends line `i`, from 0, of those behind the verdict's, without a line feed; no, where there is no such line.
-fn put_line(line: &mut Line, i: usize, explained: &Explained<'_>) -> bool
-    requires { array_vec_len line.old + LONGEST_REASON ≤ LINE_ROOM }
-    ensures { array_vec_len line.new ≤ array_vec_len line.old + LONGEST_REASON }
+/// Line `i`, from 0, of those behind the verdict's, with its line feed; none, where there is no such line.
+fn line_behind<'e>(i: usize, explained: &'e Explained<'e>) -> Option<Line>
+    ensures { option_map (λ line. line.items) result ≡ slice_get (map ended (lines_behind explained.now)) i }
 {
     match explained {
-        Explained::Yes(_, counts) => put_count(line, i, counts),
-        Explained::No(_, evidence) => put_reason(line, i, evidence),
+        Explained::Yes(_, counts) => count_line(i, counts),
+        Explained::No(_, evidence) => reason_line(i, evidence),
     }
 }
 
 /// Sends the lines behind the verdict's.
-fn send_reasons<O: Sink>(explained: &Explained<'_>, out: &mut O) -> Result<(), SendFault>
-    ensures sent { OnOk result (SendsReasons (O.written out.old) (O.written out.new)) }
-    ensures front { OnErr result (StopsInReasons (O.written out.old) (O.written out.new)) }
+fn send_reasons<'e, O: Sink>(explained: &'e Explained<'e>, out: &mut O) -> Result<(), SendFault>
+    ensures sent { OnOk result (Appends (O.written out.old) (O.written out.new) (text_behind explained.now)) }
+    ensures front { OnErr result (AppendsFront (O.written out.old) (O.written out.new) (text_behind explained.now)) }
     ensures fine { OnOk result (O.failures out.new ≡ O.failures out.old) }
     ensures counted { OnErr result (O.failures out.new ≡ after_failure (O.failures out.old)) }
 {
-    let mut line = Line::new();
-    'lines: for i in 0..usize::MAX {
-        line.clear();
-        if !put_line(&mut line, i, explained) {
-            break;
-        }
-        put_line_feed(&mut line);
+    'lines: for i in 0..MOST_LINES {
+        let Some(line) = line_behind(i, explained) else {
+            return Ok(());
+        };
         send_all(out, line.as_slice())?;
     }
     Ok(())
@@ -63,6 +62,7 @@ fn explain_bytes<R: Threads + Wait + Sync, O: Sink>(
     random: RandomState,
     out: &mut O,
 ) -> Result<u8, ToolFault>
+    requires read { length bytes.now ≤ MOST_BYTES + 1 }
     ensures all { IfOk result (WritesAll Explains bytes.now (O.written out.old) (O.written out.new)) }
     ensures status { IfOk result (λ status. status < 2) }
     ensures fine { OnOk result (O.failures out.new ≡ O.failures out.old) }

@@ -12,5 +12,13 @@ seen-first (Some from) rest k = refl
 
 pub returns : goal.returns
 returns c =
-    rw (seen-first c.args.seen.now, c.say_seen_by.ensures, c.say-3.ensures, c.say-2.ensures, c.say_seen_from.ensures,
-    c.say.ensures, c.say_entry.ensures, c.say_record_at.ensures) refl
+    rw (
+      seen-first c.args.seen.now,
+      c.say_seen_by.ensures,
+      c.say-3.ensures,
+      c.say-2.ensures,
+      c.say_seen_from.ensures,
+      c.say.ensures,
+      c.say_entry.ensures,
+      c.say_record_at.ensures,
+    ) refl

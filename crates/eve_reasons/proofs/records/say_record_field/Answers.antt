@@ -12,8 +12,12 @@ returns-in-Kind c = rw (c.in-Kind.is, c.say-in-Kind-3.ensures, c.say-in-Kind-2.e
 
 pub returns-in-After : goal.returns-in-After
 returns-in-After c =
-    rw (c.in-After.is, c.say-in-After-3.ensures, c.say-in-After-2.ensures,
-    c.say-in-After.ensures) refl
+    rw (
+      c.in-After.is,
+      c.say-in-After-3.ensures,
+      c.say-in-After-2.ensures,
+      c.say-in-After.ensures,
+    ) refl
 
 pub returns-in-Reply : goal.returns-in-Reply
 returns-in-Reply c =

@@ -1,4 +1,4 @@
-use Rattle.std.proofs.Common.{◌^◌, lit≤}
+use Rattle.std.proofs.Common.{◌^◌}
 use Rattle.std.proofs.lemmas.Result.{IfErr-weaker, IfOk-weaker, on_ok_weaker}
 use Rattle.eve_tool.specs.Explain.{Explains}
 use Rattle.eve_tool_arguments.specs.Arguments.{Explain}
@@ -15,7 +15,7 @@ returns-clause-all g c =
     let new = g.O.Sink.written c.explain_bytes.new.out in
     IfOk-weaker c.explain_bytes.result _ _
     (λ status all. WritesAllOf-cut Explains (2 ^ 30) known _ _ old new status
-    (λ bytes text s. Explains-cut (2 ^ 30) bytes text s (lit≤ tt)) c.as_slice.ensures.value
+    Explains-cut c.as_slice.ensures.value
     c.in_ok-bytes.ensures.bytes all)
     c.explain_bytes.ensures.all
 
@@ -28,7 +28,7 @@ returns-clause-left g c =
     (λ why. explain_left g.O.Sink.written g.O.Sink.failures known _ c.as_slice.result.now c.args.out.now
     c.explain_bytes.new.out why
     (λ front. WritesFrontOf-cut Explains (2 ^ 30) known _ _ old new
-    (λ bytes text s. Explains-cut (2 ^ 30) bytes text s (lit≤ tt)) c.as_slice.ensures.value
+    Explains-cut c.as_slice.ensures.value
     c.in_ok-bytes.ensures.bytes front))
     c.explain_bytes.ensures.left
 
