@@ -18,7 +18,8 @@ kinds_left any i kinds told = kinds_behind any (told_kinds (drop i kinds) (drop 
 
 step : (s r : List ℕ) (any told : Bool) (k : FrameKind) (kinds : List FrameKind) (rest : List Bool)
     → r ≡ s ++ kind_if any told k
-    → r ++ kinds_behind (any || told) (told_kinds kinds rest) ≡ s ++ kinds_behind any (told_kinds (k ∷ kinds) (told ∷ rest))
+    → r ++ kinds_behind (any || told) (told_kinds kinds rest)
+    ≡ s ++ kinds_behind any (told_kinds (k ∷ kinds) (told ∷ rest))
 step s r true true k kinds rest put =
     ap (λ l. l ++ more_kinds (told_kinds kinds rest)) put
     ∙ append_assoc s (kind_if true true k) (more_kinds (told_kinds kinds rest))

@@ -1,5 +1,6 @@
 -- The words of a line. docs/USING.md, "What `explain` prints".
-use Rattle.std.specs.Prelude.{ℕ, ◌+◌, ◌%◌, ◌==◌, Bool, true, false, if◌then◌else◌, List, [], ◌∷◌, ◌++◌, codes, decimal, length}
+use Rattle.std.specs.Prelude.{ℕ, ◌+◌, ◌%◌, ◌==◌, Bool, true, false, if◌then◌else◌, List, [], ◌∷◌, ◌++◌, codes}
+use Rattle.std.specs.Prelude.{decimal, length}
 use Rattle.std.specs.Fmt.{signed_decimal}
 use Rattle.eve_smallbank.specs.declared.versioned.Versioned.{Versioned}
 use Rattle.eve_grammar.specs.Bodies.{borrowed_asked}

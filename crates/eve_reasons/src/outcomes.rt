@@ -3,7 +3,8 @@
 ghost use Rattle.std.specs.Prelude.{◌≡◌};
 ghost use Rattle.eve_reasons.specs.Lines.{and_line, and_lines};
 ghost use Rattle.eve_reasons.specs.Outcomes.{amount_lines, difference_lines, first_line, given_line, outcome_lines};
-ghost use Rattle.eve_reasons.specs.Outcomes.{sent_fault_lines, sent_line, sent_wrong_lines, state_fault_lines, state_lines};
+ghost use Rattle.eve_reasons.specs.Outcomes.{sent_fault_lines, sent_line, sent_wrong_lines, state_fault_lines};
+ghost use Rattle.eve_reasons.specs.Outcomes.{state_lines};
 
 use crate::lines::Lines;
 use crate::shared::{say_attempt, say_transfer};

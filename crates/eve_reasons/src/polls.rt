@@ -2,8 +2,9 @@
 
 ghost use Rattle.std.specs.Prelude.{◌≡◌};
 ghost use Rattle.eve_reasons.specs.Lines.{and_line, and_lines};
-ghost use Rattle.eve_reasons.specs.Polls.{asked_line, choice_line, found_lines, decision_line, earliest_line, poll_lines};
-ghost use Rattle.eve_reasons.specs.Polls.{second_line, transfer_poll_lines, two_decisions_lines, two_votes_lines, vote_line};
+ghost use Rattle.eve_reasons.specs.Polls.{asked_line, choice_line, decision_line, earliest_line, found_lines};
+ghost use Rattle.eve_reasons.specs.Polls.{poll_lines, second_line, transfer_poll_lines, two_decisions_lines};
+ghost use Rattle.eve_reasons.specs.Polls.{two_votes_lines, vote_line};
 
 use crate::lines::Lines;
 use crate::shared::say_transfer;

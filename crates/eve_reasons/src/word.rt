@@ -2,8 +2,9 @@
 
 ghost use Rattle.std.specs.Prelude.{◌≡◌, ◌+◌, ◌≤◌, ◌++◌, length};
 ghost use Rattle.arrayvec.specs.ArrayVec.{array_vec_len};
-ghost use Rattle.eve_reasons.specs.Words.{balance_words, batch_and_view, frame_words, has_words, index_words, request_words, row_words};
-ghost use Rattle.eve_reasons.specs.Words.{source_words, word_words, words_text, word_room, words_room};
+ghost use Rattle.eve_reasons.specs.Words.{balance_words, batch_and_view, frame_words, has_words, index_words};
+ghost use Rattle.eve_reasons.specs.Words.{request_words, row_words, source_words, word_words, words_text};
+ghost use Rattle.eve_reasons.specs.Words.{word_room, words_room};
 
 use crate::kinds::put_kinds;
 use eve_accounts::Cents;

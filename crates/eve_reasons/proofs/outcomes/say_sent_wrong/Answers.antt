@@ -9,6 +9,11 @@ returns-in-NotCommitted c = rw c.in-NotCommitted.is (rw (c.say_given.ensures, c.
 
 pub returns-in-Another : goal.returns-in-Another
 returns-in-Another c =
-    rw c.in-Another.is
-    (rw (c.say_given-in-Another.ensures, c.say-in-Another-3.ensures, c.say-in-Another-2.ensures, c.say-in-Another.ensures)
-    refl)
+    rw (
+      c.in-Another.is,
+      c.say_given-in-Another.ensures,
+      c.say-in-Another-3.ensures,
+      c.say-in-Another-2.ensures,
+      c.say-in-Another.ensures,
+    )
+    refl
