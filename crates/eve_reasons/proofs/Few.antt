@@ -1,6 +1,6 @@
 -- Public: other crates cite these lemmas. There are few lines.
-use Rattle.std.proofs.Common.{◌+◌, ◌≤◌, ℕ, Bool, true, false, List, ◌∷◌, ◌++◌, map, min, take, length, Option, None, Some}
-use Rattle.std.proofs.Common.{arith, lit≤}
+use Rattle.std.proofs.Common.{◌+◌, ◌≤◌, ℕ, Bool, true, false, List, ◌∷◌, ◌++◌, map, min, take, length, Option, None}
+use Rattle.std.proofs.Common.{Some, arith, lit≤}
 use Rattle.std.proofs.lemmas.List.{length-map, length-take}
 use Rattle.std.proofs.lemmas.List.FromFn.{length-enumerate_from}
 use Rattle.std.specs.List.{enumerate_from}

@@ -4,4 +4,5 @@ use Rattle.eve_reasons.proofs.counts.count_line.Goals as goal
 
 pub returns : goal.returns
 returns c =
-    rw (c.kept.ensures, c.say_counts.ensures, c.keeping-lines.ensures) (kept_line (count_lines c.args.counts.now) c.args.i)
+    rw (c.kept.ensures, c.say_counts.ensures, c.keeping-lines.ensures)
+    (kept_line (count_lines c.args.counts.now) c.args.i)
