@@ -5,7 +5,6 @@ use Rattle.std.specs.Prelude.{slice_get}
 use Rattle.std.specs.List.{flat_map}
 use Rattle.std.proofs.lemmas.List.{take-take, take_all}
 use Rattle.std.proofs.KnownBytes.{Appends-trans}
-use Rattle.std.proofs.Math.Seq.{take-nil}
 use Rattle.std.specs.Io.KnownBytes.{Appends}
 use Rattle.eve_grammar.specs.declared.limits.TheConstants.{MOST_BYTES}
 use Rattle.eve_reasons.specs.Lines.{ended}
@@ -48,19 +47,34 @@ next_line lines i line is = rw (add-one i) (by lines i is)
     by [] i is = absurd cc
     by (l ∷ rest) zero is =
         let same : line ≡ ended l = cc in
-        rw same (append-nil (ended l), rw (append-nil (ended l)) refl)
+        rw same (append-nil (ended l), refl)
     by (l ∷ rest) (suc i) is =
         let more = by rest i is in (
           ap (λ t. ended l ++ t) more.0 ∙ sym (append_assoc (ended l) _ _),
-          ap (λ t. ended l ++ t) more.1 ∙ grind append_assoc,
+          ap (λ t. ended l ++ t) more.1 ∙ sym (append_assoc (ended l) _ _)
+              ∙ ap (λ t. t ++ flat_map ended (drop (suc i) rest)) (sym (append_assoc (ended l) _ _)),
         )
 
--- where there is none, they are all
-pub no_line : (lines : List (List ℕ)) (i : ℕ) → None ≡ slice_get (map ended lines) i
-    → text_before i lines ≡ flat_map ended lines
-no_line [] i is = ap (flat_map ended) (take-nil i)
-no_line (l ∷ rest) zero is = absurd cc
-no_line (l ∷ rest) (suc i) is = ap (λ t. ended l ++ t) (no_line rest i is)
+-- it was sent
+pub sends_line : (a b c : Option (List ℕ)) (lines : List (List ℕ)) (i : ℕ) (line sent : List ℕ) → sent ≡ line
+    → Some line ≡ slice_get (map ended lines) i → Appends a b (text_before i lines) → Appends b c sent
+    → Appends a c (text_before (i + 1) lines)
+sends_line a b c lines i line sent same is before now =
+    subst (Appends a c) (sym (next_line lines i line is).0)
+    (Appends-trans a b c _ line before (subst (Appends b c) same now))
+
+-- it was stopped
+pub stops_at : (a b c : Option (List ℕ)) (lines : List (List ℕ)) (i : ℕ) (line sent : List ℕ) → sent ≡ line
+    → Some line ≡ slice_get (map ended lines) i → Appends a b (text_before i lines) → AppendsFront b c sent
+    → AppendsFront a c (flat_map ended lines)
+stops_at a b c lines i line sent same is before now =
+    subst (AppendsFront a c) (sym (next_line lines i line is).1)
+    (AppendsFront-more a c _ _ (AppendsFront-after a b c _ line before (subst (AppendsFront b c) same now)))
+
+-- where there are no more, they are all
+pub sends_all : (a b : Option (List ℕ)) (lines : List (List ℕ)) (i : ℕ) → length lines ≤ i
+    → Appends a b (text_before i lines) → Appends a b (flat_map ended lines)
+sends_all a b lines i few sent = subst (λ (l : List (List ℕ)). Appends a b (flat_map ended l)) (take_all i lines few) sent
 
 -- there are few
 pub few_behind : (x : Explained) → length (lines_behind x) ≤ MOST_LINES

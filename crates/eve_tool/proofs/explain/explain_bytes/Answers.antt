@@ -17,7 +17,7 @@ returns-in_err-status-clause-left g c =
     let audits = audits-of bytes x v (status_of_verdict v) c.verdict.ensures refl c.in-Ok.ensures.verdict
     c.in-Ok.ensures.yes in
     let said = explains-of bytes x v (status_of_verdict v) c.verdict.ensures audits c.in-Ok.ensures.explained
-    c.requires in
+    c.requires.read in
     at_err c.from_residual.result _ why c.from_residual.ensures.1
     (sent_left g.O.Sink.written g.O.Sink.failures Explain bytes _ (status_of_verdict v) c.args.out.now
     c.send_verdict.new.out said why (stops-further g.O.Sink.written g.O.Sink.failures c.args.out.now
@@ -31,7 +31,7 @@ returns-in_err-send_reasons-clause-left g c =
     let status = c.in_ok-status.status in
     let audits = audits-of bytes x v status c.verdict.ensures c.in_ok-status.ensures.status c.in-Ok.ensures.verdict
     c.in-Ok.ensures.yes in
-    let said = explains-of bytes x v status c.verdict.ensures audits c.in-Ok.ensures.explained c.requires in
+    let said = explains-of bytes x v status c.verdict.ensures audits c.in-Ok.ensures.explained c.requires.read in
     at_err c.from_residual-in_err-send_reasons.result _ Write c.from_residual-in_err-send_reasons.ensures.1 (
       c.in_err-send_reasons.ensures.counted ∙ ap after_failure c.in_ok-status.ensures.fine,
       explained-front _ _ _ bytes _ _ status said c.in_ok-status.ensures.sent c.in_err-send_reasons.ensures.front,
@@ -45,5 +45,5 @@ returns-clause-all g c =
     let status = c.in_ok-status.status in
     let audits = audits-of bytes x v status c.verdict.ensures c.in_ok-status.ensures.status c.in-Ok.ensures.verdict
     c.in-Ok.ensures.yes in
-    let said = explains-of bytes x v status c.verdict.ensures audits c.in-Ok.ensures.explained c.requires in
+    let said = explains-of bytes x v status c.verdict.ensures audits c.in-Ok.ensures.explained c.requires.read in
     explained-all _ _ _ bytes _ _ status said c.in_ok-status.ensures.sent c.in_ok-send_reasons.ensures.sent
