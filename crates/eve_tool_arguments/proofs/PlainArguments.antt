@@ -9,12 +9,21 @@ use Rattle.eve_tool_arguments.specs.Arguments.{Audit, Explain, Run, Show, ShowLo
 use Rattle.eve_tool_arguments.specs.Arguments.{files_of, workers_of}
 use Rattle.clap.specs.declared.error.kind.ErrorKind.TheVariants as kind
 use Rattle.eve_workload.specs.declared.mixer.Mixer.TheVariants.{First, Whole}
+use Rattle.eve_tool_arguments.specs.declared.style.Style.TheVariants.{Json, Plain}
 use Rattle.eve_tool_arguments.specs.declared.format.Format.TheVariants.{One, Two}
 use Rattle.eve_tool_arguments.proofs.CommandLine.{no_call}
 
-pub audit_call : (name : Text) → call_of (name ∷ codes "audit" ∷ []) ≡ Some Audit
+pub audit_call : (name : Text) → call_of (name ∷ codes "audit" ∷ []) ≡ Some (Audit Plain)
 unfolding call_of faults_of clap_on_literals
 audit_call name = refl
+
+pub json_call : (name : Text) → call_of (name ∷ codes "audit" ∷ codes "--json" ∷ []) ≡ Some (Audit Json)
+unfolding call_of faults_of clap_on_literals
+json_call name = refl
+
+pub no_json : (name : Text) → CallsNothing (name ∷ codes "run" ∷ codes "--json" ∷ [])
+unfolding call_of faults_of clap_on_literals
+no_json name = refl
 
 pub explain_call : (name : Text) → call_of (name ∷ codes "explain" ∷ []) ≡ Some Explain
 unfolding call_of faults_of clap_on_literals
@@ -220,7 +229,7 @@ pub two_names : (name : Text)
 unfolding files_of clap_on_literals
 two_names name = refl
 
-pub two_are_audited : (name : Text) → CallsAudit (name ∷ codes "audit" ∷ codes "a" ∷ codes "b" ∷ [])
+pub two_are_audited : (name : Text) → CallsAudit Plain (name ∷ codes "audit" ∷ codes "a" ∷ codes "b" ∷ [])
 unfolding call_of faults_of clap_on_literals
 two_are_audited name = refl
 

@@ -14,6 +14,8 @@ use Rattle.eve_workload.specs.declared.mixer.Mixer.{Mixer}
 use Rattle.eve_workload.specs.Mixing.{mixer_named}
 use Rattle.eve_tool_arguments.specs.Formats.{format_named}
 use Rattle.eve_tool_arguments.specs.declared.format.Format.{Format}
+use Rattle.eve_tool_arguments.specs.declared.style.Style.{Style}
+use Rattle.eve_tool_arguments.specs.declared.style.Style.TheVariants.{Json, Plain}
 use Rattle.eve_tool_arguments.specs.declared.arguments.Call.{Call}
 use Rattle.eve_tool_arguments.specs.declared.arguments.Call.TheVariants as call
 use Rattle.eve_tool_arguments.specs.declared.arguments.Asked.{Asked}
@@ -44,8 +46,16 @@ file = record (new_rule (codes "file")) { value_names = 1; defaults = codes "-" 
 abbrev pub files : Rule
 files = record file { action = Some Append }
 
+-- the argument that asks for JSON
+abbrev pub json : Rule
+json = record (new_rule (codes "json")) { long = Some (codes "json"); action = Some SetTrue }
+
+-- the subcommand `audit` but for its files
+abbrev pub audit_options : App
+audit_options = with_rule (with_rule (new_app (codes "audit")) workers) json
+
 abbrev pub audit : Shape
-audit = (with_rule (with_rule (new_app (codes "audit")) workers) files).top
+audit = (with_rule audit_options files).top
 
 abbrev pub explain : Shape
 explain = (with_rule (with_rule (new_app (codes "explain")) workers) file).top
@@ -85,7 +95,7 @@ abbrev pub eve : App
 eve = with_subcommand (with_subcommand (with_subcommand (with_subcommand program audit) explain) run_shape) show
 
 pub data Subcommand : Type 0 where
-  Audit : Subcommand
+  Audit : Style → Subcommand
   Explain : Subcommand
   Run : Mixer → Format → Subcommand
   Show : Subcommand
@@ -116,9 +126,17 @@ number_named None = 0
 abbrev pub workers_in : List Row → ℕ
 workers_in rows = max 1 (min (number_named (value_given (codes "workers") rows)) MOST_AUDIT_WORKERS)
 
+-- whether an option without a value is given among what was found
+abbrev pub is_set : Text → List Row → Bool
+is_set id rows = unwrap_or (option_map (λ t. bytes_eq t (codes "true")) (value_given id rows)) false
+
 -- whether the fields of each frame are asked for among what was found
 abbrev pub is_long : List Row → Bool
-is_long rows = unwrap_or (option_map (λ t. bytes_eq t (codes "true")) (value_given (codes "long") rows)) false
+is_long rows = is_set (codes "long") rows
+
+-- the style that is asked for among what was found
+abbrev pub style_in : List Row → Style
+style_in rows = if is_set (codes "json") rows then Json else Plain
 
 -- the subcommand `show`, with the fields of each frame or without
 abbrev pub listing : Bool → Subcommand
@@ -126,13 +144,13 @@ listing is_long = if is_long then ShowLong else Show
 
 abbrev pub subcommand_named : Text × List Row → Option Subcommand
 subcommand_named found =
-    if bytes_eq found.0 (codes "audit") then Some Audit
+    if bytes_eq found.0 (codes "audit") then Some (Audit (style_in found.1))
     else (if bytes_eq found.0 (codes "explain") then Some Explain else
     (if bytes_eq found.0 (codes "run") then run_in found.1 else
     (if bytes_eq found.0 (codes "show") then Some (listing (is_long found.1)) else None)))
 
 abbrev pub subcommand_of_call : Call → Subcommand
-subcommand_of_call (call.Audit _) = Audit
+subcommand_of_call (call.Audit _ style) = Audit style
 subcommand_of_call (call.Explain _) = Explain
 subcommand_of_call (call.Run mixer format) = Run mixer format
 subcommand_of_call call.Show = Show
@@ -170,7 +188,7 @@ files_of arguments = files_behind (subcommand_of eve arguments)
 
 -- the call has this number of workers, if it is one that has any
 abbrev pub HasWorkers : Option ℕ → Call → Type 0
-HasWorkers asked_for (call.Audit found) = asked_for ≡ Some found
+HasWorkers asked_for (call.Audit found style) = asked_for ≡ Some found
 HasWorkers asked_for (call.Explain found) = asked_for ≡ Some found
 HasWorkers _ _ = ⊤
 
@@ -180,9 +198,9 @@ SaysOf k (asked.Call call names) = ⊥
 SaysOf k (asked.Help text) = (k ≡ kind.DisplayHelp) ⊎ (k ≡ kind.DisplayVersion)
 SaysOf k (asked.Refused text) = (k ≢ kind.DisplayHelp) × (k ≢ kind.DisplayVersion) × (k ≢ kind.OutOfMemory)
 
--- the arguments are the call `audit`
-abbrev pub CallsAudit : List Text → Type 0
-CallsAudit arguments = call_of arguments ≡ Some Audit
+-- the arguments are the call `audit`, in this style
+abbrev pub CallsAudit : Style → List Text → Type 0
+CallsAudit style arguments = call_of arguments ≡ Some (Audit style)
 
 -- the arguments are the call `explain`
 abbrev pub CallsExplain : List Text → Type 0
@@ -190,7 +208,7 @@ CallsExplain arguments = call_of arguments ≡ Some Explain
 
 -- the arguments ask for a verdict: they are the call `audit` or the call `explain`
 abbrev pub AsksForVerdict : List Text → Type 0
-AsksForVerdict arguments = CallsAudit arguments ⊎ CallsExplain arguments
+AsksForVerdict arguments = ((style : Style) × CallsAudit style arguments) ⊎ CallsExplain arguments
 
 -- the arguments are a call
 abbrev pub CallsSome : List Text → Type 0
@@ -211,7 +229,7 @@ GetsHelp arguments = CallsNothing arguments × AsksForHelp arguments
 
 -- the arguments are the call `audit`, by `n` workers
 abbrev pub AuditsBy : ℕ → List Text → Type 0
-AuditsBy n arguments = CallsAudit arguments × (workers_of arguments ≡ Some n)
+AuditsBy n arguments = CallsAudit Plain arguments × (workers_of arguments ≡ Some n)
 
 -- the arguments are the call `explain`, by `n` workers
 abbrev pub ExplainsBy : ℕ → List Text → Type 0

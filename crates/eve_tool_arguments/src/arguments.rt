@@ -5,14 +5,15 @@ ghost use Rattle.std.specs.Prelude.{option_map, pos};
 ghost use Rattle.std.specs.String.{string_bytes};
 ghost use Rattle.clap.specs.Words.{app_of, found_of, kind_of, rule_of, shape_of, subcommand_rows_of};
 ghost use Rattle.clap.specs.Walk.{rows_of};
-ghost use Rattle.eve_tool_arguments.specs.Arguments.{Answers, HasWorkers, SaysOf, audit, eve, explain, file, files};
-ghost use Rattle.eve_tool_arguments.specs.Arguments.{files_behind, format, format_in, is_long};
-ghost use Rattle.eve_tool_arguments.specs.Arguments.{listing, long, mixer, mixer_in};
-ghost use Rattle.eve_tool_arguments.specs.Arguments.{program, run_in, run_options, run_shape, show};
+ghost use Rattle.eve_tool_arguments.specs.Arguments.{Answers, HasWorkers, SaysOf, audit, audit_options, eve, explain};
+ghost use Rattle.eve_tool_arguments.specs.Arguments.{file, files, files_behind, format, format_in, is_long, is_set};
+ghost use Rattle.eve_tool_arguments.specs.Arguments.{json, listing, long, mixer, mixer_in};
+ghost use Rattle.eve_tool_arguments.specs.Arguments.{program, run_in, run_options, run_shape, show, style_in};
 ghost use Rattle.eve_tool_arguments.specs.Arguments.{subcommand_named};
 ghost use Rattle.eve_tool_arguments.specs.Arguments.{subcommand_of_call, workers, workers_behind, workers_in};
 
 use crate::format::Format;
+use crate::style::Style;
 use clap::builder::ValueParser;
 use clap::error::ErrorKind;
 use clap::{Arg, ArgAction, ArgMatches, Command, Error, value_parser};
@@ -24,8 +25,8 @@ use std::convert::AsStr;
 /// A call of the program, one for each subcommand.
 #[derive(Clone, Copy)]
 pub enum Call {
-    /// Prints the verdict on a trace, found by this many workers.
-    Audit(WorkerCount),
+    /// Prints the verdict on each trace, found by this many workers, in this style.
+    Audit(WorkerCount, Style),
     /// Prints the verdict on a trace, found by this many workers, and why it is so.
     Explain(WorkerCount),
     /// Runs a workload of this format, whose batches this mixer cuts, and prints the trace.
@@ -84,7 +85,8 @@ const AUDIT_EXAMPLES: &str = "Of several files each has a line, which begins wit
     Examples:\n\
     \x20 eve audit examples/deposit-committed.trace\n\
     \x20 eve audit --workers 2 < examples/two-orders-agree.trace\n\
-    \x20 eve audit examples/*.trace";
+    \x20 eve audit examples/*.trace\n\
+    \x20 eve audit --json examples/*.trace";
 
 const EXPLAIN_EXAMPLES: &str = "Statuses:\n\
     \x20 0  yes\n\
@@ -167,6 +169,17 @@ fn long_argument<'a>(alloc: Global) -> Arg<'a>
         .action(ArgAction::SetTrue)
 }
 
+/// Whether JSON is printed.
+fn json_argument<'a>(alloc: Global) -> Arg<'a>
+    ensures rule { rule_of result ≡ json }
+    ensures local { result.global ≡ false }
+{
+    Arg::new(alloc, "json")
+        .long("json")
+        .help("Prints JSON, an object a line")
+        .action(ArgAction::SetTrue)
+}
+
 /// Which file is read.
 fn file_argument<'a>(alloc: Global) -> Arg<'a>
     ensures rule { rule_of result ≡ file }
@@ -186,15 +199,25 @@ fn files_argument<'a>(alloc: Global) -> Arg<'a>
     file_argument(alloc).action(ArgAction::Append)
 }
 
-/// The subcommand that audits.
-fn audit_command<'a>(alloc: Global) -> Result<Command<'a>, AllocError>
-    ensures { IfOk result (λ c. shape_of c ≡ audit) }
+/// The subcommand that audits, with no files yet.
+fn audit_options<'a>(alloc: Global) -> Result<Command<'a>, AllocError>
+    ensures { IfOk result (λ c. app_of c ≡ audit_options) }
 {
     let Ok(command) = Command::new(alloc, "audit")
         .about("Prints the verdict on each trace: yes, or the first fault")
         .after_help(AUDIT_EXAMPLES)
         .arg(workers_argument(alloc))
     else {
+        return Err(AllocError);
+    };
+    command.arg(json_argument(alloc))
+}
+
+/// The subcommand that audits.
+fn audit_command<'a>(alloc: Global) -> Result<Command<'a>, AllocError>
+    ensures { IfOk result (λ c. shape_of c ≡ audit) }
+{
+    let Ok(command) = audit_options(alloc) else {
         return Err(AllocError);
     };
     command.arg(files_argument(alloc))
@@ -322,13 +345,24 @@ fn format_of(found: &ArgMatches<'_>) -> Option<Format>
     }
 }
 
-/// Whether the fields of each frame were asked for.
-fn is_long(found: &ArgMatches<'_>) -> bool
-    ensures { result ≡ is_long (rows_of (found_of found.now)) }
+/// Whether the option of this name was given, which takes no value.
+fn is_set(found: &ArgMatches<'_>, name: &str) -> bool
+    ensures { result ≡ is_set name.now (rows_of (found_of found.now)) }
 {
-    match found.get_str("long") {
+    match found.get_str(name) {
         Some(text) => text == "true",
         None => false,
+    }
+}
+
+/// The style that was asked for.
+fn style_of(found: &ArgMatches<'_>) -> Style
+    ensures { result ≡ style_in (rows_of (found_of found.now)) }
+{
+    if is_set(found, "json") {
+        Style::Json
+    } else {
+        Style::Plain
     }
 }
 
@@ -337,7 +371,7 @@ fn show_of(found: &ArgMatches<'_>) -> Call
     ensures call { subcommand_of_call result ≡ listing (is_long (rows_of (found_of found.now))) }
     ensures workers { (n : Option ℕ) → HasWorkers n result }
 {
-    if is_long(found) {
+    if is_set(found, "long") {
         Call::ShowLong
     } else {
         Call::Show
@@ -397,7 +431,7 @@ fn call_named(name: &str, found: &ArgMatches<'_>) -> Option<Call>
     ensures workers { IfSome result (HasWorkers (Some (workers_in (rows_of (found_of found.now))))) }
 {
     match name {
-        "audit" => Some(Call::Audit(workers_of(found))),
+        "audit" => Some(Call::Audit(workers_of(found), style_of(found))),
         "explain" => Some(Call::Explain(workers_of(found))),
         "run" => run_of(found),
         "show" => Some(show_of(found)),

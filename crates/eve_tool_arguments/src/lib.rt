@@ -3,7 +3,9 @@
 
 mod arguments;
 mod format;
+mod style;
 
 pub use arguments::{Asked, Call, read_arguments};
 pub use eve_grammar::WorkerCount;
 pub use format::Format;
+pub use style::Style;
