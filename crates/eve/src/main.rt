@@ -1,7 +1,7 @@
 //! The program `eve`: `serve_files` over the arguments, the files and the streams of the process.
 #![tactic(auto)]
 
-ghost use Rattle.std.specs.Prelude.{None};
+ghost use Rattle.std.specs.Prelude.{None, ⊤};
 
 use either::Either;
 use eve_streams::{Buffered, Sink, SinkOf, SourceOf, send_all};
@@ -34,8 +34,10 @@ impl Machine {
 impl Folder for Machine {
     type Input = SourceOf<Either<File, Stdin>>;
 
-    // What a file holds no contract says.
+    // What a file holds no contract says, and not why it is refused.
     ghost bytes = { λ _ _. None };
+
+    ghost refuses = { λ _ _ _. ⊤ };
 
     fn open(&self, name: &str) -> Result<SourceOf<Either<File, Stdin>>, OpenFault> {
         if name == "-" {

@@ -1,6 +1,6 @@
 -- The words that are calls, each by the grammar of the command line.
 use Rattle.eve_tool_arguments.proofs.PlainArguments.{alone, asks, asks_help, asks_help_by_word, audit_call}
-use Rattle.eve_tool_arguments.proofs.PlainArguments.{explain_asks, explain_call, run_call, show_call}
+use Rattle.eve_tool_arguments.proofs.PlainArguments.{explain_asks, explain_call, json_call, no_json, run_call, show_call}
 use Rattle.eve_tool_arguments.proofs.PlainArguments.{asks_version, first_call, format_1_call, format_2_call, long_call}
 use Rattle.eve_tool_arguments.proofs.PlainArguments.{after_dashes, no_format, no_name, no_worker, too_many}
 use Rattle.eve_tool_arguments.proofs.PlainArguments.{two_are_audited}
@@ -11,6 +11,8 @@ use Rattle.eve_tool.specs.Words.{WordsAreCalls}
 pub words_are_calls : WordsAreCalls
 words_are_calls = record {
   audit = audit_call;
+  json = json_call;
+  no_json = no_json;
   explain = explain_call;
   show = show_call;
   show_long = long_call;

@@ -18,14 +18,14 @@ use Rattle.eve_views.specs.declared.fault.Fault.{Fault}
 use Rattle.eve_views.proofs.WholeTraces.{spells_frames}
 use Rattle.eve_tool.specs.declared.fault.ToolFault.{ToolFault}
 use Rattle.eve_tool.specs.declared.fault.ToolFault.TheVariants as fault
-use Rattle.eve_tool.specs.Audit.{Audits}
+use Rattle.eve_tool.specs.Audit.{Audits, AuditsAs, Judges}
 use Rattle.eve_tool.specs.Calls.{AsksForRandom, Leaves}
 use Rattle.eve_tool.specs.Explain.{Explains}
 use Rattle.eve_tool.specs.Lines.{status_of_verdict}
 use Rattle.eve_grammar.specs.declared.limits.TheConstants.{MOST_BYTES}
 use Rattle.eve_tool.specs.Show.{Shows}
 use Rattle.eve_tool.specs.Long.{AreLinesBefore, AreLinesIf, ShowsLong, is_countable}
-use Rattle.eve_tool_arguments.specs.Arguments.{Audit, Show, ShowLong, Subcommand}
+use Rattle.eve_tool_arguments.specs.Arguments.{Show, ShowLong, Subcommand}
 use Rattle.eve_tool.specs.Writes.{WritesAll, WritesAllOf, WritesFront, WritesFrontOf}
 
 number-least : (c : Code) → 1 ≤ code_number c
@@ -212,22 +212,31 @@ no_yes xs ys v long is s told =
     let none = subst (IsVerdict xs) told is in absurd (none.2 length_fault (in_form (length_stands xs long)))
 
 -- the verdict on a number of bytes that no trace has is the verdict on all of them
-pub Audits-cut : (limit : ℕ) (bytes text : List ℕ) (status : ℕ) → 2 ^ 30 ≤ limit
-    → Audits (take (limit + 1) bytes) text status → Audits bytes text status
-Audits-cut limit bytes text status enough audits =
+pub Judges-cut : (limit : ℕ) (bytes : List ℕ) (v : Verdict) → 2 ^ 30 ≤ limit → Judges (take (limit + 1) bytes) v
+    → Judges bytes v
+Judges-cut limit bytes v enough judges =
     elim (cases_lt (limit + 1) (length bytes)) [
       | inl longer ↦
           let read : 2 ^ 30 < length (take (limit + 1) bytes) = omega (arith, length-take (limit + 1) bytes) in
           let long : 2 ^ 30 < length bytes = omega arith in
           record {
-            verdict = audits.verdict;
-            is = same_verdict (take (limit + 1) bytes) bytes audits.verdict read long audits.is;
-            yes = no_yes (take (limit + 1) bytes) bytes audits.verdict read audits.is;
-            line = audits.line;
-            ends = audits.ends;
+            is = same_verdict (take (limit + 1) bytes) bytes v read long judges.is;
+            yes = no_yes (take (limit + 1) bytes) bytes v read judges.is;
           }
-      | inr all ↦ subst (λ (b : List ℕ). Audits b text status) (take_all (limit + 1) bytes all) audits
+      | inr all ↦ subst (λ (b : List ℕ). Judges b v) (take_all (limit + 1) bytes all) judges
     ]
+
+pub Audits-cut : (limit : ℕ) (bytes text : List ℕ) (status : ℕ) → 2 ^ 30 ≤ limit
+    → Audits (take (limit + 1) bytes) text status → Audits bytes text status
+Audits-cut limit bytes text status enough audits =
+    let judges = Judges-cut limit bytes audits.verdict enough (record { is = audits.is; yes = audits.yes }) in
+    record {
+      verdict = audits.verdict;
+      is = judges.is;
+      yes = judges.yes;
+      line = audits.line;
+      ends = audits.ends;
+    }
 
 -- ---- what was written
 
@@ -259,7 +268,8 @@ WritesFrontOf-cut says limit (Some bytes) lent read old new cuts same cut front 
 }
 
 -- where the status is that of a yes, the bytes spell a trace that is audited
-pub audited : (bytes text : List ℕ) (status : ℕ) → Audits bytes text status → status ≡ 0 → SpellsAudited bytes
+pub audited : {printed : Verdict → List ℕ} (bytes text : List ℕ) (status : ℕ) → AuditsAs printed bytes text status
+    → status ≡ 0 → SpellsAudited bytes
 audited bytes text status audits is = by audits.verdict (sym audits.ends ∙ is) audits.yes
   where
     by : (v : Verdict) → status_of_verdict v ≡ 0 → ((s : Summary) → v ≡ Yes s → SpellsAudited bytes)
@@ -267,10 +277,10 @@ audited bytes text status audits is = by audits.verdict (sym audits.ends ∙ is)
     by (Yes s) e said = said s refl
     by (No f) e said = absurd (omega (arith, e))
 
-pub audited_of : (known : Option (List ℕ)) (old new : Option (List ℕ)) (status : ℕ)
-    → WritesAllOf Audits known old new status → status ≡ 0 → IfSome known SpellsAudited
-audited_of None old new status all is = tt
-audited_of (Some bytes) old new status all is = audited bytes all.text status all.said is
+pub audited_of : (printed : Verdict → List ℕ) (known : Option (List ℕ)) (old new : Option (List ℕ)) (status : ℕ)
+    → WritesAllOf (AuditsAs printed) known old new status → status ≡ 0 → IfSome known SpellsAudited
+audited_of printed None old new status all is = tt
+audited_of printed (Some bytes) old new status all is = audited bytes all.text status all.said is
 
 pub explained_of : (known : Option (List ℕ)) (old new : Option (List ℕ)) (status : ℕ)
     → WritesAllOf Explains known old new status → status ≡ 0 → IfSome known SpellsAudited
@@ -286,20 +296,6 @@ pub random_left : {O : Type 0} (written : O → Option (List ℕ)) (failures : O
 random_left written failures call known failed old why asks is = rw is (asks, refl)
 
 -- what a call that reads no further than a limit left of the bytes that were read
-pub audit_left : {O : Type 0} (written : O → Option (List ℕ)) (failures : O → ℕ) (known : Option (List ℕ))
-    (failed : Type 0) (bytes : List ℕ) (old new : O) (why : ToolFault)
-    → (WritesFront Audits bytes (written old) (written new) → WritesFrontOf Audits known (written old) (written new))
-    → Leaves MOST_BYTES written failures Audit (Some bytes) ⊥ old new why
-    → Leaves MOST_BYTES written failures Audit known failed old new why
-audit_left written failures known failed bytes old new fault.Read cut left = absurd left.0
-audit_left written failures known failed bytes old new (fault.Line number) cut left = absurd left.0
-audit_left written failures known failed bytes old new fault.TooLong cut left = absurd left.0
-audit_left written failures known failed bytes old new fault.Broken cut left = absurd left.0
-audit_left written failures known failed bytes old new fault.Random cut left = left
-audit_left written failures known failed bytes old new fault.Memory cut (inl same) = inl same
-audit_left written failures known failed bytes old new fault.Memory cut (inr front) = absurd front.0
-audit_left written failures known failed bytes old new fault.Write cut left = (left.0, cut left.1)
-
 pub show_left : {O : Type 0} (written : O → Option (List ℕ)) (failures : O → ℕ) (known : Option (List ℕ))
     (failed : Type 0) (bytes : List ℕ) (old new : O) (why : ToolFault)
     → (WritesFront Shows bytes (written old) (written new) → WritesFrontOf Shows known (written old) (written new))

@@ -7,4 +7,5 @@ mod Putting
 mod LongLines
 mod Explaining
 mod CallWords
+mod Judging
 mod SentFiles

@@ -1,14 +1,28 @@
 -- What is said of several files, one after the other.
-use Rattle.std.proofs.Common.{◌≡◌, ◌∙◌, ℕ, ◌<◌, ◌≤◌, inl, inr, max, List, [], ◌∷◌, ◌++◌, Some, None, codes}
-use Rattle.std.proofs.Common.{append-nil, append_assoc, ap, arith, length, refl, subst, sym}
-use Rattle.std.specs.Prelude.{IfSome, Option}
-use Rattle.std.specs.Io.KnownBytes.{Appends}
-use Rattle.std.proofs.KnownBytes.{Appends-nil, Appends-trans}
+use Rattle.std.proofs.Common.{◌≡◌, ◌∙◌, ℕ, ◌<◌, ◌≤◌, ◌⊎◌, inl, inr, max, List, [], ◌∷◌, ◌++◌, Some, None}
+use Rattle.std.proofs.Common.{append-nil, append_assoc, ap, arith, drop, length, refl, subst, sym, take}
+use Rattle.std.specs.Prelude.{IfSome, OnErr, Option, Result, Ok, Err, ◌≢◌}
+use Rattle.std.specs.Io.KnownBytes.{Appends, append_known}
+use Rattle.std.proofs.KnownBytes.{Appends-trans}
+use Rattle.std.proofs.lemmas.Bool.{cases_lt}
+use Rattle.std.proofs.lemmas.List.{take-append-drop, take_all}
 use Rattle.eve_audit.specs.Verdict.{SpellsAudited}
-use Rattle.eve_tool.specs.Audit.{Audits}
-use Rattle.eve_tool.specs.Files.{AllSpellAudited, NamesVerdict, SaysOfFile, SaysOfFiles}
+use Rattle.eve_streams.specs.Buffers.{held_bytes}
+use Rattle.eve_streams.specs.declared.buffered.Buffered.{Buffered}
+use Rattle.eve_tool.specs.Audit.{AuditsAs, Judges, named_text, verdict_text}
+use Rattle.eve_tool.specs.Fault.{status_of}
+use Rattle.eve_tool.specs.Files.{AllSpellAudited, JudgesAll, JudgesFile, JudgesFiles, ServesCall, ServesFile, StopsAmong}
+use Rattle.eve_tool.specs.Files.{all_bytes, all_failures, first_of}
+use Rattle.eve_tool.specs.Lines.{status_of_verdict}
 use Rattle.eve_tool.specs.Writes.{WritesAll, WritesAllOf}
-use Rattle.eve_tool.proofs.Cutting.{audited}
+use Rattle.eve_audit.specs.declared.verdict.Verdict.{Verdict}
+use Rattle.eve_tool.specs.declared.fault.ToolFault.{ToolFault}
+use Rattle.eve_tool.specs.declared.fault.ToolFault.TheVariants as fault
+use Rattle.eve_tool.specs.declared.files.OpenFault.{OpenFault}
+use Rattle.eve_tool_arguments.specs.Arguments.{Audit, Explain, Run, Show, ShowLong, Subcommand}
+use Rattle.eve_tool_arguments.specs.declared.style.Style.{Style}
+use Rattle.eve_tool.proofs.Cutting.{audited, audited_of, explained_of}
+use Rattle.eve_tool.proofs.Judging.{audits_as}
 
 -- what is so of what an input had is so of the bytes of its file, where they are known
 pub of_file : (P : List ℕ → Type 0) (known input : Option (List ℕ)) → IfSome known (λ bytes. input ≡ Some bytes)
@@ -16,99 +30,216 @@ pub of_file : (P : List ℕ → Type 0) (known input : Option (List ℕ)) → If
 of_file P None input is holds = tt
 of_file P (Some bytes) input is holds = subst (λ (o : Option (List ℕ)). IfSome o P) is holds
 
--- the name and then the verdict's line
-pub names_verdict : (known : Option (List ℕ)) (name old new : List ℕ) (status : ℕ) → old ≡ name ++ codes ": "
-    → WritesAllOf Audits known (Some old) (Some new) status
-    → IfSome known (λ bytes. NamesVerdict name bytes new status)
-names_verdict None name old new status begins all = tt
-names_verdict (Some bytes) name old new status begins all = record {
-  line = all.text;
-  audits = all.said;
-  named = all.written ∙ (ap (λ l. l ++ all.text) begins ∙ append_assoc name (codes ": ") all.text);
-}
+-- what is printed of a verdict on an input is what is said of its bytes
+pub named_as : (style : Style) (name : List ℕ) (known : Option (List ℕ)) (v : Verdict) (text : List ℕ) (status : ℕ)
+    → IfSome known (λ bytes. Judges bytes v) → text ≡ named_text style name v → status ≡ status_of_verdict v
+    → IfSome known (λ bytes. AuditsAs (named_text style name) bytes text status)
+named_as style name None v text status judges is ends = tt
+named_as style name (Some bytes) v text status judges is ends =
+    subst (λ (t : List ℕ). AuditsAs (named_text style name) bytes t status) (sym is)
+    (audits_as (named_text style name) bytes v status judges ends)
 
--- what was sent so far of all files, where these are left
-pub record SaidSoFar (bytes : List ℕ → Option (List ℕ)) (all left : List (List ℕ)) (old new : Option (List ℕ))
-    (status : ℕ) : Type 0 where
-  pub text : List ℕ
-  pub sent : Appends old new text
-  pub whole : (rest : List ℕ) (others : ℕ) → SaysOfFiles bytes left rest others
-      → SaysOfFiles bytes all (text ++ rest) (max status others)
-  pub most : status ≤ 3
+-- where a front of what was held was sent, and the rest is held, nothing is lost
+pub holds_back : (a b : Option (List ℕ)) (held left : List ℕ) (n : ℕ) → Appends a b (take n held)
+    → left ≡ drop n held → Appends (append_known a held) (append_known b left) []
+holds_back None b held left n sent kept = tt
+holds_back (Some xs) None held left n sent kept = absurd sent
+holds_back (Some xs) (Some ys) held left n sent kept =
+    ap (λ l. l ++ left) sent ∙ (append_assoc xs (take n held) left
+    ∙ (ap (λ l. xs ++ (take n held ++ l)) kept ∙ (ap (λ l. xs ++ l) (take-append-drop n held)
+    ∙ sym (append-nil (xs ++ held)))))
 
-pub none_so_far : (bytes : List ℕ → Option (List ℕ)) (all : List (List ℕ)) (old new : Option (List ℕ))
-    → Appends old new [] → SaidSoFar bytes all all old new 0
-none_so_far bytes all old new sent = record {
-  text = [];
-  sent = sent;
-  whole = λ rest others says.
-      let same : others ≡ max 0 others = omega arith in subst (SaysOfFiles bytes all rest) same says;
-  most = omega arith;
-}
+pub flushed : (a b : Option (List ℕ)) (held left : List ℕ) → Appends a b held → left ≡ []
+    → Appends (append_known a held) (append_known b left) []
+flushed None b held left sent none = tt
+flushed (Some xs) None held left sent none = absurd sent
+flushed (Some xs) (Some ys) held left sent none =
+    ap (λ l. l ++ left) sent ∙ ap (λ l. (xs ++ held) ++ l) none
 
-most_of : (known : Option (List ℕ)) (name text : List ℕ) (status : ℕ) → SaysOfFile known name text status → status ≤ 3
-most_of known name text status (inl says) = let less : status < 2 = says.0 in omega (arith, less)
-most_of known name text status (inr says) = says.2
+most_of_fault : (why : ToolFault) → status_of why ≤ 3
+most_of_fault fault.Read = omega arith
+most_of_fault (fault.Line number) = omega arith
+most_of_fault fault.TooLong = omega arith
+most_of_fault fault.Broken = omega arith
+most_of_fault fault.Write = omega arith
+most_of_fault fault.Random = omega arith
+most_of_fault fault.Memory = omega arith
 
-pub one_more : (bytes : List ℕ → Option (List ℕ)) (all : List (List ℕ)) (name : List ℕ) (left : List (List ℕ))
-    (old mid new : Option (List ℕ)) (status one : ℕ) (first : List ℕ)
-    → SaidSoFar bytes all (name ∷ left) old mid status
-    → SaysOfFile (bytes name) name first one → Appends mid new first → SaidSoFar bytes all left old new (max status one)
-one_more bytes all name left old mid new status one first so_far says sent = record {
-  text = so_far.text ++ first;
-  sent = Appends-trans old mid new so_far.text first so_far.sent sent;
-  whole = λ rest others more.
-      let greatest : max status (max one others) ≡ max (max status one) others = omega arith in
-      let joined = sym (append_assoc so_far.text first rest) in
-      subst (λ (t : List ℕ). SaysOfFiles bytes all t (max (max status one) others)) joined
-      (subst (SaysOfFiles bytes all (so_far.text ++ (first ++ rest))) greatest
-      (so_far.whole (first ++ rest) (max one others) (first, rest, one, others, says, more, refl, refl)));
-  most = let so : status ≤ 3 = so_far.most in let this = most_of (bytes name) name first one says in
-      omega (arith, so, this);
-}
+least_of_fault : (why : ToolFault) → 2 ≤ status_of why
+least_of_fault fault.Read = omega arith
+least_of_fault (fault.Line number) = omega arith
+least_of_fault fault.TooLong = omega arith
+least_of_fault fault.Broken = omega arith
+least_of_fault fault.Write = omega arith
+least_of_fault fault.Random = omega arith
+least_of_fault fault.Memory = omega arith
 
--- nothing was sent of the next
-pub one_failed : (bytes : List ℕ → Option (List ℕ)) (all : List (List ℕ)) (name : List ℕ) (left : List (List ℕ))
-    (old new : Option (List ℕ)) (status one : ℕ) → SaidSoFar bytes all (name ∷ left) old new status
-    → (2 ≤ one) × (one ≤ 3) → SaidSoFar bytes all left old new (max status one)
-one_failed bytes all name left old new status one so_far fails =
-    one_more bytes all name left old new new status one [] so_far (inr (refl, fails.0, fails.1)) (Appends-nil new)
+-- ---- many, over these streams and this folder
 
-pub all_said : (bytes : List ℕ → Option (List ℕ)) (all : List (List ℕ)) (old new : Option (List ℕ)) (status : ℕ)
-    → SaidSoFar bytes all [] old new status
-    → (text : List ℕ) × SaysOfFiles bytes all text status × Appends old new text
-all_said bytes all old new status so_far =
-    let same : max status 0 ≡ status = omega arith in (
-      so_far.text ++ [],
-      subst (SaysOfFiles bytes all (so_far.text ++ [])) same (so_far.whole [] 0 (refl, refl)),
-      Appends-trans old new new so_far.text [] so_far.sent (Appends-nil new),
+most_of : {I E : Type 0} (remaining : I → Option (List ℕ)) (fetched : I → ℕ) (told : E → Option (List ℕ))
+    (untold : E → ℕ) (bytes : List ℕ → Option (List ℕ)) (refuses : List ℕ → OpenFault → Type 0) (style : Style)
+    (name : List ℕ) (a b : E) (text : List ℕ) (status : ℕ)
+    → JudgesFile remaining fetched told untold bytes refuses style name a b text status → status ≤ 3
+most_of remaining fetched told untold bytes refuses style name a b text status (inl judged) =
+    let less : status < 2 = judged.0 in omega (arith, less)
+most_of remaining fetched told untold bytes refuses style name a b text status (inr (none, inl unopened)) =
+    elim unopened.tells [
+      | inl said ↦ (let two : status ≡ 2 = said.0 in omega (arith, two))
+      | inr said ↦ (let three : status ≡ 3 = said.0 in omega (arith, three))
+    ]
+most_of remaining fetched told untold bytes refuses style name a b text status (inr (none, inr unjudged)) =
+    let ends : status ≡ status_of unjudged.why = unjudged.ends in
+    let most = most_of_fault unjudged.why in omega (arith, ends, most)
+
+pub most_of_all : {I E : Type 0} (remaining : I → Option (List ℕ)) (fetched : I → ℕ) (told : E → Option (List ℕ))
+    (untold : E → ℕ) (bytes : List ℕ → Option (List ℕ)) (refuses : List ℕ → OpenFault → Type 0) (style : Style)
+    (names : List (List ℕ)) (a b : E) (text : List ℕ) (status : ℕ)
+    → JudgesFiles remaining fetched told untold bytes refuses style names a b text status → status ≤ 3
+most_of_all remaining fetched told untold bytes refuses style [] a b text status judges =
+    let none : status ≡ 0 = judges.2 in omega (arith, none)
+most_of_all remaining fetched told untold bytes refuses style (name ∷ names) a b text status
+    (mid, first, rest, one, others, judges, more, joined, greatest) =
+    let this = most_of remaining fetched told untold bytes refuses style name a mid first one judges in
+    let behind = most_of_all remaining fetched told untold bytes refuses style names mid b rest others more in
+    omega (arith, this, behind, greatest)
+
+-- one more was judged, behind the others
+pub one_more : {I E : Type 0} (remaining : I → Option (List ℕ)) (fetched : I → ℕ) (told : E → Option (List ℕ))
+    (untold : E → ℕ) (bytes : List ℕ → Option (List ℕ)) (refuses : List ℕ → OpenFault → Type 0) (style : Style)
+    (names : List (List ℕ)) (name : List ℕ) (a b c : E) (text first : List ℕ) (status one : ℕ)
+    → JudgesFiles remaining fetched told untold bytes refuses style names a b text status
+    → JudgesFile remaining fetched told untold bytes refuses style name b c first one
+    → JudgesFiles remaining fetched told untold bytes refuses style (names ++ name ∷ []) a c (text ++ first)
+    (max status one)
+one_more {E = E} remaining fetched told untold bytes refuses style [] name a b c text first status one judges more = (
+  c,
+  first,
+  [],
+  one,
+  0,
+  subst (λ (e : E). JudgesFile remaining fetched told untold bytes refuses style name e c first one) judges.0 more,
+  (refl, refl, refl),
+  ap (λ l. l ++ first) judges.1 ∙ sym (append-nil first),
+  (let none : status ≡ 0 = judges.2 in omega (arith, none)),
+)
+one_more remaining fetched told untold bytes refuses style (n ∷ names) name a b c text first status one
+    (mid, front, rest, this, others, judges, behind, joined, greatest) more = (
+      mid,
+      front,
+      rest ++ first,
+      this,
+      max others one,
+      judges,
+      one_more remaining fetched told untold bytes refuses style names name mid b c rest first others one behind more,
+      ap (λ l. l ++ first) joined ∙ append_assoc front rest first,
+      (let is : status ≡ max this others = greatest in omega (arith, is)),
     )
 
 -- where the status of a file is that of a yes, it spells a trace that is audited
-yes_of : (known : Option (List ℕ)) (name text : List ℕ) (status : ℕ) → SaysOfFile known name text status → status ≡ 0
-    → IfSome known SpellsAudited
-yes_of None name text status says zero = tt
-yes_of (Some bytes) name text status (inl says) zero = audited bytes says.1.line status says.1.audits zero
-yes_of (Some bytes) name text status (inr says) zero =
-    let two : 2 ≤ status = says.1 in absurd (omega (arith, two, zero))
+yes_of : {I E : Type 0} (remaining : I → Option (List ℕ)) (fetched : I → ℕ) (told : E → Option (List ℕ))
+    (untold : E → ℕ) (bytes : List ℕ → Option (List ℕ)) (refuses : List ℕ → OpenFault → Type 0) (style : Style)
+    (name : List ℕ) (a b : E) (text : List ℕ) (status : ℕ)
+    → JudgesFile remaining fetched told untold bytes refuses style name a b text status → status ≡ 0
+    → IfSome (bytes name) SpellsAudited
+yes_of remaining fetched told untold bytes refuses style name a b text status (inl judged) zero =
+    said (bytes name) judged.2
+  where
+    said : (known : Option (List ℕ))
+        → IfSome known (λ bytes. AuditsAs (named_text style name) bytes text status) → IfSome known SpellsAudited
+    said None says = tt
+    said (Some bytes) says = audited bytes text status says zero
+yes_of remaining fetched told untold bytes refuses style name a b text status (inr (none, inl unopened)) zero =
+    elim unopened.tells [
+      | inl said ↦ (let two : status ≡ 2 = said.0 in absurd (omega (arith, two, zero)))
+      | inr said ↦ (let three : status ≡ 3 = said.0 in absurd (omega (arith, three, zero)))
+    ]
+yes_of remaining fetched told untold bytes refuses style name a b text status (inr (none, inr unjudged)) zero =
+    let ends : status ≡ status_of unjudged.why = unjudged.ends in
+    let least = least_of_fault unjudged.why in absurd (omega (arith, ends, least, zero))
 
 -- and where the greatest is, each does
-pub all_yes : (bytes : List ℕ → Option (List ℕ)) (names : List (List ℕ)) (text : List ℕ) (status : ℕ)
-    → SaysOfFiles bytes names text status → status ≡ 0 → AllSpellAudited bytes names
-all_yes bytes [] text status says zero = tt
-all_yes bytes (name ∷ names) text status (first, rest, one, others, says, more, joined, most) zero =
-    let this : one ≡ 0 = omega (arith, most, zero) in
-    let others_are : others ≡ 0 = omega (arith, most, zero) in
-    (yes_of (bytes name) name first one says this, all_yes bytes names rest others more others_are)
+pub all_yes : {I E : Type 0} (remaining : I → Option (List ℕ)) (fetched : I → ℕ) (told : E → Option (List ℕ))
+    (untold : E → ℕ) (bytes : List ℕ → Option (List ℕ)) (refuses : List ℕ → OpenFault → Type 0) (style : Style)
+    (names : List (List ℕ)) (a b : E) (text : List ℕ) (status : ℕ)
+    → JudgesFiles remaining fetched told untold bytes refuses style names a b text status → status ≡ 0
+    → AllSpellAudited bytes names
+all_yes remaining fetched told untold bytes refuses style [] a b text status judges zero = tt
+all_yes remaining fetched told untold bytes refuses style (name ∷ names) a b text status
+    (mid, first, rest, one, others, judges, more, joined, greatest) zero =
+    let is : status ≡ max one others = greatest in
+    let this : one ≡ 0 = omega (arith, is, zero) in
+    let others_are : others ≡ 0 = omega (arith, is, zero) in (
+      yes_of remaining fetched told untold bytes refuses style name a mid first one judges this,
+      all_yes remaining fetched told untold bytes refuses style names mid b rest others more others_are,
+    )
 
--- a name and none behind it
-pub few_yes : (bytes : List ℕ → Option (List ℕ)) (names : List (List ℕ)) (name : List ℕ) → length names < 2
-    → ((first : List ℕ) (rest : List (List ℕ)) → names ≡ first ∷ rest → name ≡ first)
-    → IfSome (bytes name) SpellsAudited → AllSpellAudited bytes names
-few_yes bytes [] name few is holds = tt
-few_yes bytes (n ∷ []) name few is holds =
-    (subst (λ (x : List ℕ). IfSome (bytes x) SpellsAudited) (is n [] refl) holds, tt)
-few_yes bytes (n ∷ m ∷ names) name few is holds = absurd (omega (arith, few))
+-- what was judged so far of all files, where these are left
+pub record JudgedSoFar {I E O : Type 0} (remaining : I → Option (List ℕ)) (fetched : I → ℕ)
+    (told : E → Option (List ℕ)) (untold : E → ℕ) (written : O → Option (List ℕ)) (failures : O → ℕ)
+    (bytes : List ℕ → Option (List ℕ)) (refuses : List ℕ → OpenFault → Type 0) (style : Style)
+    (all left : List (List ℕ)) (err_old err_new : E) (old new : Buffered O) (status : ℕ) : Type 0 where
+  pub before : List (List ℕ)
+  pub whole : all ≡ before ++ left
+  pub text : List ℕ
+  pub judges : JudgesFiles remaining fetched told untold bytes refuses style before err_old err_new text status
+  pub sent : Appends (all_bytes written old) (all_bytes written new) text
+  pub flushed : held_bytes new ≡ []
+  pub fine : all_failures failures new ≡ all_failures failures old
+
+pub so_far_more : {I E O : Type 0} (remaining : I → Option (List ℕ)) (fetched : I → ℕ)
+    (told : E → Option (List ℕ)) (untold : E → ℕ) (written : O → Option (List ℕ)) (failures : O → ℕ)
+    (bytes : List ℕ → Option (List ℕ)) (refuses : List ℕ → OpenFault → Type 0) (style : Style)
+    (all : List (List ℕ)) (name : List ℕ) (left : List (List ℕ)) (a b c : E) (old mid new : Buffered O)
+    (status one : ℕ) (first : List ℕ)
+    → JudgedSoFar remaining fetched told untold written failures bytes refuses style all (name ∷ left) a b old mid status
+    → JudgesFile remaining fetched told untold bytes refuses style name b c first one
+    → Appends (all_bytes written mid) (all_bytes written new) first → held_bytes new ≡ []
+    → all_failures failures new ≡ all_failures failures mid
+    → JudgedSoFar remaining fetched told untold written failures bytes refuses style all left a c old new
+    (max status one)
+so_far_more remaining fetched told untold written failures bytes refuses style all name left a b c old mid new status one
+    first so_far judges sent flushed fine = record {
+      before = so_far.before ++ name ∷ [];
+      whole = so_far.whole ∙ sym (append_assoc so_far.before (name ∷ []) left);
+      text = so_far.text ++ first;
+      judges = one_more remaining fetched told untold bytes refuses style so_far.before name a b c so_far.text first status
+          one so_far.judges judges;
+      sent = Appends-trans (all_bytes written old) (all_bytes written mid) (all_bytes written new) so_far.text first
+          so_far.sent sent;
+      flushed = flushed;
+      fine = fine ∙ so_far.fine;
+    }
+
+pub all_judged : {I E O : Type 0} (remaining : I → Option (List ℕ)) (fetched : I → ℕ)
+    (told : E → Option (List ℕ)) (untold : E → ℕ) (written : O → Option (List ℕ)) (failures : O → ℕ)
+    (bytes : List ℕ → Option (List ℕ)) (refuses : List ℕ → OpenFault → Type 0) (style : Style)
+    (all : List (List ℕ)) (a b : E) (old new : Buffered O) (status : ℕ)
+    → JudgedSoFar remaining fetched told untold written failures bytes refuses style all [] a b old new status
+    → JudgesAll remaining fetched told untold written failures bytes refuses style all a b old new status
+all_judged remaining fetched told untold written failures bytes refuses style all a b old new status so_far = record {
+  text = so_far.text;
+  judges = subst (λ (names : List (List ℕ)). JudgesFiles remaining fetched told untold bytes refuses style names a b
+      so_far.text status) (sym (so_far.whole ∙ append-nil so_far.before)) so_far.judges;
+  sent = so_far.sent;
+  flushed = so_far.flushed;
+  fine = so_far.fine;
+}
+
+-- ---- sending
+
+-- all of a line, and no more
+pub sent_whole : (a b c : Option (List ℕ)) (line : List ℕ) → Appends a b line → Appends b c []
+    → (n : ℕ) × Appends a c (take n line)
+sent_whole a b c line sent more = (
+  length line,
+  subst (Appends a c) (append-nil line ∙ sym (take_all (length line) line (omega arith)))
+      (Appends-trans a b c line [] sent more),
+)
+
+-- what holds of an error holds where there is one
+pub at_fault : {A E : Type 0} (result : Result A E) (P : Type 0) → P → OnErr result P
+at_fault (Ok x) P p = tt
+at_fault (Err e) P p = p
 
 -- what was said of an input was said of its file, where the file's bytes are known, and no more
 pub said_of_file : (says : List ℕ → List ℕ → ℕ → Type 0) (known input old mid new : Option (List ℕ))
@@ -123,3 +254,86 @@ said_of_file says (Some bytes) input old mid new before status is all more same 
       said = subst (says bytes of.text) (sym same) of.said;
       written = subst (Appends old new) (append-nil of.text) (Appends-trans old mid new of.text [] of.written more);
     }
+
+pub said_of_opened : (says : List ℕ → List ℕ → ℕ → Type 0) (known input old new : Option (List ℕ)) (status : ℕ)
+    → IfSome known (λ bytes. input ≡ Some bytes) → WritesAllOf says input old new status
+    → WritesAllOf says known old new status
+said_of_opened says None input old new status is all = tt
+said_of_opened says (Some bytes) input old new status is all =
+    subst (λ (o : Option (List ℕ)). WritesAllOf says o old new status) is all
+
+-- ---- calls
+
+-- a call is some call
+pub some_call : (found : Option Subcommand) (call : Subcommand) → found ≡ Some call → found ≢ None
+some_call found call is none = cc
+
+-- an answer below 2 that is not 1
+pub is_zero : (n : ℕ) → n < 2 → n ≢ 1 → n ≡ 0
+is_zero n few other = elim (cases_lt n 1) [
+  | inl less ↦ omega (arith, less)
+  | inr reached ↦ (let one : n ≡ 1 = omega (arith, few, reached) in absurd (other one))
+]
+
+-- of several files
+pub serves_several : {I E O : Type 0} (remaining : I → Option (List ℕ)) (fetched : I → ℕ)
+    (told : E → Option (List ℕ)) (untold : E → ℕ) (written : O → Option (List ℕ)) (failures : O → ℕ)
+    (bytes : List ℕ → Option (List ℕ)) (refuses : List ℕ → OpenFault → Type 0) (style : Style)
+    (names : List (List ℕ)) (a b : E) (old new : Buffered O) (status : ℕ) → 2 ≤ length names
+    → JudgesAll remaining fetched told untold written failures bytes refuses style names a b old new status
+    ⊎ StopsAmong remaining fetched told untold written failures bytes refuses style names a b old new status
+    → ServesCall remaining fetched told untold written failures bytes refuses (Audit style) names a b old new status
+serves_several remaining fetched told untold written failures bytes refuses style [] a b old new status many is =
+    absurd (omega (arith, many))
+serves_several remaining fetched told untold written failures bytes refuses style (n ∷ []) a b old new status many is =
+    absurd (omega (arith, many))
+serves_several remaining fetched told untold written failures bytes refuses style (n ∷ m ∷ names) a b old new status
+    many is = is
+
+-- of one
+pub serves_one : {I E O : Type 0} (remaining : I → Option (List ℕ)) (fetched : I → ℕ)
+    (told : E → Option (List ℕ)) (untold : E → ℕ) (written : O → Option (List ℕ)) (failures : O → ℕ)
+    (bytes : List ℕ → Option (List ℕ)) (refuses : List ℕ → OpenFault → Type 0) (call : Subcommand)
+    (names : List (List ℕ)) (a b : E) (old new : Buffered O) (status : ℕ)
+    → ((style : Style) → call ≡ Audit style → length names < 2)
+    → ServesFile remaining fetched told untold written failures bytes refuses call (first_of names) a b old new status
+    → ServesCall remaining fetched told untold written failures bytes refuses call names a b old new status
+serves_one remaining fetched told untold written failures bytes refuses (Audit style) [] a b old new status few is = is
+serves_one remaining fetched told untold written failures bytes refuses (Audit style) (n ∷ []) a b old new status few is
+    = is
+serves_one remaining fetched told untold written failures bytes refuses (Audit style) (n ∷ m ∷ names) a b old new status
+    few is = let less = few style refl in absurd (omega (arith, less))
+serves_one remaining fetched told untold written failures bytes refuses Explain names a b old new status few is = is
+serves_one remaining fetched told untold written failures bytes refuses (Run mixer format) names a b old new status few
+    is = is
+serves_one remaining fetched told untold written failures bytes refuses Show names a b old new status few is = is
+serves_one remaining fetched told untold written failures bytes refuses ShowLong names a b old new status few is = is
+
+-- a yes
+pub call_yes : {I E O : Type 0} (remaining : I → Option (List ℕ)) (fetched : I → ℕ)
+    (told : E → Option (List ℕ)) (untold : E → ℕ) (written : O → Option (List ℕ)) (failures : O → ℕ)
+    (bytes : List ℕ → Option (List ℕ)) (refuses : List ℕ → OpenFault → Type 0) (style : Style)
+    (names : List (List ℕ)) (a b : E) (old new : Buffered O) (status : ℕ)
+    → ServesCall remaining fetched told untold written failures bytes refuses (Audit style) names a b old new status
+    → status ≡ 0 → AllSpellAudited bytes names
+call_yes remaining fetched told untold written failures bytes refuses style [] a b old new status serves zero = tt
+call_yes remaining fetched told untold written failures bytes refuses style (n ∷ []) a b old new status serves zero =
+    let said = serves.said (omega (arith, zero)) in (audited_of (verdict_text style) (bytes n) _ _ status said.0.said zero, tt)
+call_yes remaining fetched told untold written failures bytes refuses style (n ∷ m ∷ names) a b old new status
+    (inl judges) zero =
+    all_yes remaining fetched told untold bytes refuses style (n ∷ m ∷ names) a b judges.text status judges.judges zero
+call_yes remaining fetched told untold written failures bytes refuses style (n ∷ m ∷ names) a b old new status
+    (inr stops) zero =
+    let three : status ≡ 3 = stops.ends in absurd (omega (arith, three, zero))
+
+pub explain_yes : {I E O : Type 0} (remaining : I → Option (List ℕ)) (fetched : I → ℕ)
+    (told : E → Option (List ℕ)) (untold : E → ℕ) (written : O → Option (List ℕ)) (failures : O → ℕ)
+    (bytes : List ℕ → Option (List ℕ)) (refuses : List ℕ → OpenFault → Type 0) (names : List (List ℕ))
+    (name : List ℕ) (a b : E) (old new : Buffered O) (status : ℕ)
+    → ServesCall remaining fetched told untold written failures bytes refuses Explain names a b old new status
+    → names ≡ name ∷ [] → status ≡ 0 → IfSome (bytes name) SpellsAudited
+explain_yes remaining fetched told untold written failures bytes refuses names name a b old new status serves is zero =
+    let served : ServesFile remaining fetched told untold written failures bytes refuses Explain name a b old new status =
+    subst (λ (ns : List (List ℕ)). ServesCall remaining fetched told untold written failures bytes refuses Explain ns a b
+    old new status) is serves in
+    let said = served.said (omega (arith, zero)) in explained_of (bytes name) _ _ status said.0.said zero

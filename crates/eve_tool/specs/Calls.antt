@@ -9,7 +9,7 @@ use Rattle.eve_write.specs.Writing.{Wrote, Stopped}
 use Rattle.eve_replica.specs.declared.fault.RunFault.TheVariants as ended
 use Rattle.eve_tool.specs.declared.fault.ToolFault.{ToolFault}
 use Rattle.eve_tool.specs.declared.fault.ToolFault.TheVariants as fault
-use Rattle.eve_tool.specs.Audit.{Audits}
+use Rattle.eve_tool.specs.Audit.{AuditsAs, verdict_text}
 use Rattle.eve_tool.specs.Explain.{Explains}
 use Rattle.eve_tool.specs.Fault.{error_line, status_of}
 use Rattle.eve_tool.specs.Run.{Runs, IsTooLong, IsRunnable, EndsRun}
@@ -25,7 +25,7 @@ Calls call arguments = call_of arguments ≡ Some call
 
 -- The text is what the call says of the bytes, and the number is the exit status. A run has at most `limit` bytes.
 abbrev pub CallSays : ℕ → Subcommand → List ℕ → List ℕ → ℕ → Type 0
-CallSays limit Audit = Audits
+CallSays limit (Audit style) = AuditsAs (verdict_text style)
 CallSays limit Explain = Explains
 CallSays limit (Run mixer asked) = Runs limit mixer asked
 CallSays limit Show = Shows
@@ -55,7 +55,7 @@ CallBreaks limit _ known = ⊥
 
 -- the call asks for random words, once the bytes are read
 abbrev pub AsksForRandom : ℕ → Subcommand → Option (List ℕ) → Type 0
-AsksForRandom limit Audit known = ⊤
+AsksForRandom limit (Audit style) known = ⊤
 AsksForRandom limit Explain known = ⊤
 AsksForRandom limit (Run mixer asked) known = CallRuns limit (Run mixer asked) known
 AsksForRandom limit Show known = ⊥
@@ -117,10 +117,13 @@ StopsLong written failures old new Are last _ = ⊥
 pub record WasRead (limit : ℕ) (known left : Option (List ℕ)) : Type 0 where
   pub rest : IfSome known (λ bytes. left ≡ Some (drop (limit + 1) bytes))
 
--- the line of a fault was sent, or a front of it and then the stream failed
+-- a line was sent, or a front of it and then the stream failed
+abbrev pub TellsLine : {E : Type 0} → (E → Option (List ℕ)) → (E → ℕ) → E → E → List ℕ → Type 0
+TellsLine written failures old new line = Wrote written failures old new line ⊎ Stopped written failures old new line
+
+-- so was the line of a fault
 abbrev pub Tells : {E : Type 0} → (E → Option (List ℕ)) → (E → ℕ) → E → E → ToolFault → Type 0
-Tells written failures old new why =
-    Wrote written failures old new (error_line why) ⊎ Stopped written failures old new (error_line why)
+Tells written failures old new why = TellsLine written failures old new (error_line why)
 
 -- A call ended by a fault with this status, whose line was sent. `failed` says that the input failed,
 -- `fine` that it did not, which is so at each fault but Read, and `consumed` that it was read, which is so at each but

@@ -35,12 +35,16 @@ fault_of_run run.Memory = fault.Memory
 fault_of_run run.Broken = fault.Broken
 fault_of_run run.TooLong = fault.TooLong
 
--- what is said of a fault on the error stream, with the line feed
+-- what is said of a fault
+abbrev pub fault_text : ToolFault → List ℕ
+fault_text fault.Read = codes "cannot read input"
+fault_text (fault.Line number) = codes "workload line " ++ decimal number
+fault_text fault.TooLong = codes "too long"
+fault_text fault.Broken = codes "run broken"
+fault_text fault.Write = codes "cannot write output"
+fault_text fault.Random = codes "no random source"
+fault_text fault.Memory = codes "out of memory"
+
+-- the line of a fault on the error stream
 abbrev pub error_line : ToolFault → List ℕ
-error_line fault.Read = codes "eve: cannot read input\n"
-error_line (fault.Line number) = codes "eve: workload line " ++ (decimal number ++ codes "\n")
-error_line fault.TooLong = codes "eve: too long\n"
-error_line fault.Broken = codes "eve: run broken\n"
-error_line fault.Write = codes "eve: cannot write output\n"
-error_line fault.Random = codes "eve: no random source\n"
-error_line fault.Memory = codes "eve: out of memory\n"
+error_line why = codes "eve: " ++ (fault_text why ++ codes "\n")

@@ -1,5 +1,6 @@
 pub mod Fault
 pub mod Lines
+pub mod Objects
 pub mod Writes
 pub mod Sending
 pub mod Show

@@ -3,6 +3,7 @@ use Rattle.std.specs.Prelude.{◌≡◌, ℕ, ◌+◌, ◌≤◌, List, [], ◌�
 use Rattle.eve_grammar.specs.declared.limits.TheConstants.{MOST_AUDIT_WORKERS}
 use Rattle.eve_workload.specs.declared.mixer.Mixer.TheVariants.{First, Whole}
 use Rattle.eve_tool_arguments.specs.declared.format.Format.TheVariants.{One, Two}
+use Rattle.eve_tool_arguments.specs.declared.style.Style.TheVariants.{Json, Plain}
 use Rattle.eve_tool_arguments.specs.Arguments.{Audit, AuditsBy, CallsAudit, CallsNothing, Explain, ExplainsBy}
 use Rattle.eve_tool_arguments.specs.Arguments.{GetsHelp, Run, Show, ShowLong, files_of, workers_of}
 use Rattle.eve_tool.specs.Calls.{Calls}
@@ -10,7 +11,9 @@ use Rattle.eve_tool.specs.Calls.{Calls}
 -- The words that are calls or ask for help; how many workers those of `audit` and `explain` ask for; which files are
 -- named; and some that are no call. The first of the arguments is the program's name.
 pub record WordsAreCalls : Type 0 where
-  pub audit : (name : List ℕ) → Calls Audit (name ∷ codes "audit" ∷ [])
+  pub audit : (name : List ℕ) → Calls (Audit Plain) (name ∷ codes "audit" ∷ [])
+  pub json : (name : List ℕ) → Calls (Audit Json) (name ∷ codes "audit" ∷ codes "--json" ∷ [])
+  pub no_json : (name : List ℕ) → CallsNothing (name ∷ codes "run" ∷ codes "--json" ∷ [])
   pub explain : (name : List ℕ) → Calls Explain (name ∷ codes "explain" ∷ [])
   pub show : (name : List ℕ) → Calls Show (name ∷ codes "show" ∷ [])
   pub show_long : (name : List ℕ) → Calls ShowLong (name ∷ codes "show" ∷ codes "--long" ∷ [])
@@ -35,7 +38,7 @@ pub record WordsAreCalls : Type 0 where
   pub too_many : (name : List ℕ)
       → CallsNothing (name ∷ codes "audit" ∷ codes "--workers" ∷ decimal (MOST_AUDIT_WORKERS + 1) ∷ [])
   pub no_file : (name : List ℕ) → files_of (name ∷ codes "audit" ∷ []) ≡ codes "-" ∷ []
-  pub two_files : (name : List ℕ) → CallsAudit (name ∷ codes "audit" ∷ codes "a" ∷ codes "b" ∷ [])
+  pub two_files : (name : List ℕ) → CallsAudit Plain (name ∷ codes "audit" ∷ codes "a" ∷ codes "b" ∷ [])
   pub in_order : (name : List ℕ)
       → files_of (name ∷ codes "audit" ∷ codes "a" ∷ codes "b" ∷ []) ≡ codes "a" ∷ codes "b" ∷ []
   pub one_file : (name : List ℕ) → CallsNothing (name ∷ codes "run" ∷ codes "a" ∷ codes "b" ∷ [])

@@ -1,7 +1,8 @@
 //! Why the program ends without an answer.
 
 ghost use Rattle.std.specs.Prelude.{◌≡◌};
-ghost use Rattle.eve_tool.specs.Fault.{error_line, fault_of_read, fault_of_run, fault_of_workload, status_of};
+ghost use Rattle.eve_tool.specs.Fault.{error_line, fault_of_read, fault_of_run, fault_of_workload, fault_text};
+ghost use Rattle.eve_tool.specs.Fault.{status_of};
 ghost use Rattle.eve_tool.specs.declared.fault.ToolFault.TheVariants.{Memory, Write};
 
 use arrayvec::ArrayString;
@@ -57,6 +58,9 @@ pub enum ToolFault {
 /// How many bytes the line of a fault has at most.
 const LONGEST_FAULT: usize = 64;
 
+/// How many bytes its text has at most.
+const LONGEST_TEXT: usize = 48;
+
 impl ToolFault {
     /// The exit status: 2 where the input is at fault, 3 where the machine is.
     pub fn status(self) -> u8
@@ -68,25 +72,33 @@ impl ToolFault {
         }
     }
 
-    /// What the program says on the error stream: a line, with its line feed, that names the program before the text of
-    /// `Display`. It takes no memory, of which there may be none left.
+    /// The text of `Display`. It takes no memory, of which there may be none left.
+    pub fn text(self) -> ArrayString<LONGEST_TEXT>
+        ensures { result.bytes ≡ fault_text self }
+    {
+        let mut text = ArrayString::new();
+        match self {
+            ToolFault::Read => text.push_str(CANNOT_READ),
+            ToolFault::Line(number) => {
+                text.push_str(WORKLOAD_LINE);
+                text.push_str(Buffer::new().format(number));
+            }
+            ToolFault::TooLong => text.push_str(TOO_LONG),
+            ToolFault::Broken => text.push_str(RUN_BROKEN),
+            ToolFault::Write => text.push_str(CANNOT_WRITE),
+            ToolFault::Random => text.push_str(NO_RANDOM_SOURCE),
+            ToolFault::Memory => text.push_str(OUT_OF_MEMORY),
+        }
+        text
+    }
+
+    /// What the program says on the error stream: a line, with its line feed, that names the program before the text.
     pub fn line(self) -> ArrayString<LONGEST_FAULT>
         ensures { result.bytes ≡ error_line self }
     {
         let mut line = ArrayString::new();
         line.push_str("eve: ");
-        match self {
-            ToolFault::Read => line.push_str(CANNOT_READ),
-            ToolFault::Line(number) => {
-                line.push_str(WORKLOAD_LINE);
-                line.push_str(Buffer::new().format(number));
-            }
-            ToolFault::TooLong => line.push_str(TOO_LONG),
-            ToolFault::Broken => line.push_str(RUN_BROKEN),
-            ToolFault::Write => line.push_str(CANNOT_WRITE),
-            ToolFault::Random => line.push_str(NO_RANDOM_SOURCE),
-            ToolFault::Memory => line.push_str(OUT_OF_MEMORY),
-        }
+        line.push_str(self.text().as_str());
         line.push_str("\n");
         line
     }

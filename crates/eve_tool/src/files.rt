@@ -1,25 +1,32 @@
 //! The program over the files that its arguments name.
 
-ghost use Rattle.std.specs.Prelude.{◌≡◌, ◌≢◌, ◌≤◌, ◌<◌, ◌⊎◌, ℕ, [], ◌∷◌, ◌++◌, List, Option, Some, map, length};
-ghost use Rattle.std.specs.Prelude.{IfErr, IfOk, IfSome, IsNone, OnOk, codes, max};
+ghost use Rattle.std.specs.Prelude.{◌≡◌, ◌≢◌, ◌≤◌, ◌<◌, ◌⊎◌, ℕ, [], ◌∷◌, ◌++◌, List, Option, Some, map, take, length};
+ghost use Rattle.std.specs.Prelude.{IfErr, IfOk, IfSome, IsNone, OnErr, OnOk, max};
 ghost use Rattle.std.specs.Io.KnownBytes.{Appends};
 ghost use Rattle.std.specs.String.{string_bytes};
-ghost use Rattle.eve_streams.specs.Buffers.{held_bytes};
-ghost use Rattle.eve_streams.specs.Writers.{writer_of};
 ghost use Rattle.eve_audit.specs.Verdict.{SpellsAudited};
-ghost use Rattle.eve_tool.specs.Calls.{CallSays, Calls};
-ghost use Rattle.eve_tool.specs.Files.{AllSpellAudited, NamesVerdict, SaysMore, SaysOfFiles, all_bytes};
-ghost use Rattle.eve_tool.specs.Files.{open_line, open_text};
-ghost use Rattle.eve_tool.specs.Writes.{WritesAllOf};
-ghost use Rattle.eve_tool_arguments.specs.Arguments.{AsksForVerdict, Audit, CallsAudit, CallsExplain, Subcommand};
-ghost use Rattle.eve_tool_arguments.specs.Arguments.{call_of, files_of, subcommand_of_call};
+ghost use Rattle.eve_streams.specs.Buffers.{held_bytes};
+ghost use Rattle.eve_streams.specs.Failures.{after_failure};
+ghost use Rattle.eve_tool.specs.Audit.{AuditsAs, StopsJudging, named_text};
+ghost use Rattle.eve_tool.specs.Calls.{Calls, StopsHelp, Tells, TellsLine};
+ghost use Rattle.eve_tool.specs.Fault.{status_of};
+ghost use Rattle.eve_tool.specs.Files.{AllSpellAudited, BeginsNext, FailsAmong, HoldsBack, JudgesAll, JudgesFile};
+ghost use Rattle.eve_tool.specs.Files.{RunsOut, ServesCall, ServesFile, all_bytes, all_failures, first_of};
+ghost use Rattle.eve_tool.specs.Files.{named_fault, open_line, open_text};
+ghost use Rattle.eve_tool.specs.declared.files.OpenFault.{OpenFault};
+ghost use Rattle.eve_tool_arguments.specs.Arguments.{AsksForHelp, Audit, CallsAudit, CallsExplain, CallsNothing};
+ghost use Rattle.eve_tool_arguments.specs.Arguments.{IsRefused, Subcommand, call_of, files_of, subcommand_of_call};
+ghost use Rattle.eve_tool_arguments.specs.declared.style.Style.{Style};
 
-use crate::audit::audit;
+use crate::audit::{status_of, verdict_on};
 use crate::fault::ToolFault;
+use crate::lines::push_verdict_line;
+use crate::objects::object_line;
 use crate::program::{serve, stop};
-use eve_grammar::MOST_BYTES;
-use eve_streams::{Buffered, Sink, SinkOf, Source, send_all};
-use eve_tool_arguments::{Asked, Call, WorkerCount, read_arguments};
+use crate::sending::tell;
+use eve_audit::Verdict;
+use eve_streams::{Buffered, Sink, Source, SourceOf, send_all};
+use eve_tool_arguments::{Asked, Call, Style, WorkerCount, read_arguments};
 use std::alloc::{AllocError, Global};
 use std::convert::AsStr;
 use std::random::RandomSource;
@@ -60,11 +67,15 @@ pub trait Folder {
     // The bytes of the file of this name, where they are known.
     ghost bytes: { Self → List ℕ → Option (List ℕ) };
 
+    // Why the file of this name may be refused.
+    ghost refuses: { Self → List ℕ → OpenFault → Type 0 };
+
     /// Opens the file of this name. `-` names standard input. Refused with `Missing`, `Denied` or `IsFolder`, where
     /// that is why, else with `Unknown`.
     fn open(&self, name: &str) -> Result<Self::Input, OpenFault>
-        ensures { IfOk result (λ input. IfSome (bytes self.now name.now)
-            (λ known. Self.Input.remaining input ≡ Some known)) };
+        ensures bytes { IfOk result (λ input. IfSome (bytes self.now name.now)
+            (λ known. Self.Input.remaining input ≡ Some known)) }
+        ensures refused { IfErr result (refuses self.now name.now) };
 }
 
 /// What is said on the error stream of a file that is not opened.
@@ -80,68 +91,117 @@ fn open_line(alloc: Global, name: &str, why: OpenFault) -> Result<String, AllocE
 
 /// Says on `err` why a file is not opened, and returns the exit status. What can't be said is lost.
 fn stop_unopened<E: Sink>(alloc: Global, name: &str, why: OpenFault, err: &mut E) -> u8
-    ensures { (2 ≤ result) × (result ≤ 3) }
+    ensures { ((result ≡ 2) × TellsLine E.written E.failures err.old err.new (open_line name.now why))
+        ⊎ ((result ≡ 3) × Tells E.written E.failures err.old err.new ToolFault.Memory) }
 {
     match open_line(alloc, name, why) {
         Ok(line) => {
-            let _ = send_all(err, line.as_str().as_bytes());
+            tell(err, line.as_str().as_bytes());
             2
         }
         Err(_) => stop(ToolFault::Memory, err),
     }
 }
 
+/// What is said on the error stream of a file of several that has no verdict.
+#[tactic(auto, unfolding(crate::specs::Files::named_fault))]
+fn named_fault(alloc: Global, name: &str, why: ToolFault) -> Result<String, AllocError>
+    ensures { IfOk result (λ line. string_bytes line ≡ named_fault name.now why) }
+{
+    let mut line = String::new(alloc);
+    let text = why.text();
+    let text = text.as_str();
+    writeln!(line, "eve: {name}: {text}")?;
+    Ok(line)
+}
+
 /// Says on `err` why a file of several has no verdict, and returns the exit status. What can't be said is lost.
 fn stop_named<E: Sink>(alloc: Global, name: &str, why: ToolFault, err: &mut E) -> u8
-    ensures { (2 ≤ result) × (result ≤ 3) }
+    ensures status { result ≡ status_of why }
+    ensures told { TellsLine E.written E.failures err.old err.new (named_fault name.now why)
+        ⊎ Tells E.written E.failures err.old err.new why }
 {
-    match format!(in alloc; "eve: {name}: {why}\n") {
+    match named_fault(alloc, name, why) {
         Ok(line) => {
-            let _ = send_all(err, line.as_str().as_bytes());
+            tell(err, line.as_str().as_bytes());
             why.status()
         }
         Err(_) => stop(why, err),
     }
 }
 
-/// How much more than its name the line of a file has at most.
-const ROOM: usize = 128;
-
-/// A text in memory that begins with the name of a file.
-fn text_of(alloc: Global, name: &str) -> Result<SinkOf<Vec<u8>>, AllocError>
-    ensures { IfOk result (λ text. (writer_of text).items ≡ name.now ++ codes ": ") }
+/// A line that begins with the name of a file, and has the verdict on it.
+fn named_verdict(alloc: Global, name: &str, verdict: &Verdict) -> Result<Vec<u8>, AllocError>
+    ensures { IfOk result (λ line. line.items ≡ named_text Style.Plain name.now verdict.now) }
 {
-    let mut text = Vec::with_capacity(alloc, name.len().saturating_add(ROOM))?;
-    text.extend_from_slice(name.as_bytes())?;
-    text.extend_from_slice(": ".as_bytes())?;
-    Ok(SinkOf::new(text))
+    let mut text = String::new(alloc);
+    push_verdict_line(&mut text, verdict)?;
+    let mut line = Vec::new(alloc);
+    line.extend_from_slice(name.as_bytes())?;
+    line.extend_from_slice(": ".as_bytes())?;
+    line.extend_from_slice(text.as_str().as_bytes())?;
+    Ok(line)
+}
+
+/// What is printed of the verdict on a file of several.
+fn named_line(
+    alloc: Global,
+    style: Style,
+    name: &str,
+    verdict: &Verdict,
+) -> Result<Vec<u8>, AllocError>
+    ensures { IfOk result (λ line. line.items ≡ named_text style name.now verdict.now) }
+{
+    match style {
+        Style::Plain => named_verdict(alloc, name, verdict),
+        Style::Json => object_line(alloc, Some(name), verdict),
+    }
 }
 
 /// The line of a file of several, and the exit status.
 fn judged<R: AllocGlobal + RandomSource + Threads + Wait + Sync, I: Source>(
     rt: &R,
     workers: WorkerCount,
+    style: Style,
     name: &str,
     input: &mut I,
-) -> Result<(SinkOf<Vec<u8>>, u8), ToolFault>
+) -> Result<(Vec<u8>, u8), ToolFault>
     ensures status { IfOk result (λ said. said.1 < 2) }
     ensures said { IfOk result (λ said. IfSome (I.remaining input.old)
-        (λ bytes. NamesVerdict name.now bytes (writer_of said.0).items said.1)) }
+        (λ bytes. AuditsAs (named_text style name.now) bytes said.0.items said.1)) }
+    ensures stopped { IfErr result (StopsJudging (I.failures input.new ≡ after_failure (I.failures input.old))) }
+    ensures read { IfErr result (λ why. why ≢ ToolFault.Read → I.failures input.new ≡ I.failures input.old) }
 {
-    let mut text = text_of(rt.alloc(), name)?;
-    let status = audit(rt, workers, input, &mut text)?;
-    Ok((text, status))
+    let verdict = verdict_on(rt, workers, input)?;
+    let line = named_line(rt.alloc(), style, name, &verdict)?;
+    Ok((line, status_of(&verdict)))
+}
+
+/// Sends all that is held.
+fn flush<O: Sink + Drop>(out: &mut Buffered<O>) -> Result<(), ToolFault>
+    ensures kept { Appends (all_bytes O.written out.old) (all_bytes O.written out.new) [] }
+    ensures empty { OnOk result (held_bytes out.new ≡ []) }
+    ensures fine { OnOk result (all_failures O.failures out.new ≡ all_failures O.failures out.old) }
+    ensures held { OnErr result (held_bytes out.new ≢ []) }
+    ensures failed { OnErr result (all_failures O.failures out.new ≡ after_failure (all_failures O.failures out.old)) }
+    ensures why { IfErr result (λ why. why ≡ ToolFault.Write) }
+{
+    out.flush()?;
+    Ok(())
 }
 
 /// Sends a line, and then all that is held.
 fn send_on<O: Sink + Drop>(line: &[u8], out: &mut Buffered<O>) -> Result<(), ToolFault>
     ensures sent { OnOk result (Appends (all_bytes O.written out.old) (all_bytes O.written out.new) line.now) }
     ensures empty { OnOk result (held_bytes out.new ≡ []) }
+    ensures fine { OnOk result (all_failures O.failures out.new ≡ all_failures O.failures out.old) }
+    ensures part { OnErr result ((count : ℕ)
+        × Appends (all_bytes O.written out.old) (all_bytes O.written out.new) (take count line.now)) }
+    ensures failed { OnErr result (all_failures O.failures out.new ≡ after_failure (all_failures O.failures out.old)) }
     ensures why { IfErr result (λ why. why ≡ ToolFault.Write) }
 {
     send_all(out, line)?;
-    out.flush()?;
-    Ok(())
+    flush(out)
 }
 
 /// Judges one file of several, and sends its line, or says on `err` why it has none. Returns its status.
@@ -153,25 +213,33 @@ fn audit_one<
 >(
     rt: &R,
     workers: WorkerCount,
+    style: Style,
     name: &str,
     folder: &F,
     out: &mut Buffered<O>,
     err: &mut E,
 ) -> Result<u8, ToolFault>
-    ensures said { IfOk result (SaysMore (F.bytes folder.now name.now) name.now (all_bytes O.written out.old)
-        (all_bytes O.written out.new)) }
+    ensures said { IfOk result (λ status. (text : List ℕ)
+        × JudgesFile F.Input.remaining F.Input.failures E.written E.failures (F.bytes folder.now)
+        (F.refuses folder.now) style name.now err.old err.new text status
+        × Appends (all_bytes O.written out.old) (all_bytes O.written out.new) text) }
     ensures empty { held_bytes out.old ≡ [] → OnOk result (held_bytes out.new ≡ []) }
+    ensures fine { OnOk result (all_failures O.failures out.new ≡ all_failures O.failures out.old) }
+    ensures part { OnErr result ((part : List ℕ) × BeginsNext (F.bytes folder.now) style (name.now ∷ []) part
+        × Appends (all_bytes O.written out.old) (all_bytes O.written out.new) part) }
+    ensures failed { OnErr result ((err.new ≡ err.old)
+        × (all_failures O.failures out.new ≡ after_failure (all_failures O.failures out.old))) }
     ensures why { IfErr result (λ why. why ≡ ToolFault.Write) }
 {
     let mut input = match folder.open(name) {
         Ok(input) => input,
         Err(why) => return Ok(stop_unopened(rt.alloc(), name, why, err)),
     };
-    let (text, status) = match judged(rt, workers, name, &mut input) {
+    let (line, status) = match judged(rt, workers, style, name, &mut input) {
         Ok(said) => said,
         Err(why) => return Ok(stop_named(rt.alloc(), name, why, err)),
     };
-    send_on(text.writer().as_slice(), out)?;
+    send_on(line.as_slice(), out)?;
     Ok(status)
 }
 
@@ -191,22 +259,25 @@ fn audit_files<
 >(
     rt: &R,
     workers: WorkerCount,
+    style: Style,
     files: &[String],
     folder: &F,
     out: &mut Buffered<O>,
     err: &mut E,
 ) -> Result<u8, ToolFault>
-    ensures said { IfOk result (λ status. (text : List ℕ)
-        × SaysOfFiles (F.bytes folder.now) (map string_bytes files.now) text status
-        × Appends (all_bytes O.written out.old) (all_bytes O.written out.new) text) }
+    ensures said { IfOk result (JudgesAll F.Input.remaining F.Input.failures E.written E.failures O.written O.failures
+        (F.bytes folder.now) (F.refuses folder.now) style (map string_bytes files.now) err.old err.new out.old
+        out.new) }
     ensures status { IfOk result (λ status. status ≤ 3) }
-    ensures empty { OnOk result (held_bytes out.new ≡ []) }
+    ensures stopped { OnErr result (FailsAmong F.Input.remaining F.Input.failures E.written E.failures O.written
+        O.failures (F.bytes folder.now) (F.refuses folder.now) style (map string_bytes files.now) err.old err.new
+        out.old out.new) }
     ensures why { IfErr result (λ why. why ≡ ToolFault.Write) }
 {
-    send_on(&[], out)?;
+    flush(out)?;
     let mut status = 0;
     'files: for file in files {
-        let one = audit_one(rt, workers, file.as_str(), folder, out, err)?;
+        let one = audit_one(rt, workers, style, file.as_str(), folder, out, err)?;
         status = greatest(status, one);
     }
     Ok(status)
@@ -214,14 +285,17 @@ fn audit_files<
 
 /// Sends on what was said and is still held, where the call came to its end with this status.
 fn finish<O: Sink + Drop, E: Sink>(status: u8, out: &mut Buffered<O>, err: &mut E) -> u8
-    ensures sent { result < 2 → (result ≡ status)
-        × Appends (all_bytes O.written out.old) (all_bytes O.written out.new) [] × (held_bytes out.new ≡ []) }
-    ensures status { status ≤ 3 → result ≤ 3 }
+    ensures ended { 2 ≤ status → (result ≡ status) × (out.new ≡ out.old) × (err.new ≡ err.old) }
+    ensures sent { status < 2 → result < 2 → (result ≡ status) × (held_bytes out.new ≡ []) × (err.new ≡ err.old)
+        × (all_failures O.failures out.new ≡ all_failures O.failures out.old)
+        × Appends (all_bytes O.written out.old) (all_bytes O.written out.new) [] }
+    ensures failed { status < 2 → 2 ≤ result
+        → HoldsBack E.written E.failures O.written O.failures err.old err.new out.old out.new result }
 {
     if status >= 2 {
         return status;
     }
-    match send_on(&[], out) {
+    match flush(out) {
         Ok(()) => status,
         Err(why) => stop(why, err),
     }
@@ -235,12 +309,9 @@ fn serve_file<
     O: Sink + Drop,
     E: Sink,
 >(rt: &R, arguments: &[S], name: &str, folder: &F, out: &mut Buffered<O>, err: &mut E) -> u8
-    ensures said { (call : Subcommand) → Calls call (map S.text arguments.now) → result < 2
-        → WritesAllOf (CallSays MOST_BYTES call) (F.bytes folder.now name.now) (all_bytes O.written out.old)
-        (all_bytes O.written out.new) result }
-    ensures yes { AsksForVerdict (map S.text arguments.now) → result ≡ 0
-        → IfSome (F.bytes folder.now name.now) SpellsAudited }
-    ensures empty { result < 2 → held_bytes out.new ≡ [] }
+    ensures serves { (call : Subcommand) → Calls call (map S.text arguments.now)
+        → ServesFile F.Input.remaining F.Input.failures E.written E.failures O.written O.failures
+        (F.bytes folder.now) (F.refuses folder.now) call name.now err.old err.new out.old out.new result }
     ensures status { result ≤ 3 }
 {
     let mut input = match folder.open(name) {
@@ -251,21 +322,26 @@ fn serve_file<
     finish(status, out, err)
 }
 
-/// How many workers judge each file, where the call is `audit` and there are several.
-fn workers_for_several(call: Call, files: &[String]) -> Option<WorkerCount>
-    ensures several { IfSome result (λ _. 2 ≤ length files.now) }
-    ensures none { IsNone result → subcommand_of_call call ≡ Audit → length files.now < 2 }
+/// How many workers judge each file, and what style its line has, where the call is `audit` and there are several.
+fn several(call: Call, files: &[String]) -> Option<(WorkerCount, Style)>
+    ensures several { IfSome result (λ found. (2 ≤ length files.now) × (subcommand_of_call call ≡ Audit found.1)) }
+    ensures none { IsNone result → (style : Style) → subcommand_of_call call ≡ Audit style → length files.now < 2 }
 {
     match call {
-        Call::Audit(workers) => { if files.len() > 1 { Some(workers) } else { None } }
+        Call::Audit(workers, style) => {
+            if files.len() > 1 {
+                Some((workers, style))
+            } else {
+                None
+            }
+        }
         Call::Explain(_) | Call::Run(_, _) | Call::Show | Call::ShowLong => None,
     }
 }
 
 /// The name of the first file, or of standard input where there is none.
 fn first_name(files: &[String]) -> &str
-    ensures { (name : List ℕ) (names : List (List ℕ)) → map string_bytes files.now ≡ name ∷ names
-        → result.now ≡ name }
+    ensures { result.now ≡ first_of (map string_bytes files.now) }
 {
     match files.first() {
         Some(file) => file.as_str(),
@@ -289,31 +365,42 @@ fn serve_call<
     out: &mut Buffered<O>,
     err: &mut E,
 ) -> u8
-    requires call { call_of (map S.text arguments.now) ≡ Some (subcommand_of_call call) }
-    requires files { map string_bytes files.now ≡ files_of (map S.text arguments.now) }
-    ensures said { (call : Subcommand) → Calls call (map S.text arguments.now) → (name : List ℕ)
-        → files_of (map S.text arguments.now) ≡ name ∷ [] → result < 2
-        → WritesAllOf (CallSays MOST_BYTES call) (F.bytes folder.now name) (all_bytes O.written out.old)
-        (all_bytes O.written out.new) result }
-    ensures all { CallsAudit (map S.text arguments.now) → 2 ≤ length (files_of (map S.text arguments.now))
-        → result ≢ 3 → (text : List ℕ)
-        × SaysOfFiles (F.bytes folder.now) (files_of (map S.text arguments.now)) text result
-        × Appends (all_bytes O.written out.old) (all_bytes O.written out.new) text }
-    ensures yes { CallsAudit (map S.text arguments.now) → result ≡ 0
-        → AllSpellAudited (F.bytes folder.now) (files_of (map S.text arguments.now)) }
-    ensures explained { CallsExplain (map S.text arguments.now) → (name : List ℕ)
-        → files_of (map S.text arguments.now) ≡ name ∷ [] → result ≡ 0
-        → IfSome (F.bytes folder.now name) SpellsAudited }
+    requires { call_of (map S.text arguments.now) ≡ Some (subcommand_of_call call) }
+    ensures serves { ServesCall F.Input.remaining F.Input.failures E.written E.failures O.written O.failures
+        (F.bytes folder.now) (F.refuses folder.now) (subcommand_of_call call) (map string_bytes files.now) err.old
+        err.new out.old out.new result }
+    ensures status { result ≤ 3 }
+{
+    match several(call, files) {
+        Some((workers, style)) => {
+            match audit_files(rt, workers, style, files, folder, out, err) {
+                Ok(status) => status,
+                Err(why) => stop(why, err),
+            }
+        }
+        None => serve_file(rt, arguments, first_name(files), folder, out, err),
+    }
+}
+
+/// Serves arguments that are no call, which opens no file, and sends on what was said.
+fn serve_none<
+    R: AllocGlobal + RandomSource + Threads + Wait + Sync,
+    S: AsStr,
+    O: Sink + Drop,
+    E: Sink,
+>(rt: &R, arguments: &[S], out: &mut Buffered<O>, err: &mut E) -> u8
+    requires { CallsNothing (map S.text arguments.now) }
+    ensures helped { result ≡ 0 → AsksForHelp (map S.text arguments.now) }
+    ensures refused { result ≢ 1 }
+    ensures wrong { result ≡ 2 → IsRefused (map S.text arguments.now) × (out.new ≡ out.old) }
+    ensures unhelped { result ≡ 3 → StopsHelp E.written E.failures (all_failures O.failures) err.old err.new out.old
+        out.new result }
     ensures empty { result < 2 → held_bytes out.new ≡ [] }
     ensures status { result ≤ 3 }
 {
-    match workers_for_several(call, files) {
-        Some(workers) => match audit_files(rt, workers, files, folder, out, err) {
-            Ok(status) => status,
-            Err(why) => stop(why, err),
-        },
-        None => serve_file(rt, arguments, first_name(files), folder, out, err),
-    }
+    let mut nothing = SourceOf::new("".as_bytes());
+    let status = serve(rt, arguments, &mut nothing, out, err);
+    finish(status, out, err)
 }
 
 /// Runs the program over the files that its arguments name, which lie in `folder`, as `serve` does over one input.
@@ -328,24 +415,29 @@ pub fn serve_files<
     O: Sink + Drop,
     E: Sink,
 >(rt: &R, arguments: &[S], folder: &F, out: &mut Buffered<O>, err: &mut E) -> u8
-    // A call over one file says what it says of the bytes of that file.
-    ensures said { (call : Subcommand) → Calls call (map S.text arguments.now) → (name : List ℕ)
-        → files_of (map S.text arguments.now) ≡ name ∷ [] → result < 2
-        → WritesAllOf (CallSays MOST_BYTES call) (F.bytes folder.now name) (all_bytes O.written out.old)
-        (all_bytes O.written out.new) result }
-
-    // `audit` of several says of each what it says of its bytes, in the order in which they are named.
-    ensures all { CallsAudit (map S.text arguments.now) → 2 ≤ length (files_of (map S.text arguments.now))
-        → result ≢ 3 → (text : List ℕ)
-        × SaysOfFiles (F.bytes folder.now) (files_of (map S.text arguments.now)) text result
-        × Appends (all_bytes O.written out.old) (all_bytes O.written out.new) text }
+    // A call over one file says what it says of the bytes of that file, or ends by a fault, which is told. `audit` of
+    // several says of each what it says of its bytes, in the order in which they are named, or tells why it doesn't.
+    ensures serves { (call : Subcommand) → Calls call (map S.text arguments.now)
+        → ServesCall F.Input.remaining F.Input.failures E.written E.failures O.written O.failures
+        (F.bytes folder.now) (F.refuses folder.now) call (files_of (map S.text arguments.now)) err.old err.new out.old
+        out.new result ⊎ RunsOut E.written E.failures err.old err.new out.old out.new result }
 
     // A yes is said where each file spells a trace that is audited.
-    ensures yes { CallsAudit (map S.text arguments.now) → result ≡ 0
+    ensures yes { (style : Style) → CallsAudit style (map S.text arguments.now) → result ≡ 0
         → AllSpellAudited (F.bytes folder.now) (files_of (map S.text arguments.now)) }
     ensures explained { CallsExplain (map S.text arguments.now) → (name : List ℕ)
         → files_of (map S.text arguments.now) ≡ name ∷ [] → result ≡ 0
         → IfSome (F.bytes folder.now name) SpellsAudited }
+
+    // The arguments are no call.
+    ensures helped { CallsNothing (map S.text arguments.now) → result ≡ 0
+        → AsksForHelp (map S.text arguments.now) }
+    ensures refused { CallsNothing (map S.text arguments.now) → result ≢ 1 }
+    ensures wrong { CallsNothing (map S.text arguments.now) → result ≡ 2
+        → IsRefused (map S.text arguments.now) × (out.new ≡ out.old) }
+    ensures unhelped { CallsNothing (map S.text arguments.now) → result ≡ 3
+        → StopsHelp E.written E.failures (all_failures O.failures) err.old err.new out.old out.new result }
+
     ensures empty { result < 2 → held_bytes out.new ≡ [] }
     ensures status { result ≤ 3 }
 {
@@ -353,7 +445,7 @@ pub fn serve_files<
         Ok(Asked::Call(call, files)) => {
             serve_call(rt, arguments, call, files.as_slice(), folder, out, err)
         }
-        Ok(_) => serve_file(rt, arguments, "-", folder, out, err),
+        Ok(_) => serve_none(rt, arguments, out, err),
         Err(_) => stop(ToolFault::Memory, err),
     }
 }

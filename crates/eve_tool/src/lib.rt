@@ -7,6 +7,7 @@ mod fault;
 mod files;
 mod lines;
 mod long;
+mod objects;
 mod program;
 mod random;
 mod run;

@@ -2,9 +2,9 @@
 
 ghost use Rattle.std.specs.Prelude.{◌≡◌, ◌++◌, OnOk};
 ghost use Rattle.std.specs.String.{string_bytes};
-ghost use Rattle.eve_tool.specs.Lines.{fault_line, frame_line, yes_line};
+ghost use Rattle.eve_tool.specs.Lines.{fault_line, frame_line, verdict_line, yes_line};
 
-use eve_audit::Summary;
+use eve_audit::{Summary, Verdict};
 use eve_views::Fault;
 use std::alloc::AllocError;
 
@@ -36,6 +36,16 @@ pub(crate) fn push_yes_line(text: &mut String, summary: &Summary) -> Result<(), 
         text,
         "yes: {replicas} replicas, {batches} batches, {committed} committed"
     )
+}
+
+/// Appends the line of a verdict.
+pub(crate) fn push_verdict_line(text: &mut String, verdict: &Verdict) -> Result<(), AllocError>
+    ensures { OnOk result (string_bytes text.new ≡ string_bytes text.old ++ verdict_line verdict.now) }
+{
+    match verdict {
+        Verdict::Yes(summary) => push_yes_line(text, summary),
+        Verdict::No(fault) => push_fault_line(text, fault),
+    }
 }
 
 /// Appends the line that says no: the fault's code, the byte at which it stands, and the replica in

@@ -15,6 +15,7 @@ use crate::explain::explain;
 use crate::fault::ToolFault;
 use crate::long::show_long;
 use crate::run::run_within;
+use crate::sending::tell;
 use crate::show::show;
 use eve_grammar::MOST_BYTES;
 use eve_streams::{Sink, Source, send_all};
@@ -29,8 +30,7 @@ pub fn stop<E: Sink>(fault: ToolFault, err: &mut E) -> u8
     ensures status { result ≡ status_of fault }
     ensures told { Tells E.written E.failures err.old err.new fault }
 {
-    let line = fault.line();
-    let _ = send_all(err, line.as_str().as_bytes());
+    tell(err, fault.line().as_str().as_bytes());
     fault.status()
 }
 
@@ -55,7 +55,7 @@ fn answer_call<R: AllocGlobal + RandomSource + Threads + Wait + Sync, I: Source,
     ensures wrote { IfErr result (λ why. why ≢ ToolFault.Write → O.failures out.new ≡ O.failures out.old) }
 {
     match call {
-        Call::Audit(workers) => audit(rt, workers, input, out),
+        Call::Audit(workers, style) => audit(rt, workers, style, input, out),
         Call::Explain(workers) => explain(rt, workers, input, out),
         Call::Run(mixer, format) => { run_within(rt, mixer, format, MOST_BYTES as u32, input, out) }
         Call::Show => show(rt.alloc(), input, out),

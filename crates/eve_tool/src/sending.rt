@@ -5,7 +5,7 @@ ghost use Rattle.std.specs.Prelude.{IfErr, OnOk, OnErr};
 ghost use Rattle.std.specs.String.{string_bytes};
 ghost use Rattle.std.specs.Io.KnownBytes.{Appends};
 ghost use Rattle.eve_streams.specs.Front.{AppendsFront};
-ghost use Rattle.eve_tool.specs.Calls.{StopsSending};
+ghost use Rattle.eve_tool.specs.Calls.{StopsSending, TellsLine};
 ghost use Rattle.eve_tool.specs.Lines.{fault_line};
 
 use crate::fault::ToolFault;
@@ -28,6 +28,13 @@ pub(crate) fn send_text<O: Sink>(text: &mut String, out: &mut O) -> Result<(), T
     send_all(out, text.as_str().as_bytes())?;
     text.clear();
     Ok(())
+}
+
+/// Says a line on the error stream. What can't be said is lost.
+pub(crate) fn tell<E: Sink>(err: &mut E, line: &[u8])
+    ensures { TellsLine E.written E.failures err.old err.new line.now }
+{
+    let _ = send_all(err, line);
 }
 
 /// Sends the line of a fault.

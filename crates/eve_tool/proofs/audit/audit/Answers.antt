@@ -1,59 +1,11 @@
-use Rattle.std.proofs.Common.{◌^◌, lit≤}
-use Rattle.std.proofs.lemmas.Result.{IfErr-weaker, IfOk-weaker, on_ok_weaker}
-use Rattle.eve_tool.specs.Audit.{Audits}
-use Rattle.eve_tool_arguments.specs.Arguments.{Audit}
-use Rattle.eve_tool.proofs.Cutting.{Audits-cut, WritesAllOf-cut, WritesFrontOf-cut, audit_left, random_left}
-use Rattle.eve_tool.proofs.Leaving.{at_err}
-use Rattle.eve_tool.proofs.WholeInput.{is_read}
+use Rattle.std.proofs.lemmas.Result.{IfErr-weaker}
+use Rattle.eve_tool.proofs.Judging.{styled_left}
 use Rattle.eve_tool.proofs.audit.audit.Goals as goal
-
-pub returns-clause-all : goal.returns-clause-all
-returns-clause-all g c =
-    let known = g.I.Source.remaining c.args.input.now in
-    let old = g.O.Sink.written c.args.out.now in
-    let new = g.O.Sink.written c.audit_bytes.new.out in
-    IfOk-weaker c.audit_bytes.result _ _
-    (λ status all. WritesAllOf-cut Audits (2 ^ 30) known _ _ old new status
-    (λ bytes text s. Audits-cut (2 ^ 30) bytes text s (lit≤ tt)) c.as_slice.ensures.value
-    c.in_ok-bytes.ensures.bytes all)
-    c.audit_bytes.ensures.all
 
 pub returns-clause-left : goal.returns-clause-left
 returns-clause-left g c =
-    let known = g.I.Source.remaining c.args.input.now in
-    let old = g.O.Sink.written c.args.out.now in
-    let new = g.O.Sink.written c.audit_bytes.new.out in
-    IfErr-weaker c.audit_bytes.result _ _
-    (λ why. audit_left g.O.Sink.written g.O.Sink.failures known _ c.as_slice.result.now c.args.out.now
-    c.audit_bytes.new.out why
-    (λ front. WritesFrontOf-cut Audits (2 ^ 30) known _ _ old new
-    (λ bytes text s. Audits-cut (2 ^ 30) bytes text s (lit≤ tt)) c.as_slice.ensures.value
-    c.in_ok-bytes.ensures.bytes front))
-    c.audit_bytes.ensures.left
-
-pub returns-in_err-random-clause-left : goal.returns-in_err-random-clause-left
-returns-in_err-random-clause-left g c =
-    let why = c.in_err-random.field-0.0 in
-    at_err c.from_residual-in_err-random.result _ why c.from_residual-in_err-random.ensures.1
-    (random_left g.O.Sink.written g.O.Sink.failures Audit (g.I.Source.remaining c.args.input.now) _ c.args.out.now why
-    tt
-    c.in_err-random.ensures)
-
-pub returns-in_err-random-clause-ended : goal.returns-in_err-random-clause-ended
-returns-in_err-random-clause-ended g c =
-    let read = is_read (2 ^ 30) (g.I.Source.remaining c.args.input.now) (g.I.Source.remaining c.read_all.new.source) _
-    c.in_ok-bytes.ensures.bytes c.in_ok-bytes.ensures.rest in
-    at_err c.from_residual-in_err-random.result _ c.in_err-random.field-0.0 c.from_residual-in_err-random.ensures.1
-    (λ unread scarce. read)
-
-pub returns-clause-ended : goal.returns-clause-ended
-returns-clause-ended g c =
-    let read = is_read (2 ^ 30) (g.I.Source.remaining c.args.input.now) (g.I.Source.remaining c.read_all.new.source) _
-    c.in_ok-bytes.ensures.bytes c.in_ok-bytes.ensures.rest in
-    IfErr-weaker c.audit_bytes.result _ _ (λ why left unread scarce. read) c.audit_bytes.ensures.left
-
-pub returns-clause-consumed : goal.returns-clause-consumed
-returns-clause-consumed g c =
-    let read = is_read (2 ^ 30) (g.I.Source.remaining c.args.input.now) (g.I.Source.remaining c.read_all.new.source) _
-    c.in_ok-bytes.ensures.bytes c.in_ok-bytes.ensures.rest in
-    on_ok_weaker c.audit_bytes.result (λ fine. read) c.audit_bytes.ensures.fine
+    IfErr-weaker c.send_styled.result _ _
+    (λ why stopped. styled_left g.O.Sink.written g.O.Sink.failures c.args.style
+    (g.I.Source.remaining c.args.input.now) _ c.in_ok-verdict.verdict c.args.out.now c.send_styled.new.out why
+    c.in_ok-verdict.ensures.verdict stopped)
+    c.send_styled.ensures.stopped

@@ -1,38 +1,56 @@
-use Rattle.std.proofs.Common.{◌≡◌, ◌∙◌, ◌+◌, List, ℕ, [], ◌∷◌, ap, drop, map, subst, sym}
+use Rattle.std.proofs.Common.{◌≡◌, ◌∙◌, ◌+◌, List, ℕ, [], ◌∷◌, ap, drop, inl, map, refl, subst, sym}
 use Rattle.std.specs.String.{string_bytes}
-use Rattle.std.proofs.lemmas.List.{drop_all, drop_more}
-use Rattle.eve_tool.specs.Files.{all_bytes}
-use Rattle.eve_tool.proofs.SentFiles.{SaidSoFar, all_said, none_so_far, one_more}
+use Rattle.std.proofs.lemmas.List.{drop_more}
+use Rattle.eve_tool.proofs.SentFiles.{JudgedSoFar, at_fault, most_of_all, so_far_more}
 use Rattle.eve_tool.proofs.files.audit_files.Goals as goal
 
+pub returns-in_err-flush-clause-stopped : goal.returns-in_err-flush-clause-stopped
+returns-in_err-flush-clause-stopped g c = at_fault c.from_residual.result _ (record {
+  before = [];
+  rest = map string_bytes c.args.files.now;
+  all = refl;
+  text = [];
+  part = [];
+  greatest = 0;
+  judges = (refl, refl, refl);
+  next = inl refl;
+  sent = c.in_err-flush.ensures.kept;
+  failed = c.in_err-flush.ensures.failed;
+})
+
 pub files-init : goal.files-init
-files-init g c = (none_so_far _ _ _ _ c.in_ok-send_on.ensures.sent, c.in_ok-send_on.ensures.empty)
+files-init g c = record {
+  before = [];
+  whole = refl;
+  text = [];
+  judges = (refl, refl, refl);
+  sent = c.in_ok-flush.ensures.kept;
+  flushed = c.in_ok-flush.ensures.empty;
+  fine = c.in_ok-flush.ensures.fine;
+}
 
 pub files-preserved : goal.files-preserved
 files-preserved g c =
     let files = c.args.files.now in
     let i = c.files.file-index in
     let bytes = g.F.Folder.bytes c.args.folder.now in
+    let refuses = g.F.Folder.refuses c.args.folder.now in
     let one = c.in_ok-one.ensures.said in
     let here : drop i files ≡ c.file-item.result ∷ drop (i + 1) files =
     drop_more files i c.file-item.result c.files-test.true ∙ ap (λ x. x ∷ drop (i + 1) files) (sym c.file-item.is) in
     let named : map string_bytes (drop i files) ≡ c.as_str.result.now ∷ map string_bytes (drop (i + 1) files) =
     ap (map string_bytes) here ∙ ap (λ n. n ∷ map string_bytes (drop (i + 1) files)) (sym c.as_str.ensures.value) in
-    let before = subst (λ (left : List (List ℕ)). SaidSoFar bytes (map string_bytes files) left
-    (all_bytes g.O.Sink.written c.args.out.now) (all_bytes g.O.Sink.written c.files.out) c.files.status) named
-    c.files.invariant.0 in (
-      rw c.greatest-status.ensures (one_more bytes (map string_bytes files) c.as_str.result.now
-          (map string_bytes (drop (i + 1) files)) _ _ _ c.files.status c.in_ok-one.one one.text before one.says
-          one.sent),
-      c.in_ok-one.ensures.empty c.files.invariant.1,
-    )
+    let before = subst (λ (left : List (List ℕ)). JudgedSoFar g.F.Input.Source.remaining g.F.Input.Source.failures
+    g.E.Sink.written g.E.Sink.failures g.O.Sink.written g.O.Sink.failures bytes refuses c.args.style
+    (map string_bytes files) left c.args.err.now c.files.err c.args.out.now c.files.out c.files.status) named
+    c.files.invariant in
+    rw c.greatest-status.ensures (so_far_more g.F.Input.Source.remaining g.F.Input.Source.failures g.E.Sink.written
+    g.E.Sink.failures g.O.Sink.written g.O.Sink.failures bytes refuses c.args.style (map string_bytes files)
+    c.as_str.result.now (map string_bytes (drop (i + 1) files)) _ _ _ _ _ _ c.files.status c.in_ok-one.one one.0
+    before one.1 one.2 (c.in_ok-one.ensures.empty before.flushed) c.in_ok-one.ensures.fine)
 
-pub returns-clause-said : goal.returns-clause-said
-returns-clause-said g c =
-    let files = c.args.files.now in
-    let done : map string_bytes (drop c.files.file-index files) ≡ [] =
-    ap (map string_bytes) (drop_all c.files.file-index files c.files-test.false) in
-    all_said (g.F.Folder.bytes c.args.folder.now) (map string_bytes files) _ _ c.files.status
-    (subst (λ (left : List (List ℕ)). SaidSoFar (g.F.Folder.bytes c.args.folder.now) (map string_bytes files) left
-    (all_bytes g.O.Sink.written c.args.out.now) (all_bytes g.O.Sink.written c.files.out) c.files.status) done
-    c.files.invariant.0)
+pub returns-clause-status : goal.returns-clause-status
+returns-clause-status g c =
+    most_of_all g.F.Input.Source.remaining g.F.Input.Source.failures g.E.Sink.written g.E.Sink.failures
+    (g.F.Folder.bytes c.args.folder.now) (g.F.Folder.refuses c.args.folder.now) c.args.style
+    c.files.invariant.before _ _ c.files.invariant.text c.files.status c.files.invariant.judges

@@ -1,25 +1,31 @@
-use Rattle.std.proofs.Common.{◌≡◌, ◌∙◌, ◌<◌, arith, inl, length, map, rules, subst, sym}
+use Rattle.std.proofs.Common.{◌∙◌, ◌≤◌, arith, inr, length, map, subst, sym, ap}
 use Rattle.std.specs.String.{string_bytes}
 use Rattle.std.proofs.lemmas.List.{length-map}
-use Rattle.std.proofs.lemmas.Option.{same_Some}
-use Rattle.eve_tool_arguments.specs.Arguments.{Audit, subcommand_of_call}
-use Rattle.eve_tool.specs.Files.{AllSpellAudited}
-use Rattle.eve_tool.proofs.SentFiles.{all_yes, few_yes}
+use Rattle.eve_tool.specs.Calls.{Tells}
+use Rattle.eve_tool.specs.Fault.{status_of}
+use Rattle.eve_tool.specs.Files.{ServesCall}
+use Rattle.eve_tool.specs.declared.fault.ToolFault.{ToolFault}
+use Rattle.eve_tool_arguments.specs.Arguments.{Subcommand}
+use Rattle.eve_tool.proofs.SentFiles.{serves_several}
 use Rattle.eve_tool.proofs.files.serve_call.Goals as goal
 
-pub returns-in-Ok-clause-yes : goal.returns-in-Ok-clause-yes
-returns-in-Ok-clause-yes g c = λ asks zero.
-    let said = c.in-Ok.ensures.said in
-    subst (AllSpellAudited (g.F.Folder.bytes c.args.folder.now)) c.requires.files
-    (all_yes (g.F.Folder.bytes c.args.folder.now) (map string_bytes c.args.files.now) said.0 c.in-Ok.status said.1 zero)
-
-pub returns-in-None-clause-yes : goal.returns-in-None-clause-yes
-returns-in-None-clause-yes g c = λ asks zero.
-    let names = map string_bytes c.args.files.now in
-    let is : subcommand_of_call c.args.call ≡ Audit = same_Some _ _ (sym c.requires.call ∙ asks) in
-    let few : length c.args.files.now < 2 = c.workers_for_several.ensures.none (search rules) is in
-    subst (AllSpellAudited (g.F.Folder.bytes c.args.folder.now)) c.requires.files
-    (few_yes (g.F.Folder.bytes c.args.folder.now) names c.first_name.result.now
-    (omega (arith, few, length-map c.args.files.now string_bytes))
-    (λ first rest are. c.first_name.ensures first rest are)
-    (c.serve_file.ensures.yes (inl asks) zero))
+pub returns-in-Err-clause-serves : goal.returns-in-Err-clause-serves
+returns-in-Err-clause-serves g c =
+    let files = c.args.files.now in
+    let bytes = g.F.Folder.bytes c.args.folder.now in
+    let refuses = g.F.Folder.refuses c.args.folder.now in
+    let several = c.in-Some.ensures.several in
+    let some : 2 ≤ length files = several.0 in
+    subst (λ (s : Subcommand). ServesCall g.F.Input.Source.remaining g.F.Input.Source.failures g.E.Sink.written
+    g.E.Sink.failures g.O.Sink.written g.O.Sink.failures bytes refuses s (map string_bytes files) c.args.err.now
+    c.stop.new.err c.args.out.now c.audit_files.new.out c.stop.result) (sym several.1)
+    (serves_several g.F.Input.Source.remaining g.F.Input.Source.failures g.E.Sink.written g.E.Sink.failures
+    g.O.Sink.written g.O.Sink.failures bytes refuses _ (map string_bytes files) c.args.err.now
+    c.stop.new.err c.args.out.now c.audit_files.new.out c.stop.result (omega (arith, some, length-map files string_bytes))
+    (inr (record {
+      err = c.audit_files.new.err;
+      fails = c.in-Err.ensures.stopped;
+      tells = subst (λ (w : ToolFault). Tells g.E.Sink.written g.E.Sink.failures c.audit_files.new.err c.stop.new.err w)
+          c.in-Err.ensures.why c.stop.ensures.told;
+      ends = c.stop.ensures.status ∙ ap status_of c.in-Err.ensures.why;
+    })))

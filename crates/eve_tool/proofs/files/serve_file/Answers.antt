@@ -1,19 +1,54 @@
-use Rattle.std.proofs.Common.{◌∙◌, ◌<◌, arith, sym}
-use Rattle.eve_audit.specs.Verdict.{SpellsAudited}
+use Rattle.std.proofs.Common.{◌∙◌, arith, inl, inr, refl, subst}
+use Rattle.std.proofs.lemmas.Bool.{cases_lt}
 use Rattle.eve_grammar.specs.declared.limits.TheConstants.{MOST_BYTES}
 use Rattle.eve_tool.specs.Calls.{CallSays}
-use Rattle.eve_tool.proofs.SentFiles.{of_file, said_of_file}
+use Rattle.eve_tool.specs.Files.{HoldsBack}
+use Rattle.eve_tool.proofs.SentFiles.{said_of_file, said_of_opened, some_call}
 use Rattle.eve_tool.proofs.files.serve_file.Goals as goal
 
-pub returns-clause-said : goal.returns-clause-said
-returns-clause-said g c = λ call calls less.
-    let sent = c.finish.ensures.sent less in
-    let before : c.serve-status.result < 2 = omega (arith, sent.0, less) in
-    said_of_file (CallSays MOST_BYTES call) (g.F.Folder.bytes c.args.folder.now c.args.name.now) _ _ _ _
-    c.serve-status.result c.finish.result c.in-Ok.ensures (c.serve-status.ensures.said call calls before) sent.1 sent.0
-
-pub returns-clause-yes : goal.returns-clause-yes
-returns-clause-yes g c = λ asks zero.
-    let less : c.finish.result < 2 = omega (arith, zero) in
-    of_file SpellsAudited (g.F.Folder.bytes c.args.folder.now c.args.name.now) _ c.in-Ok.ensures
-    (c.serve-status.ensures.yes asks (sym (c.finish.ensures.sent less).0 ∙ zero))
+pub returns-clause-serves : goal.returns-clause-serves
+returns-clause-serves g c = λ call calls.
+    let is_some = some_call _ call calls in
+    let bytes = g.F.Folder.bytes c.args.folder.now c.args.name.now in record {
+      said = λ less. elim (cases_lt c.serve-status.result 2) [
+        | inl before ↦
+            let sent = c.finish.ensures.sent before less in
+            let fine = c.serve-status.ensures.fine is_some before in (
+              record {
+                less = less;
+                said = said_of_file (CallSays MOST_BYTES call) bytes _ _ _ _ c.serve-status.result c.finish.result
+                    c.in-Ok.ensures.bytes (c.serve-status.ensures.said call calls before) sent.4 sent.0;
+                fine = sent.3 ∙ fine.1;
+                quiet = sent.2 ∙ fine.2;
+              },
+              sent.1,
+            )
+        | inr reached ↦ (let same = (c.finish.ensures.ended reached).0 in absurd (omega (arith, same, less, reached)))
+      ];
+      stopped = λ two. elim (cases_lt c.serve-status.result 2) [
+        | inl before ↦
+            let fine = c.serve-status.ensures.fine is_some before in
+            inr (inr (
+              c.serve-status.new.out,
+              c.serve-status.result,
+              record {
+                less = before;
+                said = said_of_opened (CallSays MOST_BYTES call) bytes _ _ _ c.serve-status.result
+                    c.in-Ok.ensures.bytes (c.serve-status.ensures.said call calls before);
+                fine = fine.1;
+                quiet = refl;
+              },
+              subst (λ e. HoldsBack g.E.Sink.written g.E.Sink.failures g.O.Sink.written g.O.Sink.failures e
+                  c.finish.new.err c.serve-status.new.out c.finish.new.out c.finish.result) fine.2
+                  (c.finish.ensures.failed before two),
+            ))
+        | inr reached ↦
+            let ended = c.finish.ensures.ended reached in
+            inr (inl (record {
+              opened = c.in-Ok.input;
+              left = c.serve-status.new.input;
+              opens = record { has = c.in-Ok.ensures.bytes };
+              stops = rw (ended.0, ended.1, ended.2) (c.serve-status.ensures.stopped call calls reached);
+            }))
+      ];
+    }
