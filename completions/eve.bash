@@ -15,7 +15,8 @@ _eve() {
                 [[ $COMP_CWORD == 1 && $word == -* ]] && words='-h --help -V --version'
             elif [[ $word == -* ]]; then
                 case ${COMP_WORDS[1]} in
-                    audit | explain) words='--workers -h --help' ;;
+                    audit) words='--workers --json -h --help' ;;
+                    explain) words='--workers -h --help' ;;
                     run) words='--mixer --format -h --help' ;;
                     show) words='--long -h --help' ;;
                 esac

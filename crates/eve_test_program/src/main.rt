@@ -8,6 +8,9 @@
 //! A line `limits NAME` asks for a trace at the limits of the format, which is made here (`limits.rt`). It is printed
 //! again, and below it what audits by 1, 3 and 16 workers say of the trace, and of what is changed in it.
 //!
+//! A line `files WORD..` is a call over files in memory (`folder.rt`). It is printed again, and below it the exit status,
+//! what stood on out, and what was said on the error stream.
+//!
 //! Every other line is a trial: what fails, the file that is read, and the arguments of the call. It is printed again,
 //! and below it what came of it. That is the number of the call or byte at which something failed, from the first to
 //! the last that came to the same, the exit status, what stood on out, and what was said on the error stream.
@@ -25,6 +28,7 @@ mod bytes;
 mod calls;
 mod each;
 mod fault;
+mod folder;
 mod limits;
 mod runs;
 mod trials;
@@ -32,6 +36,7 @@ mod trials;
 use crate::bytes::Bytes;
 use crate::calls::{Host, arguments_of};
 use crate::fault::Fault;
+use crate::folder::tell_files;
 use crate::limits::tell_limits;
 use crate::trials::{Failure, Trial, tell_trial};
 use std::fs::Files;
@@ -84,13 +89,18 @@ fn tell_line<R: AllocGlobal + Files + Print + RandomSource + Threads + Wait + Sy
     line: &str,
 ) -> Result<(), Fault> {
     let mut page = Bytes::none(rt.alloc());
-    match line.strip_prefix("limits ") {
-        Some(name) => {
+    match first_word(line) {
+        ("limits", name) => {
             page.words(line);
             page.words("\n");
             tell_limits(&Host::of(rt), name, &mut page);
         }
-        None => {
+        ("files", words) => {
+            page.words(line);
+            page.words("\n");
+            tell_files(rt, words, &mut page);
+        }
+        _ => {
             let trial = trial_of(rt, &mut page, line);
             tell_trial(rt, &trial, &mut page);
         }

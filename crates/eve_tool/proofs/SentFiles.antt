@@ -12,7 +12,7 @@ use Rattle.eve_streams.specs.declared.buffered.Buffered.{Buffered}
 use Rattle.eve_tool.specs.Audit.{AuditsAs, Judges, named_text, verdict_text}
 use Rattle.eve_tool.specs.Fault.{status_of}
 use Rattle.eve_tool.specs.Files.{AllSpellAudited, JudgesAll, JudgesFile, JudgesFiles, ServesCall, ServesFile, StopsAmong}
-use Rattle.eve_tool.specs.Files.{all_bytes, all_failures, first_of}
+use Rattle.eve_tool.specs.Files.{all_bytes, all_failures, first_named}
 use Rattle.eve_tool.specs.Lines.{status_of_verdict}
 use Rattle.eve_tool.specs.Writes.{WritesAll, WritesAllOf}
 use Rattle.eve_audit.specs.declared.verdict.Verdict.{Verdict}
@@ -296,7 +296,7 @@ pub serves_one : {I E O : Type 0} (remaining : I → Option (List ℕ)) (fetched
     (bytes : List ℕ → Option (List ℕ)) (refuses : List ℕ → OpenFault → Type 0) (call : Subcommand)
     (names : List (List ℕ)) (a b : E) (old new : Buffered O) (status : ℕ)
     → ((style : Style) → call ≡ Audit style → length names < 2)
-    → ServesFile remaining fetched told untold written failures bytes refuses call (first_of names) a b old new status
+    → ServesFile remaining fetched told untold written failures bytes refuses call (first_named names) a b old new status
     → ServesCall remaining fetched told untold written failures bytes refuses call names a b old new status
 serves_one remaining fetched told untold written failures bytes refuses (Audit style) [] a b old new status few is = is
 serves_one remaining fetched told untold written failures bytes refuses (Audit style) (n ∷ []) a b old new status few is

@@ -56,7 +56,7 @@ pub record IsUnopened {E : Type 0} (told : E → Option (List ℕ)) (untold : E 
       ⊎ ((status ≡ 3) × Tells told untold err_old err_new fault.Memory)
 
 -- what a source was when a file was opened, and what is left of it
-pub record Opens {I : Type 0} (remaining : I → Option (List ℕ)) (bytes : List ℕ → Option (List ℕ)) (name : List ℕ)
+pub record IsOpened {I : Type 0} (remaining : I → Option (List ℕ)) (bytes : List ℕ → Option (List ℕ)) (name : List ℕ)
     (opened : I) : Type 0 where
   pub has : IfSome (bytes name) (λ known. remaining opened ≡ Some known)
 
@@ -66,7 +66,7 @@ pub record IsUnjudged {I E : Type 0} (remaining : I → Option (List ℕ)) (fetc
   where
     pub opened : I
     pub left : I
-    pub opens : Opens remaining bytes name opened
+    pub opens : IsOpened remaining bytes name opened
     pub why : ToolFault
     pub stops : StopsJudging (fetched left ≡ after_failure (fetched opened)) why
     pub read : why ≢ fault.Read → fetched left ≡ fetched opened
@@ -147,7 +147,7 @@ pub record StopsServing {I E O : Type 0} (remaining : I → Option (List ℕ)) (
     (status : ℕ) : Type 0 where
   pub opened : I
   pub left : I
-  pub opens : Opens remaining bytes name opened
+  pub opens : IsOpened remaining bytes name opened
   pub stops : Stops told untold (all_bytes written) (all_failures failures) call (remaining opened)
       (fetched left ≡ after_failure (fetched opened)) (fetched left ≡ fetched opened)
       (WasRead MOST_BYTES (remaining opened) (remaining left)) err_old err_new old new status
@@ -185,9 +185,9 @@ pub record ServesFile {I E O : Type 0} (remaining : I → Option (List ℕ)) (fe
       × HoldsBack told untold written failures err_old err_new mid new status)))
 
 -- the first of these names, standard input's where there is none
-abbrev pub first_of : List (List ℕ) → List ℕ
-first_of [] = codes "-"
-first_of (name ∷ names) = name
+abbrev pub first_named : List (List ℕ) → List ℕ
+first_named [] = codes "-"
+first_named (name ∷ names) = name
 
 -- what a call over the files of these names comes to: `audit` of several judges each
 abbrev pub ServesCall : {I E O : Type 0} → (I → Option (List ℕ)) → (I → ℕ) → (E → Option (List ℕ)) → (E → ℕ)
@@ -200,7 +200,7 @@ ServesCall remaining fetched told untold written failures bytes refuses (Audit s
     ⊎ StopsAmong remaining fetched told untold written failures bytes refuses style (first ∷ second ∷ names) err_old
     err_new old new status
 ServesCall remaining fetched told untold written failures bytes refuses call names err_old err_new old new status =
-    ServesFile remaining fetched told untold written failures bytes refuses call (first_of names) err_old err_new old
+    ServesFile remaining fetched told untold written failures bytes refuses call (first_named names) err_old err_new old
     new status
 
 -- memory ran out before any file was opened, and that was told

@@ -42,9 +42,9 @@ verdict_members (Yes s) = yes_members s
 verdict_members (No f) = fault_members f
 
 -- the name of the file, if one is named
-abbrev pub front_of : Option (Bor (List ℕ)) → List Token
-front_of (Some name) = string_member (codes "file") name.now
-front_of None = []
+abbrev pub file_member : Option (Bor (List ℕ)) → List Token
+file_member (Some name) = string_member (codes "file") name.now
+file_member None = []
 
 -- the object of a verdict, with these members before its own
 abbrev pub object_line : List Token → Verdict → List ℕ

@@ -11,7 +11,7 @@ ghost use Rattle.eve_tool.specs.Audit.{AuditsAs, StopsJudging, named_text};
 ghost use Rattle.eve_tool.specs.Calls.{Calls, StopsHelp, Tells, TellsLine};
 ghost use Rattle.eve_tool.specs.Fault.{status_of};
 ghost use Rattle.eve_tool.specs.Files.{AllSpellAudited, BeginsNext, FailsAmong, HoldsBack, JudgesAll, JudgesFile};
-ghost use Rattle.eve_tool.specs.Files.{RunsOut, ServesCall, ServesFile, all_bytes, all_failures, first_of};
+ghost use Rattle.eve_tool.specs.Files.{RunsOut, ServesCall, ServesFile, all_bytes, all_failures, first_named};
 ghost use Rattle.eve_tool.specs.Files.{named_fault, open_line, open_text};
 ghost use Rattle.eve_tool.specs.declared.files.OpenFault.{OpenFault};
 ghost use Rattle.eve_tool_arguments.specs.Arguments.{AsksForHelp, Audit, CallsAudit, CallsExplain, CallsNothing};
@@ -70,7 +70,7 @@ pub trait Folder {
     // Why the file of this name may be refused.
     ghost refuses: { Self → List ℕ → OpenFault → Type 0 };
 
-    /// Opens the file of this name. `-` names standard input. Refused with `Missing`, `Denied` or `IsFolder`, where
+    /// IsOpened the file of this name. `-` names standard input. Refused with `Missing`, `Denied` or `IsFolder`, where
     /// that is why, else with `Unknown`.
     fn open(&self, name: &str) -> Result<Self::Input, OpenFault>
         ensures bytes { IfOk result (λ input. IfSome (bytes self.now name.now)
@@ -341,7 +341,7 @@ fn several(call: Call, files: &[String]) -> Option<(WorkerCount, Style)>
 
 /// The name of the first file, or of standard input where there is none.
 fn first_name(files: &[String]) -> &str
-    ensures { result.now ≡ first_of (map string_bytes files.now) }
+    ensures { result.now ≡ first_named (map string_bytes files.now) }
 {
     match files.first() {
         Some(file) => file.as_str(),

@@ -2,7 +2,7 @@
 
 ghost use Rattle.std.specs.Prelude.{◌≡◌, ◌++◌, OnOk, IfOk};
 ghost use Rattle.eve_tool.specs.Objects.{fault_members, number_member, object_line, replica_member, string_member};
-ghost use Rattle.eve_tool.specs.Objects.{front_of, verdict_members, yes_members};
+ghost use Rattle.eve_tool.specs.Objects.{file_member, verdict_members, yes_members};
 
 use eve_audit::{Summary, Verdict};
 use eve_views::Fault;
@@ -80,7 +80,7 @@ fn put_verdict(alloc: Global, writer: &mut Writer, verdict: &Verdict) -> Result<
 
 /// Appends the name of a file, if there is one.
 fn put_file(writer: &mut Writer, file: Option<&str>) -> Result<(), AllocError>
-    ensures tokens { OnOk result (writer.new.tokens ≡ writer.old.tokens ++ front_of file.entry) }
+    ensures tokens { OnOk result (writer.new.tokens ≡ writer.old.tokens ++ file_member file.entry) }
     ensures before { OnOk result (writer.new.before ≡ writer.old.before) }
 {
     match file {
@@ -95,7 +95,7 @@ pub(crate) fn object_line(
     file: Option<&str>,
     verdict: &Verdict,
 ) -> Result<Vec<u8>, AllocError>
-    ensures { IfOk result (λ line. line.items ≡ object_line (front_of file.entry) verdict.now) }
+    ensures { IfOk result (λ line. line.items ≡ object_line (file_member file.entry) verdict.now) }
 {
     let mut writer = Writer::new(Vec::new(alloc));
     writer.begin_object()?;
