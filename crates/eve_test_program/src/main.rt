@@ -8,8 +8,8 @@
 //! A line `limits NAME` asks for a trace at the limits of the format, which is made here (`limits.rt`). It is printed
 //! again, and below it what audits by 1, 3 and 16 workers say of the trace, and of what is changed in it.
 //!
-//! A line `files WORD..` is a call over files in memory (`folder.rt`). It is printed again, and below it the exit status,
-//! what stood on out, and what was said on the error stream.
+//! A line `files WORD..` is a call over files in memory (`folder.rt`). It is printed again, and below it the exit
+//! status, what stood on out, and what was said on the error stream.
 //!
 //! Every other line is a trial: what fails, the file that is read, and the arguments of the call. It is printed again,
 //! and below it what came of it. That is the number of the call or byte at which something failed, from the first to
