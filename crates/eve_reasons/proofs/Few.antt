@@ -43,7 +43,7 @@ use Rattle.eve_reasons.specs.Form.{other_magic_lines, records_lines}
 use Rattle.eve_reasons.specs.Outcomes.{difference_lines, sent_wrong_lines, state_lines}
 use Rattle.eve_reasons.specs.Polls.{choice_line, vote_line}
 use Rattle.eve_reasons.specs.Reasons.{reason_lines}
-use Rattle.eve_reasons.specs.Records.{record_fault_lines, seen_by, seen_from}
+use Rattle.eve_reasons.specs.Records.{record_fault_lines, seen_by_lines, seen_from}
 use Rattle.eve_reasons.specs.Rows.{restore_lines}
 use Rattle.eve_reasons.specs.Words.{has_words, source_words}
 use Rattle.eve_reasons.specs.Structure.{commit_lines, rollback_lines, transfer_fault_lines}
@@ -96,7 +96,7 @@ few_fields : (wrong : RecordFault) → length (record_fault_lines wrong) ≤ 3
 few_fields (record_fault.Entries found due) = lit≤ tt
 few_fields _ = lit≤ tt
 
-few_sources : (by : Option Source) → length (seen_by by) ≤ 1
+few_sources : (by : Option Source) → length (seen_by_lines by) ≤ 1
 few_sources None = lit≤ tt
 few_sources (Some x) = lit≤ tt
 
@@ -135,7 +135,7 @@ few_reasons (shown.Transfer s wrong) = omega (arith, few_transfer wrong)
 few_reasons (shown.Record a request at wrong) = omega (arith, few_fields wrong)
 few_reasons (shown.Chain a request at wrong seen) =
     let rest = (codes "due: " ++ has_words wrong.due) ∷ (codes "left by: " ++ source_words wrong.left_by)
-    ∷ seen_by wrong.seen_by in
+    ∷ seen_by_lines wrong.seen_by in
     omega (arith, few_from seen rest, few_sources wrong.seen_by)
 few_reasons (shown.Restore wrong) = omega (arith, few_restores wrong)
 few_reasons (shown.Majority poll) = omega (arith, few_of vote_line poll.verifiers 16 poll.votes)

@@ -11,7 +11,7 @@ use Rattle.eve_evidence.specs.declared.evidence.CertificateFault.TheVariants as 
 use Rattle.eve_evidence.specs.declared.evidence.Numbers.{Numbers}
 use Rattle.eve_evidence.specs.declared.evidence.ToldAttempt.{ToldAttempt}
 use Rattle.eve_reasons.specs.Shared.{attempt_line, access_line, numbers_lines}
-use Rattle.eve_reasons.specs.Words.{frame_words}
+use Rattle.eve_reasons.specs.Words.{frame_at_words}
 
 -- its number, view, requests or mode
 abbrev pub attempt_fault_lines : AttemptFault → List (List ℕ)
@@ -55,7 +55,7 @@ access_fault_lines serial (access.Worker is) = worker_lines serial is
 access_fault_lines serial (access.Index is) = numbers_lines (codes "index") is (codes "due: below ")
 access_fault_lines serial (access.Again index first) =
     codes "field: index" ∷ (codes "found: " ++ decimal index) ∷ codes "due: once"
-    ∷ (codes "first: " ++ frame_words kind.Access first) ∷ []
+    ∷ (codes "first: " ++ frame_at_words kind.Access first) ∷ []
 
 abbrev pub access_lines : ToldAttempt → ℕ → AccessFault → List (List ℕ)
 access_lines a at wrong = attempt_line a ∷ access_line at ∷ access_fault_lines a.serial wrong

@@ -16,7 +16,7 @@ use Rattle.eve_evidence.specs.declared.evidence.FrameFault.TheVariants as frame
 use Rattle.eve_evidence.specs.declared.evidence.RecordsBefore.{RecordsBefore}
 use Rattle.eve_evidence.specs.declared.evidence.BodyField.{BodyField}
 use Rattle.eve_evidence.specs.declared.evidence.BodyField.TheVariants as field
-use Rattle.eve_reasons.specs.Words.{frame_words, kind_words, kinds_words}
+use Rattle.eve_reasons.specs.Words.{frame_at_words, kind_words, kinds_words}
 
 -- ---- how many bytes there are
 
@@ -97,7 +97,7 @@ abbrev pub records_lines : Option RecordsBefore → List (List ℕ)
 records_lines None = []
 records_lines (Some r) =
     (codes "records: " ++ (decimal r.found ++ (codes " of " ++ (decimal r.due ++ (codes ", of "
-    ++ frame_words kind.Attempt r.attempt))))) ∷ []
+    ++ frame_at_words kind.Attempt r.attempt))))) ∷ []
 
 -- what stands where a frame is due, which frames may stand there, and the records before
 abbrev pub frame_fault_lines : FrameFault → List Bool → Option RecordsBefore → List (List ℕ)
@@ -145,4 +145,4 @@ body_word field.Batch = codes "batch"
 -- a frame, and the first field of its body that is wrong
 abbrev pub body_lines : FrameKind → ℕ → BodyField → ℕ → List (List ℕ)
 body_lines k at field field_at =
-    (codes "frame: " ++ frame_words k at) ∷ field_line (body_word field) field_at ∷ []
+    (codes "frame: " ++ frame_at_words k at) ∷ field_line (body_word field) field_at ∷ []

@@ -13,13 +13,13 @@ use Rattle.eve_evidence.specs.declared.evidence.StateFault.{StateFault}
 use Rattle.eve_evidence.specs.declared.evidence.StateFault.TheVariants as state
 use Rattle.eve_evidence.specs.declared.evidence.SentFault.{SentFault}
 use Rattle.eve_evidence.specs.declared.evidence.SentFault.TheVariants as sent
-use Rattle.eve_reasons.specs.Words.{frame_words, request_words, row_words}
+use Rattle.eve_reasons.specs.Words.{frame_at_words, told_request_words, told_row_words}
 use Rattle.eve_reasons.specs.Shared.{attempt_line, transfer_line}
 
 -- the replica that a batch is compared with, and its attempt
 abbrev pub first_line : ℕ → ℕ → List ℕ
 first_line first first_at =
-    codes "first: replica " ++ (decimal first ++ (codes ", " ++ frame_words kind.Attempt first_at))
+    codes "first: replica " ++ (decimal first ++ (codes ", " ++ frame_at_words kind.Attempt first_at))
 
 -- the amount of money that was found, and the one that was due
 abbrev pub amount_lines : ℤ → ℤ → List (List ℕ)
@@ -27,9 +27,9 @@ amount_lines found due = (codes "found: " ++ signed_decimal found) ∷ (codes "d
 
 -- how an outcome differs: the row or the request, what was found, and what was due
 abbrev pub difference_lines : OutcomeFault → List (List ℕ)
-difference_lines (outcome.Row row found due) = (codes "row: " ++ row_words row) ∷ amount_lines found due
+difference_lines (outcome.Row row found due) = (codes "row: " ++ told_row_words row) ∷ amount_lines found due
 difference_lines (outcome.Reply request found due) =
-    (codes "reply: " ++ request_words request) ∷ (codes "found: " ++ reply_words found)
+    (codes "reply: " ++ told_request_words request) ∷ (codes "found: " ++ reply_words found)
     ∷ (codes "due: " ++ reply_words due) ∷ []
 
 -- an attempt, the first replica's, and how their outcomes differ
@@ -41,7 +41,7 @@ outcome_lines attempt first first_at wrong =
 abbrev pub state_lines : StateFault → List (List ℕ)
 state_lines state.NoneCommitted = codes "first: none" ∷ []
 state_lines (state.Row first first_at row found due) =
-    first_line first first_at ∷ (codes "row: " ++ row_words row) ∷ amount_lines found due
+    first_line first first_at ∷ (codes "row: " ++ told_row_words row) ∷ amount_lines found due
 
 -- a state that was transferred, and how it differs
 abbrev pub state_fault_lines : ToldTransfer → StateFault → List (List ℕ)
@@ -60,7 +60,7 @@ open_words is_open = if is_open then codes ", open" else codes ", discarded"
 -- which attempt gave the reply and wasn't committed
 abbrev pub given_line : Option GivenBy → List ℕ
 given_line None = codes "given by: nobody"
-given_line (Some by) = codes "given by: " ++ (frame_words kind.Attempt by.at ++ open_words by.open)
+given_line (Some by) = codes "given by: " ++ (frame_at_words kind.Attempt by.at ++ open_words by.open)
 
 -- what is wrong with it, and who gave it
 abbrev pub sent_wrong_lines : ToldSent → Option GivenBy → SentFault → List (List ℕ)
@@ -71,7 +71,7 @@ sent_wrong_lines s given sent.NotCommitted =
     (codes "found: batch " ++ (decimal s.batch ++ (codes " not committed by an attempt of replica "
     ++ decimal s.replica))) ∷ given_line given ∷ []
 sent_wrong_lines s given (sent.Another request due) =
-    (codes "request: " ++ request_words request) ∷ (codes "found: " ++ reply_words s.reply)
+    (codes "request: " ++ told_request_words request) ∷ (codes "found: " ++ reply_words s.reply)
     ∷ (codes "due: " ++ reply_words due) ∷ given_line given ∷ []
 
 -- a reply that was sent, what is wrong with it, and who gave it

@@ -14,7 +14,7 @@ use Rattle.eve_evidence.specs.declared.evidence.VerifierVote.{VerifierVote}
 use Rattle.eve_evidence.specs.declared.evidence.VerifierVote.TheVariants as vote
 use Rattle.eve_evidence.specs.declared.evidence.VerifierChoice.{VerifierChoice}
 use Rattle.eve_evidence.specs.declared.evidence.VerifierChoice.TheVariants as chosen
-use Rattle.eve_reasons.specs.Words.{batch_and_view, frame_words}
+use Rattle.eve_reasons.specs.Words.{batch_and_view, frame_at_words}
 use Rattle.eve_reasons.specs.Shared.{transfer_line}
 
 -- a verifier's second vote on a batch in a view: `vote: verifier 1, batch 1, view 0, rollback`
@@ -27,9 +27,9 @@ second_line verifier batch view (choice.ForCommit token) =
 
 -- its earliest there: `first: Vote at byte 251, rollback`
 abbrev pub earliest_line : ℕ → Choice → List ℕ
-earliest_line at choice.ForRollback = codes "first: " ++ (frame_words kind.Vote at ++ codes ", rollback")
+earliest_line at choice.ForRollback = codes "first: " ++ (frame_at_words kind.Vote at ++ codes ", rollback")
 earliest_line at (choice.ForCommit token) =
-    codes "first: " ++ (frame_words kind.Vote at ++ (codes ", commit " ++ token_words token.now))
+    codes "first: " ++ (frame_at_words kind.Vote at ++ (codes ", commit " ++ token_words token.now))
 
 -- a verifier's second vote on a batch in a view, and its earliest there
 abbrev pub two_votes_lines : SecondVote → List (List ℕ)
@@ -62,9 +62,9 @@ found_lines found verifiers due =
 -- what the verifier of a number did
 abbrev pub vote_line : ℕ × VerifierVote → List ℕ
 vote_line (verifier, vote.For at) =
-    codes "verifier " ++ (decimal verifier ++ (codes ": for it, " ++ frame_words kind.Vote at))
+    codes "verifier " ++ (decimal verifier ++ (codes ": for it, " ++ frame_at_words kind.Vote at))
 vote_line (verifier, vote.Otherwise at) =
-    codes "verifier " ++ (decimal verifier ++ (codes ": otherwise, " ++ frame_words kind.Vote at))
+    codes "verifier " ++ (decimal verifier ++ (codes ": otherwise, " ++ frame_at_words kind.Vote at))
 vote_line (verifier, vote.NoVote) = codes "verifier " ++ (decimal verifier ++ codes ": no vote")
 
 -- who voted for a commit or a rollback that has no majority
@@ -77,9 +77,9 @@ poll_lines p =
 abbrev pub choice_line : ℕ × VerifierChoice → List ℕ
 choice_line (verifier, chosen.Commit token at) =
     codes "verifier " ++ (decimal verifier ++ (codes ": commit " ++ (token_words token.now ++ (codes ", "
-    ++ frame_words kind.Vote at))))
+    ++ frame_at_words kind.Vote at))))
 choice_line (verifier, chosen.Rollback at) =
-    codes "verifier " ++ (decimal verifier ++ (codes ": rollback, " ++ frame_words kind.Vote at))
+    codes "verifier " ++ (decimal verifier ++ (codes ": rollback, " ++ frame_at_words kind.Vote at))
 choice_line (verifier, chosen.NoVote) = codes "verifier " ++ (decimal verifier ++ codes ": no vote")
 
 -- who voted for the commit of a batch whose state was transferred at byte `at`, where no token has a majority

@@ -9,11 +9,11 @@ use Rattle.eve_evidence.specs.declared.evidence.ToldState.{ToldState}
 use Rattle.eve_evidence.specs.declared.evidence.TokenMatch.{TokenMatch}
 use Rattle.eve_evidence.specs.declared.evidence.TokenMatch.TheVariants as made_as
 use Rattle.eve_reasons.specs.Shared.{attempt_line}
-use Rattle.eve_reasons.specs.Words.{has_words, row_words}
+use Rattle.eve_reasons.specs.Words.{has_words, told_row_words}
 
 -- a row and what it has: `missing: row 1 (checking of ann), version 1, value 100`
 abbrev pub state_line : List ℕ → ToldState → List ℕ
-state_line label s = label ++ (row_words s.row ++ (codes ", " ++ has_words s.has))
+state_line label s = label ++ (told_row_words s.row ++ (codes ", " ++ has_words s.has))
 
 -- the first row in which restores differ from those that are due
 abbrev pub restore_lines : RestoreFault → List (List ℕ)

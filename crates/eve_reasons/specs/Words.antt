@@ -43,28 +43,28 @@ unfoldable pub kinds_words : List Bool → List ℕ
 kinds_words told = listed_kinds (told_kinds all_kinds told)
 
 -- a frame, and the byte at which it begins: `Access at byte 196`
-abbrev pub frame_words : FrameKind → ℕ → List ℕ
-frame_words k at = kind_words k ++ (codes " at byte " ++ decimal at)
+abbrev pub frame_at_words : FrameKind → ℕ → List ℕ
+frame_at_words k at = kind_words k ++ (codes " at byte " ++ decimal at)
 
 -- the number of a batch, and a view: `batch 1, view 0`
 abbrev pub batch_and_view : ℕ → ℕ → List ℕ
 batch_and_view batch view = codes "batch " ++ (decimal batch ++ (codes ", view " ++ decimal view))
 
 -- which request it is: `#1 of batch 1`
-abbrev pub index_words : ℕ → ℕ → List ℕ
-index_words index batch = codes "#" ++ (decimal index ++ (codes " of batch " ++ decimal batch))
+abbrev pub request_index_words : ℕ → ℕ → List ℕ
+request_index_words index batch = codes "#" ++ (decimal index ++ (codes " of batch " ++ decimal batch))
 
 -- a request: `#1 of batch 1: deposit 7 2 ann 7`
-abbrev pub request_words : ToldRequest → List ℕ
-request_words r = index_words r.index r.batch ++ (codes ": " ++ asked_words (borrowed_asked r.asked))
+abbrev pub told_request_words : ToldRequest → List ℕ
+told_request_words r = request_index_words r.index r.batch ++ (codes ": " ++ asked_words (borrowed_asked r.asked))
 
 -- whose balance a row is: an even number is a saving balance, an odd one a checking balance
 abbrev pub balance_words : ℕ → List ℕ
 balance_words row = if row % 2 == 0 then codes " (saving of " else codes " (checking of "
 
 -- a row: `row 1 (checking of ann)`
-abbrev pub row_words : ToldRow → List ℕ
-row_words r = codes "row " ++ (decimal r.row ++ (balance_words r.row ++ (name_words r.name.now ++ codes ")")))
+abbrev pub told_row_words : ToldRow → List ℕ
+told_row_words r = codes "row " ++ (decimal r.row ++ (balance_words r.row ++ (name_words r.name.now ++ codes ")")))
 
 -- what a row has: `version 2, value 12`
 abbrev pub has_words : Versioned → List ℕ
@@ -74,8 +74,8 @@ has_words has = codes "version " ++ (decimal has.version ++ (codes ", value " ++
 abbrev pub source_words : Source → List ℕ
 source_words source.Opening = codes "the opening"
 source_words (source.Write index batch at) =
-    index_words index batch ++ (codes ", " ++ frame_words kind.Access at)
-source_words (source.Transfer at) = frame_words kind.Transfer at
+    request_index_words index batch ++ (codes ", " ++ frame_at_words kind.Access at)
+source_words (source.Transfer at) = frame_at_words kind.Transfer at
 
 -- a word
 abbrev pub word_words : Word → List ℕ
@@ -88,10 +88,10 @@ word_words (word.Mode serial) = mode_words serial
 word_words (word.Access k) = kind_word k
 word_words (word.Kind k) = kind_words k
 word_words (word.Batch batch view) = batch_and_view batch view
-word_words (word.Frame k at) = frame_words k at
-word_words (word.Row r) = row_words r.now
+word_words (word.Frame k at) = frame_at_words k at
+word_words (word.Row r) = told_row_words r.now
 word_words (word.Has has) = has_words has
-word_words (word.Request r) = request_words r.now
+word_words (word.Request r) = told_request_words r.now
 word_words (word.Reply r) = reply_words r
 word_words (word.Source s) = source_words s.now
 word_words (word.Kinds told) = kinds_words told.now

@@ -42,7 +42,7 @@ pub(crate) fn say_counts(lines: &mut Lines, counts: &Counts)
     }
 }
 
-/// Line `i`, from 0, of what a trace without a fault has, with its line feed; none, where there is no such line.
+/// Line `i`, from 0, of what a trace without a fault has, with its line feed. None, where there is no such line.
 ///
 /// docs/USING.md, "What `explain` prints". The first has the requests, and behind it comes one for each replica.
 pub fn count_line(i: usize, counts: &Counts) -> Option<Line>

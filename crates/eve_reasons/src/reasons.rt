@@ -106,7 +106,7 @@ fn say_evidence<'e>(lines: &mut Lines, evidence: &'e Evidence<'e>)
     }
 }
 
-/// Line `i`, from 0, of why a verdict is no, with its line feed; none, where there is no such line.
+/// Line `i`, from 0, of why a verdict is no, with its line feed. None, where there is no such line.
 ///
 /// docs/USING.md, "What `explain` prints", has each line.
 pub fn reason_line<'e>(i: usize, evidence: &'e Evidence<'e>) -> Option<Line>

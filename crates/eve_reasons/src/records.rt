@@ -3,7 +3,7 @@
 ghost use Rattle.std.specs.Prelude.{◌≡◌, ◌≤◌, [], length};
 ghost use Rattle.eve_reasons.specs.Lines.{and_line, and_lines};
 ghost use Rattle.eve_reasons.specs.Records.{chain_lines, entry_line, record_at, record_fault_lines, record_lines};
-ghost use Rattle.eve_reasons.specs.Records.{restoring, seen_by, seen_from, seen_line};
+ghost use Rattle.eve_reasons.specs.Records.{restoring, seen_by_lines, seen_from, seen_line};
 
 use crate::lines::Lines;
 use crate::shared::{say_access, say_attempt};
@@ -147,7 +147,7 @@ fn say_seen_from<'e>(lines: &mut Lines, seen: &'e Option<SeenFrom>)
 
 /// Says who saw what an entry left, before it in the certificate.
 fn say_seen_by<'e>(lines: &mut Lines, by: &'e Option<Left>)
-    ensures { lines.new ≡ and_lines (seen_by by.now) lines.old }
+    ensures { lines.new ≡ and_lines (seen_by_lines by.now) lines.old }
 {
     if let Some(source) = by {
         lines.say(&[

@@ -2,9 +2,9 @@
 
 ghost use Rattle.std.specs.Prelude.{◌≡◌, ◌+◌, ◌≤◌, ◌++◌, length};
 ghost use Rattle.arrayvec.specs.ArrayVec.{array_vec_len};
-ghost use Rattle.eve_reasons.specs.Words.{balance_words, batch_and_view, frame_words, has_words, index_words};
-ghost use Rattle.eve_reasons.specs.Words.{request_words, row_words, source_words, word_words, words_text};
-ghost use Rattle.eve_reasons.specs.Words.{word_room, words_room};
+ghost use Rattle.eve_reasons.specs.Words.{balance_words, batch_and_view, frame_at_words, has_words};
+ghost use Rattle.eve_reasons.specs.Words.{request_index_words, source_words, told_request_words, told_row_words};
+ghost use Rattle.eve_reasons.specs.Words.{word_room, word_words, words_room, words_text};
 
 use crate::kinds::put_kinds;
 use eve_accounts::Cents;
@@ -59,7 +59,7 @@ pub(crate) enum Word<'e> {
 /// Appends a frame: `Access at byte 196`.
 fn put_frame(line: &mut Line, kind: FrameKind, at: u64)
     requires { array_vec_len line.old + 40 ≤ LINE_ROOM }
-    ensures items { line.new.items ≡ line.old.items ++ frame_words kind at }
+    ensures items { line.new.items ≡ line.old.items ++ frame_at_words kind at }
     ensures len { array_vec_len line.new ≤ array_vec_len line.old + 40 }
 {
     put(line, kind_name(kind));
@@ -79,7 +79,7 @@ fn put_batch_and_view(line: &mut Line, batch: u32, view: u32)
 /// Appends which request it is: `#1 of batch 1`.
 fn put_index(line: &mut Line, index: u16, batch: u32)
     requires { array_vec_len line.old + 58 ≤ LINE_ROOM }
-    ensures items { line.new.items ≡ line.old.items ++ index_words index batch }
+    ensures items { line.new.items ≡ line.old.items ++ request_index_words index batch }
     ensures len { array_vec_len line.new ≤ array_vec_len line.old + 58 }
 {
     put_numbered(line, "#", u64::from(index));
@@ -89,7 +89,7 @@ fn put_index(line: &mut Line, index: u16, batch: u32)
 /// Appends a request: `#1 of batch 1: deposit 7 2 ann 7`.
 fn put_told_request(line: &mut Line, request: &ToldRequest)
     requires { array_vec_len line.old + LONGEST_WORD ≤ LINE_ROOM }
-    ensures items { line.new.items ≡ line.old.items ++ request_words request.now }
+    ensures items { line.new.items ≡ line.old.items ++ told_request_words request.now }
     ensures len { array_vec_len line.new ≤ array_vec_len line.old + LONGEST_WORD }
 {
     put_index(line, request.index, request.batch);
@@ -112,7 +112,7 @@ fn balance_word(row: u64) -> &'static str
 /// Appends a row: `row 1 (checking of ann)`.
 fn put_row(line: &mut Line, row: &ToldRow)
     requires { array_vec_len line.old + 64 ≤ LINE_ROOM }
-    ensures items { line.new.items ≡ line.old.items ++ row_words row.now }
+    ensures items { line.new.items ≡ line.old.items ++ told_row_words row.now }
     ensures len { array_vec_len line.new ≤ array_vec_len line.old + 64 }
 {
     let number = u64::from(row.row.number());
