@@ -14,15 +14,15 @@ use Rattle.eve_evidence.specs.declared.evidence.VerifierVote.{VerifierVote}
 use Rattle.eve_evidence.specs.declared.evidence.VerifierVote.TheVariants as vote
 use Rattle.eve_evidence.specs.declared.evidence.VerifierChoice.{VerifierChoice}
 use Rattle.eve_evidence.specs.declared.evidence.VerifierChoice.TheVariants as chosen
-use Rattle.eve_reasons.specs.Words.{batch_and_view, frame_at_words}
+use Rattle.eve_reasons.specs.Words.{batch_view_words, frame_at_words}
 use Rattle.eve_reasons.specs.Shared.{transfer_line}
 
 -- a verifier's second vote on a batch in a view: `vote: verifier 1, batch 1, view 0, rollback`
 abbrev pub second_line : ℕ → ℕ → ℕ → Choice → List ℕ
 second_line verifier batch view choice.ForRollback =
-    codes "vote: verifier " ++ (decimal verifier ++ (codes ", " ++ (batch_and_view batch view ++ codes ", rollback")))
+    codes "vote: verifier " ++ (decimal verifier ++ (codes ", " ++ (batch_view_words batch view ++ codes ", rollback")))
 second_line verifier batch view (choice.ForCommit token) =
-    codes "vote: verifier " ++ (decimal verifier ++ (codes ", " ++ (batch_and_view batch view ++ (codes ", commit "
+    codes "vote: verifier " ++ (decimal verifier ++ (codes ", " ++ (batch_view_words batch view ++ (codes ", commit "
     ++ token_words token.now))))
 
 -- its earliest there: `first: Vote at byte 251, rollback`
@@ -49,9 +49,9 @@ two_decisions_lines batch first second verifiers =
 
 -- what votes are asked for
 abbrev pub asked_line : ℕ → ℕ → Choice → List ℕ
-asked_line batch view choice.ForRollback = codes "for: rollback of " ++ batch_and_view batch view
+asked_line batch view choice.ForRollback = codes "for: rollback of " ++ batch_view_words batch view
 asked_line batch view (choice.ForCommit token) =
-    codes "for: commit of " ++ (batch_and_view batch view ++ (codes ", token " ++ token_words token.now))
+    codes "for: commit of " ++ (batch_view_words batch view ++ (codes ", token " ++ token_words token.now))
 
 -- how many verifiers count for it, of how many, and how many must
 abbrev pub found_lines : ℕ → ℕ → ℕ → List (List ℕ)
@@ -86,6 +86,6 @@ choice_line (verifier, chosen.NoVote) = codes "verifier " ++ (decimal verifier +
 abbrev pub transfer_poll_lines : ℕ → TransferPoll → List (List ℕ)
 transfer_poll_lines at p =
     (transfer_line (record { batch = p.batch; view = p.view; at = at })
-    ∷ (codes "for: commit of " ++ (batch_and_view p.batch p.view ++ codes ", any token"))
+    ∷ (codes "for: commit of " ++ (batch_view_words p.batch p.view ++ codes ", any token"))
     ∷ found_lines p.found p.verifiers p.due)
     ++ map choice_line (enumerate_from 0 (take (min p.verifiers VERIFIERS) p.votes))

@@ -47,8 +47,8 @@ abbrev pub frame_at_words : FrameKind → ℕ → List ℕ
 frame_at_words k at = kind_words k ++ (codes " at byte " ++ decimal at)
 
 -- the number of a batch, and a view: `batch 1, view 0`
-abbrev pub batch_and_view : ℕ → ℕ → List ℕ
-batch_and_view batch view = codes "batch " ++ (decimal batch ++ (codes ", view " ++ decimal view))
+abbrev pub batch_view_words : ℕ → ℕ → List ℕ
+batch_view_words batch view = codes "batch " ++ (decimal batch ++ (codes ", view " ++ decimal view))
 
 -- which request it is: `#1 of batch 1`
 abbrev pub request_index_words : ℕ → ℕ → List ℕ
@@ -59,12 +59,13 @@ abbrev pub told_request_words : ToldRequest → List ℕ
 told_request_words r = request_index_words r.index r.batch ++ (codes ": " ++ asked_words (borrowed_asked r.asked))
 
 -- whose balance a row is: an even number is a saving balance, an odd one a checking balance
-abbrev pub balance_words : ℕ → List ℕ
-balance_words row = if row % 2 == 0 then codes " (saving of " else codes " (checking of "
+abbrev pub whose_balance_words : ℕ → List ℕ
+whose_balance_words row = if row % 2 == 0 then codes " (saving of " else codes " (checking of "
 
 -- a row: `row 1 (checking of ann)`
 abbrev pub told_row_words : ToldRow → List ℕ
-told_row_words r = codes "row " ++ (decimal r.row ++ (balance_words r.row ++ (name_words r.name.now ++ codes ")")))
+told_row_words r =
+    codes "row " ++ (decimal r.row ++ (whose_balance_words r.row ++ (name_words r.name.now ++ codes ")")))
 
 -- what a row has: `version 2, value 12`
 abbrev pub has_words : Versioned → List ℕ
@@ -87,7 +88,7 @@ word_words (word.Digits bytes) = token_words bytes.now
 word_words (word.Mode serial) = mode_words serial
 word_words (word.Access k) = kind_word k
 word_words (word.Kind k) = kind_words k
-word_words (word.Batch batch view) = batch_and_view batch view
+word_words (word.Batch batch view) = batch_view_words batch view
 word_words (word.Frame k at) = frame_at_words k at
 word_words (word.Row r) = told_row_words r.now
 word_words (word.Has has) = has_words has

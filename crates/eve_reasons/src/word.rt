@@ -2,7 +2,7 @@
 
 ghost use Rattle.std.specs.Prelude.{◌≡◌, ◌+◌, ◌≤◌, ◌++◌, length};
 ghost use Rattle.arrayvec.specs.ArrayVec.{array_vec_len};
-ghost use Rattle.eve_reasons.specs.Words.{balance_words, batch_and_view, frame_at_words, has_words};
+ghost use Rattle.eve_reasons.specs.Words.{whose_balance_words, batch_view_words, frame_at_words, has_words};
 ghost use Rattle.eve_reasons.specs.Words.{request_index_words, source_words, told_request_words, told_row_words};
 ghost use Rattle.eve_reasons.specs.Words.{word_room, word_words, words_room, words_text};
 
@@ -69,7 +69,7 @@ fn put_frame(line: &mut Line, kind: FrameKind, at: u64)
 /// Appends the number of a batch, and a view: `batch 1, view 0`.
 fn put_batch_and_view(line: &mut Line, batch: u32, view: u32)
     requires { array_vec_len line.old + 54 ≤ LINE_ROOM }
-    ensures items { line.new.items ≡ line.old.items ++ batch_and_view batch view }
+    ensures items { line.new.items ≡ line.old.items ++ batch_view_words batch view }
     ensures len { array_vec_len line.new ≤ array_vec_len line.old + 54 }
 {
     put_numbered(line, "batch ", u64::from(batch));
@@ -99,7 +99,7 @@ fn put_told_request(line: &mut Line, request: &ToldRequest)
 
 /// Whose balance a row of this number is.
 fn balance_word(row: u64) -> &'static str
-    ensures word { result.now ≡ balance_words row }
+    ensures word { result.now ≡ whose_balance_words row }
     ensures short { length result.now ≤ 14 }
 {
     if row % 2 == 0 {
