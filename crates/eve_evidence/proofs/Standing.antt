@@ -7,6 +7,7 @@ use Rattle.eve_smallbank.proofs.Members.{In, here, there}
 use Rattle.eve_grammar.specs.Accesses.{is_right_place}
 use Rattle.eve_grammar.specs.Trace.{Access, Attempt, Step, Attempts, Commits, RollsBack, TakesOver, Trace}
 use Rattle.eve_grammar.specs.Spelling.{steps_at, accesses_at}
+use Rattle.eve_views.specs.declared.fault.Code.{Code}
 use Rattle.eve_views.specs.declared.fault.Code.TheVariants as code
 use Rattle.eve_views.specs.Form.{SomePlace}
 use Rattle.eve_history.specs.Section.{Placed, attempts_by, SectionState, start, next, committing, state_after, settled}
@@ -14,127 +15,124 @@ use Rattle.eve_history.specs.Section.{request_count, is_due, is_right_attempt, i
 use Rattle.eve_history.specs.Section.{is_right_commit}
 use Rattle.eve_history.specs.Section.{is_right_rollback, is_right_transfer, are_right, are_right_accesses}
 use Rattle.eve_history.specs.SectionHistory.{history}
-use Rattle.eve_history.specs.Structure.{OfAttempt, OfCommit, OfRollback, OfTransfer, accesses_of, StandsInStructure}
+use Rattle.eve_history.specs.Structure.{OfAttempt, OfCommit, OfRollback, OfTransfer, AtStep, AtAccess, accesses_of}
+use Rattle.eve_history.specs.Structure.{StandsInStructure}
 use Rattle.eve_history.proofs.FateLaws.{attempts_by_push, attempts_by_taking}
 use Rattle.eve_history.proofs.Places.{weaker_place, place_here, place_later}
 use Rattle.eve_chains.proofs.Distinct.{in_right, in_split}
 use Rattle.eve_chains.specs.Visible.{visible_to}
-use Rattle.eve_chains.specs.Faults.{StandsInRecords, StandsInChains}
+use Rattle.eve_chains.specs.Faults.{AtSettledAccess, StandsInRecords, StandsInChains}
 use Rattle.eve_evidence.specs.Told.{placed_in}
-use Rattle.eve_evidence.specs.Section.{StandsAtStep, StandsAlong}
+use Rattle.eve_evidence.specs.Section.{WrongAccess, StandsAtStep, StandsAlong}
 
 -- ---- structure
 
-pub attempt_along : (t : Trace) (e at : ℕ) → StandsInStructure code.Attempt t e at → StandsAlong code.Attempt t e at
-attempt_along t e at stands = weaker_place _ _ (steps_at t e) by stands
-  where
-    by : (before : List (ℕ × Step)) (step : ℕ × Step) → IsTrue (are_right t start before) × ((step.0 ≡ at)
-        × OfAttempt step.1 (λ a. IsFalse (is_right_attempt t (state_after start before) a)))
-        → StandsAtStep code.Attempt t at (state_after start before) step
-    by before (o, Attempts a) h = inl (h.1.0, h.1.1)
-    by before (o, Commits c) h = elim h.1.1 [ ]
-    by before (o, RollsBack r) h = elim h.1.1 [ ]
-    by before (o, TakesOver x) h = elim h.1.1 [ ]
+module _ (t : Trace) (e at : ℕ) where
+  -- a fault at a step's own frame
+  own_along : (c : Code) (P : SectionState → Step → Type 0)
+      → ((s : SectionState) (step : ℕ × Step) → step.0 ≡ at → P s step.1 → StandsAtStep c t at s step)
+      → AtStep t e at P → StandsAlong c t e at
+  own_along c P to stands =
+      weaker_place _ _ (steps_at t e) (λ before step h. to (state_after start before) step h.1.0 h.1.1) stands
 
-pub certificate_along : (t : Trace) (e at : ℕ) → StandsInStructure code.Certificate t e at
-    → (StandsInStructure code.Attempt t e at → ⊥) → StandsAlong code.Certificate t e at
-certificate_along t e at stands apart = record {
-  before = stands.before;
-  item = stands.item;
-  rest = stands.rest;
-  is = stands.is;
-  holds = by stands.item
-      (λ wrong. apart (record {
-        before = stands.before;
-        item = stands.item;
-        rest = stands.rest;
-        is = stands.is;
-        holds = wrong;
-      }))
-      stands.holds;
-}
-  where
-    true_there : (b : Bool) → (b ≡ false → ⊥) → b ≡ true
-    true_there true other = refl
-    true_there false other = absurd (other refl)
+  -- a fault at one of an attempt's access records
+  access_along : (c : Code) (P : Attempt → List Access → Access → Type 0)
+      → ((s : SectionState) (o : ℕ) (a : Attempt) (own : List (ℕ × Access)) (x : Access) → P a (accesses_of own) x
+      → WrongAccess c t s o a own x)
+      → AtAccess t e at P → StandsAlong c t e at
+  access_along c P to stands = weaker_place _ _ (steps_at t e) (λ before step h. by before step h.1) stands
+    where
+      by : (before : List (ℕ × Step)) (step : ℕ × Step)
+          → OfAttempt step.1 (λ a. IsTrue (is_right_attempt t (state_after start before) a)
+          × IsTrue (is_right_certificate t a)
+          × SomePlace (accesses_at step.0 a) (λ own x. IsTrue (are_right_accesses t a [] (accesses_of own))
+          × ((x.0 ≡ at) × P a (accesses_of own) x.1)))
+          → StandsAtStep c t at (state_after start before) step
+      by before (o, Attempts a) h =
+          inr (weaker_place _ _ (accesses_at o a)
+          (λ own x w. (w.1.0, to (state_after start before) o a own x.1 w.1.1)) h.2)
+      by before (o, Commits d) h = elim h [ ]
+      by before (o, RollsBack r) h = elim h [ ]
+      by before (o, TakesOver x) h = elim h [ ]
 
-    by : (step : ℕ × Step)
-        → (IsTrue (are_right t start stands.before) × ((step.0 ≡ at)
-        × OfAttempt step.1 (λ a. IsFalse (is_right_attempt t (state_after start stands.before) a))) → ⊥)
-        → IsTrue (are_right t start stands.before) × ((step.0 ≡ at)
-        × OfAttempt step.1 (λ a. IsFalse (is_right_certificate t a)))
-        → StandsAtStep code.Certificate t at (state_after start stands.before) step
-    by (o, Attempts a) none h =
-        let s = state_after start stands.before in
-        let right : is_right_attempt t s a ≡ true =
-        true_there (is_right_attempt t s a) (λ wrong. none (h.0, (h.1.0, wrong))) in
-        let count = and_parts (is_due t s a) (length a.certificate == request_count t a) right in
-        inl (h.1.0, (eqb-true (length a.certificate) (request_count t a) count.1, h.1.1))
-    by (o, Commits c) none h = elim h.1.1 [ ]
-    by (o, RollsBack r) none h = elim h.1.1 [ ]
-    by (o, TakesOver x) none h = elim h.1.1 [ ]
+  true_there : (b : Bool) → (b ≡ false → ⊥) → b ≡ true
+  true_there true other = refl
+  true_there false other = absurd (other refl)
 
-pub commit_along : (t : Trace) (e at : ℕ) → StandsInStructure code.Commit t e at → StandsAlong code.Commit t e at
-commit_along t e at stands = weaker_place _ _ (steps_at t e) by stands
-  where
-    by : (before : List (ℕ × Step)) (step : ℕ × Step) → IsTrue (are_right t start before) × ((step.0 ≡ at)
-        × OfCommit step.1 (λ c. IsFalse (is_right_commit (state_after start before) c)))
-        → StandsAtStep code.Commit t at (state_after start before) step
-    by before (o, Attempts a) h = elim h.1.1 [ ]
-    by before (o, Commits c) h = (h.1.0, h.1.1)
-    by before (o, RollsBack r) h = elim h.1.1 [ ]
-    by before (o, TakesOver x) h = elim h.1.1 [ ]
+  certificate_along : StandsInStructure code.Certificate t e at → (StandsInStructure code.Attempt t e at → ⊥)
+      → StandsAlong code.Certificate t e at
+  certificate_along stands apart = record {
+    before = stands.before;
+    item = stands.item;
+    rest = stands.rest;
+    is = stands.is;
+    holds = by stands.item
+        (λ wrong. apart (record {
+          before = stands.before;
+          item = stands.item;
+          rest = stands.rest;
+          is = stands.is;
+          holds = wrong;
+        }))
+        stands.holds;
+  }
+    where
+      by : (step : ℕ × Step)
+          → (IsTrue (are_right t start stands.before) × ((step.0 ≡ at)
+          × OfAttempt step.1 (λ a. IsFalse (is_right_attempt t (state_after start stands.before) a))) → ⊥)
+          → IsTrue (are_right t start stands.before) × ((step.0 ≡ at)
+          × OfAttempt step.1 (λ a. IsFalse (is_right_certificate t a)))
+          → StandsAtStep code.Certificate t at (state_after start stands.before) step
+      by (o, Attempts a) none h =
+          let s = state_after start stands.before in
+          let right : is_right_attempt t s a ≡ true =
+          true_there (is_right_attempt t s a) (λ wrong. none (h.0, (h.1.0, wrong))) in
+          let count = and_parts (is_due t s a) (length a.certificate == request_count t a) right in
+          inl (h.1.0, (eqb-true (length a.certificate) (request_count t a) count.1, h.1.1))
+      by (o, Commits c) none h = elim h.1.1 [ ]
+      by (o, RollsBack r) none h = elim h.1.1 [ ]
+      by (o, TakesOver x) none h = elim h.1.1 [ ]
 
-pub rollback_along : (t : Trace) (e at : ℕ) → StandsInStructure code.Rollback t e at → StandsAlong code.Rollback t e at
-rollback_along t e at stands = weaker_place _ _ (steps_at t e) by stands
-  where
-    by : (before : List (ℕ × Step)) (step : ℕ × Step) → IsTrue (are_right t start before) × ((step.0 ≡ at)
-        × OfRollback step.1 (λ r. IsFalse (is_right_rollback t (state_after start before) r)))
-        → StandsAtStep code.Rollback t at (state_after start before) step
-    by before (o, Attempts a) h = elim h.1.1 [ ]
-    by before (o, Commits c) h = elim h.1.1 [ ]
-    by before (o, RollsBack r) h = (h.1.0, h.1.1)
-    by before (o, TakesOver x) h = elim h.1.1 [ ]
+  at_attempt : (s : SectionState) (step : ℕ × Step) → step.0 ≡ at
+      → OfAttempt step.1 (λ a. IsFalse (is_right_attempt t s a)) → StandsAtStep code.Attempt t at s step
+  at_attempt s (o, Attempts a) offset wrong = inl (offset, wrong)
+  at_attempt s (o, Commits c) offset wrong = elim wrong [ ]
+  at_attempt s (o, RollsBack r) offset wrong = elim wrong [ ]
+  at_attempt s (o, TakesOver x) offset wrong = elim wrong [ ]
 
-pub transfer_along : (t : Trace) (e at : ℕ) → StandsInStructure code.Transfer t e at → StandsAlong code.Transfer t e at
-transfer_along t e at stands = weaker_place _ _ (steps_at t e) by stands
-  where
-    by : (before : List (ℕ × Step)) (step : ℕ × Step) → IsTrue (are_right t start before) × ((step.0 ≡ at)
-        × OfTransfer step.1 (λ x. IsFalse (is_right_transfer t (state_after start before) x)))
-        → StandsAtStep code.Transfer t at (state_after start before) step
-    by before (o, Attempts a) h = elim h.1.1 [ ]
-    by before (o, Commits c) h = elim h.1.1 [ ]
-    by before (o, RollsBack r) h = elim h.1.1 [ ]
-    by before (o, TakesOver x) h = (h.1.0, h.1.1)
+  at_commit : (s : SectionState) (step : ℕ × Step) → step.0 ≡ at
+      → OfCommit step.1 (λ c. IsFalse (is_right_commit s c)) → StandsAtStep code.Commit t at s step
+  at_commit s (o, Attempts a) offset wrong = elim wrong [ ]
+  at_commit s (o, Commits c) offset wrong = (offset, wrong)
+  at_commit s (o, RollsBack r) offset wrong = elim wrong [ ]
+  at_commit s (o, TakesOver x) offset wrong = elim wrong [ ]
 
-abbrev AtRight : Trace → ℕ → (Attempt → List Access → Access → Type 0) → List (ℕ × Step) → ℕ × Step → Type 0
-AtRight t at P before step = IsTrue (are_right t start before) × OfAttempt step.1 (λ a.
-    IsTrue (is_right_attempt t (state_after start before) a) × IsTrue (is_right_certificate t a)
-    × SomePlace (accesses_at step.0 a) (λ own x. IsTrue (are_right_accesses t a [] (accesses_of own))
-    × ((x.0 ≡ at) × P a (accesses_of own) x.1)))
+  at_rollback : (s : SectionState) (step : ℕ × Step) → step.0 ≡ at
+      → OfRollback step.1 (λ r. IsFalse (is_right_rollback t s r)) → StandsAtStep code.Rollback t at s step
+  at_rollback s (o, Attempts a) offset wrong = elim wrong [ ]
+  at_rollback s (o, Commits c) offset wrong = elim wrong [ ]
+  at_rollback s (o, RollsBack r) offset wrong = (offset, wrong)
+  at_rollback s (o, TakesOver x) offset wrong = elim wrong [ ]
 
-pub access_along : (t : Trace) (e at : ℕ) → StandsInStructure code.Access t e at → StandsAlong code.Access t e at
-access_along t e at stands = weaker_place _ _ (steps_at t e) by stands
-  where
-    by : (before : List (ℕ × Step)) (step : ℕ × Step)
-        → AtRight t at (λ a own x. IsFalse (is_right_access t a own x)) before step
-        → StandsAtStep code.Access t at (state_after start before) step
-    by before (o, Attempts a) h = inr (weaker_place _ _ (accesses_at o a) (λ own x w. w.1) h.1.2)
-    by before (o, Commits c) h = elim h.1 [ ]
-    by before (o, RollsBack r) h = elim h.1 [ ]
-    by before (o, TakesOver x) h = elim h.1 [ ]
+  at_state : (s : SectionState) (step : ℕ × Step) → step.0 ≡ at
+      → OfTransfer step.1 (λ x. IsFalse (is_right_transfer t s x)) → StandsAtStep code.Transfer t at s step
+  at_state s (o, Attempts a) offset wrong = elim wrong [ ]
+  at_state s (o, Commits c) offset wrong = elim wrong [ ]
+  at_state s (o, RollsBack r) offset wrong = elim wrong [ ]
+  at_state s (o, TakesOver x) offset wrong = (offset, wrong)
 
-pub place_along : (t : Trace) (e at : ℕ) → StandsInStructure code.WorkerOrder t e at
-    → StandsAlong code.WorkerOrder t e at
-place_along t e at stands = weaker_place _ _ (steps_at t e) by stands
-  where
-    by : (before : List (ℕ × Step)) (step : ℕ × Step)
-        → AtRight t at (λ a own x. IsFalse (is_right_place own x)) before step
-        → StandsAtStep code.WorkerOrder t at (state_after start before) step
-    by before (o, Attempts a) h = inr (weaker_place _ _ (accesses_at o a) (λ own x w. w.1) h.1.2)
-    by before (o, Commits c) h = elim h.1 [ ]
-    by before (o, RollsBack r) h = elim h.1 [ ]
-    by before (o, TakesOver x) h = elim h.1 [ ]
+pub structure_along : (t : Trace) (c : Code) (e at : ℕ) → StandsInStructure c t e at
+    → (c ≡ code.Certificate → StandsInStructure code.Attempt t e at → ⊥) → StandsAlong c t e at
+structure_along t code.Attempt e at stands apart = own_along t e at code.Attempt _ (at_attempt t e at) stands
+structure_along t code.Certificate e at stands apart = certificate_along t e at stands (apart refl)
+structure_along t code.Access e at stands apart =
+    access_along t e at code.Access (λ a own x. IsFalse (is_right_access t a own x)) (λ s o a own x wrong. wrong) stands
+structure_along t code.WorkerOrder e at stands apart =
+    access_along t e at code.WorkerOrder (λ a own x. IsFalse (is_right_place own x)) (λ s o a own x wrong. wrong) stands
+structure_along t code.Commit e at stands apart = own_along t e at code.Commit _ (at_commit t e at) stands
+structure_along t code.Rollback e at stands apart = own_along t e at code.Rollback _ (at_rollback t e at) stands
+structure_along t code.Transfer e at stands apart = own_along t e at code.Transfer _ (at_state t e at) stands
+structure_along t c e at stands apart = absurd stands
 
 -- ---- settled attempts
 
@@ -218,34 +216,30 @@ in_middle before p rest = in_right before (p ∷ rest) here
 
 -- ---- records and chains
 
-module _ (t : Trace) (e at : ℕ) where
-  pub record_along : StandsInRecords code.Record t e at → StandsAlong code.Record t e at
-  record_along stands =
-      let p = stands.item in
-      let i = subst (λ (ps : List Placed). In p ps) (sym stands.is) (in_middle stands.before p stands.rest) in
-      weaker_place _ _ (steps_at t e) (λ before step comes. subst
-      (StandsAtStep code.Record t at (state_after start before))
-      (sym comes.0) (inr (weaker_place _ _ (accesses_at p.offset p.attempt) (λ own x w. w) stands.holds)))
-      (settled_comes t e p i)
+-- a fault at a record of an attempt that was committed or discarded stands at that attempt's step
+settled_along : (t : Trace) (e at : ℕ) (c : Code) (P : Placed → Access → Type 0)
+    → ((s : SectionState) (p : Placed) (own : List (ℕ × Access)) (x : Access) → P p x
+    → p ≡ placed_in s p.offset p.attempt → WrongAccess c t s p.offset p.attempt own x)
+    → AtSettledAccess t e at P → StandsAlong c t e at
+settled_along t e at c P to stands =
+    let p = stands.item in
+    let i = subst (λ (ps : List Placed). In p ps) (sym stands.is) (in_middle stands.before p stands.rest) in
+    weaker_place _ _ (steps_at t e) (λ before step comes. subst (StandsAtStep c t at (state_after start before))
+    (sym comes.0) (inr (weaker_place _ _ (accesses_at p.offset p.attempt)
+    (λ own x w. (w.0, to (state_after start before) p own x.1 w.1 comes.1)) stands.holds)))
+    (settled_comes t e p i)
 
-  pub version_along : StandsInChains code.Version t e at → StandsAlong code.Version t e at
-  version_along stands =
-      let p = stands.item in
-      let i = subst (λ (ps : List Placed). In p ps) (sym stands.is) (in_middle stands.before p stands.rest) in
-      weaker_place _ _ (steps_at t e) (λ before step comes. subst
-      (StandsAtStep code.Version t at (state_after start before))
-      (sym comes.0) (inr (subst (λ (q : Placed). SomePlace (accesses_at p.offset p.attempt) (λ own x. (x.0 ≡ at)
-      × SomePlace x.1.entries (λ _ y. y.version ≡ (visible_to t q x.1.index y.row).version → ⊥))) comes.1
-      (weaker_place _ _ (accesses_at p.offset p.attempt) (λ own x w. w) stands.holds))))
-      (settled_comes t e p i)
+pub records_along : (t : Trace) (c : Code) (e at : ℕ) → StandsInRecords c t e at → StandsAlong c t e at
+records_along t code.Record e at stands = settled_along t e at code.Record _ (λ s p own x wrong is. wrong) stands
+records_along t c e at stands = absurd stands
 
-  pub value_along : StandsInChains code.Value t e at → StandsAlong code.Value t e at
-  value_along stands =
-      let p = stands.item in
-      let i = subst (λ (ps : List Placed). In p ps) (sym stands.is) (in_middle stands.before p stands.rest) in
-      weaker_place _ _ (steps_at t e) (λ before step comes. subst
-      (StandsAtStep code.Value t at (state_after start before))
-      (sym comes.0) (inr (subst (λ (q : Placed). SomePlace (accesses_at p.offset p.attempt) (λ own x. (x.0 ≡ at)
-      × SomePlace x.1.entries (λ _ y. y.seen ≡ (visible_to t q x.1.index y.row).value → ⊥))) comes.1
-      (weaker_place _ _ (accesses_at p.offset p.attempt) (λ own x w. w) stands.holds))))
-      (settled_comes t e p i)
+pub chains_along : (t : Trace) (c : Code) (e at : ℕ) → StandsInChains c t e at → StandsAlong c t e at
+chains_along t code.Version e at stands =
+    settled_along t e at code.Version _
+    (λ s p own x wrong is. subst (λ (q : Placed). SomePlace x.entries
+    (λ _ y. y.version ≡ (visible_to t q x.index y.row).version → ⊥)) is wrong) stands
+chains_along t code.Value e at stands =
+    settled_along t e at code.Value _
+    (λ s p own x wrong is. subst (λ (q : Placed). SomePlace x.entries
+    (λ _ y. y.seen ≡ (visible_to t q x.index y.row).value → ⊥)) is wrong) stands
+chains_along t c e at stands = absurd stands

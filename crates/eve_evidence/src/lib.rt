@@ -24,4 +24,4 @@ pub use evidence::{
     VerifierChoice, VerifierVote, WrongEntry, frame_kinds,
 };
 pub use section::section_evidence;
-pub use told::{told_attempt, told_request, told_row, told_transfer};
+pub use told::{reply_of, told_attempt, told_request, told_row, told_transfer};

@@ -1,9 +1,8 @@
 //! The evidence of a fault in a replica's section.
 
 ghost use Rattle.std.specs.Prelude.{◌≡◌, ◌<◌, ℕ, IfSome, IfNone, IfOk, List, length, take, slice_get};
-ghost use Rattle.std.specs.Prelude.{slice_index_or, Some};
+ghost use Rattle.std.specs.Prelude.{Some};
 ghost use Rattle.eve_smallbank.specs.Access.{Fits};
-ghost use Rattle.eve_smallbank.specs.declared.request.Reply.TheVariants.{Done};
 ghost use Rattle.eve_views.specs.declared.fault.Code.TheVariants as code;
 ghost use Rattle.eve_history.specs.SectionHistory.{names_of};
 ghost use Rattle.eve_chains.specs.Visible.{executed_by, visible_to};
@@ -34,10 +33,9 @@ use crate::seen::seen_from;
 use crate::structure::{
     access_fault, attempt_fault, commit_fault, place_fault, rollback_fault, transfer_fault,
 };
-use crate::told::{told_attempt, told_request, told_transfer};
+use crate::told::{reply_of, told_attempt, told_request, told_transfer};
 use eve_accounts::Names;
 use eve_frames::{AccessView, AttemptView, CommitView, RollbackView, TransferView};
-use eve_smallbank::Reply;
 use eve_views::{Accesses, Code, Step, Trace};
 use std::alloc::{AllocError, Global};
 
@@ -197,17 +195,6 @@ fn record_at<'a>(
         at: access.offset(),
         wrong,
     })
-}
-
-/// The reply that an attempt has for the request of an index, or `Done` where it has none.
-fn reply_of(attempt: &AttemptView<'_>, index: u16) -> Reply
-    ensures { result ≡ slice_index_or (attempt_said attempt.now).replies index Done }
-{
-    if (index as usize) < attempt.len() {
-        attempt.reply(index as usize)
-    } else {
-        Reply::Done
-    }
 }
 
 /// What shows a fault at the frame of an access record, if it begins at this byte and there is one of this code.

@@ -1,6 +1,7 @@
 //! Attempts, states, requests and rows, as evidence tells them.
 
-ghost use Rattle.std.specs.Prelude.{◌≡◌, ◌<◌, length, slice_get, Some};
+ghost use Rattle.std.specs.Prelude.{◌≡◌, ◌<◌, length, slice_get, slice_index_or, Some};
+ghost use Rattle.eve_smallbank.specs.declared.request.Reply.TheVariants.{Done};
 ghost use Rattle.eve_grammar.specs.Trace.{no_request};
 ghost use Rattle.eve_grammar.specs.Bodies.{borrowed_asked};
 ghost use Rattle.eve_frames.specs.Said.{attempt_said, batch_said, transfer_said};
@@ -10,7 +11,7 @@ use crate::evidence::{ToldAttempt, ToldRequest, ToldRow, ToldTransfer};
 use eve_accounts::Row;
 use eve_frames::{AttemptView, BatchView, TransferView};
 use eve_grammar::Asked;
-use eve_smallbank::Request;
+use eve_smallbank::{Reply, Request};
 use eve_views::Trace;
 
 /// An attempt, by its own frame.
@@ -81,6 +82,17 @@ pub fn told_request<'a>(trace: &Trace<'a>, seq: u32, index: u16) -> ToldRequest<
         index,
         batch: seq,
         asked: asked_in(trace, seq, index),
+    }
+}
+
+/// The reply that an attempt has for the request of an index, or `Done` where it has none.
+pub fn reply_of(attempt: &AttemptView<'_>, index: u16) -> Reply
+    ensures { result ≡ slice_index_or (attempt_said attempt.now).replies index Done }
+{
+    if (index as usize) < attempt.len() {
+        attempt.reply(index as usize)
+    } else {
+        Reply::Done
     }
 }
 

@@ -1,4 +1,5 @@
 pub mod OnBatch
+pub mod SecondVotes
 pub mod Backing
 pub mod Lacking
 pub mod Deciding

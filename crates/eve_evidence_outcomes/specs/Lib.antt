@@ -1,5 +1,6 @@
 pub mod Places
 pub mod Polls
+pub mod SecondVote
 pub mod Majority
 pub mod Decisions
 pub mod Committed

@@ -5,13 +5,11 @@ ghost use Rattle.std.specs.Prelude.{slice_get};
 ghost use Rattle.eve_frames.specs.Said.{attempt_said};
 ghost use Rattle.eve_chains.specs.Committed.{balances_to};
 ghost use Rattle.eve_agree.specs.Stretches.{AreOfSection};
-ghost use Rattle.eve_evidence_outcomes.specs.Token.{made_tokens, ordered_replies, tokens_for, TellsMatch};
+ghost use Rattle.eve_evidence_outcomes.specs.Token.{made_tokens, ordered_replies, TellsMatch};
 
 use crate::balances::balances_to;
-use crate::sent::reply_of;
-use crate::token::replies_of;
 use eve_chains::Settled;
-use eve_evidence::TokenMatch;
+use eve_evidence::{TokenMatch, reply_of};
 use eve_frames::AttemptView;
 use eve_history::History;
 use eve_smallbank::Reply;
@@ -42,7 +40,7 @@ fn ordered_replies(alloc: Global, attempt: &AttemptView<'_>) -> Result<Vec<Reply
 }
 
 /// The rows of which a replica's tokens are made after number n.
-fn rows_after(
+pub(crate) fn rows_after(
     alloc: Global,
     trace: &Trace<'_>,
     history: &History<'_>,
@@ -141,29 +139,29 @@ fn first_made(tokens: &[MadeToken], found: &[u8]) -> TokenMatch
     TokenMatch::Nothing
 }
 
-/// Of what the token of an attempt is made by which the replica committed batch n, where it isn't the one that is due.
+/// Of what the token of an attempt of batch n is made, where it isn't the one that is due.
 ///
-/// It takes the balances of all rows before the batch and after it, and in version 2 hashes both once.
+/// The rows are those before the batch and after it, and the replies those of the attempt. In version 2 it hashes the
+/// rows once, and those after the batch once more.
 pub(crate) fn token_match(
     alloc: Global,
-    trace: &Trace<'_>,
-    history: &History<'_>,
-    settled: &Settled<'_>,
+    before: &mut TokenRows,
+    after: &mut TokenRows,
     n: u32,
     attempt: &AttemptView<'_>,
+    replies: &[Reply],
 ) -> Result<TokenMatch, AllocError>
-    requires section { AreOfSection trace.now history.now settled.now }
-    requires there { n ≤ length settled.now.numbers }
+    requires version { (after.old.version ≡ 1) ⊎ (after.old.version ≡ 2) }
+    requires same { before.old.version ≡ after.old.version }
+    requires rows { 0 < length after.old.balances }
+    requires replies { replies.now ≡ (attempt_said attempt.now).replies }
     requires one { 1 ≤ n }
     requires few { n + 1 < 2 ^ 32 }
-    ensures { IfOk result (TellsMatch (tokens_for trace.now history.now.replica n (attempt_said attempt.now))
+    ensures { IfOk result (TellsMatch (made_tokens after.old.version n before.old.balances after.old.balances
+        (attempt_said attempt.now).replies (ordered_replies (attempt_said attempt.now)))
         (attempt_said attempt.now).token) }
 {
-    trace.recall_limits();
-    let replies = replies_of(alloc, attempt)?;
     let ordered = ordered_replies(alloc, attempt)?;
-    let mut before = rows_after(alloc, trace, history, settled, n - 1)?;
-    let mut after = rows_after(alloc, trace, history, settled, n)?;
-    let tokens = made_tokens(&mut before, &mut after, n, &replies, &ordered);
+    let tokens = made_tokens(before, after, n, replies, &ordered);
     Ok(first_made(&tokens, attempt.token()))
 }

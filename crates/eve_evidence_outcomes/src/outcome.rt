@@ -12,10 +12,10 @@ ghost use Rattle.eve_evidence_outcomes.specs.Outcome.{HasThatOfFirst};
 ghost use Rattle.eve_evidence.specs.declared.evidence.Evidence.TheVariants as shown;
 
 use crate::committed::committed_attempt;
-use crate::sent::{has_reply, reply_of};
+use crate::sent::has_reply;
 use crate::state::{first_committed, row_apart};
 use eve_chains::Settled;
-use eve_evidence::{Evidence, OutcomeFault, ToldAttempt, told_attempt, told_request};
+use eve_evidence::{Evidence, OutcomeFault, ToldAttempt, reply_of, told_attempt, told_request};
 use eve_frames::AttemptView;
 use eve_history::History;
 use eve_views::Trace;

@@ -1,8 +1,7 @@
 //! The evidence of a reply that was sent and not committed.
 
-ghost use Rattle.std.specs.Prelude.{◌≡◌, ◌<◌, ◌≤◌, IsTrue, IfSome, IfNone, Some, length, slice_get, slice_index_or};
+ghost use Rattle.std.specs.Prelude.{◌≡◌, ◌<◌, ◌≤◌, IsTrue, IfSome, IfNone, Some, length, slice_get};
 ghost use Rattle.std.specs.Prelude.{◌↔◌, ◌==◌, ◌&&◌, ℕ};
-ghost use Rattle.eve_smallbank.specs.declared.request.Reply.TheVariants.{Done};
 ghost use Rattle.eve_grammar.specs.Limits.{is_batch};
 ghost use Rattle.eve_grammar.specs.Trace.{Sent as SentValue};
 ghost use Rattle.eve_grammar.specs.Spelling.{sent_at};
@@ -15,7 +14,7 @@ ghost use Rattle.eve_evidence.specs.Told.{told_sent};
 
 use crate::committed::committed_attempt;
 use crate::given::given_by;
-use eve_evidence::{Evidence, SentFault, ToldRequest, ToldSent};
+use eve_evidence::{Evidence, SentFault, ToldRequest, ToldSent, reply_of};
 use eve_frames::{AttemptView, BatchView, SentView};
 use eve_grammar::Asked;
 use eve_history::History;
@@ -66,17 +65,6 @@ fn request_with<'a>(
         index += 1;
     }
     None
-}
-
-/// The reply that an attempt has for the request of an index, or `Done` where it has none.
-pub(crate) fn reply_of(attempt: &AttemptView<'_>, index: u16) -> Reply
-    ensures { result ≡ slice_index_or (attempt_said attempt.now).replies index Done }
-{
-    if (index as usize) < attempt.len() {
-        attempt.reply(index as usize)
-    } else {
-        Reply::Done
-    }
 }
 
 /// Whether an attempt has this reply for the request of an index.

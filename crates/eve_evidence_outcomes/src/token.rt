@@ -3,25 +3,21 @@
 ghost use Rattle.std.specs.Prelude.{◌≡◌, ◌≤◌, IfOk, IfSome, IfNone, length};
 ghost use Rattle.eve_frames.specs.Said.{attempt_said};
 ghost use Rattle.eve_views.specs.declared.fault.Code.TheVariants as code;
-ghost use Rattle.eve_token.specs.Token.{token_of};
 ghost use Rattle.eve_history.specs.SectionHistory.{section_history};
-ghost use Rattle.eve_chains.specs.Committed.{balances_to};
 ghost use Rattle.eve_chains.specs.Settling.{settling};
 ghost use Rattle.eve_agree.specs.DueTokens.{StandsInTokens};
 ghost use Rattle.eve_agree.specs.Stretches.{AreOfSection};
 ghost use Rattle.eve_evidence.specs.declared.evidence.Evidence.TheVariants as shown;
 ghost use Rattle.eve_evidence_outcomes.specs.Token.{TellsToken, IsDueAt};
 
-use crate::balances::balances_to;
 use crate::committed::committed_attempt;
-use crate::matched::token_match;
+use crate::matched::{rows_after, token_match};
 use eve_chains::Settled;
 use eve_evidence::{Evidence, TokenMatch, ToldAttempt, told_attempt};
 use eve_frames::AttemptView;
 use eve_history::History;
 use eve_history::laws::numbers_are_reached;
 use eve_smallbank::Reply;
-use eve_token::token;
 use eve_views::Trace;
 use std::alloc::{AllocError, Global};
 
@@ -39,7 +35,7 @@ struct OtherToken<'a> {
 }
 
 /// The replies of an attempt, by request index.
-pub(crate) fn replies_of(alloc: Global, attempt: &AttemptView<'_>) -> Result<Vec<Reply>, AllocError>
+fn replies_of(alloc: Global, attempt: &AttemptView<'_>) -> Result<Vec<Reply>, AllocError>
     ensures { IfOk result (λ replies. replies.items ≡ (attempt_said attempt.now).replies) }
 {
     let count = attempt.len();
@@ -48,26 +44,6 @@ pub(crate) fn replies_of(alloc: Global, attempt: &AttemptView<'_>) -> Result<Vec
         replies.push(attempt.reply(i))?;
     }
     Ok(replies)
-}
-
-/// The version's token of the balances after number n, of an attempt's batch and of its replies.
-fn token_after(
-    alloc: Global,
-    trace: &Trace<'_>,
-    history: &History<'_>,
-    settled: &Settled<'_>,
-    n: u32,
-    attempt: &AttemptView<'_>,
-) -> Result<[u8; 32], AllocError>
-    requires section { AreOfSection trace.now history.now settled.now }
-    requires there { n ≤ length settled.now.numbers }
-    ensures { IfOk result (λ due. due ≡ token_of trace.now.head.version (attempt_said attempt.now).seq
-        (balances_to trace.now history.now.replica n) (attempt_said attempt.now).replies) }
-{
-    trace.recall_limits();
-    let balances = balances_to(alloc, trace, history, settled, n)?;
-    let replies = replies_of(alloc, attempt)?;
-    Ok(token(trace.head().version, attempt.seq(), &balances, &replies))
 }
 
 /// The token of batch n, if the attempt by which the replica committed it begins at this byte and its token isn't due.
@@ -94,12 +70,15 @@ fn at_number<'a>(
     if attempt.offset() != place {
         return Ok(None);
     }
-    let due = token_after(alloc, trace, history, settled, n, &attempt)?;
+    let replies = replies_of(alloc, &attempt)?;
+    let mut after = rows_after(alloc, trace, history, settled, n)?;
+    let due = after.token(attempt.seq(), &replies);
     let found = attempt.token();
     if found == due.as_slice() {
         return Ok(None);
     }
-    let matches = token_match(alloc, trace, history, settled, n, &attempt)?;
+    let mut before = rows_after(alloc, trace, history, settled, n - 1)?;
+    let matches = token_match(alloc, &mut before, &mut after, n, &attempt, &replies)?;
     Ok(Some(OtherToken {
         attempt: told_attempt(&attempt),
         found,
@@ -112,8 +91,8 @@ fn at_number<'a>(
 /// one that is due of the balances after its batch and of its replies.
 ///
 /// docs/MODEL.md, "Due tokens" and "Evidence". The history and what it settled are those of the replica. It takes the
-/// balances of all rows before and after the attempt's batch, and in version 2 hashes the first once and the others
-/// twice.
+/// balances of all rows before and after the attempt's batch. In version 2 it hashes both once, and the others once
+/// more.
 pub fn token_evidence<'a>(
     alloc: Global,
     trace: &Trace<'a>,

@@ -15,7 +15,7 @@ use eve_grammar::Choice;
 use eve_views::Votes;
 
 /// Whether a vote is on the batch in the view.
-fn is_on(vote: &VoteView<'_>, n: u32, view: u32) -> bool
+pub(crate) fn is_on(vote: &VoteView<'_>, n: u32, view: u32) -> bool
     ensures { result ≡ is_vote_on n view (vote_said vote.now) }
 {
     vote.seq() == n && vote.view() == view

@@ -1,6 +1,5 @@
-pub mod Voting
-pub mod Telling
-pub mod ByCode
+pub mod Phases
+pub mod FirstFault
+pub mod Kinds
 pub mod Settled
 pub mod Verdicts
-pub mod Alone

@@ -18,9 +18,9 @@ use Rattle.eve_evidence_outcomes.specs.Decisions.{TellsTwoDecisions}
 use Rattle.eve_evidence_outcomes.specs.Outcome.{TellsOutcome}
 use Rattle.eve_evidence_outcomes.specs.Outcomes.{TellsState}
 use Rattle.eve_evidence_outcomes.specs.Restore.{TellsRestore}
+use Rattle.eve_evidence_outcomes.specs.SecondVote.{IsVotedAgain}
 use Rattle.eve_evidence_outcomes.specs.Sent.{TellsReply}
 use Rattle.eve_evidence_outcomes.specs.Token.{TellsToken}
-use Rattle.eve_explain.specs.Votes.{IsVotedAgain}
 use Rattle.eve_explain.specs.declared.explained.Explained.{Explained}
 use Rattle.eve_explain.specs.declared.explained.Explained.TheVariants.{Yes, No}
 

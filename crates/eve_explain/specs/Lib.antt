@@ -1,3 +1,2 @@
-pub mod Votes
 pub mod Behind
 pub mod Explained

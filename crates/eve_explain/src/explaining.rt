@@ -12,6 +12,7 @@ ghost use Rattle.eve_grammar.specs.Trace.{Trace as TraceValue};
 ghost use Rattle.eve_history.specs.SectionHistory.{names_of, section_histories};
 ghost use Rattle.std.specs.Prelude.{Some, IsTrue};
 ghost use Rattle.eve_evidence.specs.Section.{TellsAlong};
+ghost use Rattle.eve_explain.specs.Behind.{IsFirstIn};
 ghost use Rattle.eve_explain.specs.Explained.{is_told_along, verdict_in};
 ghost use Rattle.eve_explain.specs.Explained.{IsEvidence, IsEvidenceOf, IsExplained};
 
@@ -21,13 +22,12 @@ use crate::outcomes::{
     evidence_of_state, evidence_of_token,
 };
 use crate::phase::{is_of_majority, is_of_orders, is_told_along};
-use crate::votes::voted_again;
 use eve_accounts::Names;
 use eve_audit::{AcceptedTrace, AuditFault, WholeVerdict, audit_whole};
 use eve_evidence::laws::faults_stand_along_the_section;
 use eve_evidence::{Evidence, section_evidence};
 use eve_evidence_form::{form_evidence, trace_evidence};
-use eve_evidence_outcomes::{counts, decisions_evidence};
+use eve_evidence_outcomes::{counts, decisions_evidence, voted_again};
 use eve_grammar::MOST_AUDIT_WORKERS;
 use eve_grammar::laws::bytes_spell_one_trace;
 use eve_recorder::Gate;
@@ -64,7 +64,7 @@ fn evidence_along<'a>(
     fault: &Fault,
     random: RandomState,
 ) -> Result<Evidence<'a>, AllocError>
-    requires first { (bytes : List ℕ) × Spells bytes trace.now × IsFirst bytes fault.now }
+    requires first { IsFirstIn trace.now fault.now }
     requires along { IsTrue (is_told_along fault.now.code) }
     ensures { IfOk result (λ x. (e : ℕ) → fault.now.replica ≡ Some e
         → TellsAlong fault.now.code trace.now e fault.now.offset x) }
@@ -85,7 +85,7 @@ fn evidence_in<'a>(
     fault: &Fault,
     random: RandomState,
 ) -> Result<Evidence<'a>, AllocError>
-    requires { (bytes : List ℕ) × Spells bytes trace.now × IsFirst bytes fault.now }
+    requires { IsFirstIn trace.now fault.now }
     ensures { IfOk result (IsEvidence trace.now fault.now) }
 {
     bytes_spell_one_trace();
@@ -93,7 +93,7 @@ fn evidence_in<'a>(
         return evidence_along(alloc, trace, fault, random);
     }
     if is_of_majority(fault.code) {
-        return evidence_of_majority(alloc, trace, fault);
+        return Ok(evidence_of_majority(trace, fault));
     }
     if is_of_orders(fault.code) {
         return trace_evidence(alloc, trace, fault);

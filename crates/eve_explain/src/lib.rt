@@ -6,7 +6,6 @@ mod explaining;
 mod outcomes;
 mod phase;
 mod replicas;
-mod votes;
 
 pub use eve_evidence::{
     AccessFault, AttemptFault, BodyField, CertificateFault, CommitFault, Counts, Evidence,

@@ -1,15 +1,14 @@
 //! Evidence of restores, of tokens, of majorities, of what replicas come to together, and of replies that were sent.
 
-ghost use Rattle.std.specs.Prelude.{◌≡◌, ℕ, List, IfOk, IsTrue, Some};
-ghost use Rattle.eve_grammar.specs.Following.{Spells};
+ghost use Rattle.std.specs.Prelude.{◌≡◌, ℕ, IfOk, IsTrue, Some};
 ghost use Rattle.eve_views.specs.declared.fault.Code.TheVariants as code;
-ghost use Rattle.eve_audit.specs.Verdict.{IsFirst};
 ghost use Rattle.eve_evidence_outcomes.specs.Majority.{TellsMajority};
 ghost use Rattle.eve_evidence_outcomes.specs.Outcome.{TellsOutcome};
 ghost use Rattle.eve_evidence_outcomes.specs.Outcomes.{TellsState};
 ghost use Rattle.eve_evidence_outcomes.specs.Restore.{TellsRestore};
 ghost use Rattle.eve_evidence_outcomes.specs.Sent.{TellsReply};
 ghost use Rattle.eve_evidence_outcomes.specs.Token.{TellsToken};
+ghost use Rattle.eve_explain.specs.Behind.{IsFirstIn};
 ghost use Rattle.eve_explain.specs.Explained.{is_of_majority};
 
 use crate::replicas::{histories_of, history_of, settled_of};
@@ -20,26 +19,22 @@ use eve_evidence_outcomes::{
     token_evidence,
 };
 use eve_grammar::laws::bytes_spell_one_trace;
+use eve_history::laws::right_sections_have_no_fault;
 use eve_views::{Fault, Trace};
 use std::alloc::{AllocError, Global};
 
 /// The evidence of a step that no majority voted for.
-pub(crate) fn evidence_of_majority<'a>(
-    alloc: Global,
-    trace: &Trace<'a>,
-    fault: &Fault,
-) -> Result<Evidence<'a>, AllocError>
-    requires first { (bytes : List ℕ) × Spells bytes trace.now × IsFirst bytes fault.now }
+pub(crate) fn evidence_of_majority<'a>(trace: &Trace<'a>, fault: &Fault) -> Evidence<'a>
+    requires first { IsFirstIn trace.now fault.now }
     requires majority { IsTrue (is_of_majority fault.now.code) }
-    ensures { IfOk result (λ x. (e : ℕ) → fault.now.replica ≡ Some e
-        → TellsMajority fault.now.code trace.now e fault.now.offset x) }
+    ensures { (e : ℕ) → fault.now.replica ≡ Some e → TellsMajority fault.now.code trace.now e fault.now.offset result }
 {
     bytes_spell_one_trace();
+    right_sections_have_no_fault();
     let Some(e) = fault.replica else {
-        return Ok(Evidence::Untold);
+        return Evidence::Untold;
     };
-    let _history = history_of(alloc, trace, fault, e)?;
-    Ok(majority_evidence(trace, e, fault.code, fault.offset))
+    majority_evidence(trace, e, fault.code, fault.offset)
 }
 
 /// The evidence of a rollback whose restores aren't those that are due.
@@ -48,7 +43,7 @@ pub(crate) fn evidence_of_restore<'a>(
     trace: &Trace<'a>,
     fault: &Fault,
 ) -> Result<Evidence<'a>, AllocError>
-    requires first { (bytes : List ℕ) × Spells bytes trace.now × IsFirst bytes fault.now }
+    requires first { IsFirstIn trace.now fault.now }
     requires restore { fault.now.code ≡ code.Restore }
     ensures { IfOk result (λ x. (e : ℕ) → fault.now.replica ≡ Some e → TellsRestore trace.now e fault.now.offset x) }
 {
@@ -66,7 +61,7 @@ pub(crate) fn evidence_of_token<'a>(
     trace: &Trace<'a>,
     fault: &Fault,
 ) -> Result<Evidence<'a>, AllocError>
-    requires first { (bytes : List ℕ) × Spells bytes trace.now × IsFirst bytes fault.now }
+    requires first { IsFirstIn trace.now fault.now }
     requires token { fault.now.code ≡ code.Token }
     ensures { IfOk result (λ x. (e : ℕ) → fault.now.replica ≡ Some e → TellsToken trace.now e fault.now.offset x) }
 {
@@ -87,7 +82,7 @@ pub(crate) fn evidence_of_reply<'a>(
     trace: &Trace<'a>,
     fault: &Fault,
 ) -> Result<Evidence<'a>, AllocError>
-    requires first { (bytes : List ℕ) × Spells bytes trace.now × IsFirst bytes fault.now }
+    requires first { IsFirstIn trace.now fault.now }
     requires reply { fault.now.code ≡ code.Reply }
     ensures { IfOk result (TellsReply trace.now fault.now.offset) }
 {
@@ -102,7 +97,7 @@ pub(crate) fn evidence_of_outcome<'a>(
     trace: &Trace<'a>,
     fault: &Fault,
 ) -> Result<Evidence<'a>, AllocError>
-    requires first { (bytes : List ℕ) × Spells bytes trace.now × IsFirst bytes fault.now }
+    requires first { IsFirstIn trace.now fault.now }
     requires outcome { fault.now.code ≡ code.Outcome }
     ensures { IfOk result (λ x. (e : ℕ) → fault.now.replica ≡ Some e → TellsOutcome trace.now e fault.now.offset x) }
 {
@@ -123,7 +118,7 @@ pub(crate) fn evidence_of_state<'a>(
     trace: &Trace<'a>,
     fault: &Fault,
 ) -> Result<Evidence<'a>, AllocError>
-    requires first { (bytes : List ℕ) × Spells bytes trace.now × IsFirst bytes fault.now }
+    requires first { IsFirstIn trace.now fault.now }
     requires state { fault.now.code ≡ code.TransferBalances }
     ensures { IfOk result (λ x. (e : ℕ) → fault.now.replica ≡ Some e → TellsState trace.now e fault.now.offset x) }
 {

@@ -1,14 +1,13 @@
 //! What the replicas' sections tell, read again.
 
-ghost use Rattle.std.specs.Prelude.{◌≡◌, ◌<◌, ℕ, List, IfOk, length};
-ghost use Rattle.eve_grammar.specs.Following.{Spells};
+ghost use Rattle.std.specs.Prelude.{◌≡◌, ◌<◌, IfOk, length};
 ghost use Rattle.eve_views.specs.Code.{phase_of};
-ghost use Rattle.eve_history.specs.SectionHistory.{section_history, section_histories, IsRightSection};
+ghost use Rattle.eve_history.specs.SectionHistory.{section_history, section_histories};
 ghost use Rattle.eve_chains.specs.Settling.{settlings};
-ghost use Rattle.eve_audit.specs.Verdict.{IsFirst};
-ghost use Rattle.eve_explain.specs.Behind.{IsBehindSection};
+ghost use Rattle.eve_explain.specs.Behind.{IsFirstIn, IsBehindSection};
 
 use eve_chains::Settled;
+use eve_grammar::laws::bytes_spell_one_trace;
 use eve_history::History;
 use eve_views::{CheckFault, Fault, Trace};
 use std::alloc::{AllocError, Global};
@@ -21,13 +20,13 @@ pub(crate) fn history_of<'a>(
     fault: &Fault,
     e: u8,
 ) -> Result<History<'a>, AllocError>
-    requires first { (bytes : List ℕ) × Spells bytes trace.now × IsFirst bytes fault.now }
+    requires first { IsFirstIn trace.now fault.now }
     requires behind { IsBehindSection fault.now e }
     requires there { e < length trace.now.sections }
     ensures history { IfOk result (λ h. h ≡ section_history trace.now e) }
     ensures replica { IfOk result (λ h. h.replica ≡ e) }
-    ensures right { IfOk result (λ _. IsRightSection trace.now e) }
 {
+    bytes_spell_one_trace();
     match History::of(alloc, trace, e) {
         Ok(history) => Ok(history),
         Err(CheckFault::Found(_)) => unreachable!(),
@@ -41,7 +40,7 @@ pub(crate) fn histories_of<'a>(
     trace: &Trace<'a>,
     fault: &Fault,
 ) -> Result<Vec<History<'a>>, AllocError>
-    requires first { (bytes : List ℕ) × Spells bytes trace.now × IsFirst bytes fault.now }
+    requires first { IsFirstIn trace.now fault.now }
     requires together { 7 < phase_of fault.now.code }
     ensures { IfOk result (λ hs. hs.items ≡ section_histories trace.now) }
 {

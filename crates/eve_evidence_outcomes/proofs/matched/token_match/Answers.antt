@@ -3,30 +3,16 @@ use Rattle.std.specs.Prelude.{slice_index_or}
 use Rattle.std.proofs.lemmas.List.{length-map}
 use Rattle.eve_smallbank.specs.declared.request.Reply.{Reply}
 use Rattle.eve_smallbank.specs.declared.request.Reply.TheVariants.{Done}
-use Rattle.eve_grammar.specs.Trace.{head_of}
-use Rattle.eve_grammar.proofs.HeadLimits.{head_has_limits}
 use Rattle.eve_frames.specs.Said.{attempt_said}
 use Rattle.eve_frames.proofs.AttemptPlaces.{attempt_even, attempt_some}
-use Rattle.eve_token.specs.TokenRows.{TokenRows}
-use Rattle.eve_evidence_outcomes.proofs.Firsts.{balances_long}
 use Rattle.eve_evidence_outcomes.proofs.matched.token_match.Goals as goal
-
-pub made_tokens-tokens-requires-clause-rows : goal.made_tokens-tokens-requires-clause-rows
-made_tokens-tokens-requires-clause-rows c =
-    let t = c.args.trace.now in
-    omega (
-      arith,
-      balances_long t c.args.history.now.replica c.args.n c.in_ok-after.after.balances
-          (ap (λ (r : TokenRows). r.balances) c.in_ok-after.ensures),
-      (head_has_limits (head_of t) c.recall_limits.ensures.head).some_customers,
-    )
 
 pub made_tokens-tokens-requires-clause-replies : goal.made_tokens-tokens-requires-clause-replies
 made_tokens-tokens-requires-clause-replies c =
     omega (
       arith,
       attempt_some c.args.attempt.now.bytes.now c.args.attempt.now.whole,
-      ap (λ (rs : List Reply). length rs) (c.deref.ensures.value ∙ c.in_ok-replies.ensures),
+      ap (λ (rs : List Reply). length rs) c.requires.replies,
     )
 
 pub made_tokens-tokens-requires-clause-ordered : goal.made_tokens-tokens-requires-clause-ordered
@@ -38,5 +24,5 @@ made_tokens-tokens-requires-clause-ordered c =
       attempt_some c.args.attempt.now.bytes.now c.args.attempt.now.whole,
       attempt_even c.args.attempt.now.bytes.now c.args.attempt.now.whole,
       length-map a.certificate of,
-      ap (λ (rs : List Reply). length rs) (c.deref-2.ensures.value ∙ c.in_ok-ordered.ensures),
+      ap (λ (rs : List Reply). length rs) (c.deref.ensures.value ∙ c.in_ok-ordered.ensures),
     )

@@ -1,44 +1,24 @@
-use Rattle.std.proofs.Common.{ℕ, ◌<◌, length, inl, sym, subst, ◌∙◌, arith}
-use Rattle.std.proofs.lemmas.Option.{same_Some}
-use Rattle.eve_agree.specs.Majority.{StandsInMajorities}
-use Rattle.eve_explain.proofs.ByCode.{MissesMajority, fault_of, majority_behind, majority_there}
+use Rattle.std.proofs.Common.{inl, arith}
+use Rattle.eve_explain.proofs.FirstFault.{majority_first, no_structure}
+use Rattle.eve_explain.proofs.Phases.{majority_code_phase}
 use Rattle.eve_explain.proofs.outcomes.evidence_of_majority.Goals as goal
-
-pub history_of-requires-clause-behind : goal.history_of-requires-clause-behind
-history_of-requires-clause-behind c = inl (majority_behind c.args.fault.now.code c.requires.majority)
-
-pub history_of-requires-clause-there : goal.history_of-requires-clause-there
-history_of-requires-clause-there c =
-    let t = c.args.trace.now in
-    let f = c.args.fault.now in
-    let bytes = c.requires.first.0 in
-    let behind = majority_behind f.code c.requires.majority in
-    let fault = fault_of bytes t f (λ u spelled. c.bytes_spell_one_trace.ensures bytes u t spelled c.requires.first.1)
-    (omega (arith, behind)) c.requires.first.2.judged.stands in
-    let missing : MissesMajority t f fault = majority_there t f fault c.requires.majority in
-    subst (λ (n : ℕ). n < length t.sections) (same_Some missing.replica c.in-Some.e (sym missing.named ∙ c.in-Some.is))
-    missing.there
 
 pub majority_evidence-requires-clause-there : goal.majority_evidence-requires-clause-there
 majority_evidence-requires-clause-there c =
+    (majority_first c.bytes_spell_one_trace.ensures c.args.trace.now c.args.fault.now c.requires.first
+    c.requires.majority c.in-Some.e c.in-Some.is).there
+
+pub majority_evidence-requires-clause-right : goal.majority_evidence-requires-clause-right
+majority_evidence-requires-clause-right c =
     let t = c.args.trace.now in
     let f = c.args.fault.now in
-    let bytes = c.requires.first.0 in
-    let behind = majority_behind f.code c.requires.majority in
-    let fault = fault_of bytes t f (λ u spelled. c.bytes_spell_one_trace.ensures bytes u t spelled c.requires.first.1)
-    (omega (arith, behind)) c.requires.first.2.judged.stands in
-    let missing : MissesMajority t f fault = majority_there t f fault c.requires.majority in
-    subst (λ (n : ℕ). n < length t.sections) (same_Some missing.replica c.in-Some.e (sym missing.named ∙ c.in-Some.is))
-    missing.there
+    let one = c.bytes_spell_one_trace.ensures in
+    let nine = majority_code_phase f.code c.requires.majority in
+    c.right_sections_have_no_fault.ensures.right t c.in-Some.e
+    (no_structure one t f c.requires.first c.in-Some.e (inl (omega (arith, nine)))
+    (majority_first one t f c.requires.first c.requires.majority c.in-Some.e c.in-Some.is).there)
 
 pub majority_evidence-requires-clause-stands : goal.majority_evidence-requires-clause-stands
 majority_evidence-requires-clause-stands c =
-    let t = c.args.trace.now in
-    let f = c.args.fault.now in
-    let bytes = c.requires.first.0 in
-    let behind = majority_behind f.code c.requires.majority in
-    let fault = fault_of bytes t f (λ u spelled. c.bytes_spell_one_trace.ensures bytes u t spelled c.requires.first.1)
-    (omega (arith, behind)) c.requires.first.2.judged.stands in
-    let missing : MissesMajority t f fault = majority_there t f fault c.requires.majority in
-    subst (λ (n : ℕ). StandsInMajorities f.code t n f.offset)
-    (same_Some missing.replica c.in-Some.e (sym missing.named ∙ c.in-Some.is)) missing.stands
+    (majority_first c.bytes_spell_one_trace.ensures c.args.trace.now c.args.fault.now c.requires.first
+    c.requires.majority c.in-Some.e c.in-Some.is).stands

@@ -1,38 +1,23 @@
-use Rattle.std.proofs.Common.{ℕ, ◌<◌, length, sym, subst, ◌∙◌, arith}
-use Rattle.std.proofs.lemmas.Option.{same_Some}
+use Rattle.std.proofs.Common.{◌≡◌, ◌<◌, ap, subst, arith}
 use Rattle.eve_views.specs.Code.{phase_of}
 use Rattle.eve_views.specs.declared.fault.Code.{Code}
-use Rattle.eve_views.specs.declared.fault.Code.TheVariants as code
 use Rattle.eve_agree.specs.Agreement.{StandsInAgreement}
-use Rattle.eve_explain.proofs.ByCode.{fault_of, outcome_there}
+use Rattle.eve_explain.proofs.FirstFault.{agreement_first}
 use Rattle.eve_explain.proofs.outcomes.evidence_of_outcome.Goals as goal
 
 pub histories_of-requires-clause-together : goal.histories_of-requires-clause-together
-histories_of-requires-clause-together c = subst (λ (k : Code). 7 < phase_of k) (sym c.requires.outcome) (omega arith)
+histories_of-requires-clause-together c =
+    let ten : phase_of c.args.fault.now.code ≡ 10 = ap phase_of c.requires.outcome in omega (arith, ten)
 
 pub outcome_evidence-requires-clause-there : goal.outcome_evidence-requires-clause-there
 outcome_evidence-requires-clause-there c =
-    let t = c.args.trace.now in
-    let f = c.args.fault.now in
-    let bytes = c.requires.first.0 in
-    let later : 1 < phase_of f.code =
-    subst (λ (k : Code). 1 < phase_of k) (sym c.requires.outcome) (omega arith) in
-    let there = outcome_there t f
-    (fault_of bytes t f (λ u spelled. c.bytes_spell_one_trace.ensures bytes u t spelled c.requires.first.1) later
-    c.requires.first.2.judged.stands)
-    c.requires.outcome in
-    subst (λ (n : ℕ). n < length t.sections) (same_Some there.0 c.in-Some.e (sym there.2 ∙ c.in-Some.is)) there.1
+    (agreement_first c.bytes_spell_one_trace.ensures c.args.trace.now c.args.fault.now c.requires.first
+    (ap phase_of c.requires.outcome) c.in-Some.e c.in-Some.is).there
 
 pub outcome_evidence-requires-clause-stands : goal.outcome_evidence-requires-clause-stands
 outcome_evidence-requires-clause-stands c =
     let t = c.args.trace.now in
     let f = c.args.fault.now in
-    let bytes = c.requires.first.0 in
-    let later : 1 < phase_of f.code =
-    subst (λ (k : Code). 1 < phase_of k) (sym c.requires.outcome) (omega arith) in
-    let there = outcome_there t f
-    (fault_of bytes t f (λ u spelled. c.bytes_spell_one_trace.ensures bytes u t spelled c.requires.first.1) later
-    c.requires.first.2.judged.stands)
-    c.requires.outcome in
-    subst (λ (n : ℕ). StandsInAgreement code.Outcome t n f.offset)
-    (same_Some there.0 c.in-Some.e (sym there.2 ∙ c.in-Some.is)) there.3
+    subst (λ (k : Code). StandsInAgreement k t c.in-Some.e f.offset) c.requires.outcome
+    (agreement_first c.bytes_spell_one_trace.ensures t f c.requires.first (ap phase_of c.requires.outcome) c.in-Some.e
+    c.in-Some.is).stands

@@ -1,51 +1,32 @@
-use Rattle.std.proofs.Common.{ℕ, ◌<◌, length, sym, subst, ◌∙◌, arith}
-use Rattle.std.proofs.lemmas.Option.{same_Some}
+use Rattle.std.proofs.Common.{◌≡◌, ℕ, sym, ap, subst}
 use Rattle.eve_views.specs.Code.{phase_of}
 use Rattle.eve_views.specs.declared.fault.Code.{Code}
 use Rattle.eve_views.specs.declared.fault.Code.TheVariants as code
 use Rattle.eve_chains.specs.Faults.{HasNoFault}
 use Rattle.eve_agree.specs.Restores.{StandsInRestores}
-use Rattle.eve_explain.proofs.ByCode.{fault_of, none_before_restores, restore_there}
+use Rattle.eve_explain.proofs.FirstFault.{restore_first, none_before_restores}
 use Rattle.eve_explain.proofs.outcomes.evidence_of_restore.Goals as goal
 
 pub history_of-requires-clause-there : goal.history_of-requires-clause-there
 history_of-requires-clause-there c =
-    let t = c.args.trace.now in
-    let f = c.args.fault.now in
-    let bytes = c.requires.first.0 in
-    let later : 1 < phase_of f.code =
-    subst (λ (k : Code). 1 < phase_of k) (sym c.requires.restore) (omega arith) in
-    let there = restore_there t f
-    (fault_of bytes t f (λ u spelled. c.bytes_spell_one_trace.ensures bytes u t spelled c.requires.first.1) later
-    c.requires.first.2.judged.stands)
-    c.requires.restore in
-    subst (λ (n : ℕ). n < length t.sections) (same_Some there.0 c.in-Some.e (sym there.2 ∙ c.in-Some.is)) there.1
+    (restore_first c.bytes_spell_one_trace.ensures c.args.trace.now c.args.fault.now c.requires.first
+    (ap phase_of c.requires.restore) c.in-Some.e c.in-Some.is).there
 
 pub restore_evidence-requires-clause-none : goal.restore_evidence-requires-clause-none
 restore_evidence-requires-clause-none c =
     let t = c.args.trace.now in
     let f = c.args.fault.now in
-    let bytes = c.requires.first.0 in
-    let later : 1 < phase_of f.code =
-    subst (λ (k : Code). 1 < phase_of k) (sym c.requires.restore) (omega arith) in
-    let there = restore_there t f
-    (fault_of bytes t f (λ u spelled. c.bytes_spell_one_trace.ensures bytes u t spelled c.requires.first.1) later
-    c.requires.first.2.judged.stands)
-    c.requires.restore in
-    subst (HasNoFault t)
-    (same_Some there.0 c.in-Some.e (sym there.2 ∙ c.in-Some.is) ∙ sym c.in_ok-history.ensures.replica)
-    (none_before_restores bytes t f there.0 c.requires.first.1 c.requires.first.2 c.requires.restore there.2 there.1)
+    let one = c.bytes_spell_one_trace.ensures in
+    let six : phase_of f.code ≡ 6 = ap phase_of c.requires.restore in
+    subst (HasNoFault t) (sym c.in_ok-history.ensures.replica)
+    (none_before_restores one t f c.requires.first six c.in-Some.e c.in-Some.is
+    (restore_first one t f c.requires.first six c.in-Some.e c.in-Some.is).there)
 
 pub restore_evidence-requires-clause-stands : goal.restore_evidence-requires-clause-stands
 restore_evidence-requires-clause-stands c =
     let t = c.args.trace.now in
     let f = c.args.fault.now in
-    let bytes = c.requires.first.0 in
-    let later : 1 < phase_of f.code =
-    subst (λ (k : Code). 1 < phase_of k) (sym c.requires.restore) (omega arith) in
-    let there = restore_there t f
-    (fault_of bytes t f (λ u spelled. c.bytes_spell_one_trace.ensures bytes u t spelled c.requires.first.1) later
-    c.requires.first.2.judged.stands)
-    c.requires.restore in
-    subst (λ (n : ℕ). StandsInRestores code.Restore t n f.offset)
-    (same_Some there.0 c.in-Some.e (sym there.2 ∙ c.in-Some.is) ∙ sym c.in_ok-history.ensures.replica) there.3
+    let is = restore_first c.bytes_spell_one_trace.ensures t f c.requires.first (ap phase_of c.requires.restore)
+    c.in-Some.e c.in-Some.is in
+    subst (λ (n : ℕ). StandsInRestores code.Restore t n f.offset) (sym c.in_ok-history.ensures.replica)
+    (subst (λ (k : Code). StandsInRestores k t c.in-Some.e f.offset) c.requires.restore is.stands)

@@ -1,43 +1,29 @@
-use Rattle.std.proofs.Common.{◌≡◌, ℕ, ◌<◌, length, Some, sym, subst, ◌∙◌, arith}
-use Rattle.std.proofs.lemmas.Result.{IfOk-weaker}
+use Rattle.std.proofs.Common.{◌≡◌, ℕ, Some, sym, ap, subst, ◌∙◌, arith}
 use Rattle.std.proofs.lemmas.Option.{same_Some}
+use Rattle.std.proofs.lemmas.Result.{IfOk-weaker}
 use Rattle.eve_views.specs.Code.{phase_of}
 use Rattle.eve_views.specs.declared.fault.Code.{Code}
-use Rattle.eve_views.specs.declared.fault.Code.TheVariants as code
 use Rattle.eve_agree.specs.Agreement.{StandsInAgreement}
 use Rattle.eve_evidence_outcomes.specs.Outcomes.{TellsState}
-use Rattle.eve_explain.proofs.ByCode.{fault_of, state_there}
+use Rattle.eve_explain.proofs.FirstFault.{agreement_first}
 use Rattle.eve_explain.proofs.outcomes.evidence_of_state.Goals as goal
 
 pub histories_of-requires-clause-together : goal.histories_of-requires-clause-together
-histories_of-requires-clause-together c = subst (λ (k : Code). 7 < phase_of k) (sym c.requires.state) (omega arith)
+histories_of-requires-clause-together c =
+    let ten : phase_of c.args.fault.now.code ≡ 10 = ap phase_of c.requires.state in omega (arith, ten)
 
 pub state_evidence-requires-clause-there : goal.state_evidence-requires-clause-there
 state_evidence-requires-clause-there c =
-    let t = c.args.trace.now in
-    let f = c.args.fault.now in
-    let bytes = c.requires.first.0 in
-    let later : 1 < phase_of f.code =
-    subst (λ (k : Code). 1 < phase_of k) (sym c.requires.state) (omega arith) in
-    let there = state_there t f
-    (fault_of bytes t f (λ u spelled. c.bytes_spell_one_trace.ensures bytes u t spelled c.requires.first.1) later
-    c.requires.first.2.judged.stands)
-    c.requires.state in
-    subst (λ (n : ℕ). n < length t.sections) (same_Some there.0 c.in-Some.e (sym there.2 ∙ c.in-Some.is)) there.1
+    (agreement_first c.bytes_spell_one_trace.ensures c.args.trace.now c.args.fault.now c.requires.first
+    (ap phase_of c.requires.state) c.in-Some.e c.in-Some.is).there
 
 pub state_evidence-requires-clause-stands : goal.state_evidence-requires-clause-stands
 state_evidence-requires-clause-stands c =
     let t = c.args.trace.now in
     let f = c.args.fault.now in
-    let bytes = c.requires.first.0 in
-    let later : 1 < phase_of f.code =
-    subst (λ (k : Code). 1 < phase_of k) (sym c.requires.state) (omega arith) in
-    let there = state_there t f
-    (fault_of bytes t f (λ u spelled. c.bytes_spell_one_trace.ensures bytes u t spelled c.requires.first.1) later
-    c.requires.first.2.judged.stands)
-    c.requires.state in
-    subst (λ (n : ℕ). StandsInAgreement code.TransferBalances t n f.offset)
-    (same_Some there.0 c.in-Some.e (sym there.2 ∙ c.in-Some.is)) there.3
+    subst (λ (k : Code). StandsInAgreement k t c.in-Some.e f.offset) c.requires.state
+    (agreement_first c.bytes_spell_one_trace.ensures t f c.requires.first (ap phase_of c.requires.state) c.in-Some.e
+    c.in-Some.is).stands
 
 pub returns : goal.returns
 returns c =

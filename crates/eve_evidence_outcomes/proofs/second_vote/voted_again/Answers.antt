@@ -1,7 +1,7 @@
 use Rattle.std.proofs.Common.{inl, inr, arith}
 use Rattle.std.proofs.lemmas.Bool.{cases_lt}
-use Rattle.eve_explain.proofs.Voting.{no_votes_there}
-use Rattle.eve_explain.proofs.votes.voted_again.Goals as goal
+use Rattle.eve_evidence_outcomes.proofs.SecondVotes.{no_votes_there}
+use Rattle.eve_evidence_outcomes.proofs.second_vote.voted_again.Goals as goal
 
 pub unreachable-requires : goal.unreachable-requires
 unreachable-requires c =

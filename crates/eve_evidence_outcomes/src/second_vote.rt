@@ -1,4 +1,4 @@
-//! What shows a fault of votes.
+//! A vote that its verifier has no right to: it has an earlier one on the batch in the view.
 
 ghost use Rattle.std.specs.Prelude.{◌≡◌, ◌<◌, ◌≤◌, ℕ, IfSome, IfNone, IsFalse, length, take, slice_get, Some};
 ghost use Rattle.std.specs.List.{AllByRecursion};
@@ -8,18 +8,12 @@ ghost use Rattle.eve_views.specs.Form.{SomePlace};
 ghost use Rattle.eve_votes.specs.Votes.{is_vote_on};
 ghost use Rattle.eve_votes.specs.Faults.{StandsInVotes, IsFurther};
 ghost use Rattle.eve_views.specs.declared.fault.Code.TheVariants as code;
-ghost use Rattle.eve_explain.specs.Votes.{IsFirstOn, IsSecond, IsAgain, IsVotedAgain};
+ghost use Rattle.eve_evidence_outcomes.specs.SecondVote.{IsFirstOn, IsSecond, IsAgain, IsVotedAgain};
 
+use crate::votes::is_on;
 use eve_evidence::SecondVote;
 use eve_frames::VoteView;
 use eve_views::{Trace, Votes};
-
-/// Whether a vote is on the batch in the view.
-fn is_on(vote: &VoteView<'_>, n: u32, view: u32) -> bool
-    ensures { result ≡ is_vote_on n view (vote_said vote.now) }
-{
-    vote.seq() == n && vote.view() == view
-}
 
 /// The first of a verifier's first votes that is on a batch in a view, if there is one.
 fn first_on<'a>(votes: &Votes<'_, 'a>, count: usize, n: u32, view: u32) -> Option<VoteView<'a>>

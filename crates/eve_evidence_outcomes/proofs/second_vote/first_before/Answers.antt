@@ -4,9 +4,9 @@ use Rattle.eve_grammar.specs.Trace.{Vote}
 use Rattle.eve_frames.specs.Said.{vote_said}
 use Rattle.eve_votes.specs.Faults.{IsFurther}
 use Rattle.eve_evidence.specs.declared.evidence.SecondVote.{SecondVote}
-use Rattle.eve_explain.specs.Votes.{IsSecond}
-use Rattle.eve_explain.proofs.Voting.{no_further, second_is}
-use Rattle.eve_explain.proofs.votes.first_before.Goals as goal
+use Rattle.eve_evidence_outcomes.specs.SecondVote.{IsSecond}
+use Rattle.eve_evidence_outcomes.proofs.SecondVotes.{no_further, second_is}
+use Rattle.eve_evidence_outcomes.proofs.second_vote.first_before.Goals as goal
 
 pub returns-in_default-clause-none : goal.returns-in_default-clause-none
 returns-in_default-clause-none c = λ w got at.

@@ -14,7 +14,7 @@ use Rattle.eve_votes.specs.Votes.{is_vote_on}
 use Rattle.eve_votes.specs.Faults.{IsFurther}
 use Rattle.eve_grammar.specs.Bodies.{borrowed_choice}
 use Rattle.eve_evidence.specs.declared.evidence.SecondVote.{SecondVote}
-use Rattle.eve_explain.specs.Votes.{IsFirstOn, IsSecond}
+use Rattle.eve_evidence_outcomes.specs.SecondVote.{IsFirstOn, IsSecond}
 
 none_on : (xs : List (ℕ × Vote)) (n view : ℕ) → AllByRecursion (λ z. IsFalse (is_vote_on n view z.1)) xs
     → list_any (λ u. is_vote_on n view u.1) xs ≡ false

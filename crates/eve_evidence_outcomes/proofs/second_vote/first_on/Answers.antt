@@ -5,7 +5,7 @@ use Rattle.eve_grammar.specs.Trace.{Vote}
 use Rattle.eve_frames.specs.Said.{vote_said}
 use Rattle.eve_votes.specs.Votes.{is_vote_on}
 use Rattle.eve_evidence.proofs.Lists.{all_more, place_in_front}
-use Rattle.eve_explain.proofs.votes.first_on.Goals as goal
+use Rattle.eve_evidence_outcomes.proofs.second_vote.first_on.Goals as goal
 
 pub returns-then-is_on-clause-first : goal.returns-then-is_on-clause-first
 returns-then-is_on-clause-first c =

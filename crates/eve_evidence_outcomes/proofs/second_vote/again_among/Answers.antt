@@ -5,7 +5,7 @@ use Rattle.eve_views.specs.Form.{SomePlace}
 use Rattle.eve_history.proofs.Places.{no_place}
 use Rattle.eve_votes.specs.Faults.{IsFurther}
 use Rattle.eve_evidence.proofs.Lists.{place_at, no_place_more, item_there}
-use Rattle.eve_explain.proofs.votes.again_among.Goals as goal
+use Rattle.eve_evidence_outcomes.proofs.second_vote.again_among.Goals as goal
 
 pub loop-i-init : goal.loop-i-init
 loop-i-init c = λ place. no_place _ place

@@ -2,7 +2,7 @@ use Rattle.std.proofs.Common.{◌≡◌, ℕ, ◌<◌}
 use Rattle.eve_views.specs.Form.{SomePlace}
 use Rattle.eve_grammar.specs.Spelling.{votes_at}
 use Rattle.eve_votes.specs.Faults.{IsFurther}
-use Rattle.eve_explain.proofs.votes.voted_again.Given as goal
+use Rattle.eve_evidence_outcomes.proofs.second_vote.voted_again.Given as goal
 
 abbrev pub invariant-loop-v : goal.invariant-loop-v
 invariant-loop-v l =
