@@ -17,7 +17,7 @@ use Rattle.eve_chains.specs.Visible.{before_index, visible_to}
 use Rattle.eve_evidence.specs.Course.{later_state, last_state, and_landing, attempts_behind, standing}
 use Rattle.eve_evidence.specs.Told.{placed_in}
 use Rattle.eve_evidence.specs.Sources.{passed, passed_in, way_to, state_table, table_after_way}
-use Rattle.eve_evidence.proofs.Lasting.{along-append}
+use Rattle.eve_evidence.proofs.LastWrites.{along-append}
 
 abbrev access_text : Access → List ℕ
 access_text x = frame_text (OfAccess x)

@@ -6,6 +6,7 @@ mod chain;
 mod course;
 mod evidence;
 mod front;
+mod items;
 pub mod laws;
 mod record;
 mod section;
@@ -23,5 +24,6 @@ pub use evidence::{
     ToldRow, ToldSent, ToldState, ToldTransfer, TransferFault, TransferPoll, VERIFIERS,
     VerifierChoice, VerifierVote, WrongEntry, frame_kinds,
 };
+pub use items::item_at;
 pub use section::section_evidence;
-pub use told::{reply_of, told_attempt, told_request, told_row, told_transfer};
+pub use told::{has_id, reply_of, told_attempt, told_request, told_row, told_transfer};

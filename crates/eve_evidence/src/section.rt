@@ -1,6 +1,6 @@
 //! The evidence of a fault in a replica's section.
 
-ghost use Rattle.std.specs.Prelude.{◌≡◌, ◌<◌, ℕ, IfSome, IfNone, IfOk, List, length, take, slice_get};
+ghost use Rattle.std.specs.Prelude.{◌≡◌, ◌<◌, ℕ, IfSome, IfNone, IfOk, List, length, slice_get};
 ghost use Rattle.std.specs.Prelude.{Some};
 ghost use Rattle.eve_smallbank.specs.Access.{Fits};
 ghost use Rattle.eve_views.specs.declared.fault.Code.TheVariants as code;
@@ -18,11 +18,11 @@ ghost use Rattle.eve_views.specs.StepKinds.{IsStep};
 ghost use Rattle.eve_history.specs.Section.{SectionState, start, state_after};
 ghost use Rattle.std.specs.Prelude.{◌∷◌, ◌++◌};
 ghost use Rattle.eve_evidence.specs.Course.{IsCourse};
-ghost use Rattle.eve_evidence.specs.Section.{WrongAttempt, WrongAccess, WrongCommit, WrongRollback, WrongTransfer};
-ghost use Rattle.eve_evidence.specs.Section.{StandsAtStep, StandsAlong, TellsAttempt, TellsAccess, TellsCommit};
-ghost use Rattle.eve_evidence.specs.Section.{TellsRollback, TellsTransfer, TellsStep, TellsAlong};
-ghost use Rattle.eve_evidence.specs.Places.{HasLook, TellsSeenWith};
-ghost use Rattle.eve_evidence.specs.Places.{TellsPlace, HasNonePlace};
+ghost use Rattle.eve_evidence.specs.Section.{WrongAttempt, WrongCommit, WrongRollback, WrongTransfer};
+ghost use Rattle.eve_evidence.specs.Section.{StandsAlong, TellsAttempt, TellsAccess, TellsCommit};
+ghost use Rattle.eve_evidence.specs.Section.{TellsRollback, TellsTransfer, TellsAlong};
+ghost use Rattle.eve_evidence.specs.Places.{ToldAlong, NoneAlong, ToldAtStep, NoneAtStep, HasLook, TellsSeenWith};
+ghost use Rattle.eve_evidence.specs.Places.{TellsPlace, HasNonePlace, TellsRecord, HasNoneWrong};
 
 use crate::certificate::certificate_fault;
 use crate::chain::wrong_entry;
@@ -102,14 +102,8 @@ fn at_access<'a>(
     requires course { (s : SectionState) × IsCourse s course.now }
     requires names { names.now.items ≡ names_of trace.now }
     requires there { i < length accesses.now }
-    ensures told { IfSome result (λ e. (x : ℕ × AccessValue) → slice_get accesses.now i ≡ Some x
-        → (s : SectionState) (a : AttemptValue) → IsCourse s course.now
-        → attempt_said attempt.now ≡ without_accesses a → accesses.now ≡ accesses_at attempt.now.offset a
-        → TellsAccess code trace.now s attempt.now.offset a (take i accesses.now) x e) }
-    ensures none { IfNone result ((x : ℕ × AccessValue) → slice_get accesses.now i ≡ Some x
-        → (s : SectionState) (a : AttemptValue) → IsCourse s course.now
-        → attempt_said attempt.now ≡ without_accesses a → accesses.now ≡ accesses_at attempt.now.offset a
-        → ¬ WrongAccess code trace.now s attempt.now.offset a (take i accesses.now) x.1) }
+    ensures told { IfSome result (TellsRecord code trace.now course.now attempt.now accesses.now i) }
+    ensures none { IfNone result (HasNoneWrong code trace.now course.now attempt.now accesses.now i) }
 {
     match code {
         Code::Version => chain_at(trace, course, attempt, accesses, i, Code::Version),
@@ -146,10 +140,7 @@ fn chain_at<'a>(
 ) -> Option<Evidence<'a>>
     requires course { (s : SectionState) × IsCourse s course.now }
     requires there { i < length accesses.now }
-    ensures told { IfSome result (λ e. (x : ℕ × AccessValue) → slice_get accesses.now i ≡ Some x
-        → (s : SectionState) (a : AttemptValue) → IsCourse s course.now
-        → attempt_said attempt.now ≡ without_accesses a → accesses.now ≡ accesses_at attempt.now.offset a
-        → TellsAccess code trace.now s attempt.now.offset a (take i accesses.now) x e) }
+    ensures told { IfSome result (TellsRecord code trace.now course.now attempt.now accesses.now i) }
     ensures none { IfNone result ((x : ℕ × AccessValue) → slice_get accesses.now i ≡ Some x
         → (s : SectionState) (a : AttemptValue) → IsCourse s course.now
         → attempt_said attempt.now ≡ without_accesses a → accesses.now ≡ accesses_at attempt.now.offset a
@@ -233,14 +224,8 @@ fn at_accesses<'a>(
 ) -> Option<Evidence<'a>>
     requires course { (s : SectionState) × IsCourse s course.now }
     requires names { names.now.items ≡ names_of trace.now }
-    ensures told { IfSome result (λ e. (s : SectionState) (a : AttemptValue) → IsCourse s course.now
-        → attempt_said attempt.now ≡ without_accesses a → accesses.now ≡ accesses_at attempt.now.offset a
-        → SomePlace accesses.now (λ own x. (x.0 ≡ place)
-        × TellsAccess code trace.now s attempt.now.offset a own x e)) }
-    ensures none { IfNone result ((s : SectionState) (a : AttemptValue) → IsCourse s course.now
-        → attempt_said attempt.now ≡ without_accesses a → accesses.now ≡ accesses_at attempt.now.offset a
-        → ¬ SomePlace accesses.now (λ own x. (x.0 ≡ place)
-        × WrongAccess code trace.now s attempt.now.offset a own x.1)) }
+    ensures told { IfSome result (ToldAlong code trace.now place course.now attempt.now accesses.now) }
+    ensures none { IfNone result (NoneAlong code trace.now place course.now attempt.now accesses.now) }
 {
     for i in 0..accesses.len() {
         if let Some(found) = at_place(trace, names, course, attempt, accesses, i, code, place) {
@@ -261,10 +246,8 @@ fn at_step<'a>(
 ) -> Option<Evidence<'a>>
     requires course { (s : SectionState) × IsCourse s course.now }
     requires names { names.now.items ≡ names_of trace.now }
-    ensures told { IfSome result (λ x. (s : SectionState) (is : ℕ × StepValue) → IsCourse s course.now
-        → IsStep step.now is → TellsStep code trace.now place s is x) }
-    ensures none { IfNone result ((s : SectionState) (is : ℕ × StepValue) → IsCourse s course.now
-        → IsStep step.now is → ¬ StandsAtStep code trace.now place s is) }
+    ensures told { IfSome result (ToldAtStep code trace.now place course.now step.now) }
+    ensures none { IfNone result (NoneAtStep code trace.now place course.now step.now) }
 {
     match step {
         Step::Attempt(attempt, accesses) => {

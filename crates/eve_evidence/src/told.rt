@@ -1,8 +1,8 @@
 //! Attempts, states, requests and rows, as evidence tells them.
 
-ghost use Rattle.std.specs.Prelude.{◌≡◌, ◌<◌, length, slice_get, slice_index_or, Some};
+ghost use Rattle.std.specs.Prelude.{◌≡◌, ◌≢◌, ◌<◌, IsTrue, IsFalse, length, slice_get, slice_index_or, Some};
 ghost use Rattle.eve_smallbank.specs.declared.request.Reply.TheVariants.{Done};
-ghost use Rattle.eve_grammar.specs.Trace.{no_request};
+ghost use Rattle.eve_grammar.specs.Trace.{no_request, request_id};
 ghost use Rattle.eve_grammar.specs.Bodies.{borrowed_asked};
 ghost use Rattle.eve_frames.specs.Said.{attempt_said, batch_said, transfer_said};
 ghost use Rattle.eve_evidence.specs.Told.{told_attempt, told_transfer, request_in, IsToldRequest, IsToldRow};
@@ -72,6 +72,14 @@ fn asked_by_nobody<'a>() -> Asked<'a>
         number: 0,
         request: Request::Balance(&[]),
     }
+}
+
+/// Whether a request has this client and number.
+pub fn has_id(asked: &Asked<'_>, client: u32, number: u64) -> bool
+    ensures yes { IsTrue result → request_id (borrowed_asked asked.now) ≡ (client, number) }
+    ensures no { IsFalse result → request_id (borrowed_asked asked.now) ≢ (client, number) }
+{
+    asked.client == client && asked.number == number
 }
 
 /// The request with this index of a batch.

@@ -1,10 +1,10 @@
 pub mod Headers
 pub mod Lists
-pub mod Forming
-pub mod Counting
-pub mod Asking
-pub mod Unasked
+pub mod FirstFormFaults
+pub mod FrameCounts
+pub mod RequestSearches
+pub mod UnaskedIds
 pub mod Fronts
 pub mod Records
-pub mod Walking
-pub mod FirstWrong
+pub mod FramesPassed
+pub mod FirstWrongFields

@@ -1,13 +1,12 @@
--- Lists: bytes that are the same, places where something stands again, and where nothing can; and options.
+-- Lists: bytes that are the same, what a list contains; fronts; and options.
 use Rattle.std.proofs.Common.{◌≡◌, ◌≢◌, ℕ, zero, suc, ◌≤◌, true, false}
-use Rattle.std.proofs.Common.{List, [], ◌∷◌, ◌++◌, Option, Some, None, length, map, take, drop, refl}
+use Rattle.std.proofs.Common.{List, [], ◌∷◌, Option, Some, None, length, map, take, drop, refl}
 use Rattle.std.proofs.Common.{sym, ap, subst, ◌∙◌, arith}
 use Rattle.std.specs.Prelude.{Contains, IfSome, IfNone, nat_eq}
 use Rattle.std.specs.List.{AllByRecursion}
 use Rattle.std.specs.Cmp.Lexicographic.{pointwise}
 use Rattle.std.proofs.lemmas.Bool.{and_parts, and_from, eq-eqb, eqb-true, false≢true}
 use Rattle.std.proofs.lemmas.List.{length-drop, take_all}
-use Rattle.eve_views.specs.Form.{SomePlace}
 
 -- ---- bytes
 
@@ -28,14 +27,7 @@ other_bytes xs ys e = λ same.
     let yes : pointwise nat_eq xs ys ≡ true = subst (λ (zs : List ℕ). pointwise nat_eq xs zs ≡ true) same (itself xs) in
     false≢true (sym e ∙ yes)
 
--- ---- places
-
-pub no_place : {A : Type 0} (P : List A → A → Type 0) → SomePlace [] P → ⊥
-no_place {A = A} P place = by place.before place.is
-  where
-    by : (b : List A) → ◌≡◌ {A = List A} [] (b ++ place.item ∷ place.rest) → ⊥
-    by [] e = cc
-    by (x ∷ b) e = cc
+-- ---- what a list contains
 
 -- what a list contains, not all of it differs from
 pub not_all_other : {A B : Type 0} (f : A → B) (xs : List A) (y : B) → Contains (map f xs) y

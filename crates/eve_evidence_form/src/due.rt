@@ -1,13 +1,13 @@
 //! Which kinds of frames may stand at a place, and what is wrong with what stands there.
 
-ghost use Rattle.std.specs.Prelude.{◌≡◌, ◌<◌, length, slice_get, Some};
+ghost use Rattle.std.specs.Prelude.{◌≡◌};
 ghost use Rattle.eve_grammar.specs.Kinds.{kind_byte};
 ghost use Rattle.eve_grammar.specs.Frames.{is_allowed, is_allowed_in_sections, is_allowed_behind_sections};
 ghost use Rattle.eve_views.specs.Form.{HasNoFrame};
 ghost use Rattle.eve_evidence_form.specs.Due.{due_kinds, IsFrameFault};
 
 use byteorder::{BigEndian, ByteOrder};
-use eve_evidence::{FRAME_KINDS, FrameFault, frame_kinds};
+use eve_evidence::{FRAME_KINDS, FrameFault, frame_kinds, item_at};
 use eve_grammar::{FRAME_HEAD_LEN, FrameKind, Head, Place};
 
 /// Whether a frame of the kind may stand there, after customers and batches, and before the first verifier.
@@ -54,14 +54,6 @@ fn is_allowed(head: &Head, place: &Place, kind: FrameKind) -> bool
     }
 }
 
-/// The kind at this place of a list.
-fn kind_at(kinds: &[FrameKind], i: usize) -> FrameKind
-    requires { i < length kinds.now }
-    ensures { slice_get kinds.now i ≡ Some result }
-{
-    kinds[i]
-}
-
 /// Whether a frame of each kind may stand there, in the order of their bytes.
 pub fn due_kinds(head: &Head, place: &Place) -> [bool; FRAME_KINDS]
     ensures { result ≡ due_kinds head.now place.now }
@@ -69,7 +61,7 @@ pub fn due_kinds(head: &Head, place: &Place) -> [bool; FRAME_KINDS]
     let kinds = frame_kinds();
     let mut due = [false; FRAME_KINDS];
     for i in 0..kinds.len() {
-        due[i] = is_allowed(head, place, kind_at(&kinds, i));
+        due[i] = is_allowed(head, place, item_at(&kinds, i));
     }
     due
 }

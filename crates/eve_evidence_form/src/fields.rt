@@ -1,7 +1,7 @@
 //! Fields of a body: what stands there, and the first that is wrong.
 
 ghost use Rattle.std.specs.Prelude.{◌≡◌, ◌<◌, ◌≤◌, ◌+◌, ◌^◌, ◌==◌, ◌&&◌, ◌||◌};
-ghost use Rattle.std.specs.Prelude.{length, take, drop, slice_get, Some};
+ghost use Rattle.std.specs.Prelude.{length, take, drop};
 ghost use Rattle.std.specs.Int.{w64, cast_signed};
 ghost use Rattle.eve_accounts.specs.Money.{is_balance, is_saving, is_amount};
 ghost use Rattle.eve_accounts.specs.Names.{is_printable};
@@ -12,7 +12,7 @@ ghost use Rattle.eve_evidence_form.specs.Fields.{printable_front, name_field, na
 
 use byteorder::{BigEndian, ByteOrder};
 use eve_accounts::{FIRST_NAME_BYTE, LAST_NAME_BYTE, MOST_AMOUNT, MOST_BALANCE, MOST_NAME_BYTES};
-use eve_evidence::BodyField;
+use eve_evidence::{BodyField, item_at};
 
 /// A field of a body, as it stands there.
 ///
@@ -39,20 +39,12 @@ pub fn there(own: BodyField, at: usize, right: bool) -> FieldThere
     }
 }
 
-/// The field at this place of a list.
-fn field_at(fields: &[FieldThere], i: usize) -> FieldThere
-    requires { i < length fields.now }
-    ensures { slice_get fields.now i ≡ Some result }
-{
-    fields[i]
-}
-
 /// The first of these fields that is wrong, if one is.
 pub fn first_wrong_there(fields: &[FieldThere]) -> Option<FieldThere>
     ensures { result ≡ first_wrong_there fields.now }
 {
     for i in 0..fields.len() {
-        let own = field_at(fields, i);
+        let own = item_at(fields, i);
         if !own.right {
             return Some(own);
         }
@@ -192,21 +184,13 @@ fn is_printable(byte: u8) -> bool
     FIRST_NAME_BYTE <= byte && byte <= LAST_NAME_BYTE
 }
 
-/// The byte at this place.
-fn byte_at(bytes: &[u8], i: usize) -> u8
-    requires { i < length bytes.now }
-    ensures { slice_get bytes.now i ≡ Some result }
-{
-    bytes[i]
-}
-
 /// How many bytes come before the first that no name has.
 fn printable_front(bytes: &[u8]) -> usize
     ensures front { result ≡ printable_front bytes.now }
     ensures within { result ≤ length bytes.now }
 {
     for i in 0..bytes.len() {
-        if !is_printable(byte_at(bytes, i)) {
+        if !is_printable(item_at(bytes, i)) {
             return i;
         }
     }

@@ -1,7 +1,6 @@
 //! What shows a fault of the header.
 
-ghost use Rattle.std.specs.Prelude.{◌≡◌, ◌<◌, ◌≤◌, ◌+◌, IfSome, IfNone, IsTrue, IsFalse, length, take};
-ghost use Rattle.std.specs.Prelude.{slice_get, Some};
+ghost use Rattle.std.specs.Prelude.{◌≡◌, ◌≤◌, ◌+◌, IfSome, IfNone, IsTrue, IsFalse, length, take};
 ghost use Rattle.std.specs.List.{AllByRecursion};
 ghost use Rattle.eve_grammar.specs.declared.head.Head.{Head as HeadValue};
 ghost use Rattle.eve_views.specs.Form.{is_sized, SaysHead};
@@ -9,7 +8,7 @@ ghost use Rattle.eve_evidence_form.specs.Header.{said, number, head_numbers};
 ghost use Rattle.eve_evidence_form.specs.Header.{LiesWithin, IsLengthFault, TellsMagic, IsFirstWrongNumber};
 
 use byteorder::{BigEndian, ByteOrder};
-use eve_evidence::{HeadField, LengthFault};
+use eve_evidence::{HeadField, LengthFault, item_at};
 use eve_grammar::{
     HEADER_LEN, MOST_BATCHES, MOST_BYTES, MOST_REPLICAS, MOST_VERIFIERS, MOST_WINDOW, MOST_WORKERS,
     NEWEST_VERSION, most_customers,
@@ -135,14 +134,6 @@ fn head_numbers(bytes: &[u8]) -> [HeadNumber; 11]
     ]
 }
 
-/// The number at this place of a header's.
-fn number_at(numbers: &[HeadNumber], i: usize) -> HeadNumber
-    requires { i < length numbers.now }
-    ensures { slice_get numbers.now i ≡ Some result }
-{
-    numbers[i]
-}
-
 /// Whether a number lies within its range.
 fn lies_within(number: &HeadNumber) -> bool
     ensures yes { IsTrue result → LiesWithin number.now }
@@ -159,7 +150,7 @@ fn wrong_number(bytes: &[u8]) -> Option<HeadNumber>
 {
     let numbers = head_numbers(bytes);
     for i in 0..numbers.len() {
-        let number = number_at(&numbers, i);
+        let number = item_at(&numbers, i);
         if !lies_within(&number) {
             return Some(number);
         }

@@ -6,7 +6,7 @@ ghost use Rattle.eve_grammar.specs.Trace.{Customer as CustomerValue};
 ghost use Rattle.eve_grammar.specs.Spelling.{customers_at};
 ghost use Rattle.eve_views.specs.declared.fault.Code.TheVariants as code;
 ghost use Rattle.eve_evidence_form.specs.Names.{NoneNamed, IsFirstNamed, IsNamedAgain};
-ghost use Rattle.eve_evidence_form.specs.Orders.{StandsTwice};
+ghost use Rattle.eve_history.specs.Order.{StandsInOrders};
 
 use eve_views::Trace;
 
@@ -79,7 +79,7 @@ fn named_before<'a>(trace: &Trace<'a>, i: u32, at: u64) -> Option<NamedAgain<'a>
 ///
 /// docs/MODEL.md, "Evidence". Two passes over the customers.
 pub fn named_again<'a>(trace: &Trace<'a>, at: u64) -> NamedAgain<'a>
-    requires { StandsTwice code.SameName trace.now at }
+    requires { StandsInOrders code.SameName trace.now at }
     ensures { IsNamedAgain trace.now at result.name.now result.first.number result.first.at }
 {
     for i in 0..trace.customer_count() {

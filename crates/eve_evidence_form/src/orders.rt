@@ -1,7 +1,8 @@
 //! The evidence of a fault of orders.
 
 ghost use Rattle.std.specs.Prelude.{IfOk};
-ghost use Rattle.eve_evidence_form.specs.Orders.{StandsTwice, TellsTwice};
+ghost use Rattle.eve_history.specs.Order.{StandsInOrders};
+ghost use Rattle.eve_evidence_form.specs.Orders.{TellsTwice};
 
 use crate::names::named_again;
 use crate::requests::asked_again;
@@ -18,7 +19,7 @@ pub fn trace_evidence<'a>(
     trace: &Trace<'a>,
     fault: &Fault,
 ) -> Result<Evidence<'a>, AllocError>
-    requires { StandsTwice fault.now.code trace.now fault.now.offset }
+    requires { StandsInOrders fault.now.code trace.now fault.now.offset }
     ensures told { IfOk result (TellsTwice trace.now fault.now) }
 {
     match fault.code {

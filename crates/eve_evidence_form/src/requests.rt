@@ -1,10 +1,9 @@
 //! What shows that a request stands twice.
 
-ghost use Rattle.std.specs.Prelude.{◌≡◌, ◌≢◌, ◌<◌, ◌≤◌, ◌↔◌, ℕ, ◌++◌, IfSome, IfNone, IfOk, IsTrue, IsFalse};
+ghost use Rattle.std.specs.Prelude.{◌≡◌, ◌<◌, ◌≤◌, ◌↔◌, ℕ, ◌++◌, IfSome, IfNone, IfOk, IsTrue, IsFalse};
 ghost use Rattle.std.specs.Prelude.{length, take, slice_get, Some};
 ghost use Rattle.std.specs.List.{flat_map};
-ghost use Rattle.eve_grammar.specs.Trace.{Batch as BatchValue, RequestId as RequestIdValue, request_id};
-ghost use Rattle.eve_grammar.specs.Bodies.{borrowed_asked};
+ghost use Rattle.eve_grammar.specs.Trace.{Batch as BatchValue, RequestId as RequestIdValue};
 ghost use Rattle.eve_grammar.specs.Spelling.{batches_at};
 ghost use Rattle.eve_grammar.specs.declared.limits.TheConstants.{MOST_REQUESTS};
 ghost use Rattle.eve_frames.specs.Said.{batch_said};
@@ -12,11 +11,10 @@ ghost use Rattle.eve_views.specs.declared.fault.Code.TheVariants as code;
 ghost use Rattle.eve_evidence_form.specs.Requests.{requests_listed, NoneAsked, IsFirstAsked};
 ghost use Rattle.eve_evidence_form.specs.Requests.{NoneAgain, IsFirstAgain, IsRequestAgain};
 ghost use Rattle.eve_evidence_form.specs.Requests.{is_in_set, LeavesUnasked, HasUnasked};
-ghost use Rattle.eve_evidence_form.specs.Orders.{StandsTwice};
+ghost use Rattle.eve_history.specs.Order.{StandsInOrders};
 
-use eve_evidence::ToldRequest;
+use eve_evidence::{ToldRequest, has_id};
 use eve_frames::BatchView;
-use eve_grammar::Asked;
 use eve_views::Trace;
 use std::alloc::{AllocError, Global};
 use std::collections::BTreeSet;
@@ -40,14 +38,6 @@ pub struct AskedAgain<'a> {
     pub request: ToldRequest<'a>,
     /// The first that has them.
     pub first: FirstAsked<'a>,
-}
-
-/// Whether a request has this client and number.
-fn has_id(asked: &Asked<'_>, client: u32, number: u64) -> bool
-    ensures yes { IsTrue result → request_id (borrowed_asked asked.now) ≡ (client, number) }
-    ensures no { IsFalse result → request_id (borrowed_asked asked.now) ≢ (client, number) }
-{
-    asked.client == client && asked.number == number
 }
 
 /// The first of the first `count` requests of a batch that has this client and number, if one does.
@@ -245,7 +235,7 @@ pub fn asked_again<'a>(
     trace: &Trace<'a>,
     at: u64,
 ) -> Result<AskedAgain<'a>, AllocError>
-    requires { StandsTwice code.SameRequest trace.now at }
+    requires { StandsInOrders code.SameRequest trace.now at }
     ensures { IfOk result (λ x. IsRequestAgain trace.now at x.request x.first.request x.first.at) }
 {
     for n in 0..trace.batch_count() {

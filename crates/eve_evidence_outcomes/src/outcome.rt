@@ -9,30 +9,17 @@ ghost use Rattle.eve_chains.specs.Committed.{balances_to};
 ghost use Rattle.eve_agree.specs.Agreement.{StandsInAgreement};
 ghost use Rattle.eve_evidence_outcomes.specs.Outcome.{IsFirstApart, IsReplyFault, TellsOutcomeFault, TellsOutcome};
 ghost use Rattle.eve_evidence_outcomes.specs.Outcome.{HasThatOfFirst};
-ghost use Rattle.eve_evidence.specs.declared.evidence.Evidence.TheVariants as shown;
 
 use crate::committed::committed_attempt;
+use crate::replicas::{history_at, settled_at};
 use crate::sent::has_reply;
 use crate::state::{first_committed, row_apart};
 use eve_chains::Settled;
-use eve_evidence::{Evidence, OutcomeFault, ToldAttempt, reply_of, told_attempt, told_request};
+use eve_evidence::{Evidence, OutcomeFault, reply_of, told_attempt, told_request};
 use eve_frames::AttemptView;
 use eve_history::History;
 use eve_views::Trace;
 use std::alloc::{AllocError, Global};
-
-/// An outcome that isn't that of the first replica that committed the batch.
-#[derive(Clone, Copy)]
-struct OtherOutcome<'a> {
-    /// The attempt that came to it.
-    attempt: ToldAttempt,
-    /// That replica.
-    first: u8,
-    /// The byte at which its attempt's frame begins.
-    first_at: u64,
-    /// The first thing that differs.
-    wrong: OutcomeFault<'a>,
-}
 
 /// Whether two attempts have the same reply for the request of an index, or both have none.
 fn have_same_reply(own: &AttemptView<'_>, its: &AttemptView<'_>, index: u16) -> bool
@@ -123,16 +110,15 @@ fn at_number<'a>(
     e: u8,
     n: u32,
     place: u64,
-) -> Result<Option<OtherOutcome<'a>>, AllocError>
+) -> Result<Option<Evidence<'a>>, AllocError>
     requires histories { histories.now ≡ section_histories trace.now }
     requires settled { settled.now ≡ settlings trace.now }
     requires there { e < length trace.now.sections }
     requires number { n ≤ length (settling trace.now e).numbers }
-    ensures told { IfOk result (λ x. IfSome x (λ other. TellsOutcome trace.now e place
-        (shown.Outcome other.attempt other.first other.first_at other.wrong))) }
+    ensures told { IfOk result (λ x. IfSome x (TellsOutcome trace.now e place)) }
     ensures none { IfOk result (λ x. IfNone x (HasThatOfFirst trace.now e place n)) }
 {
-    let Some(own) = committed_attempt(&histories[e as usize], n) else {
+    let Some(own) = committed_attempt(history_at(trace, histories, e), n) else {
         return Ok(None);
     };
     if own.offset() != place {
@@ -142,7 +128,7 @@ fn at_number<'a>(
         return Ok(None);
     };
     match outcome_fault(alloc, trace, histories, settled, e, first, n, &own, &its) {
-        Ok(Some(wrong)) => Ok(Some(OtherOutcome {
+        Ok(Some(wrong)) => Ok(Some(Evidence::Outcome {
             attempt: told_attempt(&own),
             first,
             first_at: its.offset(),
@@ -175,18 +161,11 @@ pub fn outcome_evidence<'a>(
     requires stands { StandsInAgreement code.Outcome trace.now e place }
     ensures told { IfOk result (TellsOutcome trace.now e place) }
 {
-    let count = settled[e as usize].committed();
+    let count = settled_at(trace, settled, e).committed();
     for n in 0..count {
         match at_number(alloc, trace, histories, settled, e, n + 1, place) {
             Ok(None) => {}
-            Ok(Some(other)) => {
-                return Ok(Evidence::Outcome {
-                    attempt: other.attempt,
-                    first: other.first,
-                    first_at: other.first_at,
-                    wrong: other.wrong,
-                });
-            }
+            Ok(Some(found)) => return Ok(found),
             Err(why) => return Err(why),
         }
     }

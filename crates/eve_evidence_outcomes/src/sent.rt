@@ -1,7 +1,6 @@
 //! The evidence of a reply that was sent and not committed.
 
-ghost use Rattle.std.specs.Prelude.{◌≡◌, ◌<◌, ◌≤◌, IsTrue, IfSome, IfNone, Some, length, slice_get};
-ghost use Rattle.std.specs.Prelude.{◌↔◌, ◌==◌, ◌&&◌, ℕ};
+ghost use Rattle.std.specs.Prelude.{◌≡◌, ◌<◌, ◌≤◌, ◌↔◌, ℕ, IsTrue, IfSome, IfNone, Some, length, slice_get};
 ghost use Rattle.eve_grammar.specs.Limits.{is_batch};
 ghost use Rattle.eve_grammar.specs.Trace.{Sent as SentValue};
 ghost use Rattle.eve_grammar.specs.Spelling.{sent_at};
@@ -14,19 +13,11 @@ ghost use Rattle.eve_evidence.specs.Told.{told_sent};
 
 use crate::committed::committed_attempt;
 use crate::given::given_by;
-use eve_evidence::{Evidence, SentFault, ToldRequest, ToldSent, reply_of};
+use eve_evidence::{Evidence, SentFault, ToldRequest, ToldSent, has_id, reply_of};
 use eve_frames::{AttemptView, BatchView, SentView};
-use eve_grammar::Asked;
 use eve_history::History;
 use eve_smallbank::Reply;
 use eve_views::Trace;
-
-/// Whether a request has this client and number.
-fn is_of(asked: &Asked<'_>, client: u32, number: u64) -> bool
-    ensures { result ≡ (asked.now.client == client) && (asked.now.number == number) }
-{
-    asked.client == client && asked.number == number
-}
 
 /// A reply that was sent, by its own frame.
 fn told_sent(sent: &SentView<'_>) -> ToldSent
@@ -55,7 +46,7 @@ fn request_with<'a>(
 {
     let mut index: u16 = 0;
     for asked in batch.requests() {
-        if is_of(&asked, client, number) {
+        if has_id(&asked, client, number) {
             return Some(ToldRequest {
                 index,
                 batch: seq,

@@ -16,6 +16,7 @@ ghost use Rattle.eve_evidence_outcomes.specs.Outcomes.{IsRightAt};
 use crate::apart::{RowApart, first_apart};
 use crate::balances::balances_to;
 use crate::committed::committed_attempt;
+use crate::replicas::{history_at, settled_at};
 use eve_accounts::Balances;
 use eve_chains::Settled;
 use eve_chains::laws::states_are_the_balances;
@@ -60,13 +61,8 @@ fn balances_of(
     requires number { n ≤ length (settling trace.now e).numbers }
     ensures { IfOk result (λ balances. balances ≡ balances_to trace.now e n) }
 {
-    balances_to(
-        alloc,
-        trace,
-        &histories[e as usize],
-        &settled[e as usize],
-        n,
-    )
+    let history = history_at(trace, histories, e);
+    balances_to(alloc, trace, history, settled_at(trace, settled, e), n)
 }
 
 /// The first row in which replica e's balances after number n aren't those of replica f.
@@ -162,7 +158,7 @@ fn at_number<'a>(
     numbers_are_reached();
     states_are_the_balances();
     trace.recall_limits();
-    let history = &histories[e as usize];
+    let history = history_at(trace, histories, e);
     history.recall_right();
     let Some(state) = taken_over(history, n) else {
         return Ok(None);
@@ -202,7 +198,7 @@ pub fn state_evidence<'a>(
     requires stands { StandsInAgreement code.TransferBalances trace.now e place }
     ensures told { IfOk result (TellsState trace.now e place) }
 {
-    let count = settled[e as usize].committed();
+    let count = settled_at(trace, settled, e).committed();
     for n in 0..count {
         match at_number(alloc, trace, histories, settled, e, n + 1, place) {
             Ok(None) => {}

@@ -7,6 +7,7 @@ ghost use Rattle.eve_history.specs.SectionHistory.{section_history, section_hist
 ghost use Rattle.eve_evidence_outcomes.specs.Counts.{is_fate, counted, fate_count, IsReplicaCounts, AreTraceCounts};
 ghost use Rattle.eve_evidence_outcomes.specs.Places.{HoldsEach};
 
+use crate::replicas::history_at;
 use eve_evidence::{Counts, REPLICAS, ReplicaCounts};
 use eve_frames::BatchView;
 use eve_history::{Fate, History};
@@ -91,7 +92,7 @@ fn counts_at(trace: &Trace<'_>, histories: &[History<'_>], e: u8) -> ReplicaCoun
     requires there { e < length trace.now.sections }
     ensures { IsReplicaCounts (section_history trace.now e) result }
 {
-    counts_of(&histories[e as usize])
+    counts_of(history_at(trace, histories, e))
 }
 
 /// What each replica did, in their order.

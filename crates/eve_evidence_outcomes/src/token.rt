@@ -7,32 +7,18 @@ ghost use Rattle.eve_history.specs.SectionHistory.{section_history};
 ghost use Rattle.eve_chains.specs.Settling.{settling};
 ghost use Rattle.eve_agree.specs.DueTokens.{StandsInTokens};
 ghost use Rattle.eve_agree.specs.Stretches.{AreOfSection};
-ghost use Rattle.eve_evidence.specs.declared.evidence.Evidence.TheVariants as shown;
 ghost use Rattle.eve_evidence_outcomes.specs.Token.{TellsToken, IsDueAt};
 
 use crate::committed::committed_attempt;
 use crate::matched::{rows_after, token_match};
 use eve_chains::Settled;
-use eve_evidence::{Evidence, TokenMatch, ToldAttempt, told_attempt};
+use eve_evidence::{Evidence, told_attempt};
 use eve_frames::AttemptView;
 use eve_history::History;
 use eve_history::laws::numbers_are_reached;
 use eve_smallbank::Reply;
 use eve_views::Trace;
 use std::alloc::{AllocError, Global};
-
-/// A token that isn't due.
-#[derive(Clone, Copy)]
-struct OtherToken<'a> {
-    /// The attempt that has it.
-    attempt: ToldAttempt,
-    /// The token.
-    found: &'a [u8],
-    /// The one that is due.
-    due: [u8; 32],
-    /// Of what the token is made.
-    matches: TokenMatch,
-}
 
 /// The replies of an attempt, by request index.
 fn replies_of(alloc: Global, attempt: &AttemptView<'_>) -> Result<Vec<Reply>, AllocError>
@@ -54,11 +40,10 @@ fn at_number<'a>(
     settled: &Settled<'_>,
     n: u32,
     place: u64,
-) -> Result<Option<OtherToken<'a>>, AllocError>
+) -> Result<Option<Evidence<'a>>, AllocError>
     requires section { AreOfSection trace.now history.now settled.now }
     requires there { n ≤ length settled.now.numbers }
-    ensures told { IfOk result (λ x. IfSome x (λ other. TellsToken trace.now history.now.replica place
-        (shown.Token other.attempt other.found other.due other.matches))) }
+    ensures told { IfOk result (λ x. IfSome x (TellsToken trace.now history.now.replica place)) }
     ensures none { IfOk result (λ x. IfNone x (IsDueAt trace.now history.now.replica place n)) }
 {
     numbers_are_reached();
@@ -79,7 +64,7 @@ fn at_number<'a>(
     }
     let mut before = rows_after(alloc, trace, history, settled, n - 1)?;
     let matches = token_match(alloc, &mut before, &mut after, n, &attempt, &replies)?;
-    Ok(Some(OtherToken {
+    Ok(Some(Evidence::Token {
         attempt: told_attempt(&attempt),
         found,
         due,
@@ -108,14 +93,7 @@ pub fn token_evidence<'a>(
     for n in 0..settled.committed() {
         match at_number(alloc, trace, history, settled, n + 1, place) {
             Ok(None) => {}
-            Ok(Some(other)) => {
-                return Ok(Evidence::Token {
-                    attempt: other.attempt,
-                    found: other.found,
-                    due: other.due,
-                    matches: other.matches,
-                });
-            }
+            Ok(Some(found)) => return Ok(found),
             Err(why) => return Err(why),
         }
     }

@@ -1,5 +1,6 @@
 -- The first fault of a trace: where it stands, and what doesn't stand before it.
-use Rattle.std.proofs.Common.{◌≡◌, ℕ, ◌+◌, ◌<◌, ◌≤◌, true, [], List, length, Some, refl, sym, ap, subst, ◌∙◌, inl, inr, arith}
+use Rattle.std.proofs.Common.{◌≡◌, ℕ, ◌+◌, ◌<◌, ◌≤◌, true, [], List, length, Some, refl, sym, ap, subst, ◌∙◌}
+use Rattle.std.proofs.Common.{inl, inr, arith}
 use Rattle.std.proofs.lemmas.Bool.{cases_lt}
 use Rattle.std.proofs.lemmas.List.{get_or_past}
 use Rattle.std.proofs.lemmas.Option.{same_Some}
@@ -94,7 +95,10 @@ module _ (one : OneTrace) (t : Trace) (f : Fault) (first : IsFirstIn t f) where
       → S f.code t own f.offset → f.replica ≡ Some e → IsThere S t f.code f.offset e
   named_there S own e lt inside stands named =
       let same = same_Some own e (sym inside ∙ named) in
-      record { there = subst (λ (n : ℕ). n < length t.sections) same lt; stands = subst (λ (n : ℕ). S f.code t n f.offset) same stands }
+      record {
+        there = subst (λ (n : ℕ). n < length t.sections) same lt;
+        stands = subst (λ (n : ℕ). S f.code t n f.offset) same stands;
+      }
 
   pub orders_first : is_of_orders f.code ≡ true → StandsInOrders f.code t f.offset
   orders_first told =

@@ -1,5 +1,4 @@
 pub mod Phases
 pub mod FirstFault
-pub mod Kinds
-pub mod Settled
+pub mod CodeKinds
 pub mod Verdicts

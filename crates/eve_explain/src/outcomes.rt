@@ -11,12 +11,12 @@ ghost use Rattle.eve_evidence_outcomes.specs.Token.{TellsToken};
 ghost use Rattle.eve_explain.specs.Behind.{IsFirstIn};
 ghost use Rattle.eve_explain.specs.Explained.{is_of_majority};
 
-use crate::replicas::{histories_of, history_of, settled_of};
+use crate::replicas::{histories_of, history_of};
 use eve_chains::Settled;
 use eve_evidence::Evidence;
 use eve_evidence_outcomes::{
-    majority_evidence, outcome_evidence, reply_evidence, restore_evidence, state_evidence,
-    token_evidence,
+    majority_evidence, outcome_evidence, reply_evidence, restore_evidence, settled_of,
+    state_evidence, token_evidence,
 };
 use eve_grammar::laws::bytes_spell_one_trace;
 use eve_history::laws::right_sections_have_no_fault;

@@ -3,10 +3,8 @@
 ghost use Rattle.std.specs.Prelude.{◌≡◌, ◌<◌, IfOk, length};
 ghost use Rattle.eve_views.specs.Code.{phase_of};
 ghost use Rattle.eve_history.specs.SectionHistory.{section_history, section_histories};
-ghost use Rattle.eve_chains.specs.Settling.{settlings};
 ghost use Rattle.eve_explain.specs.Behind.{IsFirstIn, IsBehindSection};
 
-use eve_chains::Settled;
 use eve_grammar::laws::bytes_spell_one_trace;
 use eve_history::History;
 use eve_views::{CheckFault, Fault, Trace};
@@ -51,21 +49,4 @@ pub(crate) fn histories_of<'a>(
         histories.push(history)?;
     }
     Ok(histories)
-}
-
-/// What all replicas settled.
-pub(crate) fn settled_of<'a>(
-    alloc: Global,
-    trace: &Trace<'_>,
-    histories: &[History<'a>],
-) -> Result<Vec<Settled<'a>>, AllocError>
-    requires { histories.now ≡ section_histories trace.now }
-    ensures { IfOk result (λ ss. ss.items ≡ settlings trace.now) }
-{
-    let mut settled = Vec::new(alloc);
-    for e in 0..histories.len() {
-        let one = Settled::of(alloc, &histories[e], trace)?;
-        settled.push(one)?;
-    }
-    Ok(settled)
 }

@@ -8,7 +8,7 @@ use Rattle.eve_history.specs.Section.{batch_at, request_count, is_right_certific
 use Rattle.eve_history.proofs.Finding.{batch_fits}
 use Rattle.eve_evidence.specs.Certificate.{IsCertificateFault}
 use Rattle.eve_evidence.proofs.Lists.{if_some, if_none_weaker}
-use Rattle.eve_evidence.proofs.Telling.{read_batch}
+use Rattle.eve_evidence.proofs.PartsRead.{read_batch}
 use Rattle.eve_evidence.proofs.certificate.certificate_fault.Goals as goal
 
 pub returns-then-len-clause-right : goal.returns-then-len-clause-right

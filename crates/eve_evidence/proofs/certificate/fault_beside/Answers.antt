@@ -2,7 +2,7 @@ use Rattle.std.proofs.Common.{◌≡◌, ℕ, List, length, take, slice_get, Som
 use Rattle.std.proofs.lemmas.List.{take_all}
 use Rattle.eve_frames.specs.Said.{attempt_said, batch_said}
 use Rattle.eve_evidence.specs.Certificate.{AreRightPlaces, IsRightPlace, IsWrongPlace, IsCertificateFault}
-use Rattle.eve_evidence.proofs.Certifying.{right_more, all_right}
+use Rattle.eve_evidence.proofs.CertificatePlaces.{right_more, all_right}
 use Rattle.eve_evidence.proofs.Lists.{item_there, place_at, if_some, if_none}
 use Rattle.eve_evidence.proofs.certificate.fault_beside.Goals as goal
 

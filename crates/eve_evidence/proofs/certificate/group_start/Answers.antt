@@ -1,6 +1,6 @@
 use Rattle.std.proofs.Common.{arith}
 use Rattle.eve_frames.specs.Said.{batch_said}
-use Rattle.eve_evidence.proofs.Certifying.{walked_more, later_here}
+use Rattle.eve_evidence.proofs.CertificatePlaces.{walked_more, later_here}
 use Rattle.eve_evidence.proofs.certificate.group_start.Goals as goal
 
 pub returns-then-index-start-clause-later : goal.returns-then-index-start-clause-later

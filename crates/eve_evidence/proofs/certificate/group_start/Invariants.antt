@@ -1,6 +1,6 @@
 use Rattle.std.proofs.Common.{◌≤◌}
 use Rattle.eve_frames.specs.Said.{batch_said}
-use Rattle.eve_evidence.proofs.Certifying.{Walked}
+use Rattle.eve_evidence.proofs.CertificatePlaces.{Walked}
 use Rattle.eve_evidence.proofs.certificate.group_start.Given as goal
 
 abbrev pub invariant-loop-group : goal.invariant-loop-group

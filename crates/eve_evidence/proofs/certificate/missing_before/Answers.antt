@@ -1,6 +1,6 @@
 use Rattle.std.proofs.Common.{take}
 use Rattle.eve_frames.specs.Said.{attempt_said, batch_said}
-use Rattle.eve_evidence.proofs.Certifying.{none_more}
+use Rattle.eve_evidence.proofs.CertificatePlaces.{none_more}
 use Rattle.eve_evidence.proofs.certificate.missing_before.Goals as goal
 
 pub loop-m-preserved : goal.loop-m-preserved

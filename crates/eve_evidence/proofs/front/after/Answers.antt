@@ -3,8 +3,8 @@ use Rattle.eve_grammar.specs.Trace.{Step}
 use Rattle.eve_frames.specs.Said.{attempt_said}
 use Rattle.eve_views.specs.StepKinds.{IsStep}
 use Rattle.eve_evidence.specs.Front.{IsFront}
-use Rattle.eve_evidence.proofs.Meeting.{source_found}
-use Rattle.eve_evidence.proofs.Coursing.{on_attempt, on_commit, on_rollback, on_state}
+use Rattle.eve_evidence.proofs.RecordsMet.{source_found}
+use Rattle.eve_evidence.proofs.CourseSteps.{on_attempt, on_commit, on_rollback, on_state}
 use Rattle.eve_evidence.proofs.front.after.Goals as goal
 
 pub returns-in-Attempt : goal.returns-in-Attempt

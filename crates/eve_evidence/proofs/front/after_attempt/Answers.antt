@@ -1,5 +1,5 @@
 use Rattle.std.proofs.Common.{◌+◌, refl}
-use Rattle.eve_evidence.proofs.Fronting.{front_attempt}
+use Rattle.eve_evidence.proofs.LastSources.{front_attempt}
 use Rattle.eve_evidence.proofs.front.after_attempt.Goals as goal
 
 pub returns : goal.returns

@@ -1,4 +1,4 @@
-use Rattle.eve_evidence.proofs.Fronting.{front_commit}
+use Rattle.eve_evidence.proofs.LastSources.{front_commit}
 use Rattle.eve_evidence.proofs.front.after_commit.Goals as goal
 
 pub returns : goal.returns

@@ -3,7 +3,7 @@ use Rattle.eve_frames.specs.Said.{rollback_said}
 use Rattle.eve_evidence.specs.declared.front.Since.TheVariants as since
 use Rattle.eve_evidence.specs.Front.{last_with, since_discarded}
 use Rattle.eve_evidence.specs.Seen.{rollbacks_behind}
-use Rattle.eve_evidence.proofs.Fronting.{front_rollback}
+use Rattle.eve_evidence.proofs.LastSources.{front_rollback}
 use Rattle.eve_evidence.proofs.front.after_rollback.Goals as goal
 
 pub returns : goal.returns

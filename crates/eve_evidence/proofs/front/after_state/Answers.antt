@@ -2,7 +2,7 @@ use Rattle.std.proofs.Common.{ℕ, [], ◌∷◌, ◌++◌, None, Some, sym, sub
 use Rattle.eve_grammar.specs.Trace.{TakesOver}
 use Rattle.eve_frames.specs.Said.{transfer_said}
 use Rattle.eve_evidence.specs.Front.{IsFront}
-use Rattle.eve_evidence.proofs.Fronting.{front_state}
+use Rattle.eve_evidence.proofs.LastSources.{front_state}
 use Rattle.eve_evidence.proofs.front.after_state.Goals as goal
 
 pub returns : goal.returns

@@ -1,6 +1,6 @@
 use Rattle.std.proofs.Common.{ℕ, List, sym, subst, ◌∙◌}
 use Rattle.eve_grammar.specs.Trace.{Step}
-use Rattle.eve_evidence.proofs.Splitting.{Walks, walks_first, room_for, front_met, behind_met, not_ended, walks_on}
+use Rattle.eve_evidence.proofs.StepSplits.{Walks, walks_first, room_for, front_met, behind_met, not_ended, walks_on}
 use Rattle.eve_evidence.proofs.front.front_of.Goals as goal
 
 pub loop-step-init : goal.loop-step-init

@@ -1,5 +1,5 @@
 use Rattle.std.proofs.Common.{length}
-use Rattle.eve_evidence.proofs.Splitting.{Walks}
+use Rattle.eve_evidence.proofs.StepSplits.{Walks}
 use Rattle.eve_evidence.proofs.front.front_of.Given as goal
 
 abbrev pub invariant-loop-step : goal.invariant-loop-step

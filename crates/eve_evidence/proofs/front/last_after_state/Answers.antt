@@ -5,7 +5,7 @@ use Rattle.eve_grammar.specs.Trace.{TakesOver}
 use Rattle.eve_evidence.specs.declared.evidence.Source.TheVariants as source
 use Rattle.eve_evidence.specs.declared.front.Since.TheVariants as since
 use Rattle.eve_evidence.specs.Front.{IsLastSource, last_with, since_discarded}
-use Rattle.eve_evidence.proofs.Fronting.{last_is_it, last_kept}
+use Rattle.eve_evidence.proofs.LastSources.{last_is_it, last_kept}
 use Rattle.eve_evidence.proofs.front.last_after_state.Goals as goal
 
 pub returns-then-is_in : goal.returns-then-is_in

@@ -1,7 +1,7 @@
 use Rattle.std.proofs.Common.{ℕ, [], ◌∷◌, ◌++◌, Some, refl, sym, subst}
 use Rattle.eve_frames.specs.Said.{rollback_said}
 use Rattle.eve_evidence.specs.Front.{IsRestoredBy}
-use Rattle.eve_evidence.proofs.Fronting.{restoring_now, restoring_grows}
+use Rattle.eve_evidence.proofs.LastSources.{restoring_now, restoring_grows}
 use Rattle.eve_evidence.proofs.front.restored_after.Goals as goal
 
 pub returns-then-restores : goal.returns-then-restores

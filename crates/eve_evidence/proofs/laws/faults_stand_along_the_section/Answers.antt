@@ -1,4 +1,4 @@
-use Rattle.eve_evidence.proofs.Standing.{structure_along, records_along, chains_along}
+use Rattle.eve_evidence.proofs.StandingFaults.{structure_along, records_along, chains_along}
 use Rattle.eve_evidence.proofs.laws.faults_stand_along_the_section.Goals as goal
 
 pub returns : goal.returns

@@ -4,8 +4,8 @@ use Rattle.eve_smallbank.specs.Access.{is_write}
 use Rattle.eve_smallbank.specs.Decide.{effect_in}
 use Rattle.eve_frames.specs.Said.{access_said}
 use Rattle.eve_evidence.proofs.Lists.{same_more, get_mapped}
-use Rattle.eve_evidence.proofs.Telling.{same_beq, apart_beq}
-use Rattle.eve_evidence.proofs.Recording.{other_kind, other_after, same_kind}
+use Rattle.eve_evidence.proofs.PartsRead.{same_beq, apart_beq}
+use Rattle.eve_evidence.proofs.DueRecords.{other_kind, other_after, same_kind}
 use Rattle.eve_evidence.proofs.record.effect_fault.Goals as goal
 
 pub returns-then-writes-wanted-clause-told : goal.returns-then-writes-wanted-clause-told

@@ -11,7 +11,7 @@ use Rattle.eve_chains.specs.Records.{recorded}
 use Rattle.eve_evidence.specs.declared.evidence.RecordFault.{RecordFault}
 use Rattle.eve_evidence.specs.Record.{rows_noted, IsDueRecord, IsRecordFault}
 use Rattle.eve_evidence.proofs.Lists.{if_none, if_some}
-use Rattle.eve_evidence.proofs.Recording.{due_record, due_effects, is_due, fits_alike}
+use Rattle.eve_evidence.proofs.DueRecords.{due_record, due_effects, is_due, fits_alike}
 use Rattle.eve_evidence.proofs.record.record_fault.Goals as goal
 
 pub returns-then-is_some-2-clause-told : goal.returns-then-is_some-2-clause-told

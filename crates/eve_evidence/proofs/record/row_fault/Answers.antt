@@ -3,7 +3,7 @@ use Rattle.eve_smallbank.specs.declared.entry.Entry.{Entry}
 use Rattle.eve_frames.specs.Said.{access_said}
 use Rattle.eve_evidence.specs.Record.{rows_noted}
 use Rattle.eve_evidence.proofs.Lists.{same_more, get_mapped}
-use Rattle.eve_evidence.proofs.Recording.{other_row}
+use Rattle.eve_evidence.proofs.DueRecords.{other_row}
 use Rattle.eve_evidence.proofs.record.row_fault.Goals as goal
 
 pub returns-then-number-wanted-clause-told : goal.returns-then-number-wanted-clause-told

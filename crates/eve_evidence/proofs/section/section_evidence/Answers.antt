@@ -2,7 +2,7 @@ use Rattle.std.proofs.Common.{ℕ, List, sym, subst}
 use Rattle.eve_grammar.specs.Trace.{Step}
 use Rattle.eve_history.specs.Section.{start, state_after}
 use Rattle.eve_evidence.specs.Section.{TellsStep}
-use Rattle.eve_evidence.proofs.Going.{Goes, goes_first, goes_no_further, goes_on, none_seen, now, told_again}
+use Rattle.eve_evidence.proofs.StepsAhead.{Goes, goes_first, goes_no_further, goes_on, none_seen, now, told_again}
 use Rattle.eve_evidence.proofs.section.section_evidence.Goals as goal
 
 pub loop-step-init : goal.loop-step-init

@@ -1,5 +1,5 @@
 use Rattle.std.proofs.Common.{length}
-use Rattle.eve_evidence.proofs.Going.{Goes}
+use Rattle.eve_evidence.proofs.StepsAhead.{Goes}
 use Rattle.eve_evidence.proofs.section.section_evidence.Given as goal
 
 abbrev pub invariant-loop-step : goal.invariant-loop-step

@@ -3,7 +3,7 @@ use Rattle.eve_grammar.specs.Trace.{Step}
 use Rattle.eve_grammar.specs.Spelling.{steps_at}
 use Rattle.eve_views.specs.StepKinds.{IsStep}
 use Rattle.eve_evidence.specs.Places.{HasLook, TellsSeenWith}
-use Rattle.eve_evidence.proofs.Coursing.{on_attempt, on_commit, on_rollback, on_state}
+use Rattle.eve_evidence.proofs.CourseSteps.{on_attempt, on_commit, on_rollback, on_state}
 use Rattle.eve_evidence.proofs.section.seen_at.Goals as goal
 
 pub seen_in-requires-clause-look : goal.seen_in-requires-clause-look

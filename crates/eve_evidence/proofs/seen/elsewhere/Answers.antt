@@ -1,8 +1,8 @@
 use Rattle.std.proofs.Common.{ℕ, List, subst}
 use Rattle.eve_grammar.specs.Trace.{Step, Attempts}
 use Rattle.eve_evidence.specs.Seen.{IsFirstAmong, NoneAmong}
-use Rattle.eve_evidence.proofs.Seeing.{by_restored, by_later, by_nobody, by_rolled_back, by_discarded, by_settled}
-use Rattle.eve_evidence.proofs.Seeing.{never_settled, never_open}
+use Rattle.eve_evidence.proofs.FarSources.{by_restored, by_later, by_nobody, by_rolled_back, by_discarded, by_settled}
+use Rattle.eve_evidence.proofs.FarSources.{never_settled, never_open}
 use Rattle.eve_evidence.proofs.seen.elsewhere.Goals as goal
 
 pub front_of-front-requires-clause-there : goal.front_of-front-requires-clause-there

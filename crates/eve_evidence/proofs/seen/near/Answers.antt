@@ -1,7 +1,7 @@
 use Rattle.std.proofs.Common.{refl, sym, ◌∙◌}
 use Rattle.std.proofs.lemmas.Bool.{false≢true}
 use Rattle.eve_frames.specs.Said.{attempt_said}
-use Rattle.eve_evidence.proofs.Nearing.{by_own, by_path, by_base, by_behind, none_there, none_serial, none_at_end, none_behind}
+use Rattle.eve_evidence.proofs.NearSources.{by_own, by_path, by_base, by_behind, none_there, none_serial, none_at_end, none_behind}
 use Rattle.eve_evidence.proofs.seen.near.Goals as goal
 
 pub returns-in-Some-clause-seen : goal.returns-in-Some-clause-seen

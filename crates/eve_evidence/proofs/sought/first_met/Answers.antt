@@ -5,7 +5,7 @@ use Rattle.eve_history.specs.SectionHistory.{access_with}
 use Rattle.eve_evidence.specs.Sources.{passed, passed_by}
 use Rattle.eve_evidence.specs.Sought.{RecordMeets, NoneMet, IsMetAlone, IsFirstMet}
 use Rattle.eve_evidence.proofs.Lists.{get-take, if_none, if_some}
-use Rattle.eve_evidence.proofs.Meeting.{first_here, get_dropped, none_ahead, none_met}
+use Rattle.eve_evidence.proofs.RecordsMet.{first_here, get_dropped, none_ahead, none_met}
 use Rattle.eve_evidence.proofs.sought.first_met.Goals as goal
 
 -- the index at a place of the stretch

@@ -4,7 +4,7 @@ use Rattle.eve_history.specs.SectionHistory.{access_with}
 use Rattle.eve_evidence.specs.Sources.{passed, passed_by}
 use Rattle.eve_evidence.specs.Sought.{RecordMeets, NoneMet, IsMetAlone, IsLastMet}
 use Rattle.eve_evidence.proofs.Lists.{get-take, if_none, if_some}
-use Rattle.eve_evidence.proofs.Meeting.{last_here, none_back, none_met}
+use Rattle.eve_evidence.proofs.RecordsMet.{last_here, none_back, none_met}
 use Rattle.eve_evidence.proofs.sought.last_met.Goals as goal
 
 pub returns-then-not-may_have_met-clause-none : goal.returns-then-not-may_have_met-clause-none

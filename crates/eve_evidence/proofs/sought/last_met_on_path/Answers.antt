@@ -4,8 +4,8 @@ use Rattle.eve_evidence.specs.Course.{placed_on}
 use Rattle.eve_evidence.specs.Sources.{passed_in}
 use Rattle.eve_evidence.specs.Sought.{NoneMet, IsLastMet}
 use Rattle.eve_evidence.proofs.Lists.{if_none, if_some}
-use Rattle.eve_evidence.proofs.Searching.{on_way}
-use Rattle.eve_evidence.proofs.Meeting.{last_met_on, none_met_on}
+use Rattle.eve_evidence.proofs.RecordLookups.{on_way}
+use Rattle.eve_evidence.proofs.RecordsMet.{last_met_on, none_met_on}
 use Rattle.eve_evidence.proofs.sought.last_met_on_path.Goals as goal
 
 pub returns-then-is_some-clause-last : goal.returns-then-is_some-clause-last

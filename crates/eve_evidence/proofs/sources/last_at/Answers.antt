@@ -4,7 +4,7 @@ use Rattle.eve_evidence.specs.Sources.{passed, passed_by, NoneWrites, IsWriter}
 use Rattle.eve_evidence.specs.Lasts.{IsLeftAlone, IsLast}
 use Rattle.eve_history.specs.SectionHistory.{access_with}
 use Rattle.eve_evidence.proofs.Lists.{get-take, if_none, if_some}
-use Rattle.eve_evidence.proofs.Searching.{last_found, none_more}
+use Rattle.eve_evidence.proofs.RecordLookups.{last_found, none_more}
 use Rattle.eve_evidence.proofs.sources.last_at.Goals as goal
 
 pub returns-then-is_some-clause-last : goal.returns-then-is_some-clause-last

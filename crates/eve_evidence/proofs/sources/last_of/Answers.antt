@@ -2,7 +2,7 @@ use Rattle.std.proofs.Common.{ℕ, List, subst}
 use Rattle.std.specs.List.{AllByRecursion}
 use Rattle.eve_grammar.specs.Trace.{Access}
 use Rattle.eve_evidence.specs.Course.{placed_on}
-use Rattle.eve_evidence.proofs.Searching.{none_of, WritesNot}
+use Rattle.eve_evidence.proofs.RecordLookups.{none_of, WritesNot}
 use Rattle.eve_evidence.proofs.sources.last_of.Goals as goal
 
 pub returns-then-not-may_write-clause-none : goal.returns-then-not-may_write-clause-none

@@ -4,7 +4,7 @@ use Rattle.eve_evidence.specs.Course.{placed_on}
 use Rattle.eve_evidence.specs.Sources.{passed_in, NoneWrites}
 use Rattle.eve_evidence.specs.Lasts.{IsLast}
 use Rattle.eve_evidence.proofs.Lists.{if_none, if_some}
-use Rattle.eve_evidence.proofs.Searching.{on_way, last_on, none_on}
+use Rattle.eve_evidence.proofs.RecordLookups.{on_way, last_on, none_on}
 use Rattle.eve_evidence.proofs.sources.last_on_path.Goals as goal
 
 pub returns-then-is_some-clause-last : goal.returns-then-is_some-clause-last

@@ -1,6 +1,6 @@
 use Rattle.std.proofs.Common.{◌-◌, drop}
 use Rattle.eve_evidence.specs.Sources.{NoneWrites}
-use Rattle.eve_evidence.proofs.Searching.{on_way}
+use Rattle.eve_evidence.proofs.RecordLookups.{on_way}
 use Rattle.eve_evidence.proofs.sources.last_on_path.Given as goal
 
 abbrev pub invariant-loop-back : goal.invariant-loop-back

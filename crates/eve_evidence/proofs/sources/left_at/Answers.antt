@@ -5,7 +5,7 @@ use Rattle.eve_evidence.specs.declared.sources.Left.{Left}
 use Rattle.eve_evidence.specs.declared.evidence.Source.TheVariants.{Write}
 use Rattle.eve_evidence.specs.Sources.{passed_by, IsWriter}
 use Rattle.eve_evidence.specs.Lasts.{IsLeftAlone}
-use Rattle.eve_evidence.proofs.Lasting.{left_alone, none_alone}
+use Rattle.eve_evidence.proofs.LastWrites.{left_alone, none_alone}
 use Rattle.eve_evidence.proofs.sources.left_at.Goals as goal
 
 pub returns-in_default-left_by_record-clause-none : goal.returns-in_default-left_by_record-clause-none

@@ -3,7 +3,7 @@ use Rattle.std.proofs.lemmas.List.{take_all}
 use Rattle.eve_grammar.proofs.Lists.{take_one_more}
 use Rattle.eve_frames.specs.Said.{access_said}
 use Rattle.eve_evidence.specs.Sources.{last_left}
-use Rattle.eve_evidence.proofs.Lasting.{left_more, step}
+use Rattle.eve_evidence.proofs.LastWrites.{left_more, step}
 use Rattle.eve_evidence.proofs.sources.left_by_record.Goals as goal
 
 pub loop-i-preserved : goal.loop-i-preserved

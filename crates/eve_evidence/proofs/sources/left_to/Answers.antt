@@ -1,5 +1,5 @@
 use Rattle.eve_frames.specs.Said.{attempt_said}
-use Rattle.eve_evidence.proofs.Leaving.{by_own, has_own, by_path, has_path, by_first, has_first}
+use Rattle.eve_evidence.proofs.VisibleRows.{by_own, has_own, by_path, has_path, by_first, has_first}
 use Rattle.eve_evidence.proofs.sources.left_to.Goals as goal
 
 pub returns-in-Some-clause-by : goal.returns-in-Some-clause-by

@@ -5,7 +5,7 @@ use Rattle.eve_smallbank.specs.Access.{writes_row}
 use Rattle.eve_grammar.specs.Trace.{Access}
 use Rattle.eve_frames.specs.Said.{access_said}
 use Rattle.eve_evidence.proofs.Lists.{all_more}
-use Rattle.eve_evidence.proofs.Lasting.{left_some}
+use Rattle.eve_evidence.proofs.LastWrites.{left_some}
 use Rattle.eve_evidence.proofs.sources.may_write.Goals as goal
 
 pub loop-i-preserved : goal.loop-i-preserved

@@ -1,5 +1,5 @@
 use Rattle.std.proofs.Common.{ℕ, ◌/◌, ◌%◌, sym, ap, ◌∙◌, arith}
-use Rattle.eve_evidence.proofs.Searching.{opening_saving, opening_checking, no_opening}
+use Rattle.eve_evidence.proofs.RecordLookups.{opening_saving, opening_checking, no_opening}
 use Rattle.eve_evidence.proofs.sources.opening_value.Goals as goal
 
 pub returns-then-customer_count-number : goal.returns-then-customer_count-number

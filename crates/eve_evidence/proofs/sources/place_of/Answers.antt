@@ -3,7 +3,7 @@ use Rattle.std.specs.List.{AllByRecursion}
 use Rattle.std.proofs.lemmas.List.{take_all}
 use Rattle.eve_frames.specs.Said.{attempt_said}
 use Rattle.eve_evidence.proofs.Lists.{all_more}
-use Rattle.eve_evidence.proofs.Searching.{before_at, before_all}
+use Rattle.eve_evidence.proofs.RecordLookups.{before_at, before_all}
 use Rattle.eve_evidence.proofs.sources.place_of.Goals as goal
 
 pub returns-then-index_at-index-clause-before : goal.returns-then-index_at-index-clause-before

@@ -4,7 +4,7 @@ use Rattle.std.proofs.lemmas.List.{take_all}
 use Rattle.eve_grammar.specs.Trace.{Access}
 use Rattle.eve_frames.specs.Said.{access_said}
 use Rattle.eve_evidence.proofs.Lists.{all_more}
-use Rattle.eve_evidence.proofs.Searching.{with_at, with_none}
+use Rattle.eve_evidence.proofs.RecordLookups.{with_at, with_none}
 use Rattle.eve_evidence.proofs.sources.record_of.Goals as goal
 
 pub returns-then-index-clause-found : goal.returns-then-index-clause-found

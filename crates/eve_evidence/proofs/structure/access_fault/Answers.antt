@@ -2,7 +2,7 @@ use Rattle.std.proofs.Common.{◌≡◌, ℕ, sym, ◌∙◌, arith}
 use Rattle.std.proofs.lemmas.Option.{same_Some}
 use Rattle.eve_grammar.specs.Trace.{Access}
 use Rattle.eve_frames.specs.Said.{access_said, attempt_said}
-use Rattle.eve_evidence.proofs.Telling.{right_access}
+use Rattle.eve_evidence.proofs.PartsRead.{right_access}
 use Rattle.eve_evidence.proofs.structure.access_fault.Goals as goal
 
 pub returns-in-None-clause-right : goal.returns-in-None-clause-right

@@ -3,7 +3,7 @@ use Rattle.std.proofs.lemmas.Bool.{ltb-true}
 use Rattle.std.proofs.lemmas.Option.{slice_get_read}
 use Rattle.eve_frames.specs.Said.{commit_said}
 use Rattle.eve_evidence.specs.declared.course.OnPath.{OnPath}
-use Rattle.eve_evidence.proofs.Telling.{other_view, other_token, right_commit, same_not, apart_not}
+use Rattle.eve_evidence.proofs.PartsRead.{other_view, other_token, right_commit, same_not, apart_not}
 use Rattle.eve_evidence.proofs.structure.commit_fault.Goals as goal
 
 there : (items xs : List OnPath) (i : ℕ) (o : OnPath) → xs ≡ items → true ≡ ltb i (length xs)

@@ -1,5 +1,5 @@
 use Rattle.std.proofs.Common.{ℕ, ◌-◌, sym, ap, ◌∙◌}
-use Rattle.eve_evidence.proofs.Telling.{read_count, right_attempt, same_beq, apart_beq}
+use Rattle.eve_evidence.proofs.PartsRead.{read_count, right_attempt, same_beq, apart_beq}
 use Rattle.eve_evidence.proofs.structure.content_fault.Goals as goal
 
 pub returns-then-requests-due-clause-told : goal.returns-then-requests-due-clause-told

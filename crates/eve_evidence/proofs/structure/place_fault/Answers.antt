@@ -1,7 +1,7 @@
 use Rattle.std.proofs.Common.{ℕ, ◌+◌, sym, ap, ◌∙◌, arith}
 use Rattle.eve_grammar.specs.Trace.{Access}
 use Rattle.eve_frames.specs.Said.{access_said}
-use Rattle.eve_evidence.proofs.Telling.{count_more, count_same}
+use Rattle.eve_evidence.proofs.PartsRead.{count_more, count_same}
 use Rattle.eve_evidence.proofs.structure.place_fault.Goals.{then-worker, else-worker}
 use Rattle.eve_evidence.proofs.structure.place_fault.Goals as goal
 

@@ -1,5 +1,5 @@
 use Rattle.std.proofs.Common.{arith}
-use Rattle.eve_evidence.proofs.Telling.{read_count}
+use Rattle.eve_evidence.proofs.PartsRead.{read_count}
 use Rattle.eve_evidence.proofs.structure.request_count.Goals as goal
 
 pub returns-then-number-batch_count : goal.returns-then-number-batch_count

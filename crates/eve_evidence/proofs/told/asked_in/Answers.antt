@@ -1,5 +1,5 @@
 use Rattle.std.proofs.Common.{◌∙◌, arith}
-use Rattle.eve_evidence.proofs.Telling.{read_request, no_request_there}
+use Rattle.eve_evidence.proofs.PartsRead.{read_request, no_request_there}
 use Rattle.eve_evidence.proofs.told.asked_in.Goals as goal
 
 pub returns-then-len-index : goal.returns-then-len-index

@@ -1,5 +1,5 @@
 use Rattle.std.proofs.Common.{ℕ, ◌/◌, refl, ap}
-use Rattle.eve_evidence.proofs.Telling.{read_name}
+use Rattle.eve_evidence.proofs.PartsRead.{read_name}
 use Rattle.eve_evidence.proofs.told.told_row.Goals as goal
 
 pub returns-then-customer-customer_count : goal.returns-then-customer-customer_count

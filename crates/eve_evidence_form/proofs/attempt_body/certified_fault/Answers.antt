@@ -2,7 +2,7 @@ use Rattle.std.proofs.Common.{◌≡◌, ◌+◌, ◌*◌, [], ◌∷◌, ◌++�
 use Rattle.eve_evidence.specs.declared.evidence.BodyField.TheVariants as name
 use Rattle.eve_evidence_form.specs.Fields.{field, fields_of, first_wrong_field, stand, reply_fields}
 use Rattle.eve_evidence_form.specs.AttemptBody.{index_fields}
-use Rattle.eve_evidence_form.proofs.FirstWrong.{told_in_front, told_behind}
+use Rattle.eve_evidence_form.proofs.FirstWrongFields.{told_in_front, told_behind}
 use Rattle.eve_evidence_form.proofs.attempt_body.certified_fault.Goals as goal
 
 pub returns-in-Some : goal.returns-in-Some

@@ -1,6 +1,6 @@
 use Rattle.std.proofs.Common.{◌+◌, ◌*◌, arith}
 use Rattle.eve_evidence_form.specs.Fields.{reply_fields}
-use Rattle.eve_evidence_form.proofs.FirstWrong.{part_right, part_wrong}
+use Rattle.eve_evidence_form.proofs.FirstWrongFields.{part_right, part_wrong}
 use Rattle.eve_evidence_form.proofs.attempt_body.wrong_in_replies.Goals as goal
 
 pub returns-in-Some : goal.returns-in-Some

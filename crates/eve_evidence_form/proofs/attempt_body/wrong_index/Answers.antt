@@ -2,7 +2,7 @@ use Rattle.std.proofs.Common.{◌≡◌, ◌+◌, ◌*◌, Bool, true, false, []
 use Rattle.eve_evidence.specs.declared.evidence.BodyField.TheVariants as name
 use Rattle.eve_evidence_form.specs.Fields.{field, first_wrong_there, stand}
 use Rattle.eve_evidence_form.specs.AttemptBody.{index_fields}
-use Rattle.eve_evidence_form.proofs.FirstWrong.{part_right, part_wrong}
+use Rattle.eve_evidence_form.proofs.FirstWrongFields.{part_right, part_wrong}
 use Rattle.eve_evidence_form.proofs.attempt_body.wrong_index.Goals as goal
 
 pub returns-then-not-stand : goal.returns-then-not-stand

@@ -2,7 +2,7 @@ use Rattle.std.proofs.Common.{◌≡◌, ℕ, ◌+◌, ◌*◌, Bool, true, fals
 use Rattle.eve_evidence.specs.declared.evidence.BodyField.TheVariants as name
 use Rattle.eve_evidence_form.specs.Fields.{field, first_wrong_there}
 use Rattle.eve_evidence_form.specs.BatchBody.{size_sum, stands_size, size_fields}
-use Rattle.eve_evidence_form.proofs.FirstWrong.{part_right, part_wrong}
+use Rattle.eve_evidence_form.proofs.FirstWrongFields.{part_right, part_wrong}
 use Rattle.eve_evidence_form.proofs.batch_body.requests_due.Goals as goal
 
 pub returns-in-None-clause-wrong : goal.returns-in-None-clause-wrong

@@ -1,7 +1,7 @@
 use Rattle.std.proofs.Common.{◌≡◌, ℕ, None, Some, add-one, sym, ap, subst, ◌∙◌, arith}
 use Rattle.eve_evidence_form.specs.Fields.{first_wrong_there}
 use Rattle.eve_evidence_form.specs.BatchBody.{request_fields, request_end, request_place}
-use Rattle.eve_evidence_form.proofs.FirstWrong.{part_right, part_wrong}
+use Rattle.eve_evidence_form.proofs.FirstWrongFields.{part_right, part_wrong}
 use Rattle.eve_evidence_form.proofs.batch_body.requests_end.Goals as goal
 
 pub returns-in-Some-clause-wrong : goal.returns-in-Some-clause-wrong

@@ -10,13 +10,13 @@ pub loop-i-preserved : goal.loop-i-preserved
 loop-i-preserved c =
     let test : FrameKind → Bool = λ k. is_allowed c.args.head.now c.args.place.now (kind_byte k) in
     let kinds = c.frame_kinds-kinds.result in
-    let kind = c.kind_at.result in
+    let kind = c.item_at.result in
     let due = c.loop-i.due in
     let room : c.loop-i.i < length due = omega arith in (
       length-set due c.loop-i.i c.is_allowed.result ∙ c.loop-i.invariant.0,
       take_more_set due c.loop-i.i c.is_allowed.result room
           ∙ (λ i. c.loop-i.invariant.1 i ++ c.is_allowed.ensures i ∷ [])
-          ∙ sym (ap (map test) (take_one_more kinds c.loop-i.i kind c.kind_at.ensures)
+          ∙ sym (ap (map test) (take_one_more kinds c.loop-i.i kind c.item_at.ensures)
           ∙ map-append test (take c.loop-i.i kinds) (kind ∷ [])),
     )
 

@@ -7,9 +7,9 @@ use Rattle.eve_evidence_form.proofs.fields.first_wrong_there.Goals as goal
 
 pub returns-then-not-own : goal.returns-then-not-own
 returns-then-not-own c =
-    let own = c.field_at-own.result in
+    let own = c.item_at-own.result in
     let rest = drop (c.loop-i.i + 1) c.args.fields.now in
-    let here = ap first_wrong_there (drop_here c.args.fields.now c.loop-i.i own c.field_at-own.ensures) in
+    let here = ap first_wrong_there (drop_here c.args.fields.now c.loop-i.i own c.item_at-own.ensures) in
     let no : own.right ≡ false = search rules in
     let wrong : first_wrong_there (own ∷ rest) ≡ Some own = ap
     (λ (b : Bool). if b then first_wrong_there rest else Some own) no in
@@ -17,9 +17,9 @@ returns-then-not-own c =
 
 pub loop-i-preserved : goal.loop-i-preserved
 loop-i-preserved c =
-    let own = c.field_at-own.result in
+    let own = c.item_at-own.result in
     let rest = drop (c.loop-i.i + 1) c.args.fields.now in
-    let here = ap first_wrong_there (drop_here c.args.fields.now c.loop-i.i own c.field_at-own.ensures) in
+    let here = ap first_wrong_there (drop_here c.args.fields.now c.loop-i.i own c.item_at-own.ensures) in
     let yes : own.right ≡ true = search rules in
     let right : first_wrong_there (own ∷ rest) ≡ first_wrong_there rest =
     ap (λ (b : Bool). if b then first_wrong_there rest else Some own) yes in

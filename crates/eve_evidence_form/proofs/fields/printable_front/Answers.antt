@@ -7,21 +7,21 @@ use Rattle.eve_evidence_form.proofs.fields.printable_front.Goals as goal
 
 pub returns-then-not-is_printable-clause-front : goal.returns-then-not-is_printable-clause-front
 returns-then-not-is_printable-clause-front c =
-    let b = c.byte_at.result in
+    let b = c.item_at.result in
     let rest = drop (c.loop-i.i + 1) c.args.bytes.now in
     let no : is_printable b ≡ false = search rules in
     let none : printable_front (drop c.loop-i.i c.args.bytes.now) ≡ 0 =
-    ap printable_front (drop_here c.args.bytes.now c.loop-i.i b c.byte_at.ensures)
+    ap printable_front (drop_here c.args.bytes.now c.loop-i.i b c.item_at.ensures)
     ∙ ap (λ (p : Bool). if p then printable_front rest + 1 else 0) no in
     omega (arith, c.loop-i.invariant, none)
 
 pub loop-i-preserved : goal.loop-i-preserved
 loop-i-preserved c =
-    let b = c.byte_at.result in
+    let b = c.item_at.result in
     let rest = drop (c.loop-i.i + 1) c.args.bytes.now in
     let yes : is_printable b ≡ true = search rules in
     let more : printable_front (drop c.loop-i.i c.args.bytes.now) ≡ printable_front rest + 1 =
-    ap printable_front (drop_here c.args.bytes.now c.loop-i.i b c.byte_at.ensures)
+    ap printable_front (drop_here c.args.bytes.now c.loop-i.i b c.item_at.ensures)
     ∙ ap (λ (p : Bool). if p then printable_front rest + 1 else 0) yes in
     omega (arith, c.loop-i.invariant, more)
 

@@ -8,13 +8,13 @@ use Rattle.eve_evidence_form.proofs.head.wrong_number.Goals as goal
 
 pub returns-then-not-lies_within-clause-first : goal.returns-then-not-lies_within-clause-first
 returns-then-not-lies_within-clause-first c =
-    let n = c.number_at-number.result in
+    let n = c.item_at-number.result in
     subst (λ (ns : List HeadNumber). SomePlace ns (λ before m. (m ≡ n) × AllByRecursion LiesWithin before
     × ¬ LiesWithin m)) c.head_numbers-numbers.ensures
-    (place_at _ c.head_numbers-numbers.result c.loop-i.i n c.number_at-number.ensures
+    (place_at _ c.head_numbers-numbers.result c.loop-i.i n c.item_at-number.ensures
     (refl, c.loop-i.invariant, c.lies_within.ensures.no (search rules)))
 
 pub loop-i-preserved : goal.loop-i-preserved
 loop-i-preserved c =
-    all_more LiesWithin c.head_numbers-numbers.result c.loop-i.i c.number_at-number.result c.number_at-number.ensures
+    all_more LiesWithin c.head_numbers-numbers.result c.loop-i.i c.item_at-number.result c.item_at-number.ensures
     c.loop-i.invariant (c.lies_within.ensures.yes (search rules))

@@ -5,8 +5,9 @@ use Rattle.eve_grammar.specs.Trace.{Customer}
 use Rattle.eve_grammar.specs.Spelling.{customers_at}
 use Rattle.eve_views.specs.Form.{SomePlace}
 use Rattle.eve_evidence.proofs.Lists.{item_there, place_at, no_place_more}
-use Rattle.eve_evidence_form.proofs.Lists.{no_place, not_all_other}
-use Rattle.eve_evidence_form.proofs.Counting.{customer_count}
+use Rattle.eve_history.proofs.Places.{no_place}
+use Rattle.eve_evidence_form.proofs.Lists.{not_all_other}
+use Rattle.eve_evidence_form.proofs.FrameCounts.{customer_count}
 use Rattle.eve_evidence_form.proofs.names.named_again.Goals as goal
 
 pub loop-i-init : goal.loop-i-init

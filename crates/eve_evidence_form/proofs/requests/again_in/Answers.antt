@@ -8,9 +8,10 @@ use Rattle.eve_grammar.specs.Spelling.{batches_at}
 use Rattle.eve_frames.specs.Said.{batch_said}
 use Rattle.eve_evidence.proofs.Lists.{place_at, no_place_more}
 use Rattle.eve_evidence_form.specs.Requests.{requests_listed, NoneAsked, NoneAgain}
-use Rattle.eve_evidence_form.proofs.Lists.{no_place, none_left}
-use Rattle.eve_evidence_form.proofs.Asking.{dropped, listed_as, listed_there, length-listed}
-use Rattle.eve_evidence_form.proofs.Unasked.{none_itself}
+use Rattle.eve_history.proofs.Places.{no_place}
+use Rattle.eve_evidence_form.proofs.Lists.{none_left}
+use Rattle.eve_evidence_form.proofs.RequestSearches.{dropped, listed_as, listed_there, length-listed}
+use Rattle.eve_evidence_form.proofs.UnaskedIds.{none_itself}
 use Rattle.eve_evidence_form.proofs.requests.again_in.Goals as goal
 
 pub loop-asked-init : goal.loop-asked-init

@@ -6,7 +6,7 @@ use Rattle.eve_frames.specs.Said.{batch_said}
 use Rattle.eve_evidence.proofs.Lists.{if_some}
 use Rattle.eve_evidence_form.specs.declared.requests.FirstAsked.{FirstAsked}
 use Rattle.eve_evidence_form.specs.Requests.{requests_listed, IsFirstAsked, is_in_set}
-use Rattle.eve_evidence_form.proofs.Asking.{first_behind}
+use Rattle.eve_evidence_form.proofs.RequestSearches.{first_behind}
 use Rattle.eve_evidence_form.proofs.requests.earliest.Goals as goal
 
 pub returns-then-contains-clause-first : goal.returns-then-contains-clause-first

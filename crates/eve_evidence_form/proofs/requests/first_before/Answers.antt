@@ -1,12 +1,13 @@
-use Rattle.std.proofs.Common.{◌≡◌, ℕ, ◌+◌, ◌-◌, List, take, slice_get, Some, sym, subst, arith}
+use Rattle.std.proofs.Common.{◌≡◌, ◌≢◌, ℕ, ◌+◌, ◌-◌, List, take, slice_get, Some, sym, subst, arith}
 use Rattle.std.specs.List.{flat_map}
 use Rattle.std.proofs.lemmas.List.{take_all}
-use Rattle.eve_grammar.specs.Trace.{Batch}
+use Rattle.eve_grammar.specs.Trace.{Batch, request_id}
+use Rattle.eve_grammar.proofs.Lists.{all-append}
 use Rattle.eve_grammar.specs.Spelling.{batches_at}
 use Rattle.eve_frames.specs.Said.{batch_said}
 use Rattle.eve_evidence_form.specs.Requests.{Listed, requests_listed, NoneAsked, IsFirstAsked}
-use Rattle.eve_evidence_form.proofs.Counting.{few_requests}
-use Rattle.eve_evidence_form.proofs.Asking.{length-listed, none_in_both, one_batch_more, first_in_batch}
+use Rattle.eve_evidence_form.proofs.FrameCounts.{few_requests}
+use Rattle.eve_evidence_form.proofs.RequestSearches.{length-listed, one_batch_more, first_in_batch}
 use Rattle.eve_evidence_form.proofs.requests.first_before.Goals as goal
 
 pub first_in-requires : goal.first_in-requires
@@ -40,8 +41,8 @@ loop-i-preserved c =
     take_all c.len.result (requests_listed own) (omega (arith, length-listed own, c.len.ensures)) in
     subst (NoneAsked id) (sym (one_batch_more (batches_at t) c.loop-i.i own
     (subst (λ (k : ℕ). slice_get (batches_at t) k ≡ Some own) same c.batch-batch.ensures.says)))
-    (none_in_both id (flat_map requests_listed (take c.loop-i.i (batches_at t))) (requests_listed own)
-    c.loop-i.invariant
+    (all-append (λ (x : Listed). request_id x.asked ≢ id) (flat_map requests_listed (take c.loop-i.i (batches_at t)))
+    (requests_listed own) c.loop-i.invariant
     (subst (NoneAsked id) whole c.in_default.ensures.none))
 
 pub returns-clause-none : goal.returns-clause-none

@@ -6,7 +6,7 @@ use Rattle.eve_frames.specs.Said.{batch_said}
 use Rattle.eve_evidence.proofs.Lists.{all_more, place_in_front}
 use Rattle.eve_evidence_form.specs.Requests.{Listed, requests_listed}
 use Rattle.eve_evidence_form.proofs.Lists.{all_before, all_before_end, none_left}
-use Rattle.eve_evidence_form.proofs.Asking.{dropped, listed_as, listed_there, length-listed}
+use Rattle.eve_evidence_form.proofs.RequestSearches.{dropped, listed_as, listed_there, length-listed}
 use Rattle.eve_evidence_form.proofs.requests.first_in.Goals as goal
 
 pub loop-asked-init : goal.loop-asked-init

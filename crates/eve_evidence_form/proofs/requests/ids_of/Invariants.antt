@@ -2,7 +2,7 @@ use Rattle.std.specs.Prelude.{IsFalse}
 use Rattle.eve_grammar.specs.Trace.{RequestId}
 use Rattle.eve_frames.specs.Said.{batch_said}
 use Rattle.eve_evidence_form.specs.Requests.{is_in_set}
-use Rattle.eve_evidence_form.proofs.Unasked.{NoneOf}
+use Rattle.eve_evidence_form.proofs.UnaskedIds.{NoneOf}
 use Rattle.eve_evidence_form.proofs.requests.ids_of.Given as goal
 
 abbrev pub invariant-loop-asked : goal.invariant-loop-asked

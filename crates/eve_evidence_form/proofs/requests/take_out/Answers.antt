@@ -2,7 +2,7 @@ use Rattle.std.proofs.Common.{◌≡◌, ℕ, [], ◌∷◌, sym, subst, rules}
 use Rattle.eve_grammar.specs.Trace.{Batch, request_id}
 use Rattle.eve_grammar.specs.Bodies.{borrowed_asked}
 use Rattle.eve_frames.specs.Said.{batch_said}
-use Rattle.eve_evidence_form.proofs.Unasked.{NoneOf, none_listed, taken_out}
+use Rattle.eve_evidence_form.proofs.UnaskedIds.{NoneOf, none_listed, taken_out}
 use Rattle.eve_evidence_form.proofs.requests.take_out.Goals as goal
 
 pub loop-asked-init : goal.loop-asked-init

@@ -4,8 +4,8 @@ use Rattle.eve_grammar.specs.Trace.{Batch}
 use Rattle.eve_grammar.specs.Spelling.{batches_at}
 use Rattle.eve_frames.specs.Said.{batch_said}
 use Rattle.eve_evidence_form.specs.Requests.{Listed, requests_listed, LeavesUnasked}
-use Rattle.eve_evidence_form.proofs.Asking.{one_batch_more}
-use Rattle.eve_evidence_form.proofs.Unasked.{left_behind_both}
+use Rattle.eve_evidence_form.proofs.RequestSearches.{one_batch_more}
+use Rattle.eve_evidence_form.proofs.UnaskedIds.{left_behind_both}
 use Rattle.eve_evidence_form.proofs.requests.take_out_before.Goals as goal
 
 pub loop-i-init : goal.loop-i-init

@@ -1,4 +1,4 @@
-use Rattle.eve_evidence_form.proofs.Unasked.{unasked_left}
+use Rattle.eve_evidence_form.proofs.UnaskedIds.{unasked_left}
 use Rattle.eve_evidence_form.proofs.requests.unasked_before.Goals as goal
 
 pub returns : goal.returns

@@ -1,6 +1,6 @@
 use Rattle.std.proofs.Common.{◌+◌, ◌*◌, arith}
 use Rattle.eve_evidence_form.specs.RowsBody.{restore_fields}
-use Rattle.eve_evidence_form.proofs.FirstWrong.{part_right, part_wrong}
+use Rattle.eve_evidence_form.proofs.FirstWrongFields.{part_right, part_wrong}
 use Rattle.eve_evidence_form.proofs.rows_body.wrong_in_restores.Goals as goal
 
 pub returns-in-Some-clause-fields : goal.returns-in-Some-clause-fields

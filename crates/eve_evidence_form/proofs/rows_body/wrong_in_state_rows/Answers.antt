@@ -1,6 +1,6 @@
 use Rattle.std.proofs.Common.{◌+◌, ◌*◌, arith}
 use Rattle.eve_evidence_form.specs.RowsBody.{state_row_fields}
-use Rattle.eve_evidence_form.proofs.FirstWrong.{part_right, part_wrong}
+use Rattle.eve_evidence_form.proofs.FirstWrongFields.{part_right, part_wrong}
 use Rattle.eve_evidence_form.proofs.rows_body.wrong_in_state_rows.Goals as goal
 
 pub returns-in-Some : goal.returns-in-Some

@@ -3,7 +3,7 @@ use Rattle.std.proofs.lemmas.Option.{same_Some}
 use Rattle.eve_grammar.specs.Reading.{header_of}
 use Rattle.eve_grammar.specs.declared.head.Head.{Head}
 use Rattle.eve_views.specs.Form.{said_by}
-use Rattle.eve_evidence_form.proofs.Walking.{head_again}
+use Rattle.eve_evidence_form.proofs.FramesPassed.{head_again}
 use Rattle.eve_evidence_form.proofs.walk.head_said.Goals as goal
 
 some_none : (o : Option Head) (h : Head) → o ≡ Some h → o ≡ None → ⊥

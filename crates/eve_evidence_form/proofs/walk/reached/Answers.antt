@@ -2,7 +2,7 @@ use Rattle.std.proofs.Common.{ℕ, ◌+◌, refl, sym, subst, arith}
 use Rattle.eve_grammar.specs.Limits.{FitsAt}
 use Rattle.eve_grammar.specs.declared.head.Head.{Head}
 use Rattle.eve_views.proofs.FrameLaws.{length-frame_text}
-use Rattle.eve_evidence_form.proofs.Walking.{IsPassed, all_passed, begins_there, next_frame, none_passed}
+use Rattle.eve_evidence_form.proofs.FramesPassed.{IsPassed, all_passed, begins_there, next_frame, none_passed}
 use Rattle.eve_evidence_form.proofs.walk.reached.Goals as goal
 
 pub frames-init : goal.frames-init

@@ -1,6 +1,6 @@
 use Rattle.std.proofs.Common.{◌≡◌, ◌-◌}
 use Rattle.eve_views.specs.Form.{IsReached}
-use Rattle.eve_evidence_form.proofs.Walking.{IsPassed}
+use Rattle.eve_evidence_form.proofs.FramesPassed.{IsPassed}
 use Rattle.eve_evidence_form.proofs.walk.reached.Given as goal
 
 abbrev pub invariant-frames : goal.invariant-frames

@@ -1,7 +1,7 @@
 use Rattle.std.proofs.Common.{sym, ◌∙◌}
 use Rattle.eve_agree.specs.ByNumber.{told_at}
 use Rattle.eve_agree.proofs.ByNumber.{told_none, not_there}
-use Rattle.eve_evidence_outcomes.proofs.Committing.{committed_by}
+use Rattle.eve_evidence_outcomes.proofs.CommittedAttempts.{committed_by}
 use Rattle.eve_evidence_outcomes.proofs.committed.committed_attempt.Goals as goal
 
 pub returns-then-not-has_committed-clause-none : goal.returns-then-not-has_committed-clause-none

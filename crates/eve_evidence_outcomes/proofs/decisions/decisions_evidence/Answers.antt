@@ -1,7 +1,7 @@
 use Rattle.std.proofs.Common.{length, arith}
 use Rattle.eve_grammar.specs.Spelling.{batches_at}
 use Rattle.eve_votes.proofs.Places.{get_place}
-use Rattle.eve_evidence_outcomes.proofs.Deciding.{batch_stands}
+use Rattle.eve_evidence_outcomes.proofs.DecidedViews.{batch_stands}
 use Rattle.eve_evidence_outcomes.proofs.decisions.decisions_evidence.Goals as goal
 
 pub unreachable-requires : goal.unreachable-requires

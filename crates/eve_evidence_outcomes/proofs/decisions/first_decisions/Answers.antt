@@ -4,7 +4,7 @@ use Rattle.eve_votes.specs.Faults.{HasTwoDecisions}
 use Rattle.eve_votes.specs.NextDecision.{IsNextDecision}
 use Rattle.eve_votes.specs.declared.decided.Decided.{Decided}
 use Rattle.eve_evidence_outcomes.specs.Decisions.{decided_of}
-use Rattle.eve_evidence_outcomes.proofs.Deciding.{no_first, no_second}
+use Rattle.eve_evidence_outcomes.proofs.DecidedViews.{no_first, no_second}
 use Rattle.eve_evidence_outcomes.proofs.decisions.first_decisions.Goals as goal
 
 pub returns-in_default-clause-none : goal.returns-in_default-clause-none

@@ -1,5 +1,5 @@
 use Rattle.std.proofs.Common.{arith}
-use Rattle.eve_evidence_outcomes.proofs.Giving.{none_more, none_of_all}
+use Rattle.eve_evidence_outcomes.proofs.RepliesGiven.{none_more, none_of_all}
 use Rattle.eve_evidence_outcomes.proofs.given.given_by.Goals as goal
 
 pub loop-i-init : goal.loop-i-init

@@ -1,4 +1,4 @@
-use Rattle.eve_evidence_outcomes.proofs.Giving.{NoneGave}
+use Rattle.eve_evidence_outcomes.proofs.RepliesGiven.{NoneGave}
 use Rattle.eve_evidence_outcomes.proofs.given.given_by.Given as goal
 
 abbrev pub invariant-loop-i : goal.invariant-loop-i

@@ -1,5 +1,5 @@
 use Rattle.std.proofs.Common.{sym, subst}
-use Rattle.eve_evidence_outcomes.proofs.Lacking.{Ahead, all_ahead, none_ahead, goes_on}
+use Rattle.eve_evidence_outcomes.proofs.MissingMajorities.{Ahead, all_ahead, none_ahead, goes_on}
 use Rattle.eve_evidence_outcomes.proofs.majority.majority_evidence.Goals as goal
 
 pub loop-step-init : goal.loop-step-init

@@ -1,5 +1,5 @@
 use Rattle.std.proofs.Common.{length}
-use Rattle.eve_evidence_outcomes.proofs.Lacking.{Ahead}
+use Rattle.eve_evidence_outcomes.proofs.MissingMajorities.{Ahead}
 use Rattle.eve_evidence_outcomes.proofs.majority.majority_evidence.Given as goal
 
 abbrev pub invariant-loop-step : goal.invariant-loop-step

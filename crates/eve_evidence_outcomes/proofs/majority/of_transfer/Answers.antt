@@ -1,7 +1,7 @@
 use Rattle.eve_frames.specs.Said.{transfer_said}
 use Rattle.eve_agree.specs.Majority.{SomeDecided}
 use Rattle.eve_evidence.proofs.Lists.{if_none_weaker}
-use Rattle.eve_evidence_outcomes.proofs.Lacking.{transfer_has}
+use Rattle.eve_evidence_outcomes.proofs.MissingMajorities.{transfer_has}
 use Rattle.eve_evidence_outcomes.proofs.majority.of_transfer.Goals as goal
 
 pub returns-in-TransferNoMajority-clause-none : goal.returns-in-TransferNoMajority-clause-none

@@ -1,6 +1,6 @@
 use Rattle.std.proofs.Common.{arith}
 use Rattle.eve_frames.specs.Said.{attempt_said}
-use Rattle.eve_evidence_outcomes.proofs.Comparing.{same_lists, same_next, replies_few}
+use Rattle.eve_evidence_outcomes.proofs.Differences.{same_lists, same_next, replies_few}
 use Rattle.eve_evidence_outcomes.proofs.outcome.first_reply_apart.Goals as goal
 
 pub loop-index-preserved : goal.loop-index-preserved

@@ -1,6 +1,6 @@
 use Rattle.std.proofs.Common.{true, false, ap}
 use Rattle.eve_grammar.specs.Bodies.{borrowed_choice}
-use Rattle.eve_evidence_outcomes.proofs.Backing.{is_for, one_for}
+use Rattle.eve_evidence_outcomes.proofs.Backers.{is_for, one_for}
 use Rattle.eve_evidence_outcomes.proofs.polls.backing.Goals as goal
 
 pub returns-in-For-clause-is : goal.returns-in-For-clause-is

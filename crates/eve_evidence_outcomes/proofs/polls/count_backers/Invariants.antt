@@ -1,6 +1,6 @@
 use Rattle.std.proofs.Common.{◌≡◌, ◌≤◌, take, count_by}
 use Rattle.eve_grammar.specs.Bodies.{borrowed_choice}
-use Rattle.eve_evidence_outcomes.proofs.Backing.{backs}
+use Rattle.eve_evidence_outcomes.proofs.Backers.{backs}
 use Rattle.eve_evidence_outcomes.proofs.polls.count_backers.Given as goal
 
 abbrev pub invariant-loop-v : goal.invariant-loop-v

@@ -1,6 +1,6 @@
 use Rattle.std.proofs.Common.{◌≡◌, ◌+◌, max, subst, arith}
 use Rattle.eve_evidence_outcomes.specs.Polls.{IsSomeCount}
-use Rattle.eve_evidence_outcomes.proofs.Backing.{IsMostOf, reached_more, most_more, most_is}
+use Rattle.eve_evidence_outcomes.proofs.Backers.{IsMostOf, reached_more, most_more, most_is}
 use Rattle.eve_evidence_outcomes.proofs.polls.most_backers.Goals as goal
 
 pub loop-v-preserved : goal.loop-v-preserved

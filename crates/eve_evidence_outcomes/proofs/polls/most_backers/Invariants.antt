@@ -1,5 +1,5 @@
 use Rattle.eve_evidence_outcomes.specs.Polls.{IsSomeCount}
-use Rattle.eve_evidence_outcomes.proofs.Backing.{IsMostOf}
+use Rattle.eve_evidence_outcomes.proofs.Backers.{IsMostOf}
 use Rattle.eve_evidence_outcomes.proofs.polls.most_backers.Given as goal
 
 abbrev pub invariant-loop-v : goal.invariant-loop-v

@@ -3,7 +3,7 @@ use Rattle.eve_grammar.specs.Spelling.{votes_at}
 use Rattle.eve_grammar.specs.Trace.{Vote, head_of}
 use Rattle.eve_grammar.proofs.HeadLimits.{head_has_limits}
 use Rattle.eve_evidence_outcomes.specs.Polls.{votes_on, TellsChoice}
-use Rattle.eve_evidence_outcomes.proofs.Counting.{each_put}
+use Rattle.eve_evidence_outcomes.proofs.RequestCounts.{each_put}
 use Rattle.eve_evidence_outcomes.proofs.polls.told_choices.Goals as goal
 
 pub loop-v-preserved : goal.loop-v-preserved

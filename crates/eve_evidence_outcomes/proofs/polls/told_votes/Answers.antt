@@ -5,7 +5,7 @@ use Rattle.eve_grammar.specs.Trace.{Vote, head_of}
 use Rattle.eve_grammar.proofs.HeadLimits.{head_has_limits}
 use Rattle.eve_evidence.specs.declared.evidence.VerifierVote.{VerifierVote}
 use Rattle.eve_evidence_outcomes.specs.Polls.{votes_on, vote_told}
-use Rattle.eve_evidence_outcomes.proofs.Counting.{each_put}
+use Rattle.eve_evidence_outcomes.proofs.RequestCounts.{each_put}
 use Rattle.eve_evidence_outcomes.proofs.polls.told_votes.Goals as goal
 
 pub loop-v-preserved : goal.loop-v-preserved

@@ -1,7 +1,7 @@
 use Rattle.std.proofs.Common.{length, arith}
 use Rattle.eve_grammar.specs.Spelling.{sent_at}
 use Rattle.eve_votes.proofs.Places.{get_place}
-use Rattle.eve_evidence_outcomes.proofs.Asking.{sent_stands}
+use Rattle.eve_evidence_outcomes.proofs.BatchRequests.{sent_stands}
 use Rattle.eve_evidence_outcomes.proofs.sent.reply_evidence.Goals as goal
 
 pub unreachable-requires : goal.unreachable-requires

@@ -1,5 +1,5 @@
 use Rattle.eve_frames.specs.Said.{batch_said}
-use Rattle.eve_evidence_outcomes.proofs.Asking.{IsLooking}
+use Rattle.eve_evidence_outcomes.proofs.BatchRequests.{IsLooking}
 use Rattle.eve_evidence_outcomes.proofs.sent.request_with.Given as goal
 
 abbrev pub invariant-loop-asked : goal.invariant-loop-asked

@@ -2,8 +2,8 @@ use Rattle.std.proofs.Common.{ℕ, ◌-◌, sym, ◌∙◌}
 use Rattle.std.proofs.lemmas.Bool.{false≢true}
 use Rattle.eve_grammar.specs.Trace.{Batch, Sent}
 use Rattle.eve_frames.specs.Said.{batch_said, sent_said}
-use Rattle.eve_evidence_outcomes.proofs.Asking.{batch_right}
-use Rattle.eve_evidence_outcomes.proofs.Replying.{no_request, not_committed, is_replied, other_reply}
+use Rattle.eve_evidence_outcomes.proofs.BatchRequests.{batch_right}
+use Rattle.eve_evidence_outcomes.proofs.WrongReplies.{no_request, not_committed, is_replied, other_reply}
 use Rattle.eve_evidence_outcomes.proofs.sent.wrong_with.Goals as goal
 
 pub request_with-requires : goal.request_with-requires

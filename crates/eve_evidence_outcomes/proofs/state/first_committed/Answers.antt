@@ -6,7 +6,7 @@ use Rattle.eve_history.specs.SectionHistory.{SectionHistory, committed_at}
 use Rattle.eve_history.proofs.Rights.{as_many_told}
 use Rattle.eve_agree.specs.Agreement.{first_to_commit}
 use Rattle.eve_evidence_outcomes.specs.Committed.{IsCommittedBy}
-use Rattle.eve_evidence_outcomes.proofs.Firsts.{first_is, first_none, history_as, replica_is}
+use Rattle.eve_evidence_outcomes.proofs.FirstReplicas.{first_is, first_none, history_as, replica_is}
 use Rattle.eve_evidence_outcomes.proofs.state.first_committed.Goals as goal
 
 pub returns-in-Some-clause-some : goal.returns-in-Some-clause-some

@@ -1,4 +1,4 @@
-use Rattle.eve_evidence_outcomes.proofs.Firsts.{balances_long}
+use Rattle.eve_evidence_outcomes.proofs.FirstReplicas.{balances_long}
 use Rattle.eve_evidence_outcomes.proofs.state.row_apart.Goals as goal
 
 pub first_apart-requires-clause-own : goal.first_apart-requires-clause-own

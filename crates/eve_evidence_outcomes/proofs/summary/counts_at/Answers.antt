@@ -1,29 +1,8 @@
-use Rattle.std.proofs.Common.{◌<◌, List, length, refl, ap, subst, arith}
-use Rattle.std.proofs.lemmas.Option.{slice_get_read}
+use Rattle.std.proofs.Common.{subst}
 use Rattle.eve_history.specs.SectionHistory.{SectionHistory}
-use Rattle.eve_history.proofs.Rights.{as_many_told}
 use Rattle.eve_evidence_outcomes.specs.Counts.{IsReplicaCounts}
-use Rattle.eve_evidence_outcomes.proofs.Firsts.{history_as}
 use Rattle.eve_evidence_outcomes.proofs.summary.counts_at.Goals as goal
-
-pub bounds-histories-e : goal.bounds-histories-e
-bounds-histories-e c =
-    omega (
-      arith,
-      c.requires.there,
-      as_many_told c.args.trace.now,
-      ap (λ (hs : List SectionHistory). length hs) c.requires.histories,
-    )
 
 pub returns : goal.returns
 returns c =
-    let t = c.args.trace.now in
-    let e = c.args.e in
-    let hs = c.args.histories.now in
-    let h = c.index-histories-e.result in
-    let many = as_many_told t in
-    let count = ap (λ (hs : List SectionHistory). length hs) c.requires.histories in
-    let here : e < length hs = omega (arith, c.requires.there, many, count) in
-    let own = history_as t hs e h c.requires.histories
-    (slice_get_read hs (length hs) e h refl here c.index-histories-e.is) in
-    subst (λ (k : SectionHistory). IsReplicaCounts k c.counts_of.result) own.1 c.counts_of.ensures
+    subst (λ (k : SectionHistory). IsReplicaCounts k c.counts_of.result) c.history_at.ensures c.counts_of.ensures

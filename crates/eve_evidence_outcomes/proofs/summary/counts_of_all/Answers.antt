@@ -3,7 +3,7 @@ use Rattle.eve_grammar.specs.Trace.{head_of}
 use Rattle.eve_grammar.proofs.HeadLimits.{head_has_limits}
 use Rattle.eve_history.specs.SectionHistory.{section_history}
 use Rattle.eve_evidence_outcomes.specs.Counts.{IsReplicaCounts}
-use Rattle.eve_evidence_outcomes.proofs.Counting.{each_put}
+use Rattle.eve_evidence_outcomes.proofs.RequestCounts.{each_put}
 use Rattle.eve_evidence_outcomes.proofs.summary.counts_of_all.Goals as goal
 
 pub loop-e-preserved : goal.loop-e-preserved

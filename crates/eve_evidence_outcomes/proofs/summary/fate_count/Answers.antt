@@ -1,6 +1,6 @@
 use Rattle.std.proofs.Common.{ℕ, ◌+◌, count_by, take, ap, ◌∙◌, arith}
 use Rattle.eve_evidence_outcomes.specs.Counts.{is_fate}
-use Rattle.eve_evidence_outcomes.proofs.Counting.{count_more}
+use Rattle.eve_evidence_outcomes.proofs.RequestCounts.{count_more}
 use Rattle.eve_evidence_outcomes.proofs.summary.fate_count.Goals as goal
 
 pub loop-i-preserved : goal.loop-i-preserved

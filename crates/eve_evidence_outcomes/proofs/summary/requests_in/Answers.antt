@@ -1,5 +1,5 @@
 use Rattle.std.proofs.Common.{arith}
-use Rattle.eve_evidence_outcomes.proofs.Counting.{requests_few}
+use Rattle.eve_evidence_outcomes.proofs.RequestCounts.{requests_few}
 use Rattle.eve_evidence_outcomes.proofs.summary.requests_in.Goals as goal
 
 pub returns-clause-count : goal.returns-clause-count

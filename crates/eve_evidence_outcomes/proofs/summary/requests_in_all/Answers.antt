@@ -3,8 +3,8 @@ use Rattle.std.specs.List.{sum_by}
 use Rattle.eve_grammar.specs.Trace.{Batch}
 use Rattle.eve_grammar.specs.Spelling.{batches_at}
 use Rattle.eve_frames.specs.Said.{batch_said}
-use Rattle.eve_evidence_outcomes.proofs.Counting.{sum_more}
-use Rattle.eve_evidence_outcomes.proofs.Deciding.{batch_there}
+use Rattle.eve_evidence_outcomes.proofs.RequestCounts.{sum_more}
+use Rattle.eve_evidence_outcomes.proofs.DecidedViews.{batch_there}
 use Rattle.eve_evidence_outcomes.proofs.summary.requests_in_all.Goals as goal
 
 pub loop-i-preserved : goal.loop-i-preserved

@@ -1,7 +1,7 @@
 use Rattle.std.proofs.Common.{ℕ, sym, ◌∙◌, arith}
 use Rattle.eve_grammar.specs.Trace.{Vote}
 use Rattle.eve_frames.specs.Said.{vote_said}
-use Rattle.eve_evidence_outcomes.proofs.OnBatch.{on_yes, on_no, on_past}
+use Rattle.eve_evidence_outcomes.proofs.VotesOnBatch.{on_yes, on_no, on_past}
 use Rattle.eve_evidence_outcomes.proofs.votes.next_on.Goals as goal
 
 pub returns-then-is_on-clause-next : goal.returns-then-is_on-clause-next

@@ -7,7 +7,7 @@ use Rattle.eve_evidence.specs.Section.{TellsAlong}
 use Rattle.eve_evidence_form.specs.Orders.{TellsTwice}
 use Rattle.eve_explain.specs.Explained.{IsEvidence, is_of_orders}
 use Rattle.eve_explain.proofs.FirstFault.{orders_first, votes_first}
-use Rattle.eve_explain.proofs.Kinds.{told_along, told_majority, told_twice}
+use Rattle.eve_explain.proofs.CodeKinds.{told_along, told_majority, told_twice}
 use Rattle.eve_explain.proofs.explaining.evidence_in.Goals as goal
 
 pub trace_evidence-requires : goal.trace_evidence-requires

@@ -1,6 +1,6 @@
 use Rattle.std.proofs.Common.{subst, arith}
 use Rattle.eve_views.specs.StepKinds.{IsStep}
-use Rattle.eve_evidence.proofs.Coursing.{attempt_comes, commit_comes, rollback_comes, state_comes}
+use Rattle.eve_evidence.proofs.CourseSteps.{attempt_comes, commit_comes, rollback_comes, state_comes}
 use Rattle.eve_evidence.proofs.course.Course.take.Goals as goal
 
 pub returns-in_ok-push-in-Attempt : goal.returns-in_ok-push-in-Attempt

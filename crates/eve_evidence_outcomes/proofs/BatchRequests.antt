@@ -3,7 +3,6 @@ use Rattle.std.proofs.Common.{◌≡◌, ◌≢◌, ℕ, zero, suc, ◌+◌, ◌
 use Rattle.std.proofs.Common.{length}
 use Rattle.std.proofs.Common.{take, drop, slice_get, Some, refl, sym, ap, subst, ◌∙◌, arith}
 use Rattle.std.specs.Option.{option_map}
-use Rattle.std.proofs.lemmas.Bool.{and_parts, and_from, eqb-true, eq-eqb, false≢true}
 use Rattle.std.proofs.lemmas.Option.{get_or_from_slice_get, slice_get_within}
 use Rattle.eve_grammar.specs.declared.limits.TheConstants.{MOST_REQUESTS}
 use Rattle.eve_grammar.specs.Trace.{Asked, Batch, RequestId, Sent, Trace, request_id, no_request}
@@ -21,19 +20,7 @@ use Rattle.eve_evidence.specs.declared.evidence.ToldRequest.{ToldRequest}
 use Rattle.eve_evidence.specs.Told.{IsToldRequest}
 use Rattle.eve_evidence.proofs.Lists.{all_more}
 use Rattle.eve_evidence_outcomes.specs.Sent.{NoneHas, HasAt, IsFoundRequest}
-use Rattle.eve_evidence_outcomes.proofs.Deciding.{all_true, batch_there}
-
--- ---- clients and numbers
-
-pub same_id : (a b c d : ℕ) → ((a == c) && (b == d)) ≡ true → ◌≡◌ {A = ℕ × ℕ} (a, b) (c, d)
-same_id a b c d on =
-    let parts = and_parts (a == c) (b == d) on in
-    λ i. (eqb-true a c parts.0 i, eqb-true b d parts.1 i)
-
-pub other_id : (a b c d : ℕ) → ((a == c) && (b == d)) ≡ false → ◌≢◌ {A = ℕ × ℕ} (a, b) (c, d)
-other_id a b c d off same =
-    false≢true (sym off ∙ and_from (a == c) (b == d) (eq-eqb a c (ap (λ (x : ℕ × ℕ). x.0) same))
-    (eq-eqb b d (ap (λ (x : ℕ × ℕ). x.1) same)))
+use Rattle.eve_evidence_outcomes.proofs.DecidedViews.{all_true, batch_there}
 
 -- ---- one after another
 

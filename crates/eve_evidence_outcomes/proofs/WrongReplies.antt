@@ -18,7 +18,7 @@ use Rattle.eve_evidence.specs.Told.{told_sent}
 use Rattle.eve_evidence_outcomes.specs.Committed.{IsCommittedBy}
 use Rattle.eve_evidence_outcomes.specs.Given.{TellsGiven}
 use Rattle.eve_evidence_outcomes.specs.Sent.{NoneHas, HasAt, IsFoundRequest, TellsSentIn}
-use Rattle.eve_evidence_outcomes.proofs.Asking.{none_there, has_there, told_there}
+use Rattle.eve_evidence_outcomes.proofs.BatchRequests.{none_there, has_there, told_there}
 
 module _ (t : Trace) (s : Sent) (seq : ℕ) (seq_is : seq ≡ s.seq) (d : ToldSent) (told : d ≡ told_sent s)
     (b : ℕ × (ℕ × Batch)) (got : slice_get (batches_at t) (seq - 1) ≡ Some b) where

@@ -21,7 +21,7 @@ use Rattle.eve_evidence.specs.declared.sources.Left.{Left}
 use Rattle.eve_evidence.specs.Course.{placed_on}
 use Rattle.eve_evidence.specs.Sources.{Passed, passed_by, passed, passed_in, IsWriter, NoneWrites}
 use Rattle.eve_evidence.specs.Lasts.{IsLeftAlone, IsLast}
-use Rattle.eve_evidence.proofs.Lasting.{last_here, last_inside}
+use Rattle.eve_evidence.proofs.LastWrites.{last_here, last_inside}
 
 -- ---- a record by its index
 

@@ -19,7 +19,7 @@ use Rattle.eve_evidence.specs.Front.{IsSourceFound}
 use Rattle.eve_evidence.specs.Course.{placed_on}
 use Rattle.eve_evidence.specs.Sources.{Passed, passed_by, passed, passed_in}
 use Rattle.eve_evidence.specs.Sought.{MeetsIn, RecordMeets, NoneMet, IsMetAlone, IsFirstMet, IsLastMet}
-use Rattle.eve_evidence.proofs.Searching.{with_kept, on_way, parts_on_way}
+use Rattle.eve_evidence.proofs.RecordLookups.{with_kept, on_way, parts_on_way}
 
 -- where no record has one, the one of an index doesn't
 pub none_met : (s : Sought) (seq : ℕ) (xs : List (ℕ × Access)) (order : List ℕ)

@@ -109,7 +109,7 @@ module _ (t : Trace) where
   settlings_count = length-map (enumerate_from 0 t.sections) (λ s. settling t s.0)
       ∙ length-enumerate_from 0 t.sections
 
-  settling_at : (e : ℕ) → e < length t.sections → slice_get (settlings t) e ≡ Some (settling t e)
+  pub settling_at : (e : ℕ) → e < length t.sections → slice_get (settlings t) e ≡ Some (settling t e)
   unfolding settlings
   settling_at e lt = numbered_at (settling t) t.sections e lt
 

@@ -17,7 +17,7 @@ use Rattle.eve_evidence.specs.Told.{placed_in}
 use Rattle.eve_evidence.specs.Sources.{Passed, passed, passed_in, way_to, IsWriter, NoneWrites, IsLeftBy}
 use Rattle.eve_evidence.specs.Sources.{state_table, table_after_way}
 use Rattle.eve_evidence.specs.Lasts.{IsLast}
-use Rattle.eve_evidence.proofs.Lasting.{last_inside, last_behind, last_table, left_of_last, kept_along}
+use Rattle.eve_evidence.proofs.LastWrites.{last_inside, last_behind, last_table, left_of_last, kept_along}
 use Rattle.eve_evidence.proofs.Ways.{way_table}
 
 module _ (t : Trace) (s : SectionState) (course : Course) (said a : Attempt) (xs : List (ℕ × Access))

@@ -27,7 +27,7 @@ use Rattle.eve_evidence.specs.Seen.{Look, look, base_before, NoneNear, NoneNeare
 use Rattle.eve_evidence.specs.Seen.{rollbacks_behind, NoneAmong, IsFirstAmong}
 use Rattle.eve_evidence.specs.Front.{IsOpenAfter, IsSince, IsLastSource}
 use Rattle.eve_evidence.specs.Front.{IsRestoredBy, IsFront}
-use Rattle.eve_evidence.proofs.Fronting.{place_grows}
+use Rattle.eve_evidence.proofs.LastSources.{place_grows}
 use Rattle.eve_evidence.proofs.Lists.{no_place_of_all}
 
 -- ---- parts of a list

@@ -1,6 +1,6 @@
 -- From the frames of a step to the step.
 use Rattle.std.proofs.Common.{◌≡◌, ℕ, List, inl, inr, sym, subst, ap, ◌∙◌}
-use Rattle.eve_grammar.specs.Trace.{Access, Attempt, Step, Attempts, Commits, RollsBack, TakesOver, Trace}
+use Rattle.eve_grammar.specs.Trace.{Access, Attempt, Attempts, Commits, RollsBack, TakesOver, Trace}
 use Rattle.eve_grammar.specs.Frames.{without_accesses}
 use Rattle.eve_grammar.specs.Spelling.{accesses_at}
 use Rattle.eve_frames.specs.Said.{attempt_said}
@@ -10,12 +10,12 @@ use Rattle.eve_views.specs.declared.fault.Code.TheVariants as code
 use Rattle.eve_views.specs.declared.steps.Step as met
 use Rattle.eve_views.specs.declared.steps.Step.TheVariants as of
 use Rattle.eve_views.specs.Form.{SomePlace}
-use Rattle.eve_views.specs.StepKinds.{IsStep}
 use Rattle.eve_history.specs.Section.{SectionState}
 use Rattle.eve_evidence.specs.declared.course.Course.{Course}
 use Rattle.eve_evidence.specs.declared.evidence.Evidence.{Evidence}
 use Rattle.eve_evidence.specs.Course.{IsCourse}
-use Rattle.eve_evidence.specs.Section.{WrongAttempt, WrongAccess, StandsAtStep, TellsAccess, TellsStep}
+use Rattle.eve_evidence.specs.Places.{ToldAlong, NoneAlong, ToldAtStep, NoneAtStep}
+use Rattle.eve_evidence.specs.Section.{WrongAttempt, WrongAccess, TellsAccess}
 
 -- an attempt's own frame says nothing of its access records
 as_said : (c : Code) (t : Trace) (s : SectionState) (a : Attempt) → WrongAttempt c t s a
@@ -24,30 +24,8 @@ as_said code.Attempt t s a w = w
 as_said _ t s a w = w
 
 module _ (c : Code) (t : Trace) (place : ℕ) (course : Course) where
-  -- what was found along the access records of an attempt
-  abbrev pub ToldAlong : AttemptView → List (ℕ × Access) → Evidence → Type 0
-  ToldAlong attempt xs x =
-      (s : SectionState) (a : Attempt) → IsCourse s course → attempt_said attempt ≡ without_accesses a
-      → xs ≡ accesses_at attempt.offset a
-      → SomePlace xs (λ own y. (y.0 ≡ place) × TellsAccess c t s attempt.offset a own y x)
-
-  abbrev pub NoneAlong : AttemptView → List (ℕ × Access) → Type 0
-  NoneAlong attempt xs =
-      (s : SectionState) (a : Attempt) → IsCourse s course → attempt_said attempt ≡ without_accesses a
-      → xs ≡ accesses_at attempt.offset a
-      → ¬ SomePlace xs (λ own y. (y.0 ≡ place) × WrongAccess c t s attempt.offset a own y.1)
-
-  -- and at a step
-  abbrev pub ToldAtStep : met.Step → Evidence → Type 0
-  ToldAtStep step x = (s : SectionState) (is : ℕ × Step) → IsCourse s course → IsStep step is → TellsStep c t place s
-      is x
-
-  abbrev pub NoneAtStep : met.Step → Type 0
-  NoneAtStep step = (s : SectionState) (is : ℕ × Step) → IsCourse s course → IsStep step is
-      → ¬ StandsAtStep c t place s is
-
   module _ (attempt : AttemptView) (xs : List (ℕ × Access)) where
-    told_here : (x : Evidence) → ToldAlong attempt xs x → ToldAtStep (of.Attempt attempt xs) x
+    told_here : (x : Evidence) → ToldAlong c t place course attempt xs x → ToldAtStep c t place course (of.Attempt attempt xs) x
     told_here x told s (at, Attempts a) course_is stands =
         let here : xs ≡ accesses_at attempt.offset a = stands.2 ∙ ap (λ (n : ℕ). accesses_at n a) (sym stands.0) in
         let found = told s a course_is stands.1 here in
@@ -61,7 +39,7 @@ module _ (c : Code) (t : Trace) (place : ℕ) (course : Course) where
 
     none_here : ((s : SectionState) → IsCourse s course → attempt.offset ≡ place
         → ¬ WrongAttempt c t s (attempt_said attempt))
-        → NoneAlong attempt xs → NoneAtStep (of.Attempt attempt xs)
+        → NoneAlong c t place course attempt xs → NoneAtStep c t place course (of.Attempt attempt xs)
     none_here own none s (at, Attempts a) course_is stands fault =
         let here : xs ≡ accesses_at attempt.offset a = stands.2 ∙ ap (λ (n : ℕ). accesses_at n a) (sym stands.0) in
         elim fault [
@@ -77,12 +55,12 @@ module _ (c : Code) (t : Trace) (place : ℕ) (course : Course) where
     none_here own none s (at, RollsBack r) course_is stands fault = elim stands [ ]
     none_here own none s (at, TakesOver x) course_is stands fault = elim stands [ ]
 
-    pub told_at_step : (step : met.Step) → step ≡ of.Attempt attempt xs → (x : Evidence) → ToldAlong attempt xs x
-        → ToldAtStep step x
-    told_at_step step is x told = subst (λ (u : met.Step). ToldAtStep u x) (sym is) (told_here x told)
+    pub told_at_step : (step : met.Step) → step ≡ of.Attempt attempt xs → (x : Evidence) → ToldAlong c t place course attempt xs x
+        → ToldAtStep c t place course step x
+    told_at_step step is x told = subst (λ (u : met.Step). ToldAtStep c t place course u x) (sym is) (told_here x told)
 
     pub none_at_step : (step : met.Step) → step ≡ of.Attempt attempt xs
         → ((s : SectionState) → IsCourse s course → attempt.offset ≡ place → ¬ WrongAttempt c t s
         (attempt_said attempt))
-        → NoneAlong attempt xs → NoneAtStep step
-    none_at_step step is own none = subst NoneAtStep (sym is) (none_here own none)
+        → NoneAlong c t place course attempt xs → NoneAtStep c t place course step
+    none_at_step step is own none = subst (NoneAtStep c t place course) (sym is) (none_here own none)

@@ -1,5 +1,5 @@
 -- Requests one after another, and the first that has a client and a number.
-use Rattle.std.proofs.Common.{◌≡◌, ℕ, zero, suc, ◌+◌, ◌-◌, ◌<◌, List, [], ◌∷◌, ◌++◌, length, take, drop, map, slice_get}
+use Rattle.std.proofs.Common.{◌≡◌, ◌≢◌, ℕ, zero, suc, ◌+◌, ◌-◌, ◌<◌, List, [], ◌∷◌, ◌++◌, length, take, drop, map, slice_get}
 use Rattle.std.proofs.Common.{Some, refl, sym, ap, subst, ◌∙◌, arith, append_assoc}
 use Rattle.std.specs.Prelude.{Contains}
 use Rattle.std.specs.List.{flat_map, enumerate_from}
@@ -9,7 +9,7 @@ use Rattle.std.proofs.lemmas.List.Concat.{flat_map-append}
 use Rattle.std.proofs.lemmas.List.FromFn.{length-enumerate_from}
 use Rattle.std.proofs.lemmas.Option.{same_Some}
 use Rattle.eve_grammar.specs.Trace.{Asked, Batch, RequestId, request_id}
-use Rattle.eve_grammar.proofs.Lists.{take_one_more}
+use Rattle.eve_grammar.proofs.Lists.{all-append, take_one_more}
 use Rattle.eve_views.specs.Form.{SomePlace}
 use Rattle.eve_evidence.specs.declared.evidence.ToldRequest.{ToldRequest}
 use Rattle.eve_evidence.proofs.Lists.{get_mapped}
@@ -67,13 +67,6 @@ length-listed b =
 
 -- ---- the first that has an id
 
-none_both : (id : RequestId) (xs ys : List Listed) → NoneAsked id xs → NoneAsked id ys → NoneAsked id (xs ++ ys)
-none_both id [] ys front back = back
-none_both id (x ∷ xs) ys front back = (front.0, none_both id xs ys front.1 back)
-
-pub none_in_both : (id : RequestId) (xs ys : List Listed) → NoneAsked id xs → NoneAsked id ys → NoneAsked id (xs ++ ys)
-none_in_both id xs ys front back = none_both id xs ys front back
-
 -- it is the first also of what follows requests that don't have it
 pub first_behind : (id : RequestId) (xs ys : List Listed) (r : ToldRequest) (at : ℕ) → NoneAsked id xs
     → IsFirstAsked id ys r at → IsFirstAsked id (xs ++ ys) r at
@@ -82,7 +75,12 @@ first_behind id xs ys r at none first = record {
   item = first.item;
   rest = first.rest;
   is = ap (λ (zs : List Listed). xs ++ zs) first.is ∙ sym (append_assoc xs first.before (first.item ∷ first.rest));
-  holds = (first.holds.0, first.holds.1, first.holds.2, none_both id xs first.before none first.holds.3);
+  holds = (
+    first.holds.0,
+    first.holds.1,
+    first.holds.2,
+    all-append (λ (x : Listed). request_id x.asked ≢ id) xs first.before none first.holds.3,
+  );
 }
 
 -- and where more follows it

@@ -20,8 +20,8 @@ use Rattle.eve_evidence.specs.Course.{IsCourse, state_said}
 use Rattle.eve_evidence.specs.Sources.{Passed, passed, state_table, NoneWrites, IsLeftBy}
 use Rattle.eve_evidence.specs.Sought.{RecordMeets, NoneMet, IsFirstMet, IsLastMet}
 use Rattle.eve_evidence.specs.Seen.{Look, look, IsBase, NoneOnWay, IsSeenFrom, behind_index, records_behind, way_of}
-use Rattle.eve_evidence.proofs.Leaving.{own, path, whole}
-use Rattle.eve_evidence.proofs.Meeting.{met_inside}
+use Rattle.eve_evidence.proofs.VisibleRows.{own, path, whole}
+use Rattle.eve_evidence.proofs.RecordsMet.{met_inside}
 
 -- ---- behind an index
 

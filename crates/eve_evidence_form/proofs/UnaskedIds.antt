@@ -10,7 +10,8 @@ use Rattle.std.proofs.lemmas.Bool.Decides.{nat_tests}
 use Rattle.std.proofs.lemmas.Option.{same_Some}
 use Rattle.eve_grammar.specs.Trace.{Asked, Batch, RequestId, request_id}
 use Rattle.eve_evidence_form.specs.Requests.{Listed, requests_listed, NoneAsked, is_in_set, LeavesUnasked, HasUnasked}
-use Rattle.eve_evidence_form.proofs.Asking.{listed_as, none_in_both}
+use Rattle.eve_grammar.proofs.Lists.{all-append}
+use Rattle.eve_evidence_form.proofs.RequestSearches.{listed_as}
 
 -- ---- ids that are the same
 
@@ -102,7 +103,7 @@ left_behind_both a b c xs ys first second id = (
   λ has.
       let later = (second id).0 has in
       let early = (first id).0 later.0 in
-      (early.0, none_in_both id xs ys early.1 later.1),
+      (early.0, all-append (λ (x : Listed). request_id x.asked ≢ id) xs ys early.1 later.1),
   λ had.
       let parts = none_parts id xs ys had.1 in
       (second id).1 ((first id).1 (had.0, parts.0), parts.1),

@@ -23,7 +23,7 @@ use Rattle.eve_evidence.specs.declared.evidence.OutcomeFault.{OutcomeFault}
 use Rattle.eve_evidence.specs.Told.{told_attempt}
 use Rattle.eve_evidence_outcomes.specs.Committed.{IsCommittedBy}
 use Rattle.eve_evidence_outcomes.specs.Outcome.{TellsOutcomeFault, IsOtherOutcome, HasThatOfFirst}
-use Rattle.eve_evidence_outcomes.proofs.Firsts.{first_found}
+use Rattle.eve_evidence_outcomes.proofs.FirstReplicas.{first_found}
 
 -- ---- two lists, place by place
 
