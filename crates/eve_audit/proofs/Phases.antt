@@ -1,4 +1,4 @@
--- The phase of each kind of fault.
+-- Public: other crates cite these lemmas. The phase of each kind of fault.
 use Rattle.std.proofs.Common.{◌≡◌, ℕ, List, refl}
 use Rattle.eve_grammar.specs.Trace.{Trace}
 use Rattle.eve_views.specs.Code.{phase_of}

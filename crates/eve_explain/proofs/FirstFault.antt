@@ -29,7 +29,7 @@ use Rattle.eve_audit.specs.Verdict.{IsOwnFault, of_structure, of_records, of_cha
 use Rattle.eve_audit.specs.Verdict.{IsTraceFault, in_section, Stands, in_form, in_trace, Hinders, IsJudged, IsFirst}
 use Rattle.eve_audit.proofs.Phases.{form_phase, structure_phase, record_phase, chain_phase, restore_phase, token_phase}
 use Rattle.eve_evidence.specs.Section.{StandsAlong}
-use Rattle.eve_explain.specs.Behind.{IsFirstIn, IsBehindSection}
+use Rattle.eve_explain.specs.Behind.{IsFirstInTrace, IsBehindSection}
 use Rattle.eve_explain.specs.Explained.{is_of_majority, is_of_orders, is_told_along}
 use Rattle.eve_explain.proofs.Phases.{orders_phase, along_phase, majority_code_phase, some_phase, orders_in, own_in}
 use Rattle.eve_explain.proofs.Phases.{restores_in, tokens_in, votes_in, majorities_in, agreement_in, replies_in}
@@ -81,7 +81,7 @@ pub record IsThere (S : Code → Trace → ℕ → ℕ → Type 0) (t : Trace) (
   pub there : e < length t.sections
   pub stands : S c t e at
 
-module _ (one : OneTrace) (t : Trace) (f : Fault) (first : IsFirstIn t f) where
+module _ (one : OneTrace) (t : Trace) (f : Fault) (first : IsFirstInTrace t f) where
   -- it is one of the trace, if it is of a later phase than form
   in_this : 1 < phase_of f.code → IsTraceFault t f
   in_this later = by first.2.judged.stands

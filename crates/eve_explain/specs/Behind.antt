@@ -7,8 +7,8 @@ use Rattle.eve_views.specs.declared.fault.Fault.{Fault}
 use Rattle.eve_audit.specs.Verdict.{IsFirst}
 
 -- the fault is the first of bytes that spell the trace
-abbrev pub IsFirstIn : Trace → Fault → Type 0
-IsFirstIn t f = (bytes : List ℕ) × Spells bytes t × IsFirst bytes f
+abbrev pub IsFirstInTrace : Trace → Fault → Type 0
+IsFirstInTrace t f = (bytes : List ℕ) × Spells bytes t × IsFirst bytes f
 
 -- The fault is of a phase behind those of single replicas, or of this replica and of a later phase than structure.
 abbrev pub IsBehindSection : Fault → ℕ → Type 0

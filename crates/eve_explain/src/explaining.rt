@@ -12,7 +12,7 @@ ghost use Rattle.eve_grammar.specs.Trace.{Trace as TraceValue};
 ghost use Rattle.eve_history.specs.SectionHistory.{names_of, section_histories};
 ghost use Rattle.std.specs.Prelude.{Some, IsTrue};
 ghost use Rattle.eve_evidence.specs.Section.{TellsAlong};
-ghost use Rattle.eve_explain.specs.Behind.{IsFirstIn};
+ghost use Rattle.eve_explain.specs.Behind.{IsFirstInTrace};
 ghost use Rattle.eve_explain.specs.Explained.{is_told_along, verdict_in};
 ghost use Rattle.eve_explain.specs.Explained.{IsEvidence, IsEvidenceOf, IsExplained};
 
@@ -64,7 +64,7 @@ fn evidence_along<'a>(
     fault: &Fault,
     random: RandomState,
 ) -> Result<Evidence<'a>, AllocError>
-    requires first { IsFirstIn trace.now fault.now }
+    requires first { IsFirstInTrace trace.now fault.now }
     requires along { IsTrue (is_told_along fault.now.code) }
     ensures { IfOk result (λ x. (e : ℕ) → fault.now.replica ≡ Some e
         → TellsAlong fault.now.code trace.now e fault.now.offset x) }
@@ -85,7 +85,7 @@ fn evidence_in<'a>(
     fault: &Fault,
     random: RandomState,
 ) -> Result<Evidence<'a>, AllocError>
-    requires { IsFirstIn trace.now fault.now }
+    requires { IsFirstInTrace trace.now fault.now }
     ensures { IfOk result (IsEvidence trace.now fault.now) }
 {
     bytes_spell_one_trace();

@@ -8,7 +8,7 @@ ghost use Rattle.eve_evidence_outcomes.specs.Outcomes.{TellsState};
 ghost use Rattle.eve_evidence_outcomes.specs.Restore.{TellsRestore};
 ghost use Rattle.eve_evidence_outcomes.specs.Sent.{TellsReply};
 ghost use Rattle.eve_evidence_outcomes.specs.Token.{TellsToken};
-ghost use Rattle.eve_explain.specs.Behind.{IsFirstIn};
+ghost use Rattle.eve_explain.specs.Behind.{IsFirstInTrace};
 ghost use Rattle.eve_explain.specs.Explained.{is_of_majority};
 
 use crate::replicas::{histories_of, history_of};
@@ -25,7 +25,7 @@ use std::alloc::{AllocError, Global};
 
 /// The evidence of a step that no majority voted for.
 pub(crate) fn evidence_of_majority<'a>(trace: &Trace<'a>, fault: &Fault) -> Evidence<'a>
-    requires first { IsFirstIn trace.now fault.now }
+    requires first { IsFirstInTrace trace.now fault.now }
     requires majority { IsTrue (is_of_majority fault.now.code) }
     ensures { (e : ℕ) → fault.now.replica ≡ Some e → TellsMajority fault.now.code trace.now e fault.now.offset result }
 {
@@ -43,7 +43,7 @@ pub(crate) fn evidence_of_restore<'a>(
     trace: &Trace<'a>,
     fault: &Fault,
 ) -> Result<Evidence<'a>, AllocError>
-    requires first { IsFirstIn trace.now fault.now }
+    requires first { IsFirstInTrace trace.now fault.now }
     requires restore { fault.now.code ≡ code.Restore }
     ensures { IfOk result (λ x. (e : ℕ) → fault.now.replica ≡ Some e → TellsRestore trace.now e fault.now.offset x) }
 {
@@ -61,7 +61,7 @@ pub(crate) fn evidence_of_token<'a>(
     trace: &Trace<'a>,
     fault: &Fault,
 ) -> Result<Evidence<'a>, AllocError>
-    requires first { IsFirstIn trace.now fault.now }
+    requires first { IsFirstInTrace trace.now fault.now }
     requires token { fault.now.code ≡ code.Token }
     ensures { IfOk result (λ x. (e : ℕ) → fault.now.replica ≡ Some e → TellsToken trace.now e fault.now.offset x) }
 {
@@ -82,7 +82,7 @@ pub(crate) fn evidence_of_reply<'a>(
     trace: &Trace<'a>,
     fault: &Fault,
 ) -> Result<Evidence<'a>, AllocError>
-    requires first { IsFirstIn trace.now fault.now }
+    requires first { IsFirstInTrace trace.now fault.now }
     requires reply { fault.now.code ≡ code.Reply }
     ensures { IfOk result (TellsReply trace.now fault.now.offset) }
 {
@@ -97,7 +97,7 @@ pub(crate) fn evidence_of_outcome<'a>(
     trace: &Trace<'a>,
     fault: &Fault,
 ) -> Result<Evidence<'a>, AllocError>
-    requires first { IsFirstIn trace.now fault.now }
+    requires first { IsFirstInTrace trace.now fault.now }
     requires outcome { fault.now.code ≡ code.Outcome }
     ensures { IfOk result (λ x. (e : ℕ) → fault.now.replica ≡ Some e → TellsOutcome trace.now e fault.now.offset x) }
 {
@@ -118,7 +118,7 @@ pub(crate) fn evidence_of_state<'a>(
     trace: &Trace<'a>,
     fault: &Fault,
 ) -> Result<Evidence<'a>, AllocError>
-    requires first { IsFirstIn trace.now fault.now }
+    requires first { IsFirstInTrace trace.now fault.now }
     requires state { fault.now.code ≡ code.TransferBalances }
     ensures { IfOk result (λ x. (e : ℕ) → fault.now.replica ≡ Some e → TellsState trace.now e fault.now.offset x) }
 {

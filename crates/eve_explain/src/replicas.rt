@@ -3,7 +3,7 @@
 ghost use Rattle.std.specs.Prelude.{◌≡◌, ◌<◌, IfOk, length};
 ghost use Rattle.eve_views.specs.Code.{phase_of};
 ghost use Rattle.eve_history.specs.SectionHistory.{section_history, section_histories};
-ghost use Rattle.eve_explain.specs.Behind.{IsFirstIn, IsBehindSection};
+ghost use Rattle.eve_explain.specs.Behind.{IsFirstInTrace, IsBehindSection};
 
 use eve_grammar::laws::bytes_spell_one_trace;
 use eve_history::History;
@@ -18,7 +18,7 @@ pub(crate) fn history_of<'a>(
     fault: &Fault,
     e: u8,
 ) -> Result<History<'a>, AllocError>
-    requires first { IsFirstIn trace.now fault.now }
+    requires first { IsFirstInTrace trace.now fault.now }
     requires behind { IsBehindSection fault.now e }
     requires there { e < length trace.now.sections }
     ensures history { IfOk result (λ h. h ≡ section_history trace.now e) }
@@ -38,7 +38,7 @@ pub(crate) fn histories_of<'a>(
     trace: &Trace<'a>,
     fault: &Fault,
 ) -> Result<Vec<History<'a>>, AllocError>
-    requires first { IsFirstIn trace.now fault.now }
+    requires first { IsFirstInTrace trace.now fault.now }
     requires together { 7 < phase_of fault.now.code }
     ensures { IfOk result (λ hs. hs.items ≡ section_histories trace.now) }
 {

@@ -11,6 +11,7 @@ use Rattle.eve_reasons.specs.Rows.{restore_lines, token_lines}
 use Rattle.eve_reasons.specs.Polls.{two_votes_lines, two_decisions_lines, poll_lines, transfer_poll_lines}
 use Rattle.eve_reasons.specs.Outcomes.{outcome_lines, state_fault_lines, sent_fault_lines}
 
+-- the lines of evidence, without their line feeds; of a code that is not told there is none
 abbrev pub reason_lines : Evidence → List (List ℕ)
 reason_lines (shown.Length found wrong magic) = length_lines found wrong magic
 reason_lines (shown.Magic found) = magic_lines found
