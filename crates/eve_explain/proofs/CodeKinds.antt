@@ -1,5 +1,5 @@
 -- Evidence of codes of one kind: that of the other kinds isn't asked for.
-use Rattle.std.proofs.Common.{◌≡◌, ℕ, ◌≤◌, Some, refl, sym, ap, ◌∙◌, arith}
+use Rattle.std.proofs.Common.{◌≡◌, ℕ, Some, refl, sym, ap, ◌∙◌, arith}
 use Rattle.std.specs.Prelude.{IsTrue}
 use Rattle.eve_grammar.specs.Trace.{Trace}
 use Rattle.eve_views.specs.Code.{phase_of}
