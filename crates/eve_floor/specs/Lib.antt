@@ -1,2 +1,2 @@
-pub mod Applying
 pub mod Executing
+pub mod Tasks

@@ -1,18 +1,15 @@
 //! Requests executed under the locks of their stripes, whose records are noted.
 
 ghost use Rattle.std.specs.Prelude.{◌≡◌, ◌<◌, length};
-ghost use Rattle.eve_smallbank.specs.SmallBank.{plain};
-ghost use Rattle.eve_smallbank.specs.Touch.{touched_of};
 ghost use Rattle.eve_write.specs.Data.{batch as plain_batch};
-ghost use Rattle.eve_floor.specs.Applying.{ExecutesKept};
 ghost use Rattle.eve_floor.specs.Executing.{IsSeatedAt, KeepsSeats, Executes, Flushes};
 ghost use Rattle.eve_grammar.specs.Trace.{request_with};
 
-use crate::applying::{Task, applied};
+use crate::task::{Task, execute_task};
 use crate::{ExecFault, Floor, Worker};
 use eve_recorder::{Gate, NoteFault, Recorder, TicketSeat, Tickets};
-use eve_smallbank::{Request, Touched, touched};
-use eve_stamps::{AccessRecord, MOST_PLACES};
+use eve_smallbank::touched;
+use eve_stamps::MOST_PLACES;
 use eve_write::BatchData;
 use std::sync::Wait;
 
@@ -46,93 +43,24 @@ pub fn execute<R: Wait, G: Gate>(
         Executes recorder.now floor.now request index worker.old worker.new result }
     ensures seats { KeepsSeats worker.old worker.new }
 {
-    let reached = touched(&request_at(batch, index), floor.names);
-    execute_touched(
-        rt, floor, recorder, tickets, worker, batch, &reached, index, gate,
-    )
-}
-
-/// Executes the request, or refuses it, as `execute` does, with the rows that it touches as they were looked up among
-/// the floor's names.
-///
-/// docs/MODEL.md, "Executions".
-pub fn execute_touched<R: Wait, G: Gate>(
-    rt: &R,
-    floor: &Floor,
-    recorder: &Recorder,
-    tickets: &Tickets,
-    worker: &mut Worker,
-    batch: &BatchData,
-    reached: &Touched,
-    index: u16,
-    gate: &G,
-) -> Result<(), ExecFault>
-    requires seats { IsSeatedAt recorder.now tickets.now worker.old }
-    requires index { index < length batch.now.requests.items }
-    requires touched { reached.now ≡ touched_of floor.now (request_with (plain_batch batch.now) index) }
-    requires place { length worker.old.seat.noted < MOST_PLACES }
-    ensures executes { let request = request_with (plain_batch batch.now) index in
-        Executes recorder.now floor.now request index worker.old worker.new result }
-    ensures seats { KeepsSeats worker.old worker.new }
-{
     if worker.waiting.is_some() {
         return Err(ExecFault::Full);
     }
-    let request = request_at(batch, index);
+    let reached = touched(&batch.requests[index as usize].request(), floor.names);
     let task = Task {
-        request: &request,
-        reached,
+        batch,
         index,
+        reached: &reached,
         worker: worker.seat.worker(),
         place: worker.seat.place() as u16,
     };
-    let made = applied(rt, floor, tickets, &mut worker.tickets, &task, gate)?;
+    let made = execute_task(rt, floor, tickets, &mut worker.tickets, &task, gate)?;
     if recorder.note(rt, &mut worker.seat, made).is_ok() {
         Ok(())
     } else {
         worker.waiting = Some(made);
         Err(ExecFault::Full)
     }
-}
-
-/// Executes the request, or refuses it, as `execute` does, for a first worker that keeps its records itself: the record
-/// is returned, of worker 0 and with this place, and noted nowhere. So it is never `Full`.
-///
-/// docs/MODEL.md, "Executions".
-pub fn execute_kept<R: Wait, G: Gate>(
-    rt: &R,
-    floor: &Floor,
-    tickets: &Tickets,
-    drawer: &mut TicketSeat,
-    batch: &BatchData,
-    reached: &Touched,
-    index: u16,
-    place: u16,
-    gate: &G,
-) -> Result<AccessRecord, ExecFault>
-    requires tickets { drawer.old.tickets ≡ tickets.now }
-    requires index { index < length batch.now.requests.items }
-    requires touched { reached.now ≡ touched_of floor.now (request_with (plain_batch batch.now) index) }
-    ensures { let request = request_with (plain_batch batch.now) index in
-        ExecutesKept floor.now request index place drawer.old drawer.new result }
-{
-    let request = request_at(batch, index);
-    let task = Task {
-        request: &request,
-        reached,
-        index,
-        worker: 0,
-        place,
-    };
-    applied(rt, floor, tickets, drawer, &task, gate)
-}
-
-/// The request with this index in the batch.
-fn request_at(batch: &BatchData, index: u16) -> Request<'_>
-    requires { index < length batch.now.requests.items }
-    ensures { plain result ≡ request_with (plain_batch batch.now) index }
-{
-    batch.requests[index as usize].request()
 }
 
 /// Notes the record that waits, if there is one. It is refused with `Full` alone, where the queue is full at one

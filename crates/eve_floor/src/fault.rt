@@ -1,8 +1,7 @@
 //! Why a request isn't executed.
 
 ghost use Rattle.std.specs.Prelude.{◌≡◌};
-ghost use Rattle.std.specs.Option.{option_or};
-ghost use Rattle.eve_floor.specs.Applying.{told};
+ghost use Rattle.eve_floor.specs.Tasks.{told};
 ghost use Rattle.eve_floor.specs.declared.fault.ExecFault.TheVariants as fault;
 
 use eve_stamps::StampFault;
@@ -23,16 +22,6 @@ pub enum ExecFault {
     Worn,
     /// Memory ran out.
     Memory,
-}
-
-impl ExecFault {
-    /// The fault that is told of two workers: that of the lower one, or where it has none, that of the higher one;
-    /// `None` where neither has.
-    pub fn first_of(lower: Option<ExecFault>, higher: Option<ExecFault>) -> Option<ExecFault>
-        ensures { result ≡ option_or lower higher }
-    {
-        lower.or(higher)
-    }
 }
 
 impl From<StampFault> for ExecFault {

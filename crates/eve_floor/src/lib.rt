@@ -1,13 +1,14 @@
 //! Stripes behind locks, and workers that execute requests on them. Each execution notes one record, or returns it.
 #![tactic(auto)]
 
-mod applying;
 mod executing;
 mod fault;
 mod floor;
+mod task;
 mod worker;
 
-pub use executing::{execute, execute_kept, execute_touched, flush};
+pub use executing::{execute, flush};
 pub use fault::ExecFault;
 pub use floor::Floor;
+pub use task::{Task, execute_task};
 pub use worker::Worker;

@@ -1,19 +1,50 @@
--- What the first worker has of the batch that was next.
-use Rattle.std.proofs.Common.{◌≡◌, ℕ, List, ◌∷◌, sym, subst, ap, ◌∙◌}
+-- What was noted of the batches of a window.
+use Rattle.std.proofs.Common.{◌≡◌, ℕ, zero, suc, ◌<◌, List, [], ◌∷◌, length, get_or, map, subst, sym, arith, Vec}
+use Rattle.std.proofs.Common.{IfOk, Result, Ok, Err}
+use Rattle.std.specs.declared.alloc.Global.{Global}
+use Rattle.std.specs.List.{AllZip}
 use Rattle.eve_grammar.specs.Trace.{Batch}
-use Rattle.eve_replica_crew.specs.FirstWorkers.{FirstWorker, RunsNext}
-use Rattle.eve_replica_crew.specs.Recording.{AreNotedOf}
+use Rattle.eve_stamps.specs.Applied.{Applied}
+use Rattle.eve_write.specs.Data.{batch as plain}
+use Rattle.eve_workload.specs.declared.mixer.MixedBatch.{MixedBatch}
+use Rattle.eve_replica_crew.specs.declared.assignment.Assignment.{Assignment}
+use Rattle.eve_replica_crew.specs.Recording.{AreNotedOf, IsNotedFor}
+use Rattle.eve_replica.specs.declared.fault.AttemptFault.{AttemptFault}
+use Rattle.eve_replica.specs.Serving.{IsNotedAs}
 
-module _ (before after : FirstWorker) (b : Batch) (others : List Batch) (runs : RunsNext before after)
-    (next : before.left ≡ b ∷ others) where
-  -- it is of that batch
-  same_batch : runs.batch ≡ b
-  same_batch = let both = sym runs.next ∙ next in cc
+-- of one of them
+pub noted_at : (names : List (List ℕ)) (window : List MixedBatch) (noted : List (Vec Applied Global)) (k : ℕ)
+    (m : MixedBatch) (records : Vec Applied Global) → AllZip (IsNotedAs names) window noted → k < length window
+    → m ≡ get_or window k m → records ≡ get_or noted k records → AreNotedOf names (plain m.batch) records.items
+noted_at names [] noted k m records all there is same = let no : ⊥ = omega arith in absurd no
+noted_at names (n ∷ window) [] k m records all there is same = absurd all
+noted_at names (n ∷ window) (r ∷ noted) zero m records all there is same =
+    subst (λ (x : MixedBatch). AreNotedOf names (plain x.batch) records.items) (sym is)
+    (subst (λ (x : Vec Applied Global). AreNotedOf names (plain n.batch) x.items) (sym same) all.0)
+noted_at names (n ∷ window) (r ∷ noted) (suc k) m records all there is same =
+    noted_at names window noted k m records all.1 (omega arith) is same
 
-  pub left_next : before.left ≡ b ∷ after.left
-  left_next = runs.next ∙ ap (λ (c : Batch). c ∷ after.left) same_batch
+-- of each of them, by the words of what was assigned
+pub noted_as : (names : List (List ℕ)) (given : List Assignment) (window : List MixedBatch)
+    (noted : List (Vec Applied Global))
+    → map (λ (a : Assignment). plain a.batch.now) given ≡ map (λ (m : MixedBatch). plain m.batch) window
+    → AllZip (IsNotedFor names) given noted → AllZip (IsNotedAs names) window noted
+noted_as names [] [] noted same all = all
+noted_as names [] (m ∷ window) noted same all = absurd cc
+noted_as names (a ∷ given) [] noted same all = absurd cc
+noted_as names (a ∷ given) (m ∷ window) [] same all = absurd all
+noted_as names (a ∷ given) (m ∷ window) (r ∷ noted) same all =
+    let head : plain a.batch.now ≡ plain m.batch = cc in
+    let rest : map (λ (x : Assignment). plain x.batch.now) given ≡ map (λ (x : MixedBatch). plain x.batch) window = cc in (
+      subst (λ (b : Batch). AreNotedOf names b r.items) head all.0,
+      noted_as names given window noted rest all.1,
+    )
 
-  pub noted_next : (names : List (List ℕ)) → before.names ≡ names → AreNotedOf names b after.records
-  noted_next names is =
-      subst (λ (ns : List (List ℕ)). AreNotedOf ns b after.records) is
-      (subst (λ (c : Batch). AreNotedOf before.names c after.records) same_batch runs.noted)
+-- and where they were run
+pub noted_as_ok : (names : List (List ℕ)) (given : List Assignment) (window : List MixedBatch)
+    (result : Result (Vec (Vec Applied Global) Global) AttemptFault)
+    → map (λ (a : Assignment). plain a.batch.now) given ≡ map (λ (m : MixedBatch). plain m.batch) window
+    → IfOk result (λ noted. AllZip (IsNotedFor names) given noted.items)
+    → IfOk result (λ noted. AllZip (IsNotedAs names) window noted.items)
+noted_as_ok names given window (Ok noted) same all = noted_as names given window noted.items same all
+noted_as_ok names given window (Err why) same all = all

@@ -1,5 +1,5 @@
 -- A replica as contracts see it, and what its calls make of it. docs/MODEL.md, "Section state, fate".
-use Rattle.std.specs.Prelude.{◌≡◌, ℕ, ◌+◌, ◌<◌, ◌≤◌, Bool, true, false, ⊤, IsTrue, List, length, Option, Some, None}
+use Rattle.std.specs.Prelude.{◌≡◌, ℕ, ◌+◌, ◌<◌, ◌≤◌, Bool, true, false, ⊤, IsTrue, List, length}
 use Rattle.eve_smallbank.specs.declared.rows.Touched.{Touched}
 use Rattle.eve_grammar.specs.declared.limits.TheConstants.{MOST_BATCHES}
 use Rattle.eve_grammar.specs.Limits.{is_batch}
@@ -85,11 +85,6 @@ FailsAttempt attempt_fault.Spent old new = Breaks old new
 FailsAttempt attempt_fault.NoRow old new = Breaks old new
 FailsAttempt attempt_fault.Mismatch old new = Breaks old new
 
--- The same for an error with a fault. One without comes where a worker gave a request up, and leaves the account.
-abbrev pub GivesUp : Option AttemptFault → Replica → Replica → Type 0
-GivesUp (Some why) old new = FailsAttempt why old new
-GivesUp None old new = new ≡ old
-
 -- The batch may be attempted, whose requests touch this: the replica isn't broken, one more attempt may be open, and
 -- its number is within the limits.
 pub record MayAttempt (r : Replica) (b : Batch) (touched : List Touched) : Type 0 where
@@ -98,10 +93,6 @@ pub record MayAttempt (r : Replica) (b : Batch) (touched : List Touched) : Type 
   pub room : length r.ledger.opened < r.ledger.window
   pub batch : IsTrue (is_batch b)
   pub reached : touched ≡ touched_in_batch r.names b
-
--- its names stay, and its number of workers
-abbrev pub KeepsCrew : Replica → Replica → Type 0
-KeepsCrew old new = (new.names ≡ old.names) × (new.ledger.workers ≡ old.ledger.workers)
 
 -- the fault isn't that the replica was broken before
 abbrev pub IsFresh : AttemptFault → Type 0
@@ -113,6 +104,12 @@ IsFresh attempt_fault.Worn = ⊤
 IsFresh attempt_fault.Spent = ⊤
 IsFresh attempt_fault.NoRow = ⊤
 IsFresh attempt_fault.Mismatch = ⊤
+
+-- a fault of its workers broke the replica, which kept its account
+pub record BreaksBy (why : AttemptFault) (old new : Replica) : Type 0 where
+  pub fresh : IsFresh why
+  pub matched : IsMismatchOnly ⊥ why
+  pub broken : new ≡ record old { is_broken = true }
 
 -- The replica wasn't broken, and these records were closed.
 abbrev pub ClosesOwn : AttemptFront → Replica → Replica → Batch → List Applied → Attempt → Type 0

@@ -19,6 +19,8 @@ use Rattle.eve_write.specs.declared.step.Step as code
 use Rattle.eve_write.specs.declared.vote.VoteData.{VoteData}
 use Rattle.eve_write.specs.declared.sent.SentData.{SentData}
 use Rattle.eve_workload.specs.declared.mixer.MixedBatch.{MixedBatch}
+use Rattle.eve_stamps.specs.Applied.{Applied}
+use Rattle.eve_replica_crew.specs.Recording.{AreNotedOf}
 use Rattle.eve_replica.specs.Replicas.{MismatchesDue, Replica}
 use Rattle.eve_replica.specs.Deciding.{is_some_of, token_given_up, AreUndecided}
 use Rattle.eve_replica.specs.Sections.{RunPlan, GoesThrough, AreVotesOf, place_due, commit_vote, rollback_vote}
@@ -357,6 +359,10 @@ pub record MayAttemptAll (r : Replica) (window : List MixedBatch) : Type 0 where
   pub whole : r.is_broken ≡ false
   pub due : AreDue (length window) r.ledger
   pub mixed : All (IsRightMixed r.names) window
+
+-- what was noted of such a batch
+abbrev pub IsNotedAs : List (List ℕ) → MixedBatch → Vec Applied Global → Type 0
+IsNotedAs names m records = AreNotedOf names (plain m.batch) records.items
 
 -- a live replica went on by attempts of all of them
 abbrev pub AttemptsAll : List MixedBatch → Replica → Vec code.Step Global → Replica → Vec code.Step Global → Type 0

@@ -1,26 +1,25 @@
-//! Attempts made while a replica's workers run.
+//! Attempts made of what a replica's workers noted.
 
-ghost use Rattle.std.specs.Prelude.{◌≡◌, ◌+◌, true, false, ℕ, List, [], ◌∷◌, ◌++◌, map};
-ghost use Rattle.std.specs.Prelude.{IsTrue, IfOk, IfErr, IfSome, OnOk, OnErr};
-ghost use Rattle.std.specs.List.{list_all};
-ghost use Rattle.eve_grammar.specs.Limits.{is_step};
+ghost use Rattle.std.specs.Prelude.{◌≡◌, ◌+◌, ◌<◌, ◌≤◌, true, false, Err, ℕ, List, [], ◌∷◌, ◌++◌, All, length, map};
+ghost use Rattle.std.specs.Prelude.{IsTrue, IfOk, IfErr, IfSome, IfNone, OnOk, OnErr, Contains};
+ghost use Rattle.std.specs.List.{AllZip, list_all};
+ghost use Rattle.eve_grammar.specs.Limits.{is_batch, is_step};
 ghost use Rattle.eve_write.specs.Data.{attempt, batch as plain_batch, section, step as plain};
-ghost use Rattle.eve_grammar.specs.Trace.{Batch};
-ghost use Rattle.eve_replica_crew.specs.FirstWorkers.{StaysAt};
-ghost use Rattle.eve_replica_crew.specs.Recording.{AreNotedOf};
-ghost use Rattle.eve_replica_crew.specs.Sharing.{IsRightAssignment};
-ghost use Rattle.eve_replica.specs.Replicas.{AttemptsDue, FailsAttempt, GivesUp, KeepsCrew, MayAttempt};
+ghost use Rattle.eve_attempts.specs.Closing.{touched_in_batch, AreMismatched};
+ghost use Rattle.eve_replica_crew.specs.Assignments.{IsRightAssignment};
+ghost use Rattle.eve_replica_crew.specs.Recording.{AreNotedOf, IsNotedFor};
+ghost use Rattle.eve_replica.specs.Replicas.{AttemptsDue, BreaksBy, ClosesThese, FailsAttempt, MayAttempt, front_of};
 ghost use Rattle.eve_replica.specs.Replicas.{IsMismatchOnly, MismatchesDue};
 ghost use Rattle.eve_replica.specs.Serving.{AreDue, GoesOn, IsRightMixed, MayAttemptAll, AttemptsAll, attempt_move};
-ghost use Rattle.eve_replica.specs.Serving.{MismatchesAmid, server_with};
-ghost use Rattle.eve_replica.specs.Replicas.{IsFresh};
-ghost use Rattle.eve_replica.specs.RunFaults.{attempt_fault_of};
+ghost use Rattle.eve_replica.specs.Serving.{IsNotedAs, MismatchesAmid, server_with};
 
-use crate::account::Account;
 use crate::fault::{AttemptFault, fault_of};
-use eve_floor::{ExecFault, Floor};
+use crate::replica::Replica;
+use eve_attempts::{AttemptFront, CloseFault as Unclosed};
+use eve_floor::Floor;
+use eve_grammar::{MOST_BATCHES, MOST_WORKERS};
 use eve_recorder::Gate;
-use eve_replica_crew::{Assignment, Lead, Workers, run_batches};
+use eve_replica_crew::{Assignment, crew_size, run_batches};
 use eve_smallbank::Touched;
 use eve_stamps::AccessRecord;
 use eve_workload::MixedBatch;
@@ -29,138 +28,237 @@ use std::alloc::{AllocError, Global};
 use std::sync::Wait;
 use std::thread::Threads;
 
-/// Runs one batch by the workers, makes an attempt of what they noted, and opens it. A fault breaks the replica.
-pub(crate) fn run_and_close<R: Threads + Wait + Sync, G: Gate>(
-    rt: &R,
-    alloc: Global,
-    floor: &Floor,
-    workers: &mut Workers,
-    account: &mut Account<'_>,
-    assignment: Assignment<'_>,
-    gate: &G,
-) -> Result<AttemptData, AttemptFault>
-    requires assignment { IsRightAssignment floor.now workers.old.many assignment }
-    requires over { floor.now ≡ account.old.names }
-    requires due { MayAttempt account.old (plain_batch assignment.batch.now) assignment.touched.now }
-    ensures workers { workers.new ≡ workers.old }
-    ensures attempted { IfOk result (λ a.
-        AttemptsDue account.old account.new (plain_batch assignment.entry.batch.now) (attempt a)) }
-    ensures refused { IfErr result (λ why. FailsAttempt why account.old account.new) }
-    ensures mismatch { IfErr result
-        (IsMismatchOnly (MismatchesDue account.old (plain_batch assignment.entry.batch.now))) }
-    ensures same { KeepsCrew account.old account.new }
-{
-    let batch = assignment.batch;
-    let touched = assignment.touched;
-    let mut own = |lead: &mut Lead| -> Result<AttemptData, Option<AttemptFault>>
-        requires { MayAttempt account.now (plain_batch batch.now) touched.now
-            × (lead.old.names ≡ account.now.names)
-            × ((rest : List Batch) × (lead.old.left ≡ plain_batch batch.now ∷ rest)) }
-        ensures lead { StaysAt lead.old lead.new }
+impl<'n> Replica<'n> {
+    /// Runs the batches of a window, which are the next, by the workers of a replica that isn't broken, and makes an
+    /// attempt of what they noted of each. A fault breaks the replica; the attempts before it stay open.
+    pub(crate) fn attempt_window<R: Threads + Wait + Sync, G: Gate>(
+        &mut self,
+        rt: &R,
+        alloc: Global,
+        steps: &mut Vec<Step>,
+        window: &[MixedBatch],
+        gate: &G,
+    ) -> Result<(), AttemptFault>
+        requires due { MayAttemptAll self.old window.now }
+        ensures on { OnOk result (AttemptsAll window.now self.old steps.old self.new steps.new) }
+        ensures broken { OnErr result (self.new.is_broken ≡ true) }
+        ensures mismatch { IfErr result (IsMismatchOnly (MismatchesAmid window.now self.old self.new)) }
+    {
+        let noted = match self.run_window(rt, alloc, window, gate) {
+            Ok(noted) => noted,
+            Err(why) => return Err(why),
+        };
+        self.close_window(alloc, steps, window, noted.as_slice())
+    }
+
+    /// Makes an attempt of what was noted of each batch of the window, one after another.
+    fn close_window(
+        &mut self,
+        alloc: Global,
+        steps: &mut Vec<Step>,
+        window: &[MixedBatch],
+        noted: &[Vec<AccessRecord>],
+    ) -> Result<(), AttemptFault>
+        requires due { MayAttemptAll self.old window.now }
+        requires noted { AllZip (IsNotedAs self.old.names) window.now noted.now }
+        ensures on { OnOk result (AttemptsAll window.now self.old steps.old self.new steps.new) }
+        ensures broken { OnErr result (self.new.is_broken ≡ true) }
+        ensures mismatch { IfErr result (IsMismatchOnly (MismatchesAmid window.now self.old self.new)) }
+    {
+        for place in 0..window.len() {
+            match self.add_attempt(alloc, steps, &window[place], noted[place].as_slice()) {
+                Ok(()) => {}
+                Err(why) => return Err(why),
+            }
+        }
+        Ok(())
+    }
+
+    /// Runs the batches of a window, and returns what the workers noted of each. A fault breaks the replica.
+    fn run_window<R: Threads + Wait + Sync, G: Gate>(
+        &mut self,
+        rt: &R,
+        alloc: Global,
+        window: &[MixedBatch],
+        gate: &G,
+    ) -> Result<Vec<Vec<AccessRecord>>, AttemptFault>
+        requires whole { self.old.is_broken ≡ false }
+        requires mixed { All (IsRightMixed self.old.names) window.now }
+        ensures noted { IfOk result (λ noted. AllZip (IsNotedAs self.old.names) window.now noted.items) }
+        ensures same { OnOk result (self.new ≡ self.old) }
+        ensures refused { IfErr result (λ why. BreaksBy why self.old self.new) }
+    {
+        let workers = self.workers.many();
+        let serial = self.ledger.is_next_serial();
+        let Ok(assignments) = assignments_of(alloc, &self.floor, workers, window, serial) else {
+            return Err(self.broken_by(AttemptFault::Memory));
+        };
+        self.run_assigned(rt, alloc, assignments.as_slice(), gate)
+    }
+
+    /// Runs one batch by the workers, and makes an attempt of what they noted. A fault breaks the replica.
+    pub(crate) fn run_and_close<R: Threads + Wait + Sync, G: Gate>(
+        &mut self,
+        rt: &R,
+        alloc: Global,
+        assignment: Assignment<'_>,
+        gate: &G,
+    ) -> Result<AttemptData, AttemptFault>
+        requires assignment { IsRightAssignment self.old.names self.old.ledger.workers assignment }
+        requires due { MayAttempt self.old (plain_batch assignment.batch.now) assignment.touched.now }
         ensures attempted { IfOk result (λ a.
-            AttemptsDue account.entry.now account.exit.now (plain_batch batch.entry.now) (attempt a)) }
-        ensures refused { IfErr result (λ given. GivesUp given account.entry.now account.exit.now) }
-        ensures mismatch { IfErr result (λ given. IfSome given
-            (IsMismatchOnly (MismatchesDue account.entry.now (plain_batch batch.entry.now)))) }
-        ensures same { KeepsCrew account.entry.now account.exit.now }
-    { lead_one(rt, alloc, lead, account, batch, touched, gate) };
-    let ran = run_batches(rt, alloc, floor, workers, &[assignment], gate, &mut own);
-    match ran {
-        Ok((Ok(attempt), _)) => Ok(attempt),
-        Ok((Err(Some(why)), _)) => Err(why),
-        Ok((Err(None), told)) => Err(account.broken_by(fault_told(told))),
-        Err(_) => Err(account.broken_by(AttemptFault::Memory)),
-    }
-}
-
-/// The first worker runs its part in the next batch, of which an attempt is made then. An error with a fault has broken
-/// the replica; one without comes where a worker gave a request up.
-fn lead_one<R: Wait, G: Gate>(
-    rt: &R,
-    alloc: Global,
-    lead: &mut Lead<'_>,
-    account: &mut Account<'_>,
-    batch: &BatchData,
-    touched: &[Touched],
-    gate: &G,
-) -> Result<AttemptData, Option<AttemptFault>>
-    requires due { MayAttempt account.old (plain_batch batch.now) touched.now }
-    requires over { lead.old.names ≡ account.old.names }
-    requires next { (rest : List Batch) × (lead.old.left ≡ plain_batch batch.now ∷ rest) }
-    ensures lead { StaysAt lead.old lead.new }
-    ensures attempted { IfOk result (λ a. AttemptsDue account.old account.new (plain_batch batch.now) (attempt a)) }
-    ensures refused { IfErr result (λ given. GivesUp given account.old account.new) }
-    ensures mismatch { IfErr result (λ given. IfSome given
-        (IsMismatchOnly (MismatchesDue account.old (plain_batch batch.now)))) }
-    ensures same { KeepsCrew account.old account.new }
-{
-    if !lead.next(rt, gate) {
-        return Err(None);
-    }
-    match account.close_noted(alloc, batch, touched, lead.records()) {
-        Ok(attempt) => Ok(attempt),
-        Err(why) => Err(Some(why)),
-    }
-}
-
-/// The first worker runs its part in each batch of the window, of which an attempt is made then. An error with a fault
-/// has broken the replica; one without comes where a worker gave a request up.
-pub(crate) fn lead_each<R: Wait, G: Gate>(
-    rt: &R,
-    alloc: Global,
-    lead: &mut Lead<'_>,
-    account: &mut Account<'_>,
-    steps: &mut Vec<Step>,
-    window: &[MixedBatch],
-    gate: &G,
-) -> Result<(), Option<AttemptFault>>
-    requires due { MayAttemptAll account.old window.now }
-    requires over { lead.old.names ≡ account.old.names }
-    requires left { lead.old.left ≡ map (λ m. plain_batch m.batch) window.now }
-    ensures lead { StaysAt lead.old lead.new }
-    ensures on { OnOk result (AttemptsAll window.now account.old steps.old account.new steps.new) }
-    ensures broken { IfErr result (λ given. IfSome given (λ _. account.new.is_broken ≡ true)) }
-    ensures mismatch { IfErr result (λ given. IfSome given
-        (IsMismatchOnly (MismatchesAmid window.now account.old account.new))) }
-    ensures same { KeepsCrew account.old account.new }
-{
-    for place in 0..window.len() {
-        if !lead.next(rt, gate) {
-            return Err(None);
-        }
-        match add_attempt(alloc, account, steps, &window[place], lead.records()) {
-            Ok(()) => {}
-            Err(why) => return Err(Some(why)),
+            AttemptsDue self.old self.new (plain_batch assignment.entry.batch.now) (attempt a)) }
+        ensures refused { IfErr result (λ why. FailsAttempt why self.old self.new) }
+        ensures mismatch { IfErr result
+            (IsMismatchOnly (MismatchesDue self.old (plain_batch assignment.entry.batch.now))) }
+    {
+        let batch = assignment.batch;
+        let touched = assignment.touched;
+        match self.run_assigned(rt, alloc, &[assignment], gate) {
+            Ok(noted) => self.close_noted(alloc, batch, touched, noted[0].as_slice()),
+            Err(why) => Err(why),
         }
     }
-    Ok(())
+
+    /// Runs batches, and returns what the workers noted of each. A fault breaks the replica.
+    pub(crate) fn run_assigned<R: Threads + Wait + Sync, G: Gate>(
+        &mut self,
+        rt: &R,
+        alloc: Global,
+        assignments: &[Assignment],
+        gate: &G,
+    ) -> Result<Vec<Vec<AccessRecord>>, AttemptFault>
+        requires whole { self.old.is_broken ≡ false }
+        requires right { All (IsRightAssignment self.old.names self.old.ledger.workers) assignments.now }
+        ensures noted { IfOk result (λ noted. AllZip (IsNotedFor self.old.names) assignments.now noted.items) }
+        ensures same { OnOk result (self.new ≡ self.old) }
+        ensures refused { IfErr result (λ why. BreaksBy why self.old self.new) }
+    {
+        match run_batches(rt, alloc, &self.floor, &mut self.workers, assignments, gate) {
+            Ok(noted) => Ok(noted),
+            Err(why) => Err(self.broken_by(fault_of(why))),
+        }
+    }
+
+    /// Makes an attempt of what was noted of the next batch, and adds it to what the replica did.
+    fn add_attempt(
+        &mut self,
+        alloc: Global,
+        steps: &mut Vec<Step>,
+        mixed: &MixedBatch,
+        records: &[AccessRecord],
+    ) -> Result<(), AttemptFault>
+        requires due { AreDue 1 self.old.ledger }
+        requires mixed { IsRightMixed self.old.names mixed.now }
+        requires whole { self.old.is_broken ≡ false }
+        requires noted { AreNotedOf self.old.names (plain_batch mixed.now.batch) records.now }
+        ensures on { OnOk result (GoesOn (attempt_move 1 (plain_batch mixed.now.batch ∷ []))
+            (server_with self.old steps.old) (server_with self.new steps.new)) }
+        ensures broken { OnErr result (self.new.is_broken ≡ true) }
+        ensures mismatch { IfErr result (IsMismatchOnly (MismatchesDue self.old (plain_batch mixed.now.batch)
+            × (self.new ≡ record self.old { is_broken = true }))) }
+    {
+        let touched = mixed.touched.as_slice();
+        let attempt = self.close_noted(alloc, &mixed.batch, touched, records)?;
+        match add_step(steps, Step::Attempt(attempt)) {
+            Ok(()) => Ok(()),
+            Err(_) => Err(self.broken_by(AttemptFault::Memory)),
+        }
+    }
+
+    /// What was noted of the next batch, and nothing else, becomes an attempt in the view and in the mode that are due,
+    /// and is opened. Any fault breaks the replica.
+    pub(crate) fn close_noted(
+        &mut self,
+        alloc: Global,
+        batch: &BatchData,
+        touched: &[Touched],
+        records: &[AccessRecord],
+    ) -> Result<AttemptData, AttemptFault>
+        requires due { MayAttempt self.old (plain_batch batch.now) touched.now }
+        requires noted { AreNotedOf self.old.names (plain_batch batch.now) records.now }
+        ensures attempted { IfOk result (λ a. AttemptsDue self.old self.new (plain_batch batch.now) (attempt a)) }
+        ensures records { let front = front_of self.old.ledger self.old.ledger.view self.old.ledger.is_next_serial in
+            IfOk result (λ a. ClosesThese front self.old self.new (plain_batch batch.now) records.now (attempt a)) }
+        ensures refused { IfErr result (λ why. FailsAttempt why self.old self.new) }
+        ensures broken { OnErr result (self.new.is_broken ≡ true) }
+        ensures mismatch { IfErr result (IsMismatchOnly (MismatchesDue self.old (plain_batch batch.now))) }
+    {
+        let front = self.next_front();
+        let tick = greatest_tick(records);
+        match self.close(alloc, front, batch, touched, records, tick) {
+            Ok(attempt) => Ok(attempt),
+            Err(Unclosed::Memory) => Err(self.broken_by(AttemptFault::Memory)),
+            Err(Unclosed::Mismatch) => Err(self.broken_by(AttemptFault::Mismatch)),
+        }
+    }
+
+    /// Number, view and mode of the attempt that is due.
+    fn next_front(&self) -> AttemptFront
+        requires { self.now.ledger.committed + 1 + length self.now.ledger.opened ≤ MOST_BATCHES }
+        ensures { result ≡ front_of self.now.ledger self.now.ledger.view self.now.ledger.is_next_serial }
+    {
+        AttemptFront {
+            seq: self.ledger.next_number() as u32,
+            view: self.ledger.view(),
+            serial: self.ledger.is_next_serial(),
+        }
+    }
+
+    /// Breaks the replica, and returns the fault.
+    pub(crate) fn broken_by(&mut self, why: AttemptFault) -> AttemptFault
+        ensures broken { self.new ≡ record self.old { is_broken = true } }
+        ensures why { result ≡ why }
+    {
+        self.is_broken = true;
+        self.fault = Some(why);
+        why
+    }
+
+    /// Closes the records, and keeps the tick up to which the stripes are settled at the attempt's commit.
+    pub(crate) fn close(
+        &mut self,
+        alloc: Global,
+        front: AttemptFront,
+        batch: &BatchData,
+        touched: &[Touched],
+        records: &[AccessRecord],
+        tick: Option<u64>,
+    ) -> Result<AttemptData, Unclosed>
+        requires seq { front.seq ≡ self.old.ledger.committed + 1 + length self.old.ledger.opened }
+        requires last { front.seq ≤ MOST_BATCHES }
+        requires room { length self.old.ledger.opened < self.old.ledger.window }
+        requires view { front.view ≡ self.old.ledger.view }
+        requires serial { front.serial ≡ self.old.ledger.is_next_serial }
+        requires batch { IsTrue (is_batch (plain_batch batch.now)) }
+        requires touched { touched.now ≡ touched_in_batch self.old.names (plain_batch batch.now) }
+        ensures closed { let b = plain_batch batch.now in
+            IfOk result (λ a. ClosesThese front self.old self.new b records.now (attempt a)) }
+        ensures mismatch { let reached = touched_in_batch self.old.names (plain_batch batch.now) in
+            result ≡ Err Unclosed.Mismatch
+            → AreMismatched front self.old.ledger (plain_batch batch.now) reached records.now }
+        ensures refused { OnErr result (self.new ≡ self.old) }
+    {
+        if self.settles.reserve(1).is_err() {
+            return Err(Unclosed::Memory);
+        }
+        match self.ledger.close(alloc, front, batch, touched, records) {
+            Ok(attempt) => {
+                self.settles.push_reserved(tick);
+                Ok(attempt)
+            }
+            Err(why) => Err(why),
+        }
+    }
 }
 
-/// Makes an attempt of what was noted of the next batch, and adds it to what the replica did.
-fn add_attempt(
-    alloc: Global,
-    account: &mut Account<'_>,
-    steps: &mut Vec<Step>,
-    mixed: &MixedBatch,
-    records: &[AccessRecord],
-) -> Result<(), AttemptFault>
-    requires due { AreDue 1 account.old.ledger }
-    requires mixed { IsRightMixed account.old.names mixed.now }
-    requires whole { account.old.is_broken ≡ false }
-    requires noted { AreNotedOf account.old.names (plain_batch mixed.now.batch) records.now }
-    ensures on { OnOk result (GoesOn (attempt_move 1 (plain_batch mixed.now.batch ∷ []))
-        (server_with account.old steps.old) (server_with account.new steps.new)) }
-    ensures broken { OnErr result (account.new.is_broken ≡ true) }
-    ensures mismatch { IfErr result (IsMismatchOnly (MismatchesDue account.old (plain_batch mixed.now.batch)
-        × (account.new ≡ record account.old { is_broken = true }))) }
-    ensures same { KeepsCrew account.old account.new }
+/// The greatest tick of the records.
+fn greatest_tick(records: &[AccessRecord]) -> Option<u64>
+    ensures none { IfNone result (records.now ≡ []) }
+    ensures greatest { IfSome result (λ t. All (λ r. r.tick ≤ t) records.now) }
+    ensures one { IfSome result (Contains (map (λ r. r.tick) records.now)) }
 {
-    let touched = mixed.touched.as_slice();
-    let attempt = account.close_noted(alloc, &mixed.batch, touched, records)?;
-    match add_step(steps, Step::Attempt(attempt)) {
-        Ok(()) => Ok(()),
-        Err(_) => Err(account.broken_by(AttemptFault::Memory)),
-    }
+    records.iter().map(|record| record.tick()).max()
 }
 
 /// Adds a step that a replica took.
@@ -174,15 +272,53 @@ pub(crate) fn add_step(steps: &mut Vec<Step>, step: Step) -> Result<(), AllocErr
     Ok(())
 }
 
-/// The attempt's fault for that of a worker that gave a request up. One that did has a fault, which no clause says: so
-/// where none is told the answer is Memory, of which no clause says when it comes.
-pub(crate) fn fault_told(told: Option<ExecFault>) -> AttemptFault
-    ensures fresh { IsFresh result }
-    ensures same { IfSome told (λ why. result ≡ attempt_fault_of why) }
-    ensures matched { IsMismatchOnly ⊥ result }
+/// The batches of a window, for the given number of workers. Only the first can be in serial mode.
+fn assignments_of<'b>(
+    alloc: Global,
+    floor: &Floor,
+    workers: u8,
+    window: &'b [MixedBatch],
+    serial: bool,
+) -> Result<Vec<Assignment<'b>>, AllocError>
+    requires workers { (1 ≤ workers) × (workers ≤ MOST_WORKERS) }
+    requires mixed { All (IsRightMixed floor.now) window.now }
+    ensures right { IfOk result (λ assignments. All (IsRightAssignment floor.now workers) assignments.items) }
+    ensures batches { IfOk result (λ assignments. map (λ a. plain_batch a.batch.now) assignments.items
+        ≡ map (λ m. plain_batch m.batch) window.now) }
 {
-    match told {
-        Some(why) => fault_of(why),
-        None => AttemptFault::Memory,
+    let mut assignments = Vec::with_capacity(alloc, window.len())?;
+    let mut is_serial = serial;
+    for mixed in window {
+        assignments.push_reserved(assignment_of(
+            floor,
+            workers,
+            &mixed.batch,
+            mixed.touched.as_slice(),
+            is_serial,
+        ));
+        is_serial = false;
+    }
+    Ok(assignments)
+}
+
+/// The batch with those of the workers that can have something to do in it.
+pub(crate) fn assignment_of<'b>(
+    floor: &Floor,
+    workers: u8,
+    batch: &'b BatchData,
+    touched: &'b [Touched],
+    serial: bool,
+) -> Assignment<'b>
+    requires workers { (1 ≤ workers) × (workers ≤ MOST_WORKERS) }
+    requires batch { IsTrue (is_batch (plain_batch batch.now)) }
+    requires touched { touched.now ≡ touched_in_batch floor.now (plain_batch batch.now) }
+    ensures right { IsRightAssignment floor.now workers result }
+    ensures batch { result.batch.now ≡ batch.now }
+{
+    let crew = crew_size(batch.sizes.as_slice(), workers, serial);
+    Assignment {
+        batch,
+        touched,
+        crew,
     }
 }

@@ -1,7 +1,6 @@
 //! Attempts by running threads, and the run of a whole deployment.
 #![tactic(auto)]
 
-mod account;
 mod attempting;
 mod fault;
 mod opening;

@@ -14,25 +14,20 @@ ghost use Rattle.eve_attempts.specs.Discarding.{RollsBack};
 ghost use Rattle.eve_attempts.specs.TakingOver.{IsStateOf, TakesOver};
 ghost use Rattle.eve_replica.specs.Replicas.{Attempts, FailsAttempt, ClosesOwn, IsMismatchOnly, MismatchesNoted};
 ghost use Rattle.eve_replica.specs.Replicas.{front_of};
-ghost use Rattle.eve_replica.specs.Replicas.{IsDue, IsFirstOpen, CommitsFirst, KeepsCrew};
-ghost use Rattle.eve_replica.specs.Serving.{IsRightMixed, MayAttemptAll, AttemptsAll, MismatchesAmid};
-ghost use Rattle.eve_replica_crew.specs.FirstWorkers.{StaysAt};
-ghost use Rattle.eve_replica_crew.specs.Parts.{assigned_batches};
-ghost use Rattle.eve_replica_crew.specs.Sharing.{IsRightAssignment};
+ghost use Rattle.eve_replica.specs.Replicas.{IsDue, IsFirstOpen, CommitsFirst};
 
-use crate::account::Account;
-use crate::attempting::{fault_told, lead_each, run_and_close};
+use crate::attempting::assignment_of;
 use crate::fault::{AttemptFault, CloseFault, CommitFault, TransferFault};
 use eve_accounts::{Balances, Names};
 use eve_attempts::{AttemptFront, CloseFault as Unclosed, Ledger};
 use eve_floor::Floor;
 use eve_grammar::{MOST_BATCHES, MOST_WINDOW, MOST_WORKERS, TransferData};
 use eve_recorder::Gate;
-use eve_replica_crew::{Assignment, Lead, Workers, crew_size, run_batches};
-use eve_smallbank::{Touched, Versioned};
+use eve_replica_crew::Workers;
+use eve_smallbank::Versioned;
 use eve_stamps::AccessRecord;
-use eve_workload::{MixedBatch, look_up};
-use eve_write::{AttemptData, BatchData, CommitData, RollbackData, Step};
+use eve_workload::look_up;
+use eve_write::{AttemptData, BatchData, CommitData, RollbackData};
 use std::alloc::{AllocError, Global};
 use std::marker::Model;
 use std::sync::Wait;
@@ -45,20 +40,28 @@ use std::thread::Threads;
 /// names, its account and whether it is broken (`Replica` of the specs).
 #[derive(Drop)]
 pub struct Replica<'n> {
-    floor: Floor<'n>,
-    workers: Workers,
-    account: Account<'n>,
+    pub(crate) names: &'n Names<'n>,
+    pub(crate) floor: Floor<'n>,
+    pub(crate) workers: Workers,
+    pub(crate) ledger: Ledger,
+    // of each open attempt the greatest tick of its records, where this replica's workers ran it
+    pub(crate) settles: Vec<Option<u64>>,
+    pub(crate) is_broken: bool,
+    // why the last attempt that failed did
+    pub(crate) fault: Option<AttemptFault>,
 }
 
 impl<'n> Model for Replica<'n> {
-    ghost use Rattle.std.specs.Prelude.{◌≡◌};
+    ghost use Rattle.std.specs.Prelude.{◌≡◌, ◌*◌, length, vec_len};
+    ghost use Rattle.eve_attempts.specs.Ledgers.{ledger_rows};
     ghost use Rattle.eve_replica.specs.Replicas as model;
 
     ghost Value = { model.Replica };
 
-    ghost view = { λ r. r.account };
+    ghost view = { λ r. record { names = r.names.now.items; ledger = r.ledger; is_broken = r.is_broken } };
 
-    ghost invariant = { λ r. (r.floor ≡ r.account.names) × (r.workers.many ≡ r.account.ledger.workers) };
+    ghost invariant = { λ r. (r.floor ≡ r.names.now.items) × (r.workers.many ≡ r.ledger.workers)
+        × (vec_len r.settles ≡ length r.ledger.opened) × (ledger_rows r.ledger ≡ 2 * length r.names.now.items) };
 }
 
 impl<'n> Replica<'n> {
@@ -86,17 +89,14 @@ impl<'n> Replica<'n> {
         let floor = Floor::new(alloc, names, balances)?;
         let settles = Vec::with_capacity(alloc, window as usize)?;
         let ledger = Ledger::new(alloc, version, balances, workers, window)?;
-        let account = Account {
+        Ok(Replica {
             names,
+            floor,
+            workers: crew,
             ledger,
             settles,
             is_broken: false,
             fault: None,
-        };
-        Ok(Replica {
-            floor,
-            workers: crew,
-            account,
         })
     }
 
@@ -104,49 +104,49 @@ impl<'n> Replica<'n> {
     pub fn version(&self) -> u16
         ensures { result ≡ self.now.ledger.version }
     {
-        self.account.ledger.version()
+        self.ledger.version()
     }
 
     /// The view.
     pub fn view(&self) -> u32
         ensures { result ≡ self.now.ledger.view }
     {
-        self.account.ledger.view()
+        self.ledger.view()
     }
 
     /// The number of the last batch that was committed, 0 if there is none.
     pub fn committed(&self) -> u32
         ensures { result ≡ self.now.ledger.committed }
     {
-        self.account.ledger.committed()
+        self.ledger.committed()
     }
 
     /// The number of open attempts.
     pub fn opened(&self) -> usize
         ensures { result ≡ length self.now.ledger.opened }
     {
-        self.account.ledger.opened()
+        self.ledger.opened()
     }
 
     /// Whether one more attempt may be open.
     pub fn has_room(&self) -> bool
         ensures { IsTrue result ↔ (length self.now.ledger.opened < self.now.ledger.window) }
     {
-        self.account.ledger.has_room()
+        self.ledger.has_room()
     }
 
     /// The number of the batch that is attempted next. No frame has 2^32, which is next behind the greatest number.
     pub fn next_number(&self) -> u64
         ensures { result ≡ self.now.ledger.committed + 1 + length self.now.ledger.opened }
     {
-        self.account.ledger.next_number()
+        self.ledger.next_number()
     }
 
     /// Whether no attempt came since a rollback, so that the next is serial.
     pub fn is_next_serial(&self) -> bool
         ensures { result ≡ self.now.ledger.is_next_serial }
     {
-        self.account.ledger.is_next_serial()
+        self.ledger.is_next_serial()
     }
 
     /// The token of the open attempt at that place, counted from 0.
@@ -154,7 +154,7 @@ impl<'n> Replica<'n> {
         requires { place < length self.now.ledger.opened }
         ensures { option_map (λ o. o.token) (slice_get self.now.ledger.opened place) ≡ Some result }
     {
-        self.account.ledger.token(place)
+        self.ledger.token(place)
     }
 
     /// What the rows hold after the open attempts. An attempt that failed isn't one of these, so a broken replica
@@ -162,7 +162,7 @@ impl<'n> Replica<'n> {
     pub fn balances(&self) -> &Balances
         ensures { result.now ≡ self.now.ledger.rows.balances }
     {
-        self.account.ledger.balances()
+        self.ledger.balances()
     }
 
     /// The root of the Merkle tree over `balances`, of a replica of version 2. It takes no memory, and a broken replica
@@ -174,7 +174,7 @@ impl<'n> Replica<'n> {
         ensures root { result ≡ rows_root self.old.ledger.rows.balances }
         ensures kept { self.new ≡ self.old }
     {
-        self.account.ledger.root()
+        self.ledger.root()
     }
 
     /// Version and value of each row as it is committed, in row order, whatever is open; a broken replica answers too.
@@ -183,14 +183,14 @@ impl<'n> Replica<'n> {
     pub fn state(&self, alloc: Global) -> Result<Vec<Versioned>, AllocError>
         ensures { IfOk result (λ state. IsStateOf self.now.ledger state.items) }
     {
-        self.account.ledger.state(alloc)
+        self.ledger.state(alloc)
     }
 
     /// Whether an attempt failed, and no rollback has succeeded since.
     pub fn is_broken(&self) -> bool
         ensures { result ≡ self.now.is_broken }
     {
-        self.account.is_broken
+        self.is_broken
     }
 }
 
@@ -223,74 +223,15 @@ impl<'n> Replica<'n> {
         ensures mismatch { let front = front_of self.old.ledger view serial in
             IfErr result (IsMismatchOnly (MismatchesNoted front self.old (plain batch.now))) }
     {
-        if self.account.is_broken {
+        if self.is_broken {
             return Err(AttemptFault::Broken);
         }
-        let Ok(touched) = look_up(alloc, batch.requests.as_slice(), self.account.names) else {
-            return Err(self.account.broken_by(AttemptFault::Memory));
+        let Ok(touched) = look_up(alloc, batch.requests.as_slice(), self.names) else {
+            return Err(self.broken_by(AttemptFault::Memory));
         };
         let touched = touched.as_slice();
         let assignment = assignment_of(&self.floor, self.workers.many(), batch, touched, serial);
-        run_and_close(
-            rt,
-            alloc,
-            &self.floor,
-            &mut self.workers,
-            &mut self.account,
-            assignment,
-            gate,
-        )
-    }
-
-    /// Runs the batches of a window, which are the next, by the workers of a replica that isn't broken, and makes an
-    /// attempt of what they noted of each while the other workers run the next. A fault breaks the replica; the
-    /// attempts before it stay open.
-    pub(crate) fn attempt_window<R: Threads + Wait + Sync, G: Gate>(
-        &mut self,
-        rt: &R,
-        alloc: Global,
-        steps: &mut Vec<Step>,
-        window: &[MixedBatch],
-        gate: &G,
-    ) -> Result<(), AttemptFault>
-        requires due { MayAttemptAll self.old window.now }
-        ensures on { OnOk result (AttemptsAll window.now self.old steps.old self.new steps.new) }
-        ensures broken { OnErr result (self.new.is_broken ≡ true) }
-        ensures mismatch { IfErr result (IsMismatchOnly (MismatchesAmid window.now self.old self.new)) }
-    {
-        let workers = self.workers.many();
-        let serial = self.is_next_serial();
-        let Ok(assignments) = assignments_of(alloc, &self.floor, workers, window, serial) else {
-            return Err(self.account.broken_by(AttemptFault::Memory));
-        };
-        let account = &mut self.account;
-        let mut own = |lead: &mut Lead| -> Result<(), Option<AttemptFault>>
-            requires { MayAttemptAll account.now window.now × (lead.old.names ≡ account.now.names)
-                × (lead.old.left ≡ map (λ m. plain m.batch) window.now) }
-            ensures lead { StaysAt lead.old lead.new }
-            ensures on { OnOk result
-                (AttemptsAll window.entry.now account.entry.now steps.entry.now account.exit.now steps.exit.now) }
-            ensures broken { IfErr result (λ given. IfSome given (λ _. account.exit.now.is_broken ≡ true)) }
-            ensures mismatch { IfErr result (λ given. IfSome given
-                (IsMismatchOnly (MismatchesAmid window.entry.now account.entry.now account.exit.now))) }
-            ensures same { KeepsCrew account.entry.now account.exit.now }
-        { lead_each(rt, alloc, lead, account, steps, window, gate) };
-        let ran = run_batches(
-            rt,
-            alloc,
-            &self.floor,
-            &mut self.workers,
-            assignments.as_slice(),
-            gate,
-            &mut own,
-        );
-        drop(assignments);
-        match ran {
-            Ok((Ok(()), _)) => Ok(()),
-            Ok((Err(Some(why)), _)) => Err(why),
-            Ok((Err(None), told)) => Err(account.broken_by(fault_told(told))),
-            Err(_) => Err(account.broken_by(AttemptFault::Memory)),
-        }
+        self.run_and_close(rt, alloc, assignment, gate)
     }
 
     /// How many workers it has.
@@ -304,12 +245,12 @@ impl<'n> Replica<'n> {
     pub(crate) fn customers(&self) -> usize
         ensures { result ≡ length self.now.names }
     {
-        self.account.names.len()
+        self.names.len()
     }
 
     /// Why the last attempt that failed did; `Broken` where none has.
     pub(crate) fn fault(&self) -> AttemptFault {
-        self.account.fault.unwrap_or(AttemptFault::Broken)
+        self.fault.unwrap_or(AttemptFault::Broken)
     }
 
     /// Makes an attempt of records that a caller took, and opens it.
@@ -342,18 +283,15 @@ impl<'n> Replica<'n> {
         ensures broken { (result ≡ Err CloseFault.Broken) ↔ (self.old.is_broken ≡ true) }
         ensures refused { OnErr result (self.new ≡ self.old) }
     {
-        if self.account.is_broken {
+        if self.is_broken {
             return Err(CloseFault::Broken);
         }
-        let Ok(touched) = look_up(alloc, batch.requests.as_slice(), self.account.names) else {
+        let Ok(touched) = look_up(alloc, batch.requests.as_slice(), self.names) else {
             return Err(CloseFault::Memory);
         };
         let front = AttemptFront { seq, view, serial };
         let touched = touched.as_slice();
-        let closed = self
-            .account
-            .close(alloc, front, batch, touched, records, None);
-        match closed {
+        match self.close(alloc, front, batch, touched, records, None) {
             Ok(attempt) => Ok(attempt),
             Err(Unclosed::Memory) => Err(CloseFault::Memory),
             Err(Unclosed::Mismatch) => Err(CloseFault::Mismatch),
@@ -372,13 +310,13 @@ impl<'n> Replica<'n> {
         ensures broken { (result ≡ Err CommitFault.Broken) ↔ (self.old.is_broken ≡ true) }
         ensures refused { OnErr result (self.new ≡ self.old) }
     {
-        if self.account.is_broken {
+        if self.is_broken {
             return Err(CommitFault::Broken);
         }
-        let Ok(commit) = self.account.ledger.commit(seq) else {
+        let Ok(commit) = self.ledger.commit(seq) else {
             return Err(CommitFault::NotOpen);
         };
-        if let Some(tick) = self.account.settles.remove(0) {
+        if let Some(tick) = self.settles.remove(0) {
             self.floor.settle(tick);
         }
         Ok(commit)
@@ -400,14 +338,14 @@ impl<'n> Replica<'n> {
         ensures broken { (result ≡ Err TransferFault.Broken) ↔ (self.old.is_broken ≡ true) }
         ensures refused { OnErr result (self.new ≡ self.old) }
     {
-        if self.account.is_broken {
+        if self.is_broken {
             return Err(TransferFault::Broken);
         }
-        let _many = self.account.names.len();
-        if self.account.ledger.take_over(state).is_err() {
+        let _many = self.names.len();
+        if self.ledger.take_over(state).is_err() {
             return Err(TransferFault::NotDue);
         }
-        self.account.settles.clear();
+        self.settles.clear();
         self.floor.install(state);
         Ok(())
     }
@@ -423,61 +361,10 @@ impl<'n> Replica<'n> {
         ensures whole { OnOk result (self.new ≡ record self.old { ledger = self.new.ledger; is_broken = false }) }
         ensures refused { OnErr result (self.new ≡ self.old) }
     {
-        let rollback = self.account.ledger.rollback(alloc)?;
-        self.account.settles.clear();
-        self.account.is_broken = false;
+        let rollback = self.ledger.rollback(alloc)?;
+        self.settles.clear();
+        self.is_broken = false;
         self.floor.go_back();
         Ok(rollback)
-    }
-}
-
-/// The batches of a window, for the given number of workers. Only the first can be in serial mode.
-fn assignments_of<'b>(
-    alloc: Global,
-    floor: &Floor,
-    workers: u8,
-    window: &'b [MixedBatch],
-    serial: bool,
-) -> Result<Vec<Assignment<'b>>, AllocError>
-    requires workers { (1 ≤ workers) × (workers ≤ MOST_WORKERS) }
-    requires mixed { All (IsRightMixed floor.now) window.now }
-    ensures right { IfOk result (λ assignments. All (IsRightAssignment floor.now workers) assignments.items) }
-    ensures batches { IfOk result (λ assignments. assigned_batches assignments.items
-        ≡ map (λ m. plain m.batch) window.now) }
-{
-    let mut assignments = Vec::with_capacity(alloc, window.len())?;
-    let mut is_serial = serial;
-    for mixed in window {
-        assignments.push_reserved(assignment_of(
-            floor,
-            workers,
-            &mixed.batch,
-            mixed.touched.as_slice(),
-            is_serial,
-        ));
-        is_serial = false;
-    }
-    Ok(assignments)
-}
-
-/// The batch with those of the workers that can have something to do in it.
-fn assignment_of<'b>(
-    floor: &Floor,
-    workers: u8,
-    batch: &'b BatchData,
-    touched: &'b [Touched],
-    serial: bool,
-) -> Assignment<'b>
-    requires workers { (1 ≤ workers) × (workers ≤ MOST_WORKERS) }
-    requires batch { IsTrue (is_batch (plain batch.now)) }
-    requires touched { touched.now ≡ touched_in_batch floor.now (plain batch.now) }
-    ensures right { IsRightAssignment floor.now workers result }
-    ensures batch { result.batch.now ≡ batch.now }
-{
-    let crew = crew_size(batch.sizes.as_slice(), workers, serial);
-    Assignment {
-        batch,
-        touched,
-        crew,
     }
 }

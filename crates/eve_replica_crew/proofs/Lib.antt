@@ -1,6 +1,5 @@
-mod Batches
-mod Sizes
-mod Faults
-mod Seatings
+mod Assigned
 mod Records
-mod Parts
+mod Requests
+mod Sizes
+mod Zipped

@@ -1,64 +1,104 @@
--- One more record that the first worker keeps, and its seat where it keeps none.
-use Rattle.std.proofs.Common.{◌≡◌, ℕ, ap, ◌∙◌, ◌+◌, List, [], ◌∷◌, ◌++◌, length, subst, sym, arith}
-use Rattle.std.proofs.lemmas.List.{append-nil}
+-- Records that workers made, one more, and those of a worker alone.
+use Rattle.std.proofs.Common.{◌≡◌, ◌≢◌, ℕ, ◌+◌, ap, ◌∙◌, cond, eqb, eq-eqb, ne_eqb, List, [], ◌∷◌, ◌++◌, length, refl}
+use Rattle.std.proofs.Common.{subst, sym, arith, zero, suc, ◌<◌, ◌≤◌, Option, None, Some, IsSome, slice_get, slice_index_or}
+use Rattle.std.proofs.lemmas.Bool.{false≢true}
+use mathlib.Core.Logic.{dite}
+use native.Mathlib.Decide.{dec_le, ℕ_discrete}
 use Rattle.eve_stamps.specs.Applied.{Applied}
 use Rattle.eve_grammar.specs.Trace.{Batch, request_with}
-use Rattle.eve_recorder.specs.Drawing.{Drawer, TicketSource}
-use Rattle.eve_floor.specs.Applying.{Refuses}
+use Rattle.eve_recorder.specs.Noted.{of_worker}
+use Rattle.eve_recorder.specs.Seen.{Noter, noted_on}
+use Rattle.eve_write.specs.declared.batch.BatchData.{BatchData}
+use Rattle.eve_write.specs.Data.{batch as plain}
+use Rattle.eve_floor.specs.declared.task.Task.{Task}
+use Rattle.eve_replica_crew.specs.declared.places.Place.{Place}
+use Rattle.eve_replica_crew.specs.declared.room.Room.{Room}
+use Rattle.eve_replica_crew.specs.declared.room.Seating.{Seating}
+use Rattle.eve_replica_crew.specs.Rooms.{IsPlaceIn, IsSeatingIn}
 use Rattle.eve_floor.specs.Executing.{IsRecordOf}
-use Rattle.eve_floor.specs.declared.fault.ExecFault.{ExecFault}
-use Rattle.eve_floor.specs.declared.fault.ExecFault.TheVariants as fault
-use Rattle.eve_replica_crew.specs.Recording.{AreKeptFrom, AreNotedOf, AreRecordsFrom}
+use Rattle.eve_replica_crew.specs.Recording.{AreMadeBy, AreNotedOf}
 
--- of a worker alone: that of the request after those that have one
-pub records_push : (names : List (List ℕ)) (b : Batch) (index : ℕ) (records : List Applied) (r : Applied) (next : ℕ)
-    → AreRecordsFrom names b index records → next ≡ index + length records
-    → IsRecordOf names (request_with b next) next 0 next r
-    → AreRecordsFrom names b index (records ++ r ∷ [])
-records_push names b index [] r next all at own =
-    let same : next ≡ index = omega (arith, at) in
-    (subst (λ (k : ℕ). IsRecordOf names (request_with b k) k 0 k r) same own, record {})
-records_push names b index (q ∷ records) r next all at own =
-    (all.0, records_push names b (index + 1) records r next all.1 (omega (arith, at)) own)
-
--- of the first of several: that of any request, at the place after those that are taken
-pub kept_push : (names : List (List ℕ)) (b : Batch) (place : ℕ) (records : List Applied) (r : Applied) (index next : ℕ)
-    → AreKeptFrom names b place records → next ≡ place + length records
-    → IsRecordOf names (request_with b index) index 0 next r
-    → AreKeptFrom names b place (records ++ r ∷ [])
-kept_push names b place [] r index next all at own =
+-- one more, of any request, at the place after those that there are
+pub made_push : (worker : ℕ) (names : List (List ℕ)) (b : Batch) (place : ℕ) (records : List Applied) (r : Applied)
+    (index next : ℕ) → AreMadeBy worker names b place records → next ≡ place + length records
+    → IsRecordOf names (request_with b index) index worker next r
+    → AreMadeBy worker names b place (records ++ r ∷ [])
+made_push worker names b place [] r index next all at own =
     let same : next ≡ place = omega (arith, at) in
-    let there = subst (λ (k : ℕ). IsRecordOf names (request_with b index) index 0 k r) same own in
-    (subst (λ (k : ℕ). IsRecordOf names (request_with b k) k 0 place r) (sym there.0) there, record {})
-kept_push names b place (q ∷ records) r index next all at own =
-    (all.0, kept_push names b (place + 1) records r index next all.1 (omega (arith, at)) own)
+    let there = subst (λ (k : ℕ). IsRecordOf names (request_with b index) index worker k r) same own in
+    (subst (λ (k : ℕ). IsRecordOf names (request_with b k) k worker place r) (sym there.0) there, record {})
+made_push worker names b place (q ∷ records) r index next all at own =
+    (all.0, made_push worker names b (place + 1) records r index next all.1 (omega (arith, at)) own)
 
--- whatever was drawn where no record was made, the seat is at the tickets at which it was
-pub refused_at : (why : ExecFault) (old new : Drawer) (t : TicketSource) → Refuses why old new → old.tickets ≡ t
-    → new.tickets ≡ t
-refused_at fault.Full old new t drew at = absurd drew
-refused_at fault.Spent old new t drew at = ap (λ (d : Drawer). d.tickets) drew.0 ∙ at
-refused_at fault.NoRow old new t drew at = ap (λ (d : Drawer). d.tickets) drew.1 ∙ at
-refused_at fault.TickOrder old new t drew at = ap (λ (d : Drawer). d.tickets) drew.1 ∙ at
-refused_at fault.Worn old new t drew at = ap (λ (d : Drawer). d.tickets) drew.1 ∙ at
-refused_at fault.Memory old new t drew at = ap (λ (d : Drawer). d.tickets) drew.1 ∙ at
+-- all are of the worker that made them
+own_made : (worker : ℕ) (names : List (List ℕ)) (b : Batch) (place : ℕ) (records : List Applied)
+    → AreMadeBy worker names b place records → of_worker worker records ≡ records
+own_made worker names b place [] made = refl
+own_made worker names b place (r ∷ records) made =
+    ap (λ c. cond c (r ∷ of_worker worker records) (of_worker worker records)) (eq-eqb r.worker worker made.0.1)
+    ∙ ap (λ (l : List Applied). r ∷ l) (own_made worker names b (place + 1) records made.1)
 
--- those of a worker alone are ones that it kept
-kept_alone : (names : List (List ℕ)) (b : Batch) (index : ℕ) (records : List Applied)
-    → AreRecordsFrom names b index records → AreKeptFrom names b index records
-kept_alone names b index [] all = record {}
-kept_alone names b index (r ∷ records) all = (
-  subst (λ (k : ℕ). IsRecordOf names (request_with b k) k 0 index r) (sym all.0.0) all.0,
-  kept_alone names b (index + 1) records all.1,
-)
+-- and none of another
+none_made : (worker other : ℕ) (names : List (List ℕ)) (b : Batch) (place : ℕ) (records : List Applied)
+    → other ≢ worker → AreMadeBy worker names b place records → of_worker other records ≡ []
+none_made worker other names b place [] differ made = refl
+none_made worker other names b place (r ∷ records) differ made =
+    ap (λ c. cond c (r ∷ of_worker other records) (of_worker other records))
+    (ne_eqb r.worker other (λ same. differ (sym same ∙ made.0.1)))
+    ∙ none_made worker other names b (place + 1) records differ made.1
 
--- and all that was noted
-pub noted_alone : (names : List (List ℕ)) (b : Batch) (records : List Applied) → AreRecordsFrom names b 0 records
+-- those of a worker alone are all that was noted
+pub noted_alone : (names : List (List ℕ)) (b : Batch) (records : List Applied) → AreMadeBy 0 names b 0 records
     → AreNotedOf names b records
-noted_alone names b records all = record {
-  kept = records;
-  taken = [];
-  all = sym (append-nil records);
-  own = kept_alone names b 0 records all;
-  orderly = λ w. record {};
-}
+noted_alone names b records made = λ worker. dite (ℕ_discrete worker 0)
+    (λ is. subst (λ (w : ℕ). AreMadeBy w names b 0 (of_worker w records)) (sym is)
+    (subst (AreMadeBy 0 names b 0) (sym (own_made 0 names b 0 records made)) made))
+    (λ no. subst (AreMadeBy worker names b 0) (sym (none_made 0 worker names b 0 records no made)) (record {}))
+
+-- a task's record, by the words of the batch and of the worker
+pub record_of_task : (names : List (List ℕ)) (d : BatchData) (t : Task) (worker place : ℕ) (x : Applied)
+    → t.batch.now ≡ d → t.worker ≡ worker → t.place ≡ place
+    → IsRecordOf names (request_with (plain t.batch.now) t.index) t.index t.worker t.place x
+    → IsRecordOf names (request_with (plain d) t.index) t.index worker place x
+record_of_task names d t worker place x batch own at made =
+    subst (λ (e : BatchData). IsRecordOf names (request_with (plain e) t.index) t.index worker place x) batch
+    (subst (λ (w : ℕ). IsRecordOf names (request_with (plain t.batch.now) t.index) t.index w place x) own
+    (subst (λ (p : ℕ). IsRecordOf names (request_with (plain t.batch.now) t.index) t.index t.worker p x) at made))
+
+-- What was taken of a room's recorder is what was noted there, and so what is due, where all is taken.
+pub gathered : (names : List (List ℕ)) (r : Room) (s : Seating) (noted records : List Applied) → IsSeatingIn names r s
+    → ((w : ℕ) → w < r.recorder.recorder.workers → of_worker w noted ≡ noted_on (slice_index_or s.places.seats w None))
+    → ((w : ℕ) → r.recorder.recorder.workers ≤ w → of_worker w noted ≡ [])
+    → ((w : ℕ) → of_worker w records ≡ of_worker w noted)
+    → AreNotedOf names (plain r.assignment.batch.now) records
+gathered names r s noted records own there others all = λ w.
+    let b : Batch = plain r.assignment.batch.now in
+    subst (AreMadeBy w names b 0) (sym (all w))
+    (dite (dec_le r.recorder.recorder.workers w)
+    (λ le. subst (AreMadeBy w names b 0) (sym (others w le)) (record {}))
+    (λ no. subst (AreMadeBy w names b 0) (sym (there w (omega arith))) (own.noted w)))
+
+-- where a seat is back, it is seen at its number
+pub seat_there : (seats : List (Option Noter)) (w : ℕ) → IsSome (slice_index_or seats w None)
+    → (x : Noter) × (slice_get seats w ≡ Some (Some x)) × (slice_index_or seats w None ≡ Some x)
+seat_there [] w there = absurd (false≢true there)
+seat_there (None ∷ seats) zero there = absurd (false≢true there)
+seat_there (Some x ∷ seats) zero there = (x, refl, refl)
+seat_there (o ∷ seats) (suc w) there = seat_there seats w there
+
+-- a worker's seats once one more record is noted
+pub place_more : (names : List (List ℕ)) (r : Room) (p : Place) (new : Noter) (t : Task) (x : Applied)
+    → IsPlaceIn names r p → new ≡ record p.noter { noted = p.noter.noted ++ x ∷ [] }
+    → t.batch.now ≡ r.assignment.batch.now → t.worker ≡ p.noter.worker → t.place ≡ length p.noter.noted
+    → IsRecordOf names (request_with (plain t.batch.now) t.index) t.index t.worker t.place x
+    → IsPlaceIn names r record { noter = new; claims = p.claims }
+place_more names r p new t x was is batch own at made =
+    let b : Batch = plain r.assignment.batch.now in
+    let noted = made_push p.noter.worker names b 0 p.noter.noted x t.index (length p.noter.noted) was.noted
+    (omega arith)
+    (record_of_task names r.assignment.batch.now t p.noter.worker (length p.noter.noted) x batch own at made) in
+    record {
+      recorder = ap (λ (n : Noter). n.recorder) is ∙ was.recorder;
+      noted = subst (λ (n : Noter). AreMadeBy n.worker names b 0 n.noted) (sym is) noted;
+      claims = was.claims;
+    }

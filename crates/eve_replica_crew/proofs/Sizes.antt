@@ -2,7 +2,7 @@
 use Rattle.std.proofs.Common.{◌≡◌, ℕ, ◌+◌, ◌<◌, max, List, length, get_or, take, refl, ap, ◌∙◌}
 use Rattle.std.proofs.lemmas.List.{take_more}
 use Rattle.std.proofs.lemmas.List.Recursion.{max_push}
-use Rattle.eve_replica_crew.specs.Crews.{largest}
+use Rattle.eve_replica_crew.specs.Assignments.{largest}
 
 pub largest_more : (sizes : List ℕ) (i : ℕ) → i < length sizes
     → largest (take (i + 1) sizes) ≡ max (largest (take i sizes)) (get_or sizes i 0)

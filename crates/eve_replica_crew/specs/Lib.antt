@@ -1,7 +1,4 @@
+pub mod Assignments
 pub mod Crews
-pub mod FirstWorkers
-pub mod Leading
-pub mod Parts
 pub mod Recording
-pub mod Seated
-pub mod Sharing
+pub mod Rooms

@@ -1,28 +1,23 @@
--- What the first worker keeps of a batch, and what it takes. docs/MODEL.md, "Executions".
-use Rattle.std.specs.Prelude.{◌≡◌, ℕ, ◌+◌, ⊤, List, [], ◌∷◌, ◌++◌}
+-- What workers note of a batch. docs/MODEL.md, "Executions".
+use Rattle.std.specs.Prelude.{ℕ, ◌+◌, ⊤, List, [], ◌∷◌, Vec}
+use Rattle.std.specs.declared.alloc.Global.{Global}
 use Rattle.eve_stamps.specs.Applied.{Applied}
 use Rattle.eve_grammar.specs.Trace.{Batch, request_with}
-use Rattle.eve_recorder.specs.Noted.{IsOrderly}
+use Rattle.eve_write.specs.Data.{batch as plain}
+use Rattle.eve_recorder.specs.Noted.{of_worker}
 use Rattle.eve_floor.specs.Executing.{IsRecordOf}
+use Rattle.eve_replica_crew.specs.declared.assignment.Assignment.{Assignment}
 
--- A worker alone: records of the batch's requests from this index on, one of each in their order: of worker 0, each at
--- the place of its request's index.
-abbrev pub AreRecordsFrom : List (List ℕ) → Batch → ℕ → List Applied → Type 0
-AreRecordsFrom names b index [] = ⊤
-AreRecordsFrom names b index (r ∷ records) =
-    IsRecordOf names (request_with b index) index 0 index r × AreRecordsFrom names b (index + 1) records
+-- The worker executed requests of the batch, and these are their records, at the places from this one on.
+abbrev pub AreMadeBy : ℕ → List (List ℕ) → Batch → ℕ → List Applied → Type 0
+AreMadeBy worker names b place [] = ⊤
+AreMadeBy worker names b place (r ∷ records) =
+    IsRecordOf names (request_with b r.index) r.index worker place r × AreMadeBy worker names b (place + 1) records
 
--- The first of several: records of the requests that it claimed, of worker 0, at the places from this one on.
-abbrev pub AreKeptFrom : List (List ℕ) → Batch → ℕ → List Applied → Type 0
-AreKeptFrom names b place [] = ⊤
-AreKeptFrom names b place (r ∷ records) =
-    IsRecordOf names (request_with b r.index) r.index 0 place r × AreKeptFrom names b (place + 1) records
+-- What was noted of a batch: of each worker the records of the requests that it executed, from its first on.
+abbrev pub AreNotedOf : List (List ℕ) → Batch → List Applied → Type 0
+AreNotedOf names b records = (worker : ℕ) → AreMadeBy worker names b 0 (of_worker worker records)
 
--- What was noted of a batch: the records that the first worker kept, then those that it took from the recorder, which
--- are each worker's in their places.
-pub record AreNotedOf (names : List (List ℕ)) (b : Batch) (records : List Applied) : Type 0 where
-  pub kept : List Applied
-  pub taken : List Applied
-  pub all : records ≡ kept ++ taken
-  pub own : AreKeptFrom names b 0 kept
-  pub orderly : IsOrderly taken
+-- the same of the batch that was to be run
+abbrev pub IsNotedFor : List (List ℕ) → Assignment → Vec Applied Global → Type 0
+IsNotedFor names a records = AreNotedOf names (plain a.batch.now) records.items

@@ -2,21 +2,16 @@
 //! one another, and what they note.
 #![tactic(auto)]
 
+mod alone;
 mod assignment;
-mod batch;
-mod crew;
-mod lead;
-mod lone;
-mod part;
+mod batches;
+mod gather;
+mod places;
 mod progress;
-mod recorder_pool;
 mod room;
-mod shared_batch;
 mod work;
 mod workers;
 
-pub use assignment::Assignment;
-pub use batch::run_batches;
-pub use crew::crew_size;
-pub use lead::Lead;
+pub use assignment::{Assignment, crew_size};
+pub use batches::run_batches;
 pub use workers::Workers;

@@ -33,13 +33,8 @@ impl Progress {
     pub(crate) fn give_up(&self, why: ExecFault) -> GivenUp
         ensures { result.0 ≡ why }
     {
-        self.leave();
-        GivenUp(why)
-    }
-
-    /// Says that a worker leaves with parts that it doesn't run, so that nobody waits for it.
-    pub(crate) fn leave(&self) {
         self.ended.fetch_add(GIVEN_UP, Ordering::SeqCst);
+        GivenUp(why)
     }
 
     /// Waits until the given number of requests are noted, or one is given up. Returns whether to go on.

@@ -2,35 +2,46 @@
 
 ghost use Rattle.std.specs.Prelude.{◌≡◌, ◌≤◌, IfOk, vec_len, vec_capacity};
 ghost use Rattle.eve_recorder.specs.Drawing.{fresh_seats};
-ghost use Rattle.eve_replica_crew.specs.Crews.{AreTickets};
+ghost use Rattle.eve_replica_crew.specs.Crews.{fault_of_lowest};
+ghost use Rattle.eve_replica_crew.specs.Rooms.{AreSeatedAt};
 
-use crate::recorder_pool::RecorderPool;
+use crate::places::Place;
+use eve_floor::ExecFault;
 use eve_grammar::MOST_WORKERS;
 use eve_recorder::{MOST_DRAWN, TicketSeat, TicketSeats, Tickets};
 use std::alloc::{AllocError, Global};
 use std::marker::Model;
 
-/// The workers of a replica: the tickets from which ticks are drawn, a seat there for each worker, and recorders for
-/// batches to come. Contracts see the tickets and the number of workers (`Workforce`).
+/// A worker: its seat at the tickets of ticks, and what it has while batches are run.
+#[derive(Drop)]
+pub(crate) struct Member {
+    pub tick: TicketSeat,
+    // its seats in each batch that is run
+    pub places: Vec<Place>,
+    // why it gave a request up
+    pub fault: Option<ExecFault>,
+}
+
+/// The workers of a replica, and the tickets from which ticks are drawn. Contracts see the tickets and the number of
+/// workers (`Workforce`).
 #[derive(Drop)]
 pub struct Workers {
     pub(crate) ticks: Tickets,
-    // one for each worker
-    pub(crate) seats: Vec<TicketSeat>,
-    pub(crate) pool: RecorderPool,
+    pub(crate) members: Vec<Member>,
 }
 
 impl Model for Workers {
     ghost use Rattle.std.specs.Prelude.{◌≤◌, vec_len};
-    ghost use Rattle.eve_replica_crew.specs.Crews.{AreTickets, Workforce};
+    ghost use Rattle.eve_replica_crew.specs.Crews.{Workforce};
+    ghost use Rattle.eve_replica_crew.specs.Rooms.{AreSeatedAt};
     ghost use Rattle.eve_grammar.specs.declared.limits.TheConstants.{MOST_WORKERS};
 
     ghost Value = { Workforce };
 
-    ghost view = { λ w. record { ticks = w.ticks; many = vec_len w.seats } };
+    ghost view = { λ w. record { ticks = w.ticks; many = vec_len w.members } };
 
-    ghost invariant = { λ w. AreTickets w.ticks w.seats.items
-        × (1 ≤ vec_len w.seats) × (vec_len w.seats ≤ MOST_WORKERS) };
+    ghost invariant = { λ w. AreSeatedAt w.ticks w.members.items
+        × (1 ≤ vec_len w.members) × (vec_len w.members ≤ MOST_WORKERS) };
 }
 
 impl Workers {
@@ -39,14 +50,10 @@ impl Workers {
         requires { (1 ≤ many) × (many ≤ MOST_WORKERS) }
         ensures { IfOk result (λ w. w.many ≡ many) }
     {
-        let seats = Vec::with_capacity(alloc, many as usize)?;
-        let (ticks, all) = Tickets::new(alloc, many, MOST_DRAWN)?;
-        let seats = seats_of(&ticks, all, many, seats);
-        Ok(Workers {
-            ticks,
-            seats,
-            pool: RecorderPool::new(alloc, 0, 0),
-        })
+        let members = Vec::with_capacity(alloc, many as usize)?;
+        let (ticks, seats) = Tickets::new(alloc, many, MOST_DRAWN)?;
+        let members = members_of(alloc, &ticks, seats, many, members);
+        Ok(Workers { ticks, members })
     }
 
     /// The number of workers.
@@ -54,30 +61,47 @@ impl Workers {
         ensures is { result ≡ self.now.many }
         ensures range { (1 ≤ result) × (result ≤ MOST_WORKERS) }
     {
-        self.seats.len() as u8
+        self.members.len() as u8
     }
 }
 
-/// The seats of all workers.
-fn seats_of(
+/// A worker for each of the seats.
+fn members_of(
+    alloc: Global,
     tickets: &Tickets,
     mut all: TicketSeats,
     workers: u8,
-    mut seats: Vec<TicketSeat>,
-) -> Vec<TicketSeat>
+    mut members: Vec<Member>,
+) -> Vec<Member>
     requires tickets { tickets.now.seats ≡ workers }
     requires all { all ≡ fresh_seats tickets.now }
     requires few { workers ≤ MOST_WORKERS }
-    requires room { (vec_len seats ≡ 0) × (workers ≤ vec_capacity seats) }
-    ensures own { AreTickets tickets.now result.items }
+    requires room { (vec_len members ≡ 0) × (workers ≤ vec_capacity members) }
+    ensures own { AreSeatedAt tickets.now result.items }
     ensures many { vec_len result ≡ workers }
 {
     for number in 0..workers {
-        match all.seat(number) {
-            Some(seat) => seats.push_reserved(seat),
-            None => unreachable!(),
-        }
+        let Some(tick) = all.seat(number) else {
+            unreachable!()
+        };
+        members.push_reserved(Member {
+            tick,
+            places: Vec::new(alloc),
+            fault: None,
+        });
     }
     drop(all);
-    seats
+    members
+}
+
+/// Why the lowest worker that gave a request up did.
+pub(crate) fn lowest_fault(members: &[Member]) -> Option<ExecFault>
+    ensures { result ≡ fault_of_lowest members.now }
+{
+    for member in members {
+        if let Some(why) = member.fault {
+            return Some(why);
+        }
+    }
+    None
 }

@@ -6,17 +6,13 @@ use Rattle.eve_replica.proofs.replica.Replica.run_attempt.Goals as goal
 
 pub returns-clause-attempted : goal.returns-clause-attempted
 returns-clause-attempted g c =
-    let Made : ℕ → Bool → Replica → BatchData → Type 0 =
-    λ view serial r b. IfOk c.run_and_close.result
-    (λ a. Attempts view serial r c.run_and_close.new.account (batch b) (attempt a)) in
+    let Made : ℕ → Bool → BatchData → Type 0 = λ view serial b. IfOk c.run_and_close.result
+    (λ a. Attempts view serial c.args.self.now c.run_and_close.new.self (batch b) (attempt a)) in
     let old : Replica = c.args.self.now in
-    let due = subst
-    (λ (r : Replica). Made r.ledger.view r.ledger.is_next_serial r c.assignment_of-assignment.result.batch.now)
-    c.self.view_is c.run_and_close.ensures.attempted in
-    subst (λ (v : ℕ). Made v c.args.serial old c.args.batch.now) (sym c.requires.view)
-    (subst (λ (s : Bool). Made old.ledger.view s old c.args.batch.now) (sym c.requires.serial)
-    (subst (λ (b : BatchData). Made old.ledger.view old.ledger.is_next_serial old b)
-    c.assignment_of-assignment.ensures.batch due))
+    subst (λ (v : ℕ). Made v c.args.serial c.args.batch.now) (sym c.requires.view)
+    (subst (λ (s : Bool). Made old.ledger.view s c.args.batch.now) (sym c.requires.serial)
+    (subst (λ (b : BatchData). Made old.ledger.view old.ledger.is_next_serial b)
+    c.assignment_of-assignment.ensures.batch c.run_and_close.ensures.attempted))
 
 pub run_and_close-requires-clause-due : goal.run_and_close-requires-clause-due
 run_and_close-requires-clause-due g c = search rules
