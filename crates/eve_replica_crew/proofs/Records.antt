@@ -1,6 +1,7 @@
 -- Records that workers made, one more, and those of a worker alone.
 use Rattle.std.proofs.Common.{◌≡◌, ◌≢◌, ℕ, ◌+◌, ap, ◌∙◌, cond, eqb, eq-eqb, ne_eqb, List, [], ◌∷◌, ◌++◌, length, refl}
-use Rattle.std.proofs.Common.{subst, sym, arith, zero, suc, ◌<◌, ◌≤◌, Option, None, Some, IsSome, slice_get, slice_index_or}
+use Rattle.std.proofs.Common.{subst, sym, arith, zero, suc, ◌<◌, ◌≤◌, Option, None, Some, IsSome, slice_get}
+use Rattle.std.proofs.Common.{slice_index_or}
 use Rattle.std.proofs.lemmas.Bool.{false≢true}
 use mathlib.Core.Logic.{dite}
 use native.Mathlib.Decide.{dec_le, ℕ_discrete}

@@ -23,7 +23,8 @@ use std::sync::Wait;
 use std::thread::Threads;
 
 /// Runs the batches one after another, by at most all of the workers, and returns what they noted of each. The fault is
-/// that of the lowest worker that has one; `Memory` too where memory runs out beside them.
+/// that of the lowest worker that has one: `Full`, `Spent`, `NoRow`, `TickOrder`, `Worn` or `Memory`. `Memory` comes too
+/// where memory runs out beside them.
 ///
 /// Each worker has one thread for all batches: where it has ended its part in one, it goes on in the next. What they
 /// noted is gathered once all have ended.

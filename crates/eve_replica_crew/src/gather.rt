@@ -49,6 +49,7 @@ fn gather<R: Wait>(
     ensures noted { IfOk result (IsNotedFor floor.now room.entry.assignment) }
 {
     let (recorder, places) = recorder_of(room, seating);
+    // all seats are back, which no clause says
     let Some(mut taken) = ended(recorder, places) else {
         return Err(ExecFault::Memory);
     };

@@ -55,6 +55,7 @@ fn seat(
     member.places.clear();
     member.places.reserve(rooms.len())?;
     for at in 0..rooms.len() {
+        // each worker has its seats there, which no clause says
         let Some(place) = place_of(crew, &rooms[at], &mut seatings[at], number) else {
             return Err(AllocError);
         };

@@ -34,5 +34,6 @@ loop-place-preserved g c =
           c.remove-room.ensures.value c.remove-seating.ensures.value was.seatings).1);
       noted = subst (AllZip Noted (take (place + 1) given)) (sym c.push_reserved.ensures.items)
           (zip_more Noted given c.loop-place.noted.items place room.assignment c.in_ok-records.records
-          (omega (arith, there, length-map all (λ (r : Room). r.assignment))) is was.noted c.in_ok-records.ensures.noted);
+          (omega (arith, there, length-map all (λ (r : Room). r.assignment))) is was.noted
+          c.in_ok-records.ensures.noted);
     }
