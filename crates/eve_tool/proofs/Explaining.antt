@@ -1,6 +1,7 @@
 -- A verdict's line, and the lines behind it, sent one after another.
-use Rattle.std.proofs.Common.{◌≡◌, ◌≤◌, ◌+◌, ◌^◌, ℕ, zero, suc, List, [], ◌∷◌, ◌++◌, map, length, take, drop, Option, Some}
-use Rattle.std.proofs.Common.{None, inl, inr, refl, ap, sym, subst, ◌∙◌, append-nil, append_assoc, add-one, arith, lit≤}
+use Rattle.std.proofs.Common.{◌≡◌, ◌≤◌, ◌+◌, ◌^◌, ℕ, zero, suc, List, [], ◌∷◌, ◌++◌, map, length, take, drop}
+use Rattle.std.proofs.Common.{Option, Some, inl, inr, refl, ap, sym, subst, ◌∙◌}
+use Rattle.std.proofs.Common.{append-nil, append_assoc, add-one, lit≤}
 use Rattle.std.specs.Prelude.{slice_get}
 use Rattle.std.specs.List.{flat_map}
 use Rattle.std.proofs.lemmas.List.{take-take, take_all}
@@ -16,7 +17,7 @@ use Rattle.eve_tool.specs.declared.fault.ToolFault.{ToolFault}
 use Rattle.eve_tool.specs.declared.fault.ToolFault.TheVariants as fault
 use Rattle.eve_tool.specs.Audit.{Audits}
 use Rattle.eve_tool.specs.Calls.{Leaves, StopsSending}
-use Rattle.eve_tool.specs.Explain.{Explains, lines_behind, read_of, text_behind}
+use Rattle.eve_tool.specs.Explain.{Explains, lines_behind, text_behind}
 use Rattle.eve_audit.specs.Verdict.{IsVerdict, SpellsAudited}
 use Rattle.eve_audit.specs.declared.verdict.Summary.{Summary}
 use Rattle.eve_audit.specs.declared.verdict.Verdict.{Verdict}
@@ -74,7 +75,8 @@ stops_at a b c lines i line sent same is before now =
 -- where there are no more, they are all
 pub sends_all : (a b : Option (List ℕ)) (lines : List (List ℕ)) (i : ℕ) → length lines ≤ i
     → Appends a b (text_before i lines) → Appends a b (flat_map ended lines)
-sends_all a b lines i few sent = subst (λ (l : List (List ℕ)). Appends a b (flat_map ended l)) (take_all i lines few) sent
+sends_all a b lines i few sent =
+    subst (λ (l : List (List ℕ)). Appends a b (flat_map ended l)) (take_all i lines few) sent
 
 -- there are few
 pub few_behind : (x : Explained) → length (lines_behind x) ≤ MOST_LINES

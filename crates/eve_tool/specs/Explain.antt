@@ -24,8 +24,8 @@ text_behind x = flat_map ended (lines_behind x)
 abbrev pub read_of : List ℕ → List ℕ
 read_of bytes = take (MOST_BYTES + 1) bytes
 
--- The text is what `audit` says of the bytes, which is the line of a verdict, and then the lines of what shows that one:
--- the counts of a yes, the evidence of a no. The number is the exit status of `audit`.
+-- The text is what `audit` says of the bytes, which is the line of a verdict, and then the lines of what shows that
+-- verdict: the counts of a yes, the evidence of a no. The number is the exit status of `audit`.
 pub record Explains (bytes text : List ℕ) (status : ℕ) : Type 0 where
   pub verdict : List ℕ
   pub audits : Audits bytes verdict status
