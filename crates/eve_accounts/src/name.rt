@@ -62,7 +62,7 @@ impl Name {
         ensures bytes { result.now ≡ self.now }
         ensures name { IsTrue (is_name self.now) }
     {
-        front(&self.bytes, self.len as usize)
+        prefix(&self.bytes, self.len as usize)
     }
 }
 
@@ -77,7 +77,7 @@ fn padded(bytes: &[u8]) -> [u8; MOST_NAME_BYTES]
 }
 
 /// The first of these bytes.
-fn front(bytes: &[u8], len: usize) -> &[u8]
+fn prefix(bytes: &[u8], len: usize) -> &[u8]
     requires { len ≤ length bytes.now }
     ensures { result.now ≡ take len bytes.now }
 {

@@ -4,16 +4,16 @@ use Rattle.std.proofs.Common.{arith, refl}
 use Rattle.std.proofs.lemmas.Option.{slice_get_read}
 use Rattle.eve_grammar.specs.Trace.{Transfer, Trace}
 use Rattle.eve_history.specs.Section.{ByTransfer}
-use Rattle.eve_history.specs.SectionHistory.{SectionHistory, section_history, landing_at}
-use Rattle.eve_history.proofs.Rights.{as_many_told}
+use Rattle.eve_history.specs.SectionHistory.{SectionHistory, section_history, how_reached_at}
+use Rattle.eve_history.proofs.RightSections.{as_many_told}
 use Rattle.eve_chains.specs.Committed.{balances_to}
-use Rattle.eve_chains.specs.Settling.{Settling, settling}
+use Rattle.eve_chains.specs.CommittedValues.{Settling, settling}
 use Rattle.eve_agree.specs.Agreement.{first_to_commit, HasBalancesOfFirst}
-use Rattle.eve_agree.specs.Judging.{IsAfter, AllStandAt}
+use Rattle.eve_agree.specs.inner.NumbersJudged.{IsAfter, AllStandAt}
 use Rattle.eve_agree.proofs.ByNumber.{replica_there}
 use Rattle.eve_agree.proofs.Outcomes.{section_history_is, settlings_count, settling_at, balances_are, is_after}
 use Rattle.eve_agree.proofs.Outcomes.{all_balances, first_committed}
-use Rattle.eve_agree.proofs.SameBefore.{settling_read}
+use Rattle.eve_agree.proofs.EqualBalances.{settling_read}
 
 module _ (t : Trace) (hs : List SectionHistory) (settled : List Settling) (all : List (List ℤ)) (n : ℕ)
     (known : AllStandAt t hs settled all n) where
@@ -59,7 +59,7 @@ module _ (t : Trace) (hs : List SectionHistory) (settled : List Settling) (all :
       omega arith
 
   -- a state has the balances of the first exactly where those after it are the first's
-  pub state_is : (e at : ℕ) (x : Transfer) → e < length t.sections → landing_at t e n ≡ Some (ByTransfer at x)
+  pub state_is : (e at : ℕ) (x : Transfer) → e < length t.sections → how_reached_at t e n ≡ Some (ByTransfer at x)
       → (first : Option ℕ) → first ≡ first_to_commit t n
       → (f : ℕ) × (first ≡ Some f) × (get_or all e [] ≡ get_or all f [])
       → HasBalancesOfFirst t n x
@@ -71,7 +71,7 @@ module _ (t : Trace) (hs : List SectionHistory) (settled : List Settling) (all :
             ∙ balances_read got.0 (first_there got.0 own),
       )
 
-  pub is_state : (e at : ℕ) (x : Transfer) → e < length t.sections → landing_at t e n ≡ Some (ByTransfer at x)
+  pub is_state : (e at : ℕ) (x : Transfer) → e < length t.sections → how_reached_at t e n ≡ Some (ByTransfer at x)
       → (first : Option ℕ) → first ≡ first_to_commit t n → HasBalancesOfFirst t n x
       → (f : ℕ) × (first ≡ Some f) × (get_or all e [] ≡ get_or all f [])
   is_state e at x there is first told has = (

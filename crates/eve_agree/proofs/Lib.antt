@@ -1,23 +1,23 @@
 mod Offsets
 pub mod ByNumber
 mod Outcomes
-pub mod Reaching
-mod Agreeing
-mod SameBefore
+pub mod AllBalances
+mod AgreementFaults
+mod EqualBalances
 mod AtNumber
-pub mod Marking
-pub mod Noting
+pub mod MarkLaws
+pub mod NotedAttempts
 pub mod SectionPaths
-pub mod Discarding
+pub mod DiscardedAttempts
 pub mod RestoresInOrder
-pub mod Restoring
+pub mod RightRestores
 pub mod TokensInOrder
-mod Backing
+mod Majorities
 pub mod Replicas
 mod SpelledReplies
-mod Answering
-mod Reading
-pub mod Sending
-pub mod Stretched
-pub mod Shown
+mod AnsweredRequests
+mod BatchRequests
+pub mod RepliesSent
+pub mod JoinedStretches
+pub mod ShownTokens
 mod WrongRestores

@@ -7,16 +7,17 @@ use Rattle.std.specs.List.{flat_map, enumerate_from}
 use Rattle.std.proofs.lemmas.Bool.{cases_lt}
 use Rattle.std.proofs.lemmas.List.{length-append, map-append}
 use Rattle.std.proofs.lemmas.Option.{same_Some}
-use Rattle.eve_grammar.specs.Trace.{Transfer, Step, Attempts, Commits, RollsBack, TakesOver, Trace}
+use Rattle.eve_grammar.specs.Trace.{Transfer, Step, Attempts, Commits, RollsBack, Transfers, Trace}
 use Rattle.eve_grammar.specs.Frames.{OfReplica}
 use Rattle.eve_grammar.specs.Spelling.{frame_text, located, step_text, section_text, section_start, steps_of, steps_at}
-use Rattle.eve_views.proofs.Locating.{section_is}
-use Rattle.eve_history.specs.Section.{Placed, Landing, ByAttempt, ByTransfer, Skipped, SectionState, start, committing}
+use Rattle.eve_views.proofs.FrameOffsets.{section_is}
+use Rattle.eve_history.specs.Section.{Placed, HowReached, ByAttempt, ByTransfer, Skipped, SectionState, start}
+use Rattle.eve_history.specs.Section.{committing}
 use Rattle.eve_history.specs.Section.{next, state_after}
-use Rattle.eve_history.specs.SectionHistory.{history, landing_at}
-use Rattle.eve_history.proofs.Rights.{none_at}
-use Rattle.eve_chains.proofs.Linked.{none≢some}
-use Rattle.eve_agree.specs.Judging.{offset_of}
+use Rattle.eve_history.specs.SectionHistory.{history, how_reached_at}
+use Rattle.eve_history.proofs.RightSections.{none_at}
+use Rattle.eve_chains.proofs.LinkedPaths.{none≢some}
+use Rattle.eve_agree.specs.inner.NumbersJudged.{offset_of}
 
 -- ---- numbers that rise
 
@@ -32,9 +33,9 @@ climbs_up low high (x ∷ xs) climbs =
     let first = climbs.0 in
     omega arith
 
-climbs_front : (low high : ℕ) (xs ys : List ℕ) → Climbs low (xs ++ ys) high → Climbs low xs high
-climbs_front low high [] ys climbs = climbs_up low high ys climbs
-climbs_front low high (x ∷ xs) ys climbs = (climbs.0, climbs_front (suc x) high xs ys climbs.1)
+climbs_prefix : (low high : ℕ) (xs ys : List ℕ) → Climbs low (xs ++ ys) high → Climbs low xs high
+climbs_prefix low high [] ys climbs = climbs_up low high ys climbs
+climbs_prefix low high (x ∷ xs) ys climbs = (climbs.0, climbs_prefix (suc x) high xs ys climbs.1)
 
 climbs_higher : (low high more : ℕ) (xs : List ℕ) → high ≤ more → Climbs low xs high → Climbs low xs more
 climbs_higher low high more [] le climbs = omega (arith, climbs)
@@ -50,13 +51,13 @@ climbs_push low at more (x ∷ xs) lt climbs = (climbs.0, climbs_push (suc x) at
 
 -- ---- the frames by which numbers were reached
 
-abbrev pub spots : List Landing → List ℕ
+abbrev pub spots : List HowReached → List ℕ
 spots [] = []
 spots (ByAttempt p ∷ ls) = p.offset ∷ spots ls
 spots (ByTransfer at x ∷ ls) = at ∷ spots ls
 spots (Skipped ∷ ls) = spots ls
 
-spots-append : (ls ks : List Landing) → spots (ls ++ ks) ≡ spots ls ++ spots ks
+spots-append : (ls ks : List HowReached) → spots (ls ++ ks) ≡ spots ls ++ spots ks
 spots-append [] ks = refl
 spots-append (ByAttempt p ∷ ls) ks = ap (λ (xs : List ℕ). p.offset ∷ xs) (spots-append ls ks)
 spots-append (ByTransfer at x ∷ ls) ks = ap (λ (xs : List ℕ). at ∷ xs) (spots-append ls ks)
@@ -68,39 +69,39 @@ spots_skipped (suc n) at x = spots_skipped n at x
 
 -- they, and those of the open attempts
 abbrev all_spots : SectionState → List ℕ
-all_spots s = spots s.landings ++ map (λ p. p.offset) s.pending
+all_spots s = spots s.each_reached ++ map (λ p. p.offset) s.pending
 
 climbs_next : (low at to : ℕ) (s : SectionState) (step : Step) → at < to → Climbs low (all_spots s) at
     → Climbs low (all_spots (next s (at, step))) to
 climbs_next low at to s (Attempts a) lt climbs =
     subst (λ (xs : List ℕ). Climbs low xs to)
-    (append_assoc (spots s.landings) (map (λ (p : Placed). p.offset) s.pending) (at ∷ [])
-    ∙ ap (λ (xs : List ℕ). spots s.landings ++ xs) (sym (map-append (λ (p : Placed). p.offset) s.pending _)))
+    (append_assoc (spots s.each_reached) (map (λ (p : Placed). p.offset) s.pending) (at ∷ [])
+    ∙ ap (λ (xs : List ℕ). spots s.each_reached ++ xs) (sym (map-append (λ (p : Placed). p.offset) s.pending _)))
     (climbs_push low at to (all_spots s) lt climbs)
 climbs_next low at to s (Commits c) lt climbs = by s.pending refl
   where
     by : (pending : List Placed) → s.pending ≡ pending → Climbs low (all_spots (committing s pending)) to
     by [] is = climbs_higher low at to (all_spots s) (omega arith) climbs
     by (p ∷ ps) is = climbs_higher low at to
-        (spots (s.landings ++ ByAttempt p ∷ []) ++ map (λ (q : Placed). q.offset) ps) (omega arith)
+        (spots (s.each_reached ++ ByAttempt p ∷ []) ++ map (λ (q : Placed). q.offset) ps) (omega arith)
         (subst (λ (xs : List ℕ). Climbs low xs at)
-        (ap (λ (qs : List Placed). spots s.landings ++ map (λ (q : Placed). q.offset) qs) is
-        ∙ sym (append_assoc (spots s.landings) (p.offset ∷ []) (map (λ (q : Placed). q.offset) ps))
+        (ap (λ (qs : List Placed). spots s.each_reached ++ map (λ (q : Placed). q.offset) qs) is
+        ∙ sym (append_assoc (spots s.each_reached) (p.offset ∷ []) (map (λ (q : Placed). q.offset) ps))
         ∙ ap (λ (xs : List ℕ). xs ++ map (λ (q : Placed). q.offset) ps)
-        (sym (spots-append s.landings (ByAttempt p ∷ []))))
+        (sym (spots-append s.each_reached (ByAttempt p ∷ []))))
         climbs)
 climbs_next low at to s (RollsBack r) lt climbs =
-    subst (λ (xs : List ℕ). Climbs low xs to) (sym (append-nil (spots s.landings)))
-    (climbs_higher low at to (spots s.landings) (omega arith)
-    (climbs_front low at (spots s.landings) (map (λ (p : Placed). p.offset) s.pending) climbs))
-climbs_next low at to s (TakesOver x) lt climbs =
-    let skips : List Landing = replicate (x.seq - (s.last + 1)) Skipped in
+    subst (λ (xs : List ℕ). Climbs low xs to) (sym (append-nil (spots s.each_reached)))
+    (climbs_higher low at to (spots s.each_reached) (omega arith)
+    (climbs_prefix low at (spots s.each_reached) (map (λ (p : Placed). p.offset) s.pending) climbs))
+climbs_next low at to s (Transfers x) lt climbs =
+    let skips : List HowReached = replicate (x.seq - (s.last + 1)) Skipped in
     subst (λ (xs : List ℕ). Climbs low xs to)
-    (sym (append-nil (spots (s.landings ++ (skips ++ ByTransfer at x ∷ [])))
-    ∙ spots-append s.landings (skips ++ ByTransfer at x ∷ [])
-    ∙ ap (λ (xs : List ℕ). spots s.landings ++ xs) (spots_skipped (x.seq - (s.last + 1)) at x)))
-    (climbs_push low at to (spots s.landings) lt
-    (climbs_front low at (spots s.landings) (map (λ (p : Placed). p.offset) s.pending) climbs))
+    (sym (append-nil (spots (s.each_reached ++ (skips ++ ByTransfer at x ∷ [])))
+    ∙ spots-append s.each_reached (skips ++ ByTransfer at x ∷ [])
+    ∙ ap (λ (xs : List ℕ). spots s.each_reached ++ xs) (spots_skipped (x.seq - (s.last + 1)) at x)))
+    (climbs_push low at to (spots s.each_reached) lt
+    (climbs_prefix low at (spots s.each_reached) (map (λ (p : Placed). p.offset) s.pending) climbs))
 
 has_text : (from : ℕ) (step : Step) → from < from + length (step_text step)
 has_text from step = by step
@@ -112,7 +113,7 @@ has_text from step = by step
     by (Attempts a) = more from _
     by (Commits c) = more from _
     by (RollsBack r) = more from _
-    by (TakesOver x) = more from _
+    by (Transfers x) = more from _
 
 climbs_after : (low from : ℕ) (s : SectionState) (steps : List Step) → Climbs low (all_spots s) from
     → Climbs low (all_spots (state_after s (located step_text from steps))) (from + length (flat_map step_text steps))
@@ -128,23 +129,23 @@ climbs_after low from s (x ∷ xs) climbs =
 -- ---- sections
 
 -- the bytes of the first of some sections
-abbrev front : ℕ → ℕ → List (List Step) → ℕ
-front n e sections = length (flat_map section_text (take e (enumerate_from n sections)))
+abbrev prefix : ℕ → ℕ → List (List Step) → ℕ
+prefix n e sections = length (flat_map section_text (take e (enumerate_from n sections)))
 
-front_more : (n e : ℕ) (sections : List (List Step)) → e < length sections → front n (suc e) sections
-    ≡ front n e sections + length (section_text (n + e, slice_index_or sections e []))
-front_more n e [] lt = absurd (omega (arith, lt))
-front_more n zero (s ∷ sections) lt =
+prefix_more : (n e : ℕ) (sections : List (List Step)) → e < length sections → prefix n (suc e) sections
+    ≡ prefix n e sections + length (section_text (n + e, slice_index_or sections e []))
+prefix_more n e [] lt = absurd (omega (arith, lt))
+prefix_more n zero (s ∷ sections) lt =
     let same : n + 0 ≡ n = omega arith in
     let one : length (section_text (n + 0, s)) ≡ length (section_text (n, s)) =
     ap (λ (m : ℕ). length (section_text (m, s))) same in
     omega (arith, one, length-append (section_text (n, s)) [])
-front_more n (suc e) (s ∷ sections) lt =
+prefix_more n (suc e) (s ∷ sections) lt =
     let same : n + suc e ≡ n + 1 + e = omega arith in
     let one : length (section_text (n + suc e, slice_index_or sections e []))
     ≡ length (section_text (n + 1 + e, slice_index_or sections e [])) =
     ap (λ (m : ℕ). length (section_text (m, slice_index_or sections e []))) same in
-    let later = front_more (n + 1) e sections (omega (arith, lt)) in
+    let later = prefix_more (n + 1) e sections (omega (arith, lt)) in
     omega (
       arith,
       one,
@@ -153,11 +154,11 @@ front_more n (suc e) (s ∷ sections) lt =
       length-append (section_text (n, s)) (flat_map section_text (take e (enumerate_from (n + 1) sections))),
     )
 
-front_rises : (n e : ℕ) (sections : List (List Step)) → front n e sections ≤ front n (suc e) sections
-front_rises n zero sections = omega arith
-front_rises n (suc e) [] = omega arith
-front_rises n (suc e) (s ∷ sections) =
-    let later = front_rises (n + 1) e sections in
+prefix_rises : (n e : ℕ) (sections : List (List Step)) → prefix n e sections ≤ prefix n (suc e) sections
+prefix_rises n zero sections = omega arith
+prefix_rises n (suc e) [] = omega arith
+prefix_rises n (suc e) (s ∷ sections) =
+    let later = prefix_rises (n + 1) e sections in
     omega (
       arith,
       later,
@@ -167,7 +168,7 @@ front_rises n (suc e) (s ∷ sections) =
 
 -- a section begins where the one before it ends, or later
 starts_rise : (t : Trace) (e : ℕ) → section_start t e ≤ section_start t (suc e)
-starts_rise t e = let rise = front_rises 0 e t.sections in omega arith
+starts_rise t e = let rise = prefix_rises 0 e t.sections in omega arith
 
 starts_rise_by : (t : Trace) (e more : ℕ) → section_start t e ≤ section_start t (e + more)
 starts_rise_by t e zero = let same : e + 0 ≡ e = omega arith in
@@ -187,11 +188,11 @@ starts_behind t e i lt =
     omega arith
 
 -- a replica that is not there reached nothing
-pub none_there : (t : Trace) (e : ℕ) → length t.sections ≤ e → (history t e).landings ≡ []
+pub none_there : (t : Trace) (e : ℕ) → length t.sections ≤ e → (history t e).each_reached ≡ []
 unfolding history
-none_there t e past = ap (λ (xs : List (ℕ × Step)). (state_after start xs).landings) (none_at t e past)
+none_there t e past = ap (λ (xs : List (ℕ × Step)). (state_after start xs).each_reached) (none_at t e past)
 
-section_climbs : (t : Trace) (e : ℕ) → Climbs (section_start t e) (spots (history t e).landings)
+section_climbs : (t : Trace) (e : ℕ) → Climbs (section_start t e) (spots (history t e).each_reached)
     (section_start t (suc e))
 unfolding history steps_at
 section_climbs t e = elim (cases_lt e (length t.sections)) [
@@ -202,29 +203,29 @@ section_climbs t e = elim (cases_lt e (length t.sections)) [
       let end : ℕ = from + length (flat_map step_text steps) in
       let last = state_after start (located step_text from steps) in
       let here : 0 + e ≡ e = omega arith in
-      let more = front_more 0 e t.sections lt in
+      let more = prefix_more 0 e t.sections lt in
       let own : length (section_text (0 + e, steps)) ≡ length (section_text (e, steps)) =
       ap (λ (m : ℕ). length (section_text (m, steps))) here in
       let is = section_is e steps in
       let at_start : Climbs from (all_spots start) from = omega arith in
-      climbs_higher (section_start t e) end (section_start t (suc e)) (spots last.landings) (omega arith)
-      (climbs_lower from end (section_start t e) (spots last.landings) (omega arith)
-      (climbs_front from end (spots last.landings) (map (λ (p : Placed). p.offset) last.pending)
+      climbs_higher (section_start t e) end (section_start t (suc e)) (spots last.each_reached) (omega arith)
+      (climbs_lower from end (section_start t e) (spots last.each_reached) (omega arith)
+      (climbs_prefix from end (spots last.each_reached) (map (λ (p : Placed). p.offset) last.pending)
       (climbs_after from from start steps at_start)))
   | inr past ↦
-      subst (λ (ls : List Landing). Climbs (section_start t e) (spots ls) (section_start t (suc e)))
+      subst (λ (ls : List HowReached). Climbs (section_start t e) (spots ls) (section_start t (suc e)))
       (sym (none_there t e past)) (starts_rise t e)
 ]
 
--- ---- one landing, and two
+-- ---- one number, and two
 
-lies_between : (low high : ℕ) (ls : List Landing) (n at : ℕ) (l : Landing) → Climbs low (spots ls) high
+lies_between : (low high : ℕ) (ls : List HowReached) (n at : ℕ) (l : HowReached) → Climbs low (spots ls) high
     → slice_get ls n ≡ Some l → offset_of l ≡ Some at → (low ≤ at) × (at < high)
 lies_between low high [] n at l climbs is offset = none≢some l is
 lies_between low high (k ∷ ls) zero at l climbs is offset =
     by k climbs (ap offset_of (same_Some k l is) ∙ offset)
   where
-    by : (k : Landing) → Climbs low (spots (k ∷ ls)) high → offset_of k ≡ Some at → (low ≤ at) × (at < high)
+    by : (k : HowReached) → Climbs low (spots (k ∷ ls)) high → offset_of k ≡ Some at → (low ≤ at) × (at < high)
     by (ByAttempt p) own here =
         let same : p.offset ≡ at = same_Some p.offset at here in
         let up = climbs_up (suc p.offset) high (spots ls) own.1 in
@@ -248,14 +249,14 @@ lies_between low high (ByTransfer o x ∷ ls) (suc n) at l climbs is offset =
     (omega arith, rest.1)
 lies_between low high (Skipped ∷ ls) (suc n) at l climbs is offset = lies_between low high ls n at l climbs is offset
 
-lies_before : (low high : ℕ) (ls : List Landing) (m n o q : ℕ) (l k : Landing) → Climbs low (spots ls) high
+lies_before : (low high : ℕ) (ls : List HowReached) (m n o q : ℕ) (l k : HowReached) → Climbs low (spots ls) high
     → slice_get ls m ≡ Some l → slice_get ls n ≡ Some k → offset_of l ≡ Some o → offset_of k ≡ Some q → m < n → o < q
 lies_before low high [] m n o q l k climbs own its at also lt = none≢some l own
 lies_before low high (j ∷ ls) m zero o q l k climbs own its at also lt = absurd (omega arith)
 lies_before low high (j ∷ ls) zero (suc n) o q l k climbs own its at also lt =
     by j climbs (ap offset_of (same_Some j l own) ∙ at)
   where
-    by : (j : Landing) → Climbs low (spots (j ∷ ls)) high → offset_of j ≡ Some o → o < q
+    by : (j : HowReached) → Climbs low (spots (j ∷ ls)) high → offset_of j ≡ Some o → o < q
     by (ByAttempt p) here is =
         let same : p.offset ≡ o = same_Some p.offset o is in
         let later = (lies_between (suc p.offset) high ls n q k here.1 its also).0 in
@@ -273,24 +274,27 @@ lies_before low high (Skipped ∷ ls) (suc m) (suc n) o q l k climbs own its at 
     lies_before low high ls m n o q l k climbs own its at also (omega arith)
 
 -- in one section the frames stand in the order of their numbers
-pub landings_rise : (t : Trace) (e m n o q : ℕ) (l k : Landing) → landing_at t e m ≡ Some l → landing_at t e n ≡ Some k
+pub each_reached_rise : (t : Trace) (e m n o q : ℕ) (l k : HowReached) → how_reached_at t e m ≡ Some l
+    → how_reached_at t e n ≡ Some k
     → offset_of l ≡ Some o → offset_of k ≡ Some q → m < n → o < q
-landings_rise t e zero n o q l k own its at also lt = none≢some l own
-landings_rise t e (suc m) zero o q l k own its at also lt = none≢some k its
-landings_rise t e (suc m) (suc n) o q l k own its at also lt =
-    lies_before (section_start t e) (section_start t (suc e)) (history t e).landings m n o q l k (section_climbs t e)
+each_reached_rise t e zero n o q l k own its at also lt = none≢some l own
+each_reached_rise t e (suc m) zero o q l k own its at also lt = none≢some k its
+each_reached_rise t e (suc m) (suc n) o q l k own its at also lt =
+    lies_before (section_start t e) (section_start t (suc e)) (history t e).each_reached m n o q l k
+    (section_climbs t e)
     own its at also (omega arith)
 
-lies_in : (t : Trace) (e n at : ℕ) (l : Landing) → landing_at t e n ≡ Some l → offset_of l ≡ Some at
+lies_in : (t : Trace) (e n at : ℕ) (l : HowReached) → how_reached_at t e n ≡ Some l → offset_of l ≡ Some at
     → (section_start t e ≤ at) × (at < section_start t (suc e))
 lies_in t e zero at l own offset = none≢some l own
 lies_in t e (suc n) at l own offset =
-    lies_between (section_start t e) (section_start t (suc e)) (history t e).landings n at l (section_climbs t e) own
+    lies_between (section_start t e) (section_start t (suc e)) (history t e).each_reached n at l (section_climbs t e)
+    own
     offset
 
 -- and those of a later replica behind them
-pub sections_rise : (t : Trace) (e i m n o q : ℕ) (l k : Landing) → landing_at t e m ≡ Some l
-    → landing_at t i n ≡ Some k → offset_of l ≡ Some o → offset_of k ≡ Some q → e < i → o < q
+pub sections_rise : (t : Trace) (e i m n o q : ℕ) (l k : HowReached) → how_reached_at t e m ≡ Some l
+    → how_reached_at t i n ≡ Some k → offset_of l ≡ Some o → offset_of k ≡ Some q → e < i → o < q
 sections_rise t e i m n o q l k own its at also lt =
     let one = (lies_in t e m o l own at).1 in
     let two = (lies_in t i n q k its also).0 in

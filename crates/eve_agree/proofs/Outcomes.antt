@@ -17,13 +17,13 @@ use Rattle.eve_history.specs.Section.{Placed}
 use Rattle.eve_history.specs.SectionHistory.{ExecutedAttempt, SectionHistory, section_history}
 use Rattle.eve_history.specs.SectionHistory.{section_histories, history, committed_at}
 use Rattle.eve_chains.specs.Committed.{first_rows, values_to, balances_to}
-use Rattle.eve_chains.specs.Settling.{Settling, settling, settlings, values_in}
-use Rattle.eve_history.proofs.Rights.{as_many_told, section_history_at}
-use Rattle.eve_chains.proofs.Linked.{none≢some}
+use Rattle.eve_chains.specs.CommittedValues.{Settling, settling, settlings, values_in}
+use Rattle.eve_history.proofs.RightSections.{as_many_told, section_history_at}
+use Rattle.eve_chains.proofs.LinkedPaths.{none≢some}
 use Rattle.eve_agree.proofs.TokensInOrder.{rows_are, rows_told}
 use Rattle.eve_agree.specs.ByNumber.{told_at}
 use Rattle.eve_agree.specs.Agreement.{first_to_commit, HaveSameOutcome}
-use Rattle.eve_agree.specs.Judging.{NoneBefore, IsAfter, AreAfter}
+use Rattle.eve_agree.specs.inner.NumbersJudged.{NoneBefore, IsAfter, AreAfter}
 use Rattle.eve_agree.proofs.ByNumber.{told_item, told_none, told_same, replica_there, some_there, there_some}
 
 -- ---- of each replica
@@ -67,10 +67,10 @@ pub record IsOf (t : Trace) (e n offset : ℕ) (replies : List Reply) : Type 0 w
   pub offset_is : offset ≡ item.offset
   pub replies_are : replies ≡ item.attempt.replies
 
-pub outcome_of : (t : Trace) (e n offset : ℕ) (said : Attempt) (h : SectionHistory) → h ≡ section_history t e
-    → (r : ExecutedAttempt) × (told_at h n ≡ Some r) × (offset ≡ r.offset) × (said ≡ r.attempt)
-    → IsOf t e n offset said.replies
-outcome_of t e n offset said h is got =
+pub outcome_of : (t : Trace) (e n offset : ℕ) (decoded : Attempt) (h : SectionHistory) → h ≡ section_history t e
+    → (r : ExecutedAttempt) × (told_at h n ≡ Some r) × (offset ≡ r.offset) × (decoded ≡ r.attempt)
+    → IsOf t e n offset decoded.replies
+outcome_of t e n offset decoded h is got =
     let found = told_item t e h n got.0 is got.1 in
     record {
       item = found.0;

@@ -4,7 +4,7 @@ use Rattle.std.proofs.Common.{arith}
 use Rattle.std.specs.List.{enumerate_from}
 use Rattle.eve_grammar.specs.Trace.{Step, Trace}
 use Rattle.eve_history.specs.SectionHistory.{SectionHistory, section_history, section_histories}
-use Rattle.eve_history.proofs.Rights.{as_many_told}
+use Rattle.eve_history.proofs.RightSections.{as_many_told}
 use Rattle.eve_agree.proofs.Outcomes.{replica_told}
 
 abbrev told_from : Trace → ℕ → List (List Step) → List SectionHistory

@@ -14,9 +14,9 @@ use Rattle.eve_smallbank.specs.declared.request.Reply.{Reply}
 use Rattle.eve_smallbank.specs.Spelling.{reply_text}
 use Rattle.eve_grammar.specs.Limits.{is_reply}
 use Rattle.eve_grammar.proofs.Codec.{IsBytes, IsBytes-drop}
-use Rattle.eve_grammar.specs.Reading.{reply_at}
+use Rattle.eve_grammar.specs.Readers.{reply_at}
 use Rattle.eve_grammar.proofs.PartCodecs.{Codec-reply, reply_length}
-use Rattle.eve_chains.proofs.Linked.{none≢some}
+use Rattle.eve_chains.proofs.LinkedPaths.{none≢some}
 
 -- ---- one reply
 

@@ -13,7 +13,7 @@ use Rattle.eve_views.specs.Form.{IsFaultIn}
 use Rattle.eve_token.specs.Token.{token_of, flat_token}
 use Rattle.eve_grammar.proofs.OpeningRows.{length-opening_rows}
 use Rattle.eve_chains.specs.Committed.{first_rows}
-use Rattle.eve_chains.specs.Settling.{settling}
+use Rattle.eve_chains.specs.CommittedValues.{settling}
 use Rattle.eve_agree.specs.DueTokens.{TokensAreDue, StandsInTokens}
 
 -- ---- all balances

@@ -15,7 +15,7 @@ use Rattle.eve_smallbank.specs.Chain.{Table}
 use Rattle.eve_smallbank.specs.declared.entry.Entry.{Entry}
 use Rattle.eve_smallbank.specs.declared.versioned.Versioned.{Versioned}
 use Rattle.eve_grammar.specs.Trace.{Access, Rollback, Step, Attempts, Commits, RollsBack}
-use Rattle.eve_grammar.specs.Trace.{TakesOver, Trace}
+use Rattle.eve_grammar.specs.Trace.{Transfers, Trace}
 use Rattle.eve_grammar.specs.Spelling.{steps_at}
 use Rattle.eve_grammar.specs.Limits.{HasLimits, is_rising}
 use Rattle.eve_grammar.specs.declared.restore.Restore.{Restore}
@@ -23,7 +23,7 @@ use Rattle.eve_frames.specs.declared.attempt.AttemptView.{AttemptView}
 use Rattle.eve_frames.specs.declared.commit.CommitView.{CommitView}
 use Rattle.eve_frames.specs.declared.rollback.RollbackView.{RollbackView}
 use Rattle.eve_frames.specs.declared.transfer.TransferView.{TransferView}
-use Rattle.eve_views.specs.declared.steps.Step as met
+use Rattle.eve_views.specs.declared.steps.Step as step_read
 use Rattle.eve_views.specs.declared.steps.Step.TheVariants as of
 use Rattle.eve_views.specs.declared.fault.Code.TheVariants as code
 use Rattle.eve_views.specs.Form.{SomePlace}
@@ -31,19 +31,19 @@ use Rattle.eve_history.specs.Section.{Placed, SectionState, start, state_after, 
 use Rattle.eve_history.specs.SectionHistory.{SectionHistory, attempts_among, section_history, history, names_of}
 use Rattle.eve_history.specs.SectionHistory.{IsRightSection}
 use Rattle.eve_history.proofs.Places.{place_cases, no_place, At}
-use Rattle.eve_history.proofs.Rights.{none_at}
+use Rattle.eve_history.proofs.RightSections.{none_at}
 use Rattle.eve_chains.specs.Visible.{executed_by}
 use Rattle.eve_chains.specs.Faults.{HasNoFault}
 use Rattle.eve_chains.specs.Sound.{EntriesSee, OfSettledAccesses, RecordsFit, SettledAreSound}
 use Rattle.eve_agree.specs.Tables.{are_written_in, committed_rows, open_entries}
 use Rattle.eve_agree.specs.Restores.{StandsInRestores, restores_by_row, due_by_row, IsFirstWrongRow, IsWrongRestore}
-use Rattle.eve_agree.specs.Marking.{Marking, marking_of, unmarked, marked_once, marked, marked_by, restored_to}
-use Rattle.eve_agree.specs.Marking.{noted_between, written_in, is_marked, restores_row, taken}
+use Rattle.eve_agree.specs.Marks.{Marking, marking_of, unmarked, marked_once, marked, marked_by, restored_to}
+use Rattle.eve_agree.specs.Marks.{noted_between, written_in, is_marked, restores_row, cleared}
 use Rattle.eve_agree.specs.declared.wrong_restore.WrongRestore.{WrongRestore}
-use Rattle.eve_agree.proofs.Marking.{are_marked, all_right, none_marked}
+use Rattle.eve_agree.proofs.MarkLaws.{are_marked, all_right, none_marked}
 use Rattle.eve_agree.proofs.RestoresInOrder.{HasCome, ComesNext, IsWrong, rolled, come_first, state_next}
 use Rattle.eve_agree.proofs.RestoresInOrder.{come_attempt, come_commit, come_transfer, come_rollback, attempt_there}
-use Rattle.eve_agree.proofs.RestoresInOrder.{attempt_met, commit_met, transfer_met, rollback_met}
+use Rattle.eve_agree.proofs.RestoresInOrder.{attempt_located, commit_located, transfer_located, rollback_located}
 use Rattle.eve_agree.proofs.RestoresInOrder.{noted_open, marked_open, attempts_told}
 
 -- ---- what restores say of each row
@@ -111,10 +111,10 @@ not_restored (r ∷ rs) row none =
     let parts = or_parts (r.row == row) (restores_row row rs) none in
     cond-false (r.row == row) (Some (restored_to r)) (restores_by_row rs row) parts.0 ∙ not_restored rs row parts.1
 
-own_taken : (rs : List Restore) → taken (restores_by_row rs) rs ≡ unmarked
-own_taken rs = fun_ext (λ row. by row (restores_row row rs) refl)
+own_cleared : (rs : List Restore) → cleared (restores_by_row rs) rs ≡ unmarked
+own_cleared rs = fun_ext (λ row. by row (restores_row row rs) refl)
   where
-    by : (row : ℕ) (b : Bool) → restores_row row rs ≡ b → taken (restores_by_row rs) rs row ≡ None
+    by : (row : ℕ) (b : Bool) → restores_row row rs ≡ b → cleared (restores_by_row rs) rs row ≡ None
     by row true is = ap (λ (b : Bool). cond b None (restores_by_row rs row)) is
     by row false is = ap (λ (b : Bool). cond b None (restores_by_row rs row)) is ∙ not_restored rs row is
 
@@ -123,7 +123,7 @@ right_by_row : (table : Table) (es : List Entry) (rs : List Restore) → is_risi
     → restores_by_row rs ≡ written_in table es → are_written_in table es rs ≡ true
 right_by_row table es rs rising same =
     all_right table es rs (subst (λ (m : Marking). are_marked m rs ≡ true) same (own_marked rs rising))
-    (ap (λ (m : Marking). taken m rs) (sym same) ∙ own_taken rs)
+    (ap (λ (m : Marking). cleared m rs) (sym same) ∙ own_cleared rs)
 
 -- ---- the first row that differs
 
@@ -162,8 +162,8 @@ none_wrong_marked (Some w) o at own its found due e f same = tt
 -- ---- where no fault of records or chains stands
 
 -- each record fits, but that it does is not at hand
-abbrev pub NoneUnfit : Trace → ℕ → Type 0
-NoneUnfit t e = OfSettledAccesses t e (λ p x. ¬ ¬ Fits (names_of t) (executed_by t p.attempt x))
+abbrev pub NoneMismatch : Trace → ℕ → Type 0
+NoneMismatch t e = OfSettledAccesses t e (λ p x. ¬ ¬ Fits (names_of t) (executed_by t p.attempt x))
 
 all_at_once : {A : Type 0} (P : A → Type 0) (xs : List A) → AllByRecursion (λ x. ¬ ¬ P x) xs → ¬ ¬ AllByRecursion P xs
 all_at_once P [] all never = never tt
@@ -179,7 +179,7 @@ all_accesses Q (p ∷ ps) all never =
 -- the laws on these
 pub record Laws (t : Trace) (e : ℕ) : Type 0 where
   pub see : HasNoFault t e → EntriesSee t e
-  pub fit : HasNoFault t e → NoneUnfit t e
+  pub fit : HasNoFault t e → NoneMismatch t e
   pub sound : HasLimits t → IsRightSection t e → RecordsFit t e → EntriesSee t e → SettledAreSound t e
 
 -- so nothing follows from their not being sound
@@ -213,9 +213,9 @@ same_mark (Some u) (Some v) not =
 
 -- After the steps before these the fault at this byte is still to come.
 pub record Seeks (t : Trace) (e at : ℕ) (rest : List (ℕ × Step)) (first end : ℕ) : Type 0 where
-  pub front : List (ℕ × Step)
-  pub come : HasCome t e front rest first end
-  pub ahead : SomePlace rest (At at (IsWrong t (state_after start front)))
+  pub prefix : List (ℕ × Step)
+  pub come : HasCome t e prefix rest first end
+  pub ahead : SomePlace rest (At at (IsWrong t (state_after start prefix)))
 
 pub section_seen : (t : Trace) (e : ℕ) (P : List (ℕ × Step) → ℕ × Step → Type 0) → SomePlace (steps_at t e) P
     → e < length t.sections
@@ -225,68 +225,68 @@ section_seen t e P place = elim (cases_lt e (length t.sections)) [
 ]
 
 pub seek_first : (t : Trace) (e at : ℕ) → StandsInRestores code.Restore t e at → Seeks t e at (steps_at t e) 0 0
-seek_first t e at stands = record { front = []; come = come_first t e; ahead = stands }
+seek_first t e at stands = record { prefix = []; come = come_first t e; ahead = stands }
 
 -- it isn't at this step
-passed : (t : Trace) (e at : ℕ) (front : List (ℕ × Step)) (step : ℕ × Step) (rest : List (ℕ × Step)) (first end : ℕ)
-    → HasCome t e front (step ∷ rest) first end → (At at (IsWrong t (state_after start front)) [] step → ⊥)
-    → SomePlace (step ∷ rest) (At at (IsWrong t (state_after start front)))
-    → SomePlace rest (At at (IsWrong t (state_after start (front ++ step ∷ []))))
-passed t e at front step rest first end come elsewhere ahead =
-    elim (place_cases (At at (IsWrong t (state_after start front))) step rest ahead) [
+passed : (t : Trace) (e at : ℕ) (prefix : List (ℕ × Step)) (step : ℕ × Step) (rest : List (ℕ × Step)) (first end : ℕ)
+    → HasCome t e prefix (step ∷ rest) first end → (At at (IsWrong t (state_after start prefix)) [] step → ⊥)
+    → SomePlace (step ∷ rest) (At at (IsWrong t (state_after start prefix)))
+    → SomePlace rest (At at (IsWrong t (state_after start (prefix ++ step ∷ []))))
+passed t e at prefix step rest first end come elsewhere ahead =
+    elim (place_cases (At at (IsWrong t (state_after start prefix))) step rest ahead) [
       | inl here ↦ absurd (elsewhere here)
       | inr later ↦ subst (λ (s : SectionState). SomePlace rest (At at (IsWrong t s)))
-          (sym (state_next t e front step rest first end come)) later
+          (sym (state_next t e prefix step rest first end come)) later
     ]
 
-pub seek_attempt : (t : Trace) (e at : ℕ) (steps rest : List (ℕ × Step)) (first end : ℕ) (s : met.Step)
+pub seek_attempt : (t : Trace) (e at : ℕ) (steps rest : List (ℕ × Step)) (first end : ℕ) (s : step_read.Step)
     (v : AttemptView) (xs : List (ℕ × Access)) → ComesNext s steps rest → s ≡ of.Attempt v xs
     → Seeks t e at steps first end → Seeks t e at rest first (end + 1)
     × (end < length (attempts_among (steps_at t e)))
 seek_attempt t e at steps rest first end s v xs comes is seeks =
-    attempt_met (Seeks t e at rest first (end + 1) × (end < length (attempts_among (steps_at t e))))
+    attempt_located (Seeks t e at rest first (end + 1) × (end < length (attempts_among (steps_at t e))))
     (λ ys. Seeks t e at ys first end) steps rest s v xs comes is
     (λ o a here. (
       record {
-        front = here.front ++ (o, Attempts a) ∷ [];
-        come = come_attempt t e o a here.front rest first end here.come;
-        ahead = passed t e at here.front (o, Attempts a) rest first end here.come (λ w. w.1) here.ahead;
+        prefix = here.prefix ++ (o, Attempts a) ∷ [];
+        come = come_attempt t e o a here.prefix rest first end here.come;
+        ahead = passed t e at here.prefix (o, Attempts a) rest first end here.come (λ w. w.1) here.ahead;
       },
-      attempt_there t e o a here.front rest first end here.come,
+      attempt_there t e o a here.prefix rest first end here.come,
     )) seeks
 
-pub seek_commit : (t : Trace) (e at : ℕ) (steps rest : List (ℕ × Step)) (first end : ℕ) (s : met.Step)
+pub seek_commit : (t : Trace) (e at : ℕ) (steps rest : List (ℕ × Step)) (first end : ℕ) (s : step_read.Step)
     (v : CommitView) → IsRightSection t e → ComesNext s steps rest → s ≡ of.Commit v
     → Seeks t e at steps first end → Seeks t e at rest (first + 1) end × (first < end)
 seek_commit t e at steps rest first end s v right comes is seeks =
-    commit_met (Seeks t e at rest (first + 1) end × (first < end)) (λ ys. Seeks t e at ys first end) steps rest s v
+    commit_located (Seeks t e at rest (first + 1) end × (first < end)) (λ ys. Seeks t e at ys first end) steps rest s v
     comes is
     (λ o c here.
-    let come = come_commit t e o c here.front rest first end right here.come in (
+    let come = come_commit t e o c here.prefix rest first end right here.come in (
       record {
-        front = here.front ++ (o, Commits c) ∷ [];
+        prefix = here.prefix ++ (o, Commits c) ∷ [];
         come = come.0;
-        ahead = passed t e at here.front (o, Commits c) rest first end here.come (λ w. w.1) here.ahead;
+        ahead = passed t e at here.prefix (o, Commits c) rest first end here.come (λ w. w.1) here.ahead;
       },
       come.1,
     )) seeks
 
-pub seek_transfer : (t : Trace) (e at : ℕ) (steps rest : List (ℕ × Step)) (first end : ℕ) (s : met.Step)
+pub seek_transfer : (t : Trace) (e at : ℕ) (steps rest : List (ℕ × Step)) (first end : ℕ) (s : step_read.Step)
     (v : TransferView) → ComesNext s steps rest → s ≡ of.Transfer v → Seeks t e at steps first end
     → Seeks t e at rest end end
 seek_transfer t e at steps rest first end s v comes is seeks =
-    transfer_met (Seeks t e at rest end end) (λ ys. Seeks t e at ys first end) steps rest s v comes is
+    transfer_located (Seeks t e at rest end end) (λ ys. Seeks t e at ys first end) steps rest s v comes is
     (λ o x here. record {
-      front = here.front ++ (o, TakesOver x) ∷ [];
-      come = come_transfer t e o x here.front rest first end here.come;
-      ahead = passed t e at here.front (o, TakesOver x) rest first end here.come (λ w. w.1) here.ahead;
+      prefix = here.prefix ++ (o, Transfers x) ∷ [];
+      come = come_transfer t e o x here.prefix rest first end here.come;
+      ahead = passed t e at here.prefix (o, Transfers x) rest first end here.come (λ w. w.1) here.ahead;
     }) seeks
 
-pub seek_rollback : (t : Trace) (e at : ℕ) (steps rest : List (ℕ × Step)) (first end : ℕ) (s : met.Step)
+pub seek_rollback : (t : Trace) (e at : ℕ) (steps rest : List (ℕ × Step)) (first end : ℕ) (s : step_read.Step)
     (v : RollbackView) → ComesNext s steps rest → s ≡ of.Rollback v
     → Seeks t e at steps first end → Seeks t e at (rolled v ∷ rest) first end
 seek_rollback t e at steps rest first end s v comes is seeks =
-    rollback_met (λ ys. Seeks t e at ys first end) steps rest s v comes is seeks
+    rollback_located (λ ys. Seeks t e at ys first end) steps rest s v comes is seeks
 
 -- ---- at a rollback
 
@@ -295,20 +295,20 @@ module _ (t : Trace) (h : SectionHistory) (told : h ≡ section_history t h.repl
     (r : Rollback) (rest : List (ℕ × Step)) (first end : ℕ)
     (seeks : Seeks t h.replica at ((o, RollsBack r) ∷ rest) first end) where
   -- what is marked of the attempts that it discards is what is due
-  marked_due : marked unmarked (noted_between h.attempts first end) ≡ due_by_row t (state_after start seeks.front)
+  marked_due : marked unmarked (noted_between h.attempts first end) ≡ due_by_row t (state_after start seeks.prefix)
   marked_due =
       ap (λ rs. marked unmarked (noted_between rs first end)) (attempts_told t h told)
       ∙ fun_ext (λ row. same_mark _ _ (λ never. not_unsound t h.replica laws limits right none (λ sound.
       never (ap (λ (m : Marking). m row)
-      (marked_open t h.replica o r seeks.front rest first end seeks.come limits right sound
-      ∙ ap (written_in (committed_rows t (state_after start seeks.front)))
-      (noted_open t h.replica o r seeks.front rest first end seeks.come limits right))))))
+      (marked_open t h.replica o r seeks.prefix rest first end seeks.come limits right sound
+      ∙ ap (written_in (committed_rows t (state_after start seeks.prefix)))
+      (noted_open t h.replica o r seeks.prefix rest first end seeks.come limits right))))))
 
   pub wrong_here : (w : WrongRestore) → o ≡ at
       → IsFirstWrongRow (restores_by_row r.restores) (marked unmarked (noted_between h.attempts first end)) w
       → IsWrongRestore t h.replica at w
   wrong_here w here wrong = record {
-    before = seeks.front;
+    before = seeks.prefix;
     item = (o, RollsBack r);
     rest = rest;
     is = seeks.come.split;
@@ -319,12 +319,12 @@ module _ (t : Trace) (h : SectionHistory) (told : h ≡ section_history t h.repl
       → (o ≡ at → restores_by_row r.restores ≡ marked unmarked (noted_between h.attempts first end))
       → Seeks t h.replica at rest end end
   seek_further rising same = record {
-    front = seeks.front ++ (o, RollsBack r) ∷ [];
-    come = come_rollback t h.replica o r seeks.front rest first end seeks.come;
-    ahead = passed t h.replica at seeks.front (o, RollsBack r) rest first end seeks.come
+    prefix = seeks.prefix ++ (o, RollsBack r) ∷ [];
+    come = come_rollback t h.replica o r seeks.prefix rest first end seeks.come;
+    ahead = passed t h.replica at seeks.prefix (o, RollsBack r) rest first end seeks.come
         (λ w. false≢true (sym w.1
-        ∙ right_by_row (committed_rows t (state_after start seeks.front))
-        (open_entries t (state_after start seeks.front))
+        ∙ right_by_row (committed_rows t (state_after start seeks.prefix))
+        (open_entries t (state_after start seeks.prefix))
         r.restores rising (same w.0 ∙ marked_due)))
         seeks.ahead;
   }

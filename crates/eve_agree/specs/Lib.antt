@@ -1,14 +1,10 @@
 pub mod ByNumber
 pub mod Agreement
-pub mod Judging
 pub mod Tables
 pub mod Restores
-pub mod Marking
-pub mod HashedRows
+pub mod Marks
 pub mod DueTokens
 pub mod ShownTokens
 pub mod Majority
-pub mod Unbacked
 pub mod SentReplies
-pub mod Keeping
-pub mod Stretches
+pub mod inner

@@ -1,7 +1,7 @@
 -- Commits, rollbacks and transfers without a majority. docs/MODEL.md, "Majority".
 use Rattle.std.specs.Prelude.{◌≡◌, ℕ, ◌+◌, ◌-◌, List, ⊤}
 use Rattle.std.specs.List.{AllByRecursion}
-use Rattle.eve_grammar.specs.Trace.{Step, Attempts, Commits, RollsBack, TakesOver, Trace}
+use Rattle.eve_grammar.specs.Trace.{Step, Attempts, Commits, RollsBack, Transfers, Trace}
 use Rattle.eve_grammar.specs.Spelling.{steps_at}
 use Rattle.eve_views.specs.declared.fault.Code.{Code}
 use Rattle.eve_views.specs.declared.fault.Code.TheVariants as code
@@ -10,6 +10,7 @@ use Rattle.eve_history.specs.Structure.{OfCommit, OfRollback, OfTransfer}
 use Rattle.eve_votes.specs.Votes.{IsDecided, IsRolledBack}
 
 -- some commit of the number is decided in this view, whatever its token
+-- F74 TransferNoMajority.
 abbrev pub SomeDecided : Trace → ℕ → ℕ → Type 0
 SomeDecided t n view = (token : List ℕ) × IsDecided t n view token
 
@@ -19,7 +20,7 @@ abbrev pub IsBacked : Trace → Step → Type 0
 IsBacked t (Attempts a) = ⊤
 IsBacked t (Commits c) = IsDecided t c.seq c.view c.token
 IsBacked t (RollsBack r) = IsRolledBack t (r.to + 1) (r.view - 1)
-IsBacked t (TakesOver x) = SomeDecided t x.seq x.view
+IsBacked t (Transfers x) = SomeDecided t x.seq x.view
 
 -- each commit, rollback and transfer of replica e
 abbrev pub IsBackedSection : Trace → ℕ → Type 0

@@ -10,7 +10,7 @@ use Rattle.eve_views.specs.Form.{SomePlace}
 use Rattle.eve_history.specs.Section.{SectionState, start, state_after}
 use Rattle.eve_history.specs.Structure.{OfRollback}
 use Rattle.eve_agree.specs.Tables.{are_right_restores, committed_rows, open_entries}
-use Rattle.eve_agree.specs.Marking.{Marking, restored_to, written_in}
+use Rattle.eve_agree.specs.Marks.{Marking, restored_to, written_in}
 use Rattle.eve_agree.specs.declared.wrong_restore.WrongRestore.{WrongRestore}
 
 -- a fault of restores stands at this offset in replica e's section

@@ -2,7 +2,7 @@
 use Rattle.std.specs.Prelude.{◌≡◌}
 use Rattle.eve_grammar.specs.Trace.{Trace}
 use Rattle.eve_history.specs.SectionHistory.{SectionHistory, section_history}
-use Rattle.eve_chains.specs.Settling.{Settling, settling}
+use Rattle.eve_chains.specs.CommittedValues.{Settling, settling}
 use Rattle.eve_agree.specs.DueTokens.{TokensAreDue}
 
 -- the history is that of one of the trace's replicas, these are its settled values, and each attempt that it committed

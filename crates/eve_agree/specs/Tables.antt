@@ -7,11 +7,11 @@ use Rattle.std.specs.Ordering.{int_eq}
 use Rattle.eve_smallbank.specs.declared.entry.Entry.{Entry}
 use Rattle.eve_smallbank.specs.Access.{Executed, is_write, writes_row}
 use Rattle.eve_smallbank.specs.Chain.{Table, table_after_all}
-use Rattle.eve_grammar.specs.Trace.{Rollback, Step, Attempts, Commits, RollsBack, TakesOver, Trace}
+use Rattle.eve_grammar.specs.Trace.{Rollback, Step, Attempts, Commits, RollsBack, Transfers, Trace}
 use Rattle.eve_grammar.specs.Spelling.{steps_at}
 use Rattle.eve_grammar.specs.declared.restore.Restore.{Restore}
 use Rattle.eve_history.specs.Section.{came_by, SectionState, start, next, state_after}
-use Rattle.eve_chains.specs.Visible.{opening_table, execution, executions, taken_table, rows_after}
+use Rattle.eve_chains.specs.Visible.{opening_table, execution, executions, transferred_table, rows_after}
 use Rattle.eve_chains.specs.Committed.{attempts_of}
 
 -- ---- the tables
@@ -21,17 +21,17 @@ abbrev pub restored : Table → List Restore → Table
 restored table rs =
     fold (λ now r row. if r.row == row then record { version = r.version; value = r.value } else now row) table rs
 
--- a table after steps: every attempt writes, a rollback restores, and a state that is taken over replaces all rows
+-- a table after steps: every attempt writes, a rollback restores, and a state that is transferred replaces all rows
 abbrev pub worked : Trace → Table → List (ℕ × Step) → Table
 worked t table [] = table
 worked t table ((at, Attempts a) ∷ steps) = worked t (table_after_all table (execution t a)) steps
 worked t table ((at, Commits c) ∷ steps) = worked t table steps
 worked t table ((at, RollsBack r) ∷ steps) = worked t (restored table r.restores) steps
-worked t table ((at, TakesOver x) ∷ steps) = worked t (taken_table x.rows) steps
+worked t table ((at, Transfers x) ∷ steps) = worked t (transferred_table x.rows) steps
 
 -- what came by the numbers that were reached leaves
 abbrev pub committed_rows : Trace → SectionState → Table
-committed_rows t s = rows_after t (flat_map came_by s.landings)
+committed_rows t s = rows_after t (flat_map came_by s.each_reached)
 
 -- after the first k steps of replica e: what it works on
 unfoldable pub working_table : Trace → ℕ → ℕ → Table
@@ -67,6 +67,7 @@ are_written_in table es rs =
     && list_all (λ e. not (is_write e.kind) || list_any (λ r. r.row == e.row) rs) es
 
 -- the rows that open attempts wrote, as they are committed; that rows rise is a matter of form
+-- F50 Restore.
 abbrev pub are_right_restores : Trace → SectionState → List Restore → Bool
 are_right_restores t s rs = are_written_in (committed_rows t s) (open_entries t s) rs
 
@@ -74,7 +75,7 @@ abbrev pub restores_rightly : Trace → SectionState → Step → Bool
 restores_rightly t s (Attempts a) = true
 restores_rightly t s (Commits c) = true
 restores_rightly t s (RollsBack r) = are_right_restores t s r.restores
-restores_rightly t s (TakesOver x) = true
+restores_rightly t s (Transfers x) = true
 
 -- each rollback among the steps restores those rows
 abbrev pub all_restore_rightly : Trace → SectionState → List (ℕ × Step) → Bool

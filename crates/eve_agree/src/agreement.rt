@@ -4,18 +4,18 @@ ghost use Rattle.std.specs.Prelude.{◌≡◌, ◌≤◌, ◌<◌, ◌-◌, ◌�
 ghost use Rattle.std.specs.Prelude.{length, slice_get, slice_index_or};
 ghost use Rattle.std.specs.List.{list_all};
 ghost use Rattle.std.specs.Option.{is_some};
-ghost use Rattle.eve_frames.specs.Said.{attempt_said, transfer_said};
+ghost use Rattle.eve_frames.specs.Decoded.{attempt_decoded, transfer_decoded};
 ghost use Rattle.eve_frames.specs.Views.{attempt_in, has_attempt_body};
 ghost use Rattle.eve_grammar.specs.Limits.{is_reply};
 ghost use Rattle.eve_views.specs.Form.{IfFound, IsLeast, HasNone, IsFaultSomewhere};
 ghost use Rattle.eve_grammar.specs.Trace.{Trace as TraceValue};
 ghost use Rattle.eve_history.specs.SectionHistory.{ExecutedAttempt, SectionHistory, section_histories};
-ghost use Rattle.eve_chains.specs.Settling.{settlings, HaveSameBalances};
+ghost use Rattle.eve_chains.specs.CommittedValues.{settlings, HaveSameBalances};
 ghost use Rattle.eve_agree.specs.ByNumber.{told_at, told_state_at};
 ghost use Rattle.eve_agree.specs.Agreement.{first_to_commit, HasCommitted, HaveSameOutcome, ReplicasAgree};
 ghost use Rattle.eve_agree.specs.Agreement.{StandsInAgreement};
-ghost use Rattle.eve_agree.specs.Judging.{NoneBefore, IsAfter, AreAfter, AllStandAt, AllHaveSame, AgreesIn};
-ghost use Rattle.eve_agree.specs.Judging.{IsApart, JudgedTo, bound_of};
+ghost use Rattle.eve_agree.specs.inner.NumbersJudged.{NoneBefore, IsAfter, AreAfter, AllStandAt, AllHaveSame, AgreesIn};
+ghost use Rattle.eve_agree.specs.inner.NumbersJudged.{IsApart, JudgedTo, bound_of};
 
 use eve_accounts::Balances;
 use eve_chains::Settled;
@@ -23,19 +23,19 @@ use eve_chains::laws::{settled_values_are_the_banks, states_are_the_balances};
 use eve_frames::laws::frames_say_what_fits;
 use eve_frames::{AttemptView, TransferView};
 use eve_history::laws::numbers_are_reached;
-use eve_history::{History, Landing, recall_all_right};
+use eve_history::{History, HowReached, recall_all_right};
 use eve_views::{CheckFault, Code, Fault, Trace};
 use std::alloc::{AllocError, Global};
 
 /// Judges what all replicas came to: each has the balances after a batch that it committed, and the replies to it, of
-/// the lowest-numbered replica that committed it; and each state that a replica took over has that replica's balances
-/// after its number. Else `Found`, the first attempt or state where it is not so.
+/// the lowest-numbered replica that committed it; and each state that was transferred to a replica has that replica's
+/// balances after its number. Else `Found`, the first attempt or state where it is not so.
 ///
 /// docs/MODEL.md, "Agreement". Balances and replies are compared themselves. It keeps the balances of each replica
 /// once, and goes with all of them from number to number. Once a fault was found only the replicas below it are judged:
 /// every fault of a later section stands behind it. Those that are left agree so far. So of an attempt's balances it is
 /// enough to compare what the batch wrote, since before it they were the same; a state is compared whole. Of one
-/// replica alone that took no state over nothing is asked. Refused memory decides nothing.
+/// replica alone that had no state transferred nothing is asked. Refused memory decides nothing.
 pub fn equal_balances(
     alloc: Global,
     trace: &Trace<'_>,
@@ -68,17 +68,17 @@ pub fn equal_balances(
     }
 }
 
-/// Whether there is nothing to compare: there is one replica at most, and no state was taken over.
+/// Whether there is nothing to compare: there is one replica at most, and no state was transferred.
 fn is_alone(histories: &[History<'_>]) -> bool
     ensures few { IsTrue result → length histories.now < 2 }
     ensures none { IsTrue result → (e : ℕ) (h : SectionHistory) → slice_get histories.now e ≡ Some h
         → h.transfers ≡ [] }
 {
-    histories.len() < 2 && took_none_over(histories)
+    histories.len() < 2 && none_was_transferred(histories)
 }
 
-/// Whether no replica took a state over.
-fn took_none_over(histories: &[History<'_>]) -> bool
+/// Whether no replica had a state transferred.
+fn none_was_transferred(histories: &[History<'_>]) -> bool
     ensures { IsTrue result → (e : ℕ) (h : SectionHistory) → slice_get histories.now e ≡ Some h → h.transfers ≡ [] }
 {
     for each in histories {
@@ -171,7 +171,7 @@ fn bound(count: usize, least: &Option<Fault>) -> usize
 }
 
 /// What is wrong where replica e reached number n: its outcome is not that of the first that committed the batch, or
-/// the state that it took over hasn't the balances of that one.
+/// the state that was transferred to it hasn't the balances of that one.
 fn wrong_in(
     trace: &Trace<'_>,
     histories: &[History<'_>],
@@ -198,7 +198,7 @@ fn wrong_in(
         let attempt = committed_attempt(history, n);
         return Some(fault_at(Code::Outcome, attempt.offset(), history.replica()));
     }
-    let Some(state) = taken_over(history, n) else {
+    let Some(state) = transferred_state(history, n) else {
         return None;
     };
     let same = has_balances_of(all, first, e);
@@ -245,6 +245,7 @@ fn has_outcome_of(
 }
 
 /// Whether the balances of replica e are those of the first that committed the batch; no others are where none did.
+/// F81 TransferBalances.
 fn has_balances_of(all: &[Balances], first: Option<usize>, e: usize) -> bool
     requires there { e < length all.now }
     requires first { IfSome first (λ f. f < length all.now) }
@@ -306,28 +307,29 @@ pub fn has_committed(history: &History<'_>, n: u32) -> bool
 pub fn committed_attempt<'a>(history: &History<'a>, n: u32) -> AttemptView<'a>
     requires there { IsTrue (is_some (told_at history.now n)) }
     ensures { (r : ExecutedAttempt) × (told_at history.now n ≡ Some r) × (result.offset ≡ r.offset)
-        × (attempt_said result ≡ r.attempt) }
+        × (attempt_decoded result ≡ r.attempt) }
 {
     history.attempt(history.committed_attempt(n))
 }
 
-/// The state by which a replica reached number n, if it took one over there.
-fn taken_over<'a>(history: &History<'a>, n: u32) -> Option<TransferView<'a>>
-    ensures some { IfSome result (λ x. told_state_at history.now n ≡ Some (x.offset, transfer_said x)) }
+/// The state by which a replica reached number n, if it had one transferred there.
+fn transferred_state<'a>(history: &History<'a>, n: u32) -> Option<TransferView<'a>>
+    ensures some { IfSome result (λ x. told_state_at history.now n ≡ Some (x.offset, transfer_decoded x)) }
     ensures none { IfNone result (told_state_at history.now n ≡ None) }
 {
     if n == 0 || history.committed() < n {
         return None;
     }
-    match history.landing(n) {
-        Landing::Attempt(_) => None,
-        Landing::Transfer(i) => Some(history.transfer(i as usize)),
-        Landing::Skipped => None,
+    match history.how_reached(n) {
+        HowReached::Attempt(_) => None,
+        HowReached::Transfer(i) => Some(history.transfer(i as usize)),
+        HowReached::Skipped => None,
     }
 }
 
 /// Whether two replicas' attempts of batch n have the same replies, and the balances after them are the same. Those
 /// after the batch before are.
+/// F80 Outcome.
 fn is_same(
     attempt: &AttemptView<'_>,
     settled: &Settled<'_>,
@@ -345,7 +347,7 @@ fn is_same(
     requires before { HaveSameBalances settled.now others_settled.now (n - 1) }
     ensures { IsTrue result ↔
         ((balances.now ≡ others.now)
-        × ((attempt_said attempt.now).replies ≡ (attempt_said other.now).replies)) }
+        × ((attempt_decoded attempt.now).replies ≡ (attempt_decoded other.now).replies)) }
 {
     let replies = have_same_replies(attempt, other);
     replies && settled.are_same_after(n, balances, others_settled, others, true)
@@ -353,7 +355,7 @@ fn is_same(
 
 /// Whether two attempts have the same replies, by request index.
 fn have_same_replies(attempt: &AttemptView<'_>, other: &AttemptView<'_>) -> bool
-    ensures { IsTrue result ↔ ((attempt_said attempt.now).replies ≡ (attempt_said other.now).replies) }
+    ensures { IsTrue result ↔ ((attempt_decoded attempt.now).replies ≡ (attempt_decoded other.now).replies) }
 {
     recall_replies(attempt.bytes());
     recall_replies(other.bytes());

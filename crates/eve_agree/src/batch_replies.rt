@@ -5,10 +5,10 @@ ghost use Rattle.eve_grammar.specs.Trace.{Trace as TraceValue};
 ghost use Rattle.eve_grammar.specs.Frames.{OfSent};
 ghost use Rattle.eve_grammar.specs.Limits.{is_sent};
 ghost use Rattle.eve_grammar.specs.Spelling.{frame_text};
-ghost use Rattle.eve_frames.specs.Said.{sent_said};
+ghost use Rattle.eve_frames.specs.Decoded.{sent_decoded};
 ghost use Rattle.eve_history.specs.SectionHistory.{section_history, section_histories};
 ghost use Rattle.eve_agree.specs.SentReplies.{IsReplied};
-ghost use Rattle.eve_agree.specs.Keeping.{AreRepliesOf, AreSpelled, replies_at};
+ghost use Rattle.eve_agree.specs.inner.KeptRequests.{AreRepliesOf, AreSpelled, replies_at};
 
 use crate::agreement::{committed_attempt, has_committed, recall_replies};
 use crate::batch_request_ids::BatchRequestIds;
@@ -44,6 +44,7 @@ impl<'a> BatchReplies<'a> {
     }
 
     /// Whether the replica that sent a reply committed it. Turns to its batch, if another is at hand.
+    /// F90 Reply.
     pub fn have(
         &mut self,
         trace: &Trace<'_>,
@@ -51,11 +52,12 @@ impl<'a> BatchReplies<'a> {
         sent: &SentView<'_>,
     ) -> bool
         requires histories { histories.now ≡ section_histories trace.now }
-        requires fits { IsTrue (is_sent (length trace.now.sections) (length trace.now.batches) (sent_said sent.now)) }
-        requires text { sent.now.bytes.now ≡ frame_text (OfSent (sent_said sent.now)) }
+        requires fits
+        { IsTrue (is_sent (length trace.now.sections) (length trace.now.batches) (sent_decoded sent.now)) }
+        requires text { sent.now.bytes.now ≡ frame_text (OfSent (sent_decoded sent.now)) }
         requires old { AreRepliesOf trace.now self.old }
         ensures new { AreRepliesOf trace.now self.new }
-        ensures replied { IsTrue result ↔ IsReplied trace.now (sent_said sent.now) }
+        ensures replied { IsTrue result ↔ IsReplied trace.now (sent_decoded sent.now) }
     {
         self.turn_to(trace, histories, sent);
         self.request_ids.find(self.replies, sent)
@@ -64,11 +66,12 @@ impl<'a> BatchReplies<'a> {
     /// Turns to the batch of a reply that was sent, if another is at hand.
     fn turn_to(&mut self, trace: &Trace<'_>, histories: &[History<'a>], sent: &SentView<'_>)
         requires histories { histories.now ≡ section_histories trace.now }
-        requires fits { IsTrue (is_sent (length trace.now.sections) (length trace.now.batches) (sent_said sent.now)) }
+        requires fits
+        { IsTrue (is_sent (length trace.now.sections) (length trace.now.batches) (sent_decoded sent.now)) }
         requires old { AreRepliesOf trace.now self.old }
         ensures new { AreRepliesOf trace.now self.new }
-        ensures replica { self.new.replica ≡ (sent_said sent.now).replica }
-        ensures batch { self.new.batch ≡ (sent_said sent.now).seq }
+        ensures replica { self.new.replica ≡ (sent_decoded sent.now).replica }
+        ensures batch { self.new.batch ≡ (sent_decoded sent.now).seq }
     {
         let replica = sent.replica();
         let batch = sent.seq();
@@ -102,6 +105,7 @@ impl<'a> BatchReplies<'a> {
 }
 
 /// The replies of the attempt by which a replica committed a batch, as they stand; none where it didn't.
+/// F90 Reply.
 fn committed_replies<'a>(history: &History<'a>, batch: u32) -> &'a [u8]
     ensures { (t : TraceValue) (e : ℕ) → history.now ≡ section_history t e
         → AreSpelled (replies_at t e batch) result.now }

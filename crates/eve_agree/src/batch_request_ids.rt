@@ -5,10 +5,10 @@ ghost use Rattle.std.specs.Prelude.{length, map, take, drop, slice_get};
 ghost use Rattle.eve_grammar.specs.Limits.{is_batch};
 ghost use Rattle.eve_grammar.specs.Frames.{OfSent};
 ghost use Rattle.eve_grammar.specs.Spelling.{frame_text};
-ghost use Rattle.eve_frames.specs.Said.{batch_said, sent_said};
+ghost use Rattle.eve_frames.specs.Decoded.{batch_decoded, sent_decoded};
 ghost use Rattle.eve_grammar.specs.Trace.{request_id};
-ghost use Rattle.eve_history.specs.Order.{requests_said};
-ghost use Rattle.eve_agree.specs.Keeping.{kept_ids, AnswersAt, AreOf};
+ghost use Rattle.eve_history.specs.Order.{requests_decoded};
+ghost use Rattle.eve_agree.specs.inner.KeptRequests.{kept_ids, AnswersAt, AreOf};
 
 use byteorder::{BigEndian, ByteOrder};
 use eve_frames::{BatchView, SentView};
@@ -66,9 +66,9 @@ impl BatchRequestIds {
     /// the one that was sent. The request is looked for first after the one that was found last.
     pub fn find(&mut self, replies: &[u8], sent: &SentView<'_>) -> bool
         requires few { self.old.count ≤ MOST_REQUESTS }
-        requires text { sent.now.bytes.now ≡ frame_text (OfSent (sent_said sent.now)) }
+        requires text { sent.now.bytes.now ≡ frame_text (OfSent (sent_decoded sent.now)) }
         ensures answer { IsTrue result
-            ↔ ((i : ℕ) × AnswersAt (kept_ids self.old) replies.now (sent_said sent.now) i) }
+            ↔ ((i : ℕ) × AnswersAt (kept_ids self.old) replies.now (sent_decoded sent.now) i) }
         ensures batch { self.new.batch ≡ self.old.batch }
         ensures count { self.new.count ≡ self.old.count }
         ensures kept { kept_ids self.new ≡ kept_ids self.old }
@@ -85,10 +85,10 @@ impl BatchRequestIds {
     /// The index at which an attempt's reply is the sent one, to the request that it answers.
     fn index_of(&self, replies: &[u8], sent: &SentView<'_>) -> Option<usize>
         requires few { self.now.count ≤ MOST_REQUESTS }
-        requires text { sent.now.bytes.now ≡ frame_text (OfSent (sent_said sent.now)) }
+        requires text { sent.now.bytes.now ≡ frame_text (OfSent (sent_decoded sent.now)) }
         ensures below { IfSome result (λ i. i < MOST_REQUESTS) }
-        ensures found { IfSome result (AnswersAt (kept_ids self.now) replies.now (sent_said sent.now)) }
-        ensures none { IfNone result ((i : ℕ) → ¬ AnswersAt (kept_ids self.now) replies.now (sent_said sent.now) i) }
+        ensures found { IfSome result (AnswersAt (kept_ids self.now) replies.now (sent_decoded sent.now)) }
+        ensures none { IfNone result ((i : ℕ) → ¬ AnswersAt (kept_ids self.now) replies.now (sent_decoded sent.now) i) }
     {
         if self.is_answer(replies, sent, self.next) {
             return Some(self.next);
@@ -104,9 +104,9 @@ impl BatchRequestIds {
     /// Whether an attempt's reply at an index is the sent one, to the request that it answers.
     fn is_answer(&self, replies: &[u8], sent: &SentView<'_>, i: usize) -> bool
         requires few { self.now.count ≤ MOST_REQUESTS }
-        requires text { sent.now.bytes.now ≡ frame_text (OfSent (sent_said sent.now)) }
+        requires text { sent.now.bytes.now ≡ frame_text (OfSent (sent_decoded sent.now)) }
         ensures below { IsTrue result → i < MOST_REQUESTS }
-        ensures answer { IsTrue result ↔ AnswersAt (kept_ids self.now) replies.now (sent_said sent.now) i }
+        ensures answer { IsTrue result ↔ AnswersAt (kept_ids self.now) replies.now (sent_decoded sent.now) i }
     {
         if !self.asks(sent, i) {
             return false;
@@ -119,7 +119,7 @@ impl BatchRequestIds {
         requires { self.now.count ≤ MOST_REQUESTS }
         ensures below { IsTrue result → i < MOST_REQUESTS }
         ensures asks { IsTrue result
-            ↔ (slice_get (kept_ids self.now) i ≡ Some ((sent_said sent.now).client, (sent_said sent.now).number)) }
+            ↔ (slice_get (kept_ids self.now) i ≡ Some ((sent_decoded sent.now).client, (sent_decoded sent.now).number)) }
     {
         if i >= self.count {
             return false;
@@ -153,9 +153,9 @@ fn is_same_text(own: &[u8], its: &[u8]) -> bool
 
 /// Reads the client and the number of each request of a batch: how many there are.
 fn read(batch: &BatchView<'_>, items: &mut [RequestId; MOST_REQUESTS]) -> usize
-    requires { IsTrue (is_batch (batch_said batch.now).1) }
+    requires { IsTrue (is_batch (batch_decoded batch.now).1) }
     ensures few { result ≤ MOST_REQUESTS }
-    ensures kept { take result items.new ≡ map request_id (requests_said batch.now.bytes.now) }
+    ensures kept { take result items.new ≡ map request_id (requests_decoded batch.now.bytes.now) }
 {
     let mut count = 0;
     for asked in batch.requests() {

@@ -3,17 +3,17 @@
 ghost use Rattle.std.specs.Prelude.{◌≡◌, ◌≤◌, ◌<◌, ◌-◌, ◌↔◌, ℕ, All, IsTrue, OnOk, IfOk, IfErr, length};
 ghost use Rattle.std.specs.Prelude.{slice_index_or};
 ghost use Rattle.std.specs.Option.{is_some};
-ghost use Rattle.eve_frames.specs.Said.{attempt_said};
+ghost use Rattle.eve_frames.specs.Decoded.{attempt_decoded};
 ghost use Rattle.eve_token.specs.Token.{token_of};
 ghost use Rattle.eve_views.specs.Form.{IfFound, IsLeast, HasNone, IsFaultIn};
 ghost use Rattle.eve_history.specs.SectionHistory.{section_history};
-ghost use Rattle.eve_chains.specs.Settling.{settling};
+ghost use Rattle.eve_chains.specs.CommittedValues.{settling};
 ghost use Rattle.eve_agree.specs.ByNumber.{told_at};
 ghost use Rattle.eve_agree.specs.DueTokens.{TokensAreDue, IsFirstWrong, StandsInTokens};
-ghost use Rattle.eve_agree.specs.HashedRows.{balances_in, can_hash};
-ghost use Rattle.eve_agree.specs.Judging.{IsAfter};
-ghost use Rattle.eve_agree.specs.Stretches.{AreOfSection, IsComingStretch, IsReadyStretch, IsJudgedStretch};
-ghost use Rattle.eve_agree.specs.Stretches.{AreReadyStretches, first_found};
+ghost use Rattle.eve_agree.specs.inner.HashedRows.{balances_in, can_hash};
+ghost use Rattle.eve_agree.specs.inner.NumbersJudged.{IsAfter};
+ghost use Rattle.eve_agree.specs.inner.Stretches.{AreOfSection, IsComingStretch, IsReadyStretch, IsJudgedStretch};
+ghost use Rattle.eve_agree.specs.inner.Stretches.{AreReadyStretches, first_found};
 ghost use Rattle.eve_agree.specs.declared.due_tokens.Stretch.{Stretch as StretchValue};
 
 use crate::agreement::{committed_attempt, has_committed};
@@ -36,10 +36,12 @@ const LEAST_BATCHES: u32 = 16;
 const ROWS_A_REQUEST: usize = 4;
 
 /// Whether the attempt has the version's token of these balances and of its replies.
+/// F60 Token.
 fn is_due(attempt: &AttemptView<'_>, version: u16, rows: &mut HashedRows) -> bool
     requires can { IsTrue (can_hash version rows.old) }
-    ensures due { IsTrue result ↔ ((attempt_said attempt.now).token
-        ≡ token_of version (attempt_said attempt.now).seq (balances_in rows.old) (attempt_said attempt.now).replies) }
+    ensures due { IsTrue result ↔ ((attempt_decoded attempt.now).token
+        ≡ token_of version (attempt_decoded attempt.now).seq (balances_in rows.old)
+        (attempt_decoded attempt.now).replies) }
     ensures same { rows.new ≡ rows.old }
 {
     let due = rows.token(version, attempt.seq(), attempt.reply_bytes());
@@ -109,7 +111,7 @@ fn wrong_at(
 
 /// The offset of the first of a replica's attempts with a token that is not due, of the batches after the first
 /// `before` up to the last.
-#[tactic(auto, using(crate::proofs::Stretched::one_more, crate::proofs::Stretched::wrong_first))]
+#[tactic(auto, using(crate::proofs::JoinedStretches::one_more, crate::proofs::JoinedStretches::wrong_first))]
 fn first_wrong(
     trace: &Trace<'_>,
     history: &History<'_>,

@@ -6,8 +6,8 @@ ghost use Rattle.std.specs.List.{list_all};
 ghost use Rattle.eve_smallbank.specs.Chain as chain;
 ghost use Rattle.eve_smallbank.specs.declared.entry.Entry as noted;
 ghost use Rattle.eve_grammar.specs.Limits.{is_entry, is_restore, is_rising};
-ghost use Rattle.eve_agree.specs.Marking.{marking_of, unmarked, marked_once, marked, marked_by, written_in, is_marked};
-ghost use Rattle.eve_agree.specs.Marking.{taken};
+ghost use Rattle.eve_agree.specs.Marks.{marking_of, unmarked, marked_once, marked, marked_by, written_in, is_marked};
+ghost use Rattle.eve_agree.specs.Marks.{cleared};
 ghost use Rattle.eve_agree.specs.Tables.{are_written_in};
 
 use eve_accounts::Row;
@@ -30,7 +30,7 @@ pub struct FirstSeen {
 impl Model for FirstSeen {
     ghost use Rattle.std.specs.Prelude.{◌≡◌, List, Option};
     ghost use Rattle.eve_smallbank.specs.declared.versioned.Versioned as versioned;
-    ghost use Rattle.eve_agree.specs.Marking.{marked_count};
+    ghost use Rattle.eve_agree.specs.Marks.{marked_count};
 
     ghost Value = { List (Option versioned.Versioned) };
 
@@ -80,6 +80,7 @@ impl FirstSeen {
     }
 
     /// Takes one entry.
+    /// F50 Restore.
     fn note_one(&mut self, entry: &Entry)
         requires { IsTrue (is_entry (length self.old) entry.now) }
         ensures as_many { length self.new ≡ length self.old }
@@ -139,7 +140,7 @@ impl FirstSeen {
         requires { restored.now.row < length self.old }
         ensures as_many { length self.new ≡ length self.old }
         ensures right { result ≡ is_marked (marking_of self.old restored.now.row) restored.now }
-        ensures taken { IsTrue result → marking_of self.new ≡ taken (marking_of self.old) (restored.now ∷ []) }
+        ensures cleared { IsTrue result → marking_of self.new ≡ cleared (marking_of self.old) (restored.now ∷ []) }
     {
         let row = restored.row.number() as usize;
         let Some(seen) = self.rows[row] else {
@@ -154,6 +155,7 @@ impl FirstSeen {
     }
 
     /// Whether these are exactly the rows that are marked, each as it is marked; then no mark is left.
+    /// F50 Restore.
     pub fn take_all(&mut self, restores: Restores<'_>) -> bool
         requires rows { IsTrue (list_all (is_restore (length self.old)) restores) }
         requires rising { IsTrue (is_rising restores) }

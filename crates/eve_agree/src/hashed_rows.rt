@@ -5,8 +5,8 @@ ghost use Rattle.std.specs.List.{flat_map};
 ghost use Rattle.eve_smallbank.specs.declared.request.Reply.{Reply as ReplyValue};
 ghost use Rattle.eve_smallbank.specs.Spelling.{reply_text};
 ghost use Rattle.eve_token.specs.Token.{token_of};
-ghost use Rattle.eve_agree.specs.HashedRows.{balances_in, has_tree, can_hash};
-ghost use Rattle.eve_agree.specs.Judging.{IsAfter};
+ghost use Rattle.eve_agree.specs.inner.HashedRows.{balances_in, has_tree, can_hash};
+ghost use Rattle.eve_agree.specs.inner.NumbersJudged.{IsAfter};
 
 use eve_accounts::Balances;
 use eve_chains::Settled;

@@ -3,14 +3,14 @@
 ghost use Rattle.std.specs.Prelude.{◌≡◌, ◌≢◌, ◌<◌, ◌≤◌, ◌+◌, ◌-◌, ◌^◌, ℕ, ◌↔◌, IsTrue, length};
 ghost use Rattle.std.specs.Prelude.{IfSome, IfNone, IfOk, IfErr};
 ghost use Rattle.eve_grammar.specs.Trace.{Step as StepValue};
-ghost use Rattle.eve_frames.specs.Said.{commit_said, rollback_said, transfer_said};
+ghost use Rattle.eve_frames.specs.Decoded.{commit_decoded, rollback_decoded, transfer_decoded};
 ghost use Rattle.eve_views.specs.Form.{IfFound, IsLeast, HasNone, IsFaultSomewhere};
 ghost use Rattle.eve_views.specs.StepKinds.{IsStep};
 ghost use Rattle.eve_views.specs.declared.fault.CheckFault.TheVariants.{Memory};
 ghost use Rattle.eve_history.specs.SectionHistory.{section_histories, IsRightSection};
 ghost use Rattle.eve_votes.specs.Votes.{IsDecided, IsRolledBack};
 ghost use Rattle.eve_agree.specs.Majority.{SomeDecided, IsBacked, IsBackedSection, AllAreBacked, StandsInMajorities};
-ghost use Rattle.eve_agree.specs.Unbacked.{HasRoom, IsUnbacked, IsFirstUnbackedIn};
+ghost use Rattle.eve_agree.specs.inner.Unbacked.{HasRoom, IsUnbacked, IsFirstUnbackedIn};
 
 use eve_frames::{CommitView, RollbackView, TransferView};
 use eve_history::{History, recall_all_right};
@@ -18,36 +18,39 @@ use eve_views::{CheckFault, Code, Fault, Step, Trace, first_of};
 use eve_votes::Tally;
 
 /// Whether a majority decided what is committed: the batch, in that view, with that token.
+/// F72 NoMajority.
 fn is_decided(tally: &Tally<'_, '_>, commit: &CommitView<'_>) -> bool
-    ensures { IsTrue result ↔ IsDecided tally.now (commit_said commit.now).seq
-        (commit_said commit.now).view (commit_said commit.now).token }
+    ensures { IsTrue result ↔ IsDecided tally.now (commit_decoded commit.now).seq
+        (commit_decoded commit.now).view (commit_decoded commit.now).token }
 {
     let decided = tally.decided(commit.seq());
     match &decided {
-        Some(said) => said.0 == commit.view() && said.1.as_slice() == commit.token(),
+        Some(decision) => decision.0 == commit.view() && decision.1.as_slice() == commit.token(),
         None => false,
     }
 }
 
 /// Whether a majority rolled back the batch after the one that a rollback goes back to, in the view before.
+/// F73 RollbackNoMajority.
 fn is_rolled_back(tally: &Tally<'_, '_>, rollback: &RollbackView<'_>) -> bool
-    requires next { (rollback_said rollback.now).to + 1 < 2 ^ 32 }
-    requires view { 1 ≤ (rollback_said rollback.now).view }
-    ensures { IsTrue result ↔ IsRolledBack tally.now ((rollback_said rollback.now).to + 1)
-        ((rollback_said rollback.now).view - 1) }
+    requires next { (rollback_decoded rollback.now).to + 1 < 2 ^ 32 }
+    requires view { 1 ≤ (rollback_decoded rollback.now).view }
+    ensures { IsTrue result ↔ IsRolledBack tally.now ((rollback_decoded rollback.now).to + 1)
+        ((rollback_decoded rollback.now).view - 1) }
 {
     tally.rolled_back(rollback.to() + 1, rollback.view() - 1)
 }
 
-/// Whether a majority decided some commit of the number whose state is taken over, in the state's view.
+/// Whether a majority decided some commit of the number whose state is transferred, in the state's view.
+/// F74 TransferNoMajority.
 fn is_some_decided(tally: &Tally<'_, '_>, transfer: &TransferView<'_>) -> bool
-    ensures { IsTrue result ↔ SomeDecided tally.now (transfer_said transfer.now).seq
-        (transfer_said transfer.now).view }
+    ensures { IsTrue result ↔ SomeDecided tally.now (transfer_decoded transfer.now).seq
+        (transfer_decoded transfer.now).view }
 {
-    let Some(said) = tally.decided(transfer.seq()) else {
+    let Some(decision) = tally.decided(transfer.seq()) else {
         return false;
     };
-    said.0 == transfer.view()
+    decision.0 == transfer.view()
 }
 
 /// What is wrong with a step of a replica: no majority voted for it.

@@ -5,7 +5,7 @@ ghost use Rattle.std.specs.List.{list_all, AllByRecursion};
 ghost use Rattle.eve_smallbank.specs.Chain.{Table};
 ghost use Rattle.eve_smallbank.specs.declared.entry.Entry as noted;
 ghost use Rattle.eve_grammar.specs.Limits.{is_restore, is_rising};
-ghost use Rattle.eve_frames.specs.Said.{rollback_said};
+ghost use Rattle.eve_frames.specs.Decoded.{rollback_decoded};
 ghost use Rattle.eve_views.specs.Form.{IfFound, IsLeast, HasNone, IsFaultIn};
 ghost use Rattle.eve_views.specs.declared.fault.CheckFault.TheVariants.{Found};
 ghost use Rattle.eve_views.specs.declared.fault.Code.TheVariants as code;
@@ -13,7 +13,7 @@ ghost use Rattle.eve_history.specs.SectionHistory.{ExecutedAttempt, section_hist
 ghost use Rattle.eve_chains.specs.Along.{entries_along, AreWithin};
 ghost use Rattle.eve_chains.specs.Sound.{SettledAreSound};
 ghost use Rattle.eve_agree.specs.Tables.{RestoresAreRight, are_written_in};
-ghost use Rattle.eve_agree.specs.Marking.{marking_of, unmarked, marked, noted_between, written_in};
+ghost use Rattle.eve_agree.specs.Marks.{marking_of, unmarked, marked, noted_between, written_in};
 ghost use Rattle.eve_agree.specs.Restores.{StandsInRestores};
 
 use crate::first_seen::FirstSeen;
@@ -62,14 +62,14 @@ fn is_right(
     requires rising { first ≤ end }
     requires there { end ≤ length history.now.attempts }
     requires within { AllByRecursion (λ r. AreWithin (length marks.old) r.ordered) history.now.attempts }
-    requires rows { IsTrue (list_all (is_restore (length marks.old)) (rollback_said rollback.now).restores) }
-    requires restores { IsTrue (is_rising (rollback_said rollback.now).restores) }
+    requires rows { IsTrue (list_all (is_restore (length marks.old)) (rollback_decoded rollback.now).restores) }
+    requires restores { IsTrue (is_rising (rollback_decoded rollback.now).restores) }
     requires none { marking_of marks.old ≡ unmarked }
     ensures as_many { length marks.new ≡ length marks.old }
     ensures right { (table : Table) → marked unmarked (noted_between history.now.attempts first end)
         ≡ written_in table (noted_between history.now.attempts first end)
         → result ≡ are_written_in table (noted_between history.now.attempts first end)
-        (rollback_said rollback.now).restores }
+        (rollback_decoded rollback.now).restores }
     ensures none { IsTrue result → marking_of marks.new ≡ unmarked }
 {
     note_attempts(marks, history, first, end);

@@ -3,15 +3,15 @@
 ghost use Rattle.std.specs.Prelude.{◌≡◌, ◌≤◌, ◌-◌, ◌↔◌, IsTrue, IfOk, IfErr, length};
 ghost use Rattle.std.specs.List.{flat_map};
 ghost use Rattle.eve_smallbank.specs.Spelling.{reply_text};
-ghost use Rattle.eve_frames.specs.Said.{attempt_said};
+ghost use Rattle.eve_frames.specs.Decoded.{attempt_decoded};
 ghost use Rattle.eve_views.specs.Form.{IfFound, IsLeast, HasNone, IsFaultIn};
 ghost use Rattle.eve_history.specs.SectionHistory.{section_history};
-ghost use Rattle.eve_chains.specs.Settling.{settling, HaveSameBalances};
+ghost use Rattle.eve_chains.specs.CommittedValues.{settling, HaveSameBalances};
 ghost use Rattle.eve_agree.specs.DueTokens.{TokensAreDue, IsDueIn, IsFirstWrong, StandsInTokens};
-ghost use Rattle.eve_agree.specs.HashedRows.{balances_in};
-ghost use Rattle.eve_agree.specs.Judging.{IsAfter};
+ghost use Rattle.eve_agree.specs.inner.HashedRows.{balances_in};
+ghost use Rattle.eve_agree.specs.inner.NumbersJudged.{IsAfter};
 ghost use Rattle.eve_agree.specs.ShownTokens.{IsDueReplica};
-ghost use Rattle.eve_agree.specs.Stretches.{AreOfSection};
+ghost use Rattle.eve_agree.specs.inner.Stretches.{AreOfSection};
 
 use crate::agreement::{advance, committed_attempt, has_committed};
 use crate::due_tokens::{answer, wrong_of};
@@ -21,7 +21,7 @@ use eve_chains::Settled;
 use eve_chains::laws::settled_values_are_the_banks;
 use eve_frames::AttemptView;
 use eve_grammar::laws::right_heads_have_limits;
-use eve_history::{History, Landing};
+use eve_history::{History, HowReached};
 use eve_token::laws::replies_are_hashed_as_spelled;
 use eve_views::{CheckFault, Trace};
 use std::alloc::{AllocError, Global};
@@ -53,9 +53,9 @@ fn is_alike(
     requires after { IsAfter settled.now n balances.now }
     requires others_after { IsAfter others_settled.now n others.now }
     requires before { IsTrue before → HaveSameBalances settled.now others_settled.now (n - 1) }
-    ensures { IsTrue result ↔ (((attempt_said attempt.now).token ≡ (attempt_said other.now).token)
-        × (flat_map reply_text (attempt_said attempt.now).replies
-        ≡ flat_map reply_text (attempt_said other.now).replies)
+    ensures { IsTrue result ↔ (((attempt_decoded attempt.now).token ≡ (attempt_decoded other.now).token)
+        × (flat_map reply_text (attempt_decoded attempt.now).replies
+        ≡ flat_map reply_text (attempt_decoded other.now).replies)
         × (balances.now ≡ others.now)) }
 {
     let token = attempt.token() == other.token();
@@ -141,22 +141,22 @@ fn wrong_beside(
     Ok(wrong_of(trace, history, settled, n, rows))
 }
 
-/// Whether the replica took a state over at number n.
-fn took_over(history: &History<'_>, n: u32) -> bool
+/// Whether the replica had a state transferred at number n.
+fn was_transferred(history: &History<'_>, n: u32) -> bool
     requires { 1 ≤ n }
 {
     if history.committed() < n {
         return false;
     }
-    match history.landing(n) {
-        Landing::Attempt(_) => false,
-        Landing::Transfer(_) => true,
-        Landing::Skipped => false,
+    match history.how_reached(n) {
+        HowReached::Attempt(_) => false,
+        HowReached::Transfer(_) => true,
+        HowReached::Skipped => false,
     }
 }
 
 /// Whether the balances of both after number n, from 1, are known to be the same: the peer shows the token there, or
-/// one of both took a state over, which is as long as what is compared, and they are.
+/// one of both had a state transferred, which is as long as what is compared, and they are.
 fn are_known_same(
     history: &History<'_>,
     settled: &Settled<'_>,
@@ -179,7 +179,7 @@ fn are_known_same(
     if peer.settled.committed() < n {
         return false;
     }
-    if !took_over(history, n) && !took_over(peer.history, n) {
+    if !was_transferred(history, n) && !was_transferred(peer.history, n) {
         return false;
     }
     settled.are_same_after(n, balances, peer.settled, others, false)
@@ -187,7 +187,7 @@ fn are_known_same(
 
 /// The offset of the first of a replica's attempts with a token that is not due, of all its committed batches, from the
 /// opening balances of both replicas.
-#[tactic(auto, using(crate::proofs::Stretched::one_more, crate::proofs::Stretched::wrong_first))]
+#[tactic(auto, using(crate::proofs::JoinedStretches::one_more, crate::proofs::JoinedStretches::wrong_first))]
 fn first_wrong_beside(
     alloc: Global,
     trace: &Trace<'_>,
@@ -259,8 +259,8 @@ fn first_beside(
 /// every other batch's balances are hashed, as `tokens` hashes them. It keeps the balances of both replicas and goes
 /// with them from batch to batch, in one thread: after such a batch it is enough to compare of them what the next one
 /// wrote. After another batch version 1 compares all balances at the next one that both committed alike. In version 2
-/// they are hashed from there on, until one of both takes a state over: there all balances are compared, which are no
-/// more than the state has. Refused memory decides nothing.
+/// they are hashed from there on, until one of both has a state transferred: there all balances are compared, which are
+/// no more than the state has. Refused memory decides nothing.
 pub fn tokens_beside(
     alloc: Global,
     trace: &Trace<'_>,

@@ -3,12 +3,12 @@
 ghost use Rattle.std.specs.Prelude.{◌≡◌, ◌≤◌, ◌<◌, ◌*◌, ◌↔◌, IsTrue, IfOk, IfSome, IfNone, length};
 ghost use Rattle.std.specs.List.{list_all, AllByRecursion};
 ghost use Rattle.eve_grammar.specs.Limits.{is_restore};
-ghost use Rattle.eve_frames.specs.Said.{rollback_said};
+ghost use Rattle.eve_frames.specs.Decoded.{rollback_decoded};
 ghost use Rattle.eve_views.specs.declared.fault.Code.TheVariants as code;
 ghost use Rattle.eve_history.specs.SectionHistory.{section_history};
 ghost use Rattle.eve_chains.specs.Along.{AreWithin};
 ghost use Rattle.eve_chains.specs.Faults.{HasNoFault};
-ghost use Rattle.eve_agree.specs.Marking.{marking_of, unmarked, marked, noted_between};
+ghost use Rattle.eve_agree.specs.Marks.{marking_of, unmarked, marked, noted_between};
 ghost use Rattle.eve_agree.specs.Restores.{StandsInRestores, restores_by_row, IsFirstWrongRow, IsWrongRestore};
 
 use crate::first_seen::FirstSeen;
@@ -82,12 +82,12 @@ fn wrong_at(
     requires there { end ≤ length history.now.attempts }
     requires within { AllByRecursion (λ r. AreWithin (2 * length trace.now.customers) r.ordered) history.now.attempts }
     requires rows { IsTrue (list_all (is_restore (2 * length trace.now.customers))
-        (rollback_said rollback.now).restores) }
+        (rollback_decoded rollback.now).restores) }
     ensures some { IfOk result (λ x. IfSome x (λ w. (rollback.now.offset ≡ at)
-        × IsFirstWrongRow (restores_by_row (rollback_said rollback.now).restores)
+        × IsFirstWrongRow (restores_by_row (rollback_decoded rollback.now).restores)
         (marked unmarked (noted_between history.now.attempts first end)) w)) }
     ensures none { IfOk result (λ x. IfNone x (rollback.now.offset ≡ at
-        → restores_by_row (rollback_said rollback.now).restores
+        → restores_by_row (rollback_decoded rollback.now).restores
         ≡ marked unmarked (noted_between history.now.attempts first end))) }
 {
     if rollback.offset() != at {

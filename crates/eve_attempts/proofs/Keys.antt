@@ -10,33 +10,34 @@ use Rattle.std.proofs.lemmas.Bool.{ltb-false, eqb-false, false≢true}
 use Rattle.std.specs.List.{AllByRecursion}
 use Rattle.std.proofs.lemmas.List.{length_push}
 use Rattle.eve_stamps.specs.Applied.{Applied}
-use Rattle.eve_attempts.specs.Ordering.{Key, keys_from, no_record, record_of, records_in, IsKeyOf, IsNoLaterRecord}
-use Rattle.eve_attempts.specs.Ordering.{TicksDontFall}
+use Rattle.eve_attempts.specs.inner.RecordKeys.{Key, keys_from, no_record, record_of, records_in, IsKeyOf}
+use Rattle.eve_attempts.specs.inner.RecordKeys.{IsNoLaterRecord}
+use Rattle.eve_attempts.specs.inner.RecordKeys.{TicksDontFall}
 
-longer : (front rs : List Applied) (r : Applied) → length front < length (front ++ r ∷ rs)
+longer : (prefix rs : List Applied) (r : Applied) → length prefix < length (prefix ++ r ∷ rs)
 longer [] rs r = omega arith
-longer (x ∷ front) rs r = let h = longer front rs r in omega arith
+longer (x ∷ prefix) rs r = let h = longer prefix rs r in omega arith
 
--- the records of the keys of the records after a front
-pub records_of_keys : (front rs : List Applied) → records_in (front ++ rs) (keys_from (length front) rs) ≡ rs
-records_of_keys front [] = refl
-records_of_keys front (r ∷ rs) =
-    ap₂ (λ (x : Applied) (xs : List Applied). x ∷ xs) (get_or-append_seam front r rs no_record)
-    (ap₂ (λ (all : List Applied) (n : ℕ). records_in all (keys_from n rs)) (sym (append_assoc front (r ∷ []) rs))
-    (sym (length_push front r)) ∙ records_of_keys (front ++ r ∷ []) rs)
+-- the records of the keys of the records after a prefix
+pub records_of_keys : (prefix rs : List Applied) → records_in (prefix ++ rs) (keys_from (length prefix) rs) ≡ rs
+records_of_keys prefix [] = refl
+records_of_keys prefix (r ∷ rs) =
+    ap₂ (λ (x : Applied) (xs : List Applied). x ∷ xs) (get_or-append_seam prefix r rs no_record)
+    (ap₂ (λ (all : List Applied) (n : ℕ). records_in all (keys_from n rs)) (sym (append_assoc prefix (r ∷ []) rs))
+    (sym (length_push prefix r)) ∙ records_of_keys (prefix ++ r ∷ []) rs)
 
-pub are_keys : (front rs : List Applied) → AllByRecursion (IsKeyOf (front ++ rs)) (keys_from (length front) rs)
-are_keys front [] = tt
-are_keys front (r ∷ rs) = (
+pub are_keys : (prefix rs : List Applied) → AllByRecursion (IsKeyOf (prefix ++ rs)) (keys_from (length prefix) rs)
+are_keys prefix [] = tt
+are_keys prefix (r ∷ rs) = (
   record {
-    there = longer front rs r;
-    tick = ap (λ (x : Applied). x.tick) (sym (get_or-append_seam front r rs no_record));
-    index = ap (λ (x : Applied). x.index) (sym (get_or-append_seam front r rs no_record));
+    there = longer prefix rs r;
+    tick = ap (λ (x : Applied). x.tick) (sym (get_or-append_seam prefix r rs no_record));
+    index = ap (λ (x : Applied). x.index) (sym (get_or-append_seam prefix r rs no_record));
   },
-  subst (λ (all : List Applied). AllByRecursion (IsKeyOf all) (keys_from (length front + 1) rs))
-      (append_assoc front (r ∷ []) rs)
-      (subst (λ (n : ℕ). AllByRecursion (IsKeyOf ((front ++ r ∷ []) ++ rs)) (keys_from n rs)) (length_push front r)
-      (are_keys (front ++ r ∷ []) rs)),
+  subst (λ (all : List Applied). AllByRecursion (IsKeyOf all) (keys_from (length prefix + 1) rs))
+      (append_assoc prefix (r ∷ []) rs)
+      (subst (λ (n : ℕ). AllByRecursion (IsKeyOf ((prefix ++ r ∷ []) ++ rs)) (keys_from n rs)) (length_push prefix r)
+      (are_keys (prefix ++ r ∷ []) rs)),
 )
 
 -- ---- sorted keys

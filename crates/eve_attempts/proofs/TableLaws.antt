@@ -21,9 +21,9 @@ use Rattle.eve_grammar.specs.Limits.{is_entry}
 use Rattle.eve_grammar.proofs.EntryLimits.{row_there}
 use Rattle.eve_stamps.specs.Applied.{Applied}
 use Rattle.eve_attempts.specs.Ledgers.{Rows, Opened, table_of_rows, values_before, writes_in, is_write_in, AreLaid}
-use Rattle.eve_attempts.specs.KeptRows.{KeptRows}
-use Rattle.eve_attempts.specs.Closing.{executed, entries_in_order, writes_along}
-use Rattle.eve_attempts.specs.Ordering.{AreSeenAlong, table_after_records}
+use Rattle.eve_attempts.specs.inner.KeptRows.{KeptRows}
+use Rattle.eve_attempts.specs.ClosedAttempts.{executed, entries_in_order, writes_along}
+use Rattle.eve_attempts.specs.inner.RecordKeys.{AreSeenAlong, table_after_records}
 
 -- ---- rows as tables
 

@@ -1,4 +1,4 @@
--- A replica's own account of its rows, and of what is open on them. docs/MODEL.md, "Section state, fate".
+-- A replica's own ledger of its rows, and of what is open on them. docs/MODEL.md, "Section state, fate".
 use Rattle.std.specs.Prelude.{◌≡◌, ℕ, ℤ, ◌+◌, ◌^◌, ◌<◌, ◌≤◌, Bool, false, ◌&&◌, IsTrue, if◌then◌else◌, List, [], ◌∷◌}
 use Rattle.std.specs.Prelude.{length, replicate, slice_index_or}
 use Rattle.std.specs.List.{flat_map, list_all}

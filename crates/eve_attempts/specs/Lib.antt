@@ -1,9 +1,6 @@
 pub mod Ledgers
-pub mod Closing
-pub mod Discarding
-pub mod Holding
-pub mod Ordering
-pub mod Taking
-pub mod Restoring
-pub mod KeptRows
-pub mod TakingOver
+pub mod ClosedAttempts
+pub mod CommitsAndRollbacks
+pub mod HeldLedgers
+pub mod Transfers
+pub mod inner

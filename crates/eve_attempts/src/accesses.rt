@@ -1,7 +1,7 @@
 //! Whether records may stand as an attempt's access frames.
 
 ghost use Rattle.std.specs.Prelude.{◌≡◌, ◌≤◌, [], map, length};
-ghost use Rattle.eve_attempts.specs.Closing.{access_noted, are_right_records};
+ghost use Rattle.eve_attempts.specs.ClosedAttempts.{access_noted, are_right_records};
 
 use eve_grammar::MOST_REQUESTS;
 use eve_stamps::AccessRecord;

@@ -1,4 +1,4 @@
-//! A replica's own account of its rows.
+//! A replica's own ledger of its rows.
 
 ghost use Rattle.std.specs.Prelude.{◌≡◌, ◌<◌, ◌≤◌, ◌+◌, ◌-◌, ◌^◌, ◌↔◌, ◌⊎◌, ℕ, List, length, slice_get, option_map};
 ghost use Rattle.std.specs.Prelude.{Some, IsTrue, IfOk, OnErr, IsOk, Err};
@@ -7,13 +7,13 @@ ghost use Rattle.eve_grammar.specs.Bodies.{transfer};
 ghost use Rattle.eve_token.specs.Token.{rows_root};
 ghost use Rattle.eve_write.specs.Data.{batch as plain, attempt, commit, rollback};
 ghost use Rattle.eve_attempts.specs.Ledgers.{IsLedger, opening, ledger_rows};
-ghost use Rattle.eve_attempts.specs.Closing.{touched_in_batch, worker_limit, Closes, AreMismatched};
-ghost use Rattle.eve_attempts.specs.Discarding.{Commits, RollsBack};
-ghost use Rattle.eve_attempts.specs.TakingOver.{IsStateOf, TakesOver};
+ghost use Rattle.eve_attempts.specs.ClosedAttempts.{touched_in_batch, worker_limit, Closes, AreMismatched};
+ghost use Rattle.eve_attempts.specs.CommitsAndRollbacks.{Commits, RollsBack};
+ghost use Rattle.eve_attempts.specs.Transfers.{IsStateOf, Transfers};
 
 use crate::fault::{CloseFault, NotDue, NotOpen};
-use crate::front::AttemptFront;
 use crate::opened::OpenAttempt;
+use crate::prefix::AttemptPrefix;
 use crate::replies::view_fits;
 use crate::restores::{restore_all, undo_all, written_rows};
 use crate::rows::Rows;
@@ -48,7 +48,7 @@ impl Model for Ledger {
 
     ghost Value = { model.Ledger };
 
-    ghost use Rattle.eve_attempts.specs.Holding.{ledger_of};
+    ghost use Rattle.eve_attempts.specs.HeldLedgers.{ledger_of};
 
     ghost view = { ledger_of };
 
@@ -194,28 +194,28 @@ impl Ledger {
     pub fn close(
         &mut self,
         alloc: Global,
-        front: AttemptFront,
+        prefix: AttemptPrefix,
         batch: &BatchData,
         touched: &[Touched],
         records: &[AccessRecord],
     ) -> Result<AttemptData, CloseFault>
-        requires seq { front.seq ≡ self.old.committed + 1 + length self.old.opened }
-        requires last { front.seq ≤ MOST_BATCHES }
+        requires seq { prefix.seq ≡ self.old.committed + 1 + length self.old.opened }
+        requires last { prefix.seq ≤ MOST_BATCHES }
         requires room { length self.old.opened < self.old.window }
-        requires view { front.view ≡ self.old.view }
-        requires serial { front.serial ≡ self.old.is_next_serial }
+        requires view { prefix.view ≡ self.old.view }
+        requires serial { prefix.serial ≡ self.old.is_next_serial }
         requires batch { IsTrue (is_batch (plain batch.now)) }
         requires touched { (names : List (List ℕ)) × (touched.now ≡ touched_in_batch names (plain batch.now)) }
         ensures closed { IfOk result (λ a.
-            Closes front self.old self.new (plain batch.now) touched.now records.now (attempt a)) }
+            Closes prefix self.old self.new (plain batch.now) touched.now records.now (attempt a)) }
         ensures mismatch { result ≡ Err CloseFault.Mismatch
-            → AreMismatched front self.old (plain batch.now) touched.now records.now }
+            → AreMismatched prefix self.old (plain batch.now) touched.now records.now }
         ensures refused { OnErr result (self.new ≡ self.old) }
     {
-        view_fits(front.view);
-        let workers = self.workers_for(front.serial);
+        view_fits(prefix.view);
+        let workers = self.workers_for(prefix.serial);
         let rows = self.rows.len();
-        let mut taken = take(alloc, workers, front.serial, rows, batch, touched, records)?;
+        let mut taken = take(alloc, workers, prefix.serial, rows, batch, touched, records)?;
         if self.opened.reserve(1).is_err() {
             return Err(CloseFault::Memory);
         }
@@ -223,18 +223,18 @@ impl Ledger {
         if !write_along(&mut self.rows, records, order, &mut taken.written) {
             return Err(CloseFault::Mismatch);
         }
-        let token = self.rows.token(front.seq, taken.replies.as_slice());
+        let token = self.rows.token(prefix.seq, taken.replies.as_slice());
         token_fits(&token);
         self.opened.push_reserved(OpenAttempt {
-            view: front.view,
+            view: prefix.view,
             token,
             written: taken.written,
         });
         self.is_next_serial = false;
         Ok(AttemptData {
-            seq: front.seq,
-            view: front.view,
-            serial: front.serial,
+            seq: prefix.seq,
+            view: prefix.view,
+            serial: prefix.serial,
             certificate: taken.certificate,
             replies: taken.replies,
             token,
@@ -291,10 +291,10 @@ impl Ledger {
     ///
     /// docs/MODEL.md, "Section state, fate". `NotDue` comes where the state is of no later batch or of an earlier view,
     /// and changes nothing.
-    pub fn take_over(&mut self, state: &TransferData) -> Result<(), NotDue>
+    pub fn apply_transfer(&mut self, state: &TransferData) -> Result<(), NotDue>
         requires rows { length state.now.rows.items ≡ ledger_rows self.old }
         requires few { ledger_rows self.old ≤ MOST_ROWS }
-        ensures taken { IfOk result (λ _. TakesOver (transfer state.now) self.old self.new) }
+        ensures taken { IfOk result (λ _. Transfers (transfer state.now) self.old self.new) }
         ensures due { IsOk result
             ↔ ((self.old.committed < state.now.seq) × (self.old.view ≤ state.now.view)) }
         ensures refused { OnErr result (self.new ≡ self.old) }

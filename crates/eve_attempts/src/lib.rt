@@ -4,13 +4,13 @@
 
 mod accesses;
 mod fault;
-mod front;
 mod groups;
 pub mod laws;
 mod ledger;
 mod noted;
 mod opened;
 mod order;
+mod prefix;
 mod replies;
 mod restores;
 mod rows;
@@ -18,5 +18,5 @@ mod taken;
 mod walk;
 
 pub use fault::{CloseFault, NotDue, NotOpen};
-pub use front::AttemptFront;
 pub use ledger::Ledger;
+pub use prefix::AttemptPrefix;

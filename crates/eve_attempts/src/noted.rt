@@ -6,7 +6,7 @@ ghost use Rattle.std.specs.List.{list_all, AllByRecursion};
 ghost use Rattle.eve_smallbank.specs.Access.{Fits};
 ghost use Rattle.eve_grammar.specs.Limits.{is_access, is_batch};
 ghost use Rattle.eve_write.specs.Data.{batch as plain};
-ghost use Rattle.eve_attempts.specs.Closing.{touched_in_batch, access_noted, executed, AreNoted};
+ghost use Rattle.eve_attempts.specs.ClosedAttempts.{touched_in_batch, access_noted, executed, AreNoted};
 
 use crate::accesses::are_right_accesses;
 use crate::groups::count_of;

@@ -3,7 +3,7 @@
 ghost use Rattle.std.specs.Prelude.{◌≡◌, ◌≤◌, ◌<◌, IfOk, length, map};
 ghost use Rattle.std.specs.List.{AllByRecursion};
 ghost use Rattle.std.specs.List.Sorted.{IsPermutation};
-ghost use Rattle.eve_attempts.specs.Ordering.{keys_from, IsKeyOf, records_in, TicksDontFall};
+ghost use Rattle.eve_attempts.specs.inner.RecordKeys.{keys_from, IsKeyOf, records_in, TicksDontFall};
 
 use eve_grammar::MOST_REQUESTS;
 use eve_stamps::AccessRecord;

@@ -4,8 +4,8 @@ ghost use Rattle.std.specs.Prelude.{◌≡◌, ◌<◌, IsTrue, IfOk, length, ma
 ghost use Rattle.std.specs.List.{list_all, AllByRecursion};
 ghost use Rattle.eve_smallbank.specs.declared.request.Reply.TheVariants.{Done};
 ghost use Rattle.eve_grammar.specs.Limits.{is_number, is_reply};
-ghost use Rattle.eve_attempts.specs.Closing.{access_noted};
-ghost use Rattle.eve_attempts.specs.Ordering.{replies_placed};
+ghost use Rattle.eve_attempts.specs.ClosedAttempts.{access_noted};
+ghost use Rattle.eve_attempts.specs.inner.RecordKeys.{replies_placed};
 
 use eve_grammar::reply_fits;
 use eve_smallbank::Reply;

@@ -4,8 +4,8 @@ ghost use Rattle.std.specs.Prelude.{◌≡◌, ◌<◌, ◌≤◌, ◌++◌, [],
 ghost use Rattle.std.specs.List.{list_all, AllByRecursion};
 ghost use Rattle.std.specs.List.Sorted.{IsPermutation, IsNonDecreasing};
 ghost use Rattle.eve_attempts.specs.Ledgers.{table_of_rows, values_before, is_write_in, writes_in};
-ghost use Rattle.eve_attempts.specs.Discarding.{restore_in};
-ghost use Rattle.eve_attempts.specs.Restoring.{entry_rows, rising_from};
+ghost use Rattle.eve_attempts.specs.CommitsAndRollbacks.{restore_in};
+ghost use Rattle.eve_attempts.specs.inner.RestoredRows.{entry_rows, rising_from};
 
 use crate::opened::OpenAttempt;
 use crate::rows::Rows;

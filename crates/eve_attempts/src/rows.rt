@@ -6,8 +6,8 @@ ghost use Rattle.std.specs.List.{list_all, AllByRecursion};
 ghost use Rattle.eve_smallbank.specs.Chain.{Sees, table_after};
 ghost use Rattle.eve_grammar.specs.Limits.{is_entry};
 ghost use Rattle.eve_attempts.specs.Ledgers.{rows_at_first, table_of_rows, values_before, is_write_in};
-ghost use Rattle.eve_attempts.specs.Discarding.{restore_in};
-ghost use Rattle.eve_attempts.specs.TakingOver.{rows_of_state};
+ghost use Rattle.eve_attempts.specs.CommitsAndRollbacks.{restore_in};
+ghost use Rattle.eve_attempts.specs.Transfers.{rows_of_state};
 ghost use Rattle.eve_token.specs.Token.{token_of, rows_root};
 
 use eve_accounts::{Balances, Row};
@@ -27,7 +27,7 @@ pub struct Rows {
 
 impl Model for Rows {
     ghost use Rattle.std.specs.Prelude.{◌≡◌, length};
-    ghost use Rattle.eve_attempts.specs.KeptRows.{KeptRows};
+    ghost use Rattle.eve_attempts.specs.inner.KeptRows.{KeptRows};
 
     ghost Value = { KeptRows };
 

@@ -6,8 +6,8 @@ ghost use Rattle.eve_grammar.specs.Limits.{is_batch};
 ghost use Rattle.eve_grammar.specs.Certificate.{is_certificate};
 ghost use Rattle.eve_write.specs.Data.{batch as plain};
 ghost use Rattle.eve_stamps.specs.Applied.{Applied};
-ghost use Rattle.eve_attempts.specs.Closing.{touched_in_batch, indexes_of, AreNoted, IsByTicks};
-ghost use Rattle.eve_attempts.specs.Taking.{IsTakenOf};
+ghost use Rattle.eve_attempts.specs.ClosedAttempts.{touched_in_batch, indexes_of, AreNoted, IsByTicks};
+ghost use Rattle.eve_attempts.specs.inner.AttemptParts.{IsTakenOf};
 
 use crate::fault::CloseFault;
 use crate::groups::groups_of;

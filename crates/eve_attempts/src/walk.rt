@@ -8,8 +8,8 @@ ghost use Rattle.eve_smallbank.specs.Access.{is_write};
 ghost use Rattle.eve_smallbank.specs.Chain.{table_after};
 ghost use Rattle.eve_grammar.specs.Limits.{is_entry, is_access};
 ghost use Rattle.eve_attempts.specs.Ledgers.{table_of_rows, is_write_in, values_before};
-ghost use Rattle.eve_attempts.specs.Closing.{access_noted, writes_along};
-ghost use Rattle.eve_attempts.specs.Ordering.{IsKeyOf, records_in, AreSeenAlong, table_after_records};
+ghost use Rattle.eve_attempts.specs.ClosedAttempts.{access_noted, writes_along};
+ghost use Rattle.eve_attempts.specs.inner.RecordKeys.{IsKeyOf, records_in, AreSeenAlong, table_after_records};
 
 use crate::order::Key;
 use crate::rows::Rows;

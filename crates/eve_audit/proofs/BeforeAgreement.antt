@@ -2,7 +2,7 @@
 use Rattle.std.proofs.Common.{◌≡◌, ℕ, ◌<◌, List, length, arith}
 use Rattle.eve_grammar.specs.Trace.{Trace}
 use Rattle.eve_grammar.specs.Limits.{HasLimits}
-use Rattle.eve_grammar.specs.Following.{Spells}
+use Rattle.eve_grammar.specs.FrameOrder.{Spells}
 use Rattle.eve_views.specs.Code.{phase_of}
 use Rattle.eve_views.specs.Form.{HasNone}
 use Rattle.eve_views.specs.declared.fault.Fault.{Fault}
@@ -10,7 +10,7 @@ use Rattle.eve_audit.specs.Verdict.{IsFirst, in_trace, IsOwnFault, IsTraceFault,
 use Rattle.eve_audit.specs.Verdict.{of_votes, of_majorities}
 use Rattle.eve_audit.specs.Reports.{IsSoundToAgreement}
 use Rattle.eve_audit.proofs.Phases.{vote_phase, majority_phase}
-use Rattle.eve_audit.proofs.Firsts.{own_phase}
+use Rattle.eve_audit.proofs.FirstFaults.{own_phase}
 use Rattle.eve_audit.proofs.Faultless.{Laws, all_sound, votes_hold, steps_backed}
 
 module _ (laws : Laws) (bytes : List ℕ) (t : Trace) (f : Fault) (limits : HasLimits t) (spells : Spells bytes t)

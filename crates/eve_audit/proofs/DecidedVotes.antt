@@ -5,9 +5,9 @@ use Rattle.std.proofs.lemmas.Option.{slice_get_within, get_or_from_slice_get}
 use Rattle.eve_grammar.specs.Trace.{Choice, ForRollback, ForCommit, Vote, Trace}
 use Rattle.eve_grammar.specs.Spelling.{votes_of}
 use Rattle.eve_votes.specs.Votes.{IsDecided, backers}
-use Rattle.eve_votes.specs.VotedFor.{IsVotedFor}
+use Rattle.eve_votes.specs.inner.VotedFor.{IsVotedFor}
 use Rattle.eve_agree.specs.Majority.{SomeDecided}
-use Rattle.eve_audit.proofs.Deciding.{Decided, decided_both, decided_as, below_or_none, numbers}
+use Rattle.eve_audit.proofs.Decidability.{Decided, decided_both, decided_as, below_or_none, numbers}
 
 -- each commit that is decided has a vote for it
 abbrev pub HaveVotes : Trace → Type 0

@@ -1,5 +1,5 @@
--- Public: other crates cite these lemmas. What was committed or taken over a majority decided, and what was rolled back
--- a majority rolled back.
+-- Public: other crates cite these lemmas. What was committed or transferred a majority decided, and what was rolled
+-- back a majority rolled back.
 use Rattle.std.proofs.Common.{◌≡◌, ℕ, zero, suc, ◌+◌, ◌-◌, ◌<◌, ◌==◌, true, List, [], ◌∷◌, ◌++◌, length, length-append}
 use Rattle.std.proofs.Common.{slice_get, None, Some, refl, sym, ap, subst, ◌∙◌, ◌⊎◌, inl, inr, arith}
 use Rattle.std.specs.Prelude.{nat_lt, replicate}
@@ -8,24 +8,25 @@ use Rattle.std.specs.Cmp.Lexicographic.{same_text, pointwise}
 use Rattle.std.proofs.lemmas.Bool.{and_parts, eqb-true, ltb-true}
 use Rattle.std.proofs.lemmas.List.{length-replicate}
 use Rattle.std.proofs.lemmas.Option.{same_Some}
-use Rattle.eve_grammar.specs.Trace.{Commit, Rollback, Transfer, Step, Attempts, Commits, RollsBack, TakesOver, Trace}
+use Rattle.eve_grammar.specs.Trace.{Commit, Rollback, Transfer, Step, Attempts, Commits, RollsBack, Transfers, Trace}
 use Rattle.eve_grammar.specs.Spelling.{steps_at}
-use Rattle.eve_history.specs.Section.{Placed, Landing, ByAttempt, ByTransfer, Skipped, SectionState, start, committing}
-use Rattle.eve_history.specs.Section.{taking_over, next, state_after, commits_first, is_right, are_right}
+use Rattle.eve_history.specs.Section.{Placed, HowReached, ByAttempt, ByTransfer, Skipped, SectionState, start}
+use Rattle.eve_history.specs.Section.{committing}
+use Rattle.eve_history.specs.Section.{after_transfer, next, state_after, commits_first, is_right, are_right}
 use Rattle.eve_history.specs.SectionHistory.{history, attempt_by, committed_at, IsRightSection}
 use Rattle.eve_votes.specs.Votes.{IsDecided, IsRolledBack}
 use Rattle.eve_agree.specs.Majority.{SomeDecided, IsBacked}
-use Rattle.eve_audit.proofs.Reached.{none_there, each_at}
+use Rattle.eve_audit.proofs.NumberLaws.{none_there, each_at}
 
 -- ---- along a section
 
 -- the view and token of each attempt by which a number was reached are decided for that number
-abbrev AreDecided : Trace → List Landing → Type 0
+abbrev AreDecided : Trace → List HowReached → Type 0
 AreDecided t ls = (n : ℕ) (p : Placed) → attempt_by (slice_get ls n) ≡ Some p
     → IsDecided t (suc n) p.attempt.view p.attempt.token
 
 -- what stands in a list with one more at its end
-pushed : (ls : List Landing) (q : Placed) (n : ℕ) (p : Placed)
+pushed : (ls : List HowReached) (q : Placed) (n : ℕ) (p : Placed)
     → attempt_by (slice_get (ls ++ ByAttempt q ∷ []) n) ≡ Some p
     → (attempt_by (slice_get ls n) ≡ Some p) ⊎ ((length ls ≡ n) × (q ≡ p))
 pushed [] q zero p at = inr (refl, same_Some q p at)
@@ -34,7 +35,7 @@ pushed (l ∷ ls) q zero p at = inl at
 pushed (l ∷ ls) q (suc n) p at =
     elim (pushed ls q n p at) [ inl there ↦ inl there | inr here ↦ inr (ap suc here.0, here.1) ]
 
-decided-push : (t : Trace) (ls : List Landing) (q : Placed) → AreDecided t ls
+decided-push : (t : Trace) (ls : List HowReached) (q : Placed) → AreDecided t ls
     → IsDecided t (suc (length ls)) q.attempt.view q.attempt.token → AreDecided t (ls ++ ByAttempt q ∷ [])
 decided-push t ls q decided last n p at = elim (pushed ls q n p at) [
   | inl there ↦ decided n p there
@@ -44,8 +45,8 @@ decided-push t ls q decided last n p at = elim (pushed ls q n p at) [
 ]
 
 record IsDecidedTo (t : Trace) (s : SectionState) : Type 0 where
-  decided : AreDecided t s.landings
-  last : s.last ≡ length s.landings
+  decided : AreDecided t s.each_reached
+  last : s.last ≡ length s.each_reached
 
 decided_committing : (t : Trace) (s : SectionState) (c : Commit) (pending : List Placed) → c.seq ≡ s.last + 1
     → commits_first pending c ≡ true → IsDecided t c.seq c.view c.token
@@ -56,47 +57,47 @@ decided_committing t s c (p ∷ ps) number first by holds =
     let view = eqb-true p.attempt.view c.view parts.0 in
     let token = same_text p.attempt.token c.token (sym parts.1) in
     record {
-      decided = decided-push t s.landings p holds.decided
+      decided = decided-push t s.each_reached p holds.decided
           (subst (λ n. IsDecided t n p.attempt.view p.attempt.token)
-          (number ∙ place s.last (length s.landings) holds.last)
+          (number ∙ place s.last (length s.each_reached) holds.last)
           (subst (λ v. IsDecided t c.seq v p.attempt.token) (sym view)
           (subst (IsDecided t c.seq c.view) (sym token) by)));
-      last = one_more s.last s.landings holds.last;
+      last = one_more s.last s.each_reached holds.last;
     }
   where
     place : (n m : ℕ) → n ≡ m → n + 1 ≡ suc m
     place n m e = omega arith
 
-    one_more : (n : ℕ) (ls : List Landing) → n ≡ length ls → n + 1 ≡ length (ls ++ ByAttempt p ∷ [])
+    one_more : (n : ℕ) (ls : List HowReached) → n ≡ length ls → n + 1 ≡ length (ls ++ ByAttempt p ∷ [])
     one_more n ls h = simp length-append (omega arith)
 
--- where a state is taken over, no number more is reached by an attempt
-no_attempt_taken : (skipped at : ℕ) (x : Transfer) (n : ℕ)
+-- where a state is transferred, no number more is reached by an attempt
+no_attempt_transferred : (skipped at : ℕ) (x : Transfer) (n : ℕ)
     → attempt_by (slice_get (replicate skipped Skipped ++ ByTransfer at x ∷ []) n) ≡ None
-no_attempt_taken zero at x zero = refl
-no_attempt_taken zero at x (suc n) = refl
-no_attempt_taken (suc skipped) at x zero = refl
-no_attempt_taken (suc skipped) at x (suc n) = no_attempt_taken skipped at x n
+no_attempt_transferred zero at x zero = refl
+no_attempt_transferred zero at x (suc n) = refl
+no_attempt_transferred (suc skipped) at x zero = refl
+no_attempt_transferred (suc skipped) at x (suc n) = no_attempt_transferred skipped at x n
 
-none_pushed : (ls more : List Landing) → ((n : ℕ) → attempt_by (slice_get more n) ≡ None) → (n : ℕ) (p : Placed)
+none_pushed : (ls more : List HowReached) → ((n : ℕ) → attempt_by (slice_get more n) ≡ None) → (n : ℕ) (p : Placed)
     → attempt_by (slice_get (ls ++ more) n) ≡ Some p → attempt_by (slice_get ls n) ≡ Some p
 none_pushed [] more none n p at = none_there p (sym (none n) ∙ at)
 none_pushed (l ∷ ls) more none zero p at = at
 none_pushed (l ∷ ls) more none (suc n) p at = none_pushed ls more none n p at
 
-decided_taking : (t : Trace) (s : SectionState) (at : ℕ) (x : Transfer) → s.last < x.seq → IsDecidedTo t s
-    → IsDecidedTo t (taking_over s at x)
-decided_taking t s at x above holds = record {
+decided_transferring : (t : Trace) (s : SectionState) (at : ℕ) (x : Transfer) → s.last < x.seq → IsDecidedTo t s
+    → IsDecidedTo t (after_transfer s at x)
+decided_transferring t s at x above holds = record {
   decided = λ n p there. holds.decided n p
-      (none_pushed s.landings (replicate (x.seq - (s.last + 1)) Skipped ++ ByTransfer at x ∷ [])
-      (no_attempt_taken (x.seq - (s.last + 1)) at x) n p there);
-  last = as_many s.landings s.last x.seq holds.last above;
+      (none_pushed s.each_reached (replicate (x.seq - (s.last + 1)) Skipped ++ ByTransfer at x ∷ [])
+      (no_attempt_transferred (x.seq - (s.last + 1)) at x) n p there);
+  last = as_many s.each_reached s.last x.seq holds.last above;
 }
   where
-    as_many : (ls : List Landing) (last seq : ℕ) → last ≡ length ls → last < seq
+    as_many : (ls : List HowReached) (last seq : ℕ) → last ≡ length ls → last < seq
         → seq ≡ length (ls ++ (replicate (seq - (last + 1)) Skipped ++ ByTransfer at x ∷ []))
     as_many ls last seq count above =
-        let skipped : List Landing = replicate (seq - (last + 1)) Skipped in
+        let skipped : List HowReached = replicate (seq - (last + 1)) Skipped in
         let long : length skipped ≡ seq - (last + 1) = length-replicate (seq - (last + 1)) Skipped in
         omega (
           arith,
@@ -114,8 +115,8 @@ decided_next t s (at, Commits c) right backed holds =
     let parts = and_parts (c.seq == s.last + 1) (commits_first s.pending c) right in
     decided_committing t s c s.pending (eqb-true c.seq (s.last + 1) parts.0) parts.1 backed holds
 decided_next t s (at, RollsBack r) right backed holds = record { decided = holds.decided; last = holds.last }
-decided_next t s (at, TakesOver x) right backed holds =
-    decided_taking t s at x (ltb-true s.last x.seq (and_parts (nat_lt s.last x.seq) _ right).0) holds
+decided_next t s (at, Transfers x) right backed holds =
+    decided_transferring t s at x (ltb-true s.last x.seq (and_parts (nat_lt s.last x.seq) _ right).0) holds
 
 decided_after : (t : Trace) (s : SectionState) (steps : List (ℕ × Step)) → are_right t s steps ≡ true
     → AllByRecursion (λ x. IsBacked t x.1) steps → IsDecidedTo t s
@@ -148,5 +149,5 @@ rollback_backed t steps k at r backed e = each_at (λ x. IsBacked t x.1) steps k
 
 pub transfer_backed : (t : Trace) (steps : List (ℕ × Step)) (k at : ℕ) (x : Transfer)
     → AllByRecursion (λ x. IsBacked t x.1) steps
-    → slice_get steps k ≡ Some (at, TakesOver x) → SomeDecided t x.seq x.view
-transfer_backed t steps k at x backed e = each_at (λ x. IsBacked t x.1) steps k (at, TakesOver x) backed e
+    → slice_get steps k ≡ Some (at, Transfers x) → SomeDecided t x.seq x.view
+transfer_backed t steps k at x backed e = each_at (λ x. IsBacked t x.1) steps k (at, Transfers x) backed e

@@ -5,17 +5,17 @@ use Rattle.std.specs.Prelude.{AllPairs, ◌≢◌}
 use Rattle.eve_smallbank.specs.SmallBank.{Request}
 use Rattle.eve_smallbank.specs.Access.{Executed, Fits}
 use Rattle.eve_smallbank.specs.Chain.{Table}
-use Rattle.eve_smallbank.specs.Seen.{as_seen}
+use Rattle.eve_smallbank.specs.inner.Seen.{as_seen}
 use Rattle.eve_smallbank.specs.Execution.{executed_on}
 use Rattle.eve_grammar.specs.Trace.{Trace}
 use Rattle.eve_grammar.specs.Limits.{HasLimits}
-use Rattle.eve_grammar.specs.Following.{Spells}
+use Rattle.eve_grammar.specs.FrameOrder.{Spells}
 use Rattle.eve_views.specs.declared.fault.Code.TheVariants as code
 use Rattle.eve_history.specs.SectionHistory.{names_of, IsRightSection}
 use Rattle.eve_history.specs.Order.{StandsInOrders}
 use Rattle.eve_history.specs.Structure.{StandsInStructure}
 use Rattle.eve_votes.specs.Votes.{IsDecided}
-use Rattle.eve_votes.specs.VotedFor.{IsVotedFor}
+use Rattle.eve_votes.specs.inner.VotedFor.{IsVotedFor}
 use Rattle.eve_votes.specs.Faults.{AreVotesSound, StandsInVotes}
 use Rattle.eve_chains.specs.Visible.{executed_by}
 use Rattle.eve_chains.specs.Committed.{batch_request_ids}
@@ -32,11 +32,11 @@ use Rattle.eve_views.specs.Form.{HasNone, IsFaultIn, IsFaultOutside, IsFaultSome
 use Rattle.eve_agree.specs.Majority.{AllAreBacked, StandsInMajorities}
 use Rattle.eve_audit.specs.Reports.{IsSoundReplica, IsSoundTogether}
 use Rattle.eve_audit.proofs.Accepted.{no_request_again, accepted_of}
-use Rattle.eve_audit.proofs.Kept.{sound_beyond}
+use Rattle.eve_audit.proofs.KeptReplicas.{sound_beyond}
 use Rattle.eve_audit.proofs.Verdicts.{stands_in_bytes}
 use Rattle.eve_audit.proofs.FittingRecords.{fits_decided}
-use Rattle.eve_audit.proofs.Unfaulted.{records_fit, right_restores, due_tokens}
-use Rattle.eve_audit.proofs.UnfaultedTogether.{all_backed, all_agree, all_replied}
+use Rattle.eve_audit.proofs.ReplicasWithoutFaults.{records_fit, right_restores, due_tokens}
+use Rattle.eve_audit.proofs.TraceWithoutFaults.{all_backed, all_agree, all_replied}
 
 -- what the laws of the crates below say where faults don't stand
 pub record Laws : Type 0 where

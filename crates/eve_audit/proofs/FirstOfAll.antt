@@ -25,13 +25,13 @@ use Rattle.eve_audit.specs.Verdict.{IsOwnFault, of_structure, of_records, of_cha
 use Rattle.eve_audit.specs.Verdict.{IsTraceFault, of_votes, of_majorities, of_agreement, of_replies, in_orders}
 use Rattle.eve_audit.specs.Verdict.{in_section, in_common}
 use Rattle.eve_views.specs.Form.{HasNone, Precedes, IsFaultOutside}
-use Rattle.eve_views.specs.Standing.{StandInOrder}
+use Rattle.eve_views.specs.inner.PartPlaces.{StandInOrder}
 use Rattle.eve_audit.specs.Reports.{IsFirstOf}
 use Rattle.eve_audit.proofs.Sections.{LiesIn, IsLaidOut}
-use Rattle.eve_audit.proofs.Unique.{code_with, with_its_number}
-use Rattle.eve_audit.proofs.Placed.{majority_lies, outcome_lies}
-use Rattle.eve_audit.proofs.Within.{trace_fault_within}
-use Rattle.eve_audit.proofs.Deciding.{Decided, decided_as, decided_both, numbers, below_or_none}
+use Rattle.eve_audit.proofs.OneVerdict.{code_with, with_its_number}
+use Rattle.eve_audit.proofs.FaultPlaces.{majority_lies, outcome_lies}
+use Rattle.eve_audit.proofs.FaultOffsets.{trace_fault_within}
+use Rattle.eve_audit.proofs.Decidability.{Decided, decided_as, decided_both, numbers, below_or_none}
 use Rattle.eve_audit.proofs.DecidedVotes.{HaveVotes}
 use Rattle.eve_audit.proofs.StandingDecided.{orders_decided, votes_decided, replies_decided, structure_decided}
 use Rattle.eve_audit.proofs.StandingDecided.{records_decided, chains_decided, restores_decided, tokens_decided}

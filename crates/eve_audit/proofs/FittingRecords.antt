@@ -4,8 +4,8 @@ use Rattle.eve_smallbank.specs.SmallBank.{Request}
 use Rattle.eve_smallbank.specs.Access.{Executed, Fits}
 use Rattle.eve_smallbank.specs.Chain.{Table}
 use Rattle.eve_smallbank.specs.Execution.{executed_on}
-use Rattle.eve_smallbank.specs.Seen.{as_seen}
-use Rattle.eve_audit.proofs.Deciding.{Decided, decided_both, replies, entry_lists}
+use Rattle.eve_smallbank.specs.inner.Seen.{as_seen}
+use Rattle.eve_audit.proofs.Decidability.{Decided, decided_both, replies, entry_lists}
 
 module _ (fit : (names : List (List ℕ)) (table : Table) (request : Request)
     → Fits names (executed_on names table request))

@@ -12,12 +12,12 @@ use Rattle.eve_smallbank.specs.SmallBank.{Bank, Request, does, run}
 use Rattle.eve_smallbank.specs.Access.{Executed}
 use Rattle.eve_grammar.specs.Trace.{Transfer, Trace}
 use Rattle.eve_history.specs.Section.{Placed, ByTransfer}
-use Rattle.eve_history.specs.SectionHistory.{landing_at, committed_at, is_reached}
+use Rattle.eve_history.specs.SectionHistory.{how_reached_at, committed_at, is_reached}
 use Rattle.eve_chains.specs.Visible.{execution}
 use Rattle.eve_chains.specs.Committed.{opening_bank, bank_after, balances_to, Leads, IsSerialBetween}
 use Rattle.eve_agree.specs.Agreement.{first_to_commit, HaveSameOutcome, ReplicasAgree}
 use Rattle.eve_audit.specs.Audited.{execution_by, execution_of, first_executions}
-use Rattle.eve_audit.proofs.Reached.{IsReachedBy, by_attempt, by_state, reached_by, first_there, first_committed}
+use Rattle.eve_audit.proofs.NumberLaws.{IsReachedBy, by_attempt, by_state, reached_by, first_there, first_committed}
 use Rattle.eve_audit.proofs.SameBanks.{banks_agree}
 
 -- ---- one run after another
@@ -79,7 +79,7 @@ module _ (t : Trace) (agree : ReplicasAgree t) where
       same_replies (committed_at t e n) (committed_at t f n) p q at also (one.2.replies ∙ sym other.replies)
 
   -- after a number that was reached by a state, the balances are the values of that state
-  module _ (states : (e n at : ℕ) (x : Transfer) → landing_at t e n ≡ Some (ByTransfer at x)
+  module _ (states : (e n at : ℕ) (x : Transfer) → how_reached_at t e n ≡ Some (ByTransfer at x)
       → balances_to t e n ≡ map (λ v. v.value) x.rows) where
     has_first : (e n : ℕ) → IsTrue (is_reached t e (suc n)) → HasFirst t e (suc n)
     has_first e n reached = by (reached_by t e n reached)
@@ -138,9 +138,9 @@ module _ (t : Trace) (agree : ReplicasAgree t) where
         by_firsts zero e reached = opening_leads e
         by_firsts (suc n) e reached =
             let one = has_first e n reached in
-            let front = by_firsts n one.first (before one.first n one.item one.at) in
+            let prefix = by_firsts n one.first (before one.first n one.item one.at) in
             let whole = leads-append (opening_bank t) (bank_after t one.first n) (bank_after t one.first (suc n))
-            (first_executions t n) (execution t one.item.attempt) front (next_leads one.first n one.item one.at) in
+            (first_executions t n) (execution t one.item.attempt) prefix (next_leads one.first n one.item one.at) in
             let own : execution t one.item.attempt ≡ execution_of t (suc n) (first_to_commit t (suc n)) =
             ap (execution_by t) (sym one.at) ∙ ap (execution_of t (suc n)) (sym one.is) in
             subst (λ (xs : List Executed). Leads (opening_bank t) (first_executions t n ++ xs) (bank_after t e (suc n)))

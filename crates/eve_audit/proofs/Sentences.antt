@@ -1,12 +1,12 @@
 -- What a yes says follows from what the phases find.
 use Rattle.std.proofs.Common.{◌≡◌, ℕ, zero, suc, ◌-◌, length, map, slice_get, Some, subst, arith}
 use Rattle.std.specs.Prelude.{IsTrue, AllPairs, ◌≢◌}
-use Rattle.eve_grammar.specs.Trace.{Transfer, Sent, TakesOver, Trace, head_of}
+use Rattle.eve_grammar.specs.Trace.{Transfer, Sent, Transfers, Trace, head_of}
 use Rattle.eve_grammar.specs.Limits.{HasHeadLimits}
 use Rattle.eve_grammar.specs.Spelling.{steps_at}
 use Rattle.eve_grammar.specs.Certificate.{keeps_groups}
 use Rattle.eve_history.specs.Section.{Placed, ByTransfer, batch_at}
-use Rattle.eve_history.specs.SectionHistory.{landing_at, committed_at, is_reached, ByAttemptsTo}
+use Rattle.eve_history.specs.SectionHistory.{how_reached_at, committed_at, is_reached, ByAttemptsTo}
 use Rattle.eve_votes.specs.Votes.{IsDecided}
 use Rattle.eve_chains.specs.Visible.{execution, executions}
 use Rattle.eve_chains.specs.Committed.{opening_bank, bank_after, balances_to, committed_to, Leads}
@@ -17,8 +17,8 @@ use Rattle.eve_agree.specs.Tables.{IsRestored}
 use Rattle.eve_agree.specs.SentReplies.{IsReplied}
 use Rattle.eve_audit.specs.Accepted.{IsAccepted}
 use Rattle.eve_audit.specs.Audited.{IsAudited}
-use Rattle.eve_audit.proofs.Reached.{none_there, each_at}
-use Rattle.eve_audit.proofs.Rising.{numbers_rise}
+use Rattle.eve_audit.proofs.NumberLaws.{none_there, each_at}
+use Rattle.eve_audit.proofs.RisingNumbers.{numbers_rise}
 use Rattle.eve_audit.proofs.Outcomes.{replies_agree, all_agree, all_have_firsts, by_firsts}
 use Rattle.eve_audit.proofs.Decisions.{committed_decided, commit_backed, rollback_backed, transfer_backed}
 
@@ -43,9 +43,9 @@ module _ (t : Trace) (accepted : IsAccepted t) where
     pub head : HasHeadLimits (head_of t)
     pub numbers : (e n : ℕ) (p : Placed) → committed_at t e n ≡ Some p → p.attempt.seq ≡ n
     pub before : (e n : ℕ) (p : Placed) → committed_at t e (suc n) ≡ Some p → IsTrue (is_reached t e n)
-    pub lands : (e k at : ℕ) (x : Transfer) → slice_get (steps_at t e) k ≡ Some (at, TakesOver x)
-        → landing_at t e x.seq ≡ Some (ByTransfer at x)
-    pub states : (e n at : ℕ) (x : Transfer) → landing_at t e n ≡ Some (ByTransfer at x)
+    pub lands : (e k at : ℕ) (x : Transfer) → slice_get (steps_at t e) k ≡ Some (at, Transfers x)
+        → how_reached_at t e x.seq ≡ Some (ByTransfer at x)
+    pub states : (e n at : ℕ) (x : Transfer) → how_reached_at t e n ≡ Some (ByTransfer at x)
         → balances_to t e n ≡ map (λ v. v.value) x.rows
     pub serial : (e n : ℕ) (p : Placed) → committed_at t e n ≡ Some p
         → IsSerialBetween (bank_after t e (n - 1)) (bank_after t e n) (execution t p.attempt)
@@ -63,9 +63,9 @@ module _ (t : Trace) (accepted : IsAccepted t) where
         let less : n ≡ suc n - 1 = omega arith in
         subst (λ (m : ℕ). IsTrue (is_reached t e m)) less (laws.before e n p at)
 
-    taken_over : (e k at : ℕ) (x : Transfer) → slice_get (steps_at t e) k ≡ Some (at, TakesOver x)
+    transferred : (e k at : ℕ) (x : Transfer) → slice_get (steps_at t e) k ≡ Some (at, Transfers x)
         → HasBalancesOfFirst t x.seq x × SomeDecided t x.seq x.view
-    taken_over e k at x there = (
+    transferred e k at x there = (
       accepted.agree.states e x.seq at x (laws.lands e k at x there),
       transfer_backed t (steps_at t e) k at x (accepted.backed e) there,
     )
@@ -84,7 +84,7 @@ module _ (t : Trace) (accepted : IsAccepted t) where
       agree = all_agree t accepted.agree laws.states;
       same_replies = replies_agree t accepted.agree;
       reached = laws.lands;
-      taken_over = taken_over;
+      transferred = transferred;
       restored = laws.restored;
       apart = accepted.apart;
       once = laws.once;

@@ -8,7 +8,7 @@ use Rattle.std.proofs.lemmas.List.{get_or_past}
 use Rattle.std.proofs.lemmas.Option.{same_Some, slice_get_within}
 use Rattle.eve_smallbank.specs.Access.{Executed, Fits}
 use Rattle.eve_grammar.specs.Trace.{ForRollback, ForCommit, Vote, Access, Attempt, Commit, Rollback, Transfer, Step}
-use Rattle.eve_grammar.specs.Trace.{Attempts, Commits, RollsBack, TakesOver, Trace}
+use Rattle.eve_grammar.specs.Trace.{Attempts, Commits, RollsBack, Transfers, Trace}
 use Rattle.eve_grammar.specs.Accesses.{is_right_place}
 use Rattle.eve_grammar.specs.Frames.{OfVote, OfVerifier}
 use Rattle.eve_grammar.specs.Spelling.{frame_text, located, verifier_start, customers_at, batches_at, steps_at}
@@ -16,10 +16,11 @@ use Rattle.eve_grammar.specs.Spelling.{accesses_at, votes_at, sent_at}
 use Rattle.eve_views.specs.Form.{SomePlace}
 use Rattle.eve_views.specs.declared.fault.Code.{Code}
 use Rattle.eve_views.specs.declared.fault.Code.TheVariants as code
-use Rattle.eve_history.specs.Section.{Placed, Landing, ByAttempt, ByTransfer, Skipped, SectionState, start, state_after}
+use Rattle.eve_history.specs.Section.{Placed, HowReached, ByAttempt, ByTransfer, Skipped, SectionState, start}
+use Rattle.eve_history.specs.Section.{state_after}
 use Rattle.eve_history.specs.Section.{settled, is_right_attempt, is_right_certificate, is_right_access, is_right_commit}
 use Rattle.eve_history.specs.Section.{is_right_rollback, is_right_transfer, are_right_accesses, are_right}
-use Rattle.eve_history.specs.SectionHistory.{history, landing_at, attempt_by, committed_at, names_of}
+use Rattle.eve_history.specs.SectionHistory.{history, how_reached_at, attempt_by, committed_at, names_of}
 use Rattle.eve_history.specs.Order.{request_ids_at, StandsInOrders}
 use Rattle.eve_history.specs.Structure.{accesses_of, OfAttempt, OfCommit, OfRollback, OfTransfer, StandsInStructure}
 use Rattle.eve_chains.specs.Visible.{executed_by, visible_to}
@@ -31,14 +32,14 @@ use Rattle.eve_votes.specs.Votes.{is_vote_on, IsDecided, backers}
 use Rattle.eve_votes.specs.Faults.{HasTwoDecisions, StandsInVotes, IsFurther}
 use Rattle.eve_agree.specs.Majority.{StandsInMajorities}
 use Rattle.eve_agree.specs.Agreement.{first_to_commit, HaveSameOutcome, HasBalancesOfFirst, StandsInAgreement}
-use Rattle.eve_agree.specs.ByNumber.{SomeCommitted, SomeTakenOver}
+use Rattle.eve_agree.specs.ByNumber.{SomeCommitted, SomeTransferred}
 use Rattle.eve_agree.specs.SentReplies.{StandsInReplies}
 use Rattle.eve_audit.proofs.Places.{place_here, place_later, place_cases, no_place}
-use Rattle.eve_audit.proofs.Deciding.{Decided, HasEquality, decided_both, decided_not, decided_as, some_if}
-use Rattle.eve_audit.proofs.Deciding.{below_or_none, numbers, integers, lists, pairs}
+use Rattle.eve_audit.proofs.Decidability.{Decided, HasEquality, decided_both, decided_not, decided_as, some_if}
+use Rattle.eve_audit.proofs.Decidability.{below_or_none, numbers, integers, lists, pairs}
 use Rattle.eve_audit.proofs.DecidedVotes.{HaveVotes, enough, vote, AtVote, at_vote, IsFor, is_for, voted, some_decided}
-use Rattle.eve_audit.proofs.Reached.{none_there, landed_by}
-use Rattle.eve_audit.proofs.UnfaultedTogether.{same_outcome, balances_of_first, replied}
+use Rattle.eve_audit.proofs.NumberLaws.{none_there, told_reached_by}
+use Rattle.eve_audit.proofs.TraceWithoutFaults.{same_outcome, balances_of_first, replied}
 
 -- ---- tests, places and elements
 
@@ -69,77 +70,77 @@ contains_decided : {A : Type 0} → HasEquality A → (xs : List A) (x : A) → 
 contains_decided equal xs x = below_or_none (λ k. slice_index_or xs k x ≡ x) (λ k. equal (slice_index_or xs k x) x)
     (length xs)
 
--- ---- kinds of steps and of landings
+-- ---- kinds of steps, and ways in which numbers are reached
 
 of_attempt : (step : Step) (P : Attempt → Type 0) → ((a : Attempt) → Decided (P a)) → Decided (OfAttempt step P)
 of_attempt (Attempts a) P decided = decided a
 of_attempt (Commits c) P decided = inr (λ is. is)
 of_attempt (RollsBack r) P decided = inr (λ is. is)
-of_attempt (TakesOver x) P decided = inr (λ is. is)
+of_attempt (Transfers x) P decided = inr (λ is. is)
 
 of_commit : (step : Step) (P : Commit → Type 0) → ((c : Commit) → Decided (P c)) → Decided (OfCommit step P)
 of_commit (Attempts a) P decided = inr (λ is. is)
 of_commit (Commits c) P decided = decided c
 of_commit (RollsBack r) P decided = inr (λ is. is)
-of_commit (TakesOver x) P decided = inr (λ is. is)
+of_commit (Transfers x) P decided = inr (λ is. is)
 
 of_rollback : (step : Step) (P : Rollback → Type 0) → ((r : Rollback) → Decided (P r)) → Decided (OfRollback step P)
 of_rollback (Attempts a) P decided = inr (λ is. is)
 of_rollback (Commits c) P decided = inr (λ is. is)
 of_rollback (RollsBack r) P decided = decided r
-of_rollback (TakesOver x) P decided = inr (λ is. is)
+of_rollback (Transfers x) P decided = inr (λ is. is)
 
 of_transfer : (step : Step) (P : Transfer → Type 0) → ((x : Transfer) → Decided (P x)) → Decided (OfTransfer step P)
 of_transfer (Attempts a) P decided = inr (λ is. is)
 of_transfer (Commits c) P decided = inr (λ is. is)
 of_transfer (RollsBack r) P decided = inr (λ is. is)
-of_transfer (TakesOver x) P decided = decided x
+of_transfer (Transfers x) P decided = decided x
 
 -- ---- numbers that were reached
 
 -- at some number that replica e reached or skipped
-module _ (t : Trace) (e : ℕ) (P : ℕ → Landing → Type 0) (decided : (n : ℕ) (l : Landing) → Decided (P n l)) where
+module _ (t : Trace) (e : ℕ) (P : ℕ → HowReached → Type 0) (decided : (n : ℕ) (l : HowReached) → Decided (P n l)) where
   AtNumber : ℕ → Type 0
-  AtNumber n = (l : Landing) × (landing_at t e n ≡ Some l) × P n l
+  AtNumber n = (l : HowReached) × (how_reached_at t e n ≡ Some l) × P n l
 
   number_decided : (n : ℕ) → Decided (AtNumber n)
   unfolding AtNumber
-  number_decided n = by (landing_at t e n) refl
+  number_decided n = by (how_reached_at t e n) refl
     where
-      by : (o : Option Landing) → landing_at t e n ≡ o → Decided (AtNumber n)
+      by : (o : Option HowReached) → how_reached_at t e n ≡ o → Decided (AtNumber n)
       by None is = inr (λ found. none_there found.0 (sym is ∙ found.1))
       by (Some l) is =
           decided_as (λ holds. (l, is, holds))
           (λ found. subst (P n) (same_Some found.0 l (sym found.1 ∙ is)) found.2) (decided n l)
 
-  number_low : (n : ℕ) (l : Landing) → landing_at t e n ≡ Some l → n < suc (length (history t e).landings)
+  number_low : (n : ℕ) (l : HowReached) → how_reached_at t e n ≡ Some l → n < suc (length (history t e).each_reached)
   number_low zero l is = omega arith
-  number_low (suc n) l is = (let low = slice_get_within (history t e).landings n l is in omega (arith, low))
+  number_low (suc n) l is = (let low = slice_get_within (history t e).each_reached n l is in omega (arith, low))
 
-  some_number : Decided ((n : ℕ) × (l : Landing) × (landing_at t e n ≡ Some l) × P n l)
+  some_number : Decided ((n : ℕ) × (l : HowReached) × (how_reached_at t e n ≡ Some l) × P n l)
   unfolding AtNumber
   some_number =
       decided_as (λ found. (found.0, found.2.0, found.2.1, found.2.2))
       (λ found. (found.0, number_low found.0 found.1 found.2, (found.1, found.2, found.3)))
-      (below_or_none AtNumber number_decided (suc (length (history t e).landings)))
+      (below_or_none AtNumber number_decided (suc (length (history t e).each_reached)))
 
 -- what holds where a number was reached by an attempt, or by a state
-abbrev IsBy : (Placed → Type 0) → Landing → Type 0
+abbrev IsBy : (Placed → Type 0) → HowReached → Type 0
 IsBy P (ByAttempt p) = P p
 IsBy P (ByTransfer at x) = ⊥
 IsBy P Skipped = ⊥
 
-abbrev IsByState : (ℕ → Transfer → Type 0) → Landing → Type 0
+abbrev IsByState : (ℕ → Transfer → Type 0) → HowReached → Type 0
 IsByState P (ByAttempt p) = ⊥
 IsByState P (ByTransfer at x) = P at x
 IsByState P Skipped = ⊥
 
-is_by : (P : Placed → Type 0) → ((p : Placed) → Decided (P p)) → (l : Landing) → Decided (IsBy P l)
+is_by : (P : Placed → Type 0) → ((p : Placed) → Decided (P p)) → (l : HowReached) → Decided (IsBy P l)
 is_by P decided (ByAttempt p) = decided p
 is_by P decided (ByTransfer at x) = inr (λ is. is)
 is_by P decided Skipped = inr (λ is. is)
 
-is_by_state : (P : ℕ → Transfer → Type 0) → ((at : ℕ) (x : Transfer) → Decided (P at x)) → (l : Landing)
+is_by_state : (P : ℕ → Transfer → Type 0) → ((at : ℕ) (x : Transfer) → Decided (P at x)) → (l : HowReached)
     → Decided (IsByState P l)
 is_by_state P decided (ByAttempt p) = inr (λ is. is)
 is_by_state P decided (ByTransfer at x) = decided at x
@@ -310,32 +311,32 @@ module _ (t : Trace) (at : ℕ) where
         (λ some. (
           some.n,
           ByAttempt some.item,
-          landed some.n some.item some.is,
+          told_reached some.n some.item some.is,
           (some.offset, some.holds),
         ))
         (some_number t e (λ n. IsBy (λ p. (p.offset ≡ at) × Q n p))
         (λ n. is_by _ (λ p. decided_both (numbers p.offset at) (decided n p))))
       where
-        from : (n : ℕ) (l : Landing) → landing_at t e n ≡ Some l → IsBy (λ p. (p.offset ≡ at) × Q n p) l
+        from : (n : ℕ) (l : HowReached) → how_reached_at t e n ≡ Some l → IsBy (λ p. (p.offset ≡ at) × Q n p) l
             → SomeCommitted t e at Q
         from n (ByAttempt p) is holds =
             record { n = n; item = p; is = ap attempt_by is; offset = holds.0; holds = holds.1 }
         from n (ByTransfer place x) is holds = absurd holds
         from n Skipped is holds = absurd holds
 
-        landed : (n : ℕ) (p : Placed) → committed_at t e n ≡ Some p → landing_at t e n ≡ Some (ByAttempt p)
-        landed n p is = landed_by (landing_at t e n) p is
+        told_reached : (n : ℕ) (p : Placed) → committed_at t e n ≡ Some p → how_reached_at t e n ≡ Some (ByAttempt p)
+        told_reached n p is = told_reached_by (how_reached_at t e n) p is
 
-    taken_somewhere : (Q : ℕ → Transfer → Type 0) → ((n : ℕ) (x : Transfer) → Decided (Q n x))
-        → Decided (SomeTakenOver t e at Q)
-    taken_somewhere Q decided =
+    transferred_somewhere : (Q : ℕ → Transfer → Type 0) → ((n : ℕ) (x : Transfer) → Decided (Q n x))
+        → Decided (SomeTransferred t e at Q)
+    transferred_somewhere Q decided =
         decided_as (λ found. from found.0 found.1 found.2 found.3)
         (λ some. (some.n, ByTransfer at some.state, some.is, (refl, some.holds)))
         (some_number t e (λ n. IsByState (λ place x. (place ≡ at) × Q n x))
         (λ n. is_by_state _ (λ place x. decided_both (numbers place at) (decided n x))))
       where
-        from : (n : ℕ) (l : Landing) → landing_at t e n ≡ Some l → IsByState (λ place x. (place ≡ at) × Q n x) l
-            → SomeTakenOver t e at Q
+        from : (n : ℕ) (l : HowReached) → how_reached_at t e n ≡ Some l → IsByState (λ place x. (place ≡ at) × Q n x) l
+            → SomeTransferred t e at Q
         from n (ByAttempt p) is holds = absurd holds
         from n (ByTransfer place x) is holds = record {
           n = n;
@@ -372,5 +373,5 @@ module _ (t : Trace) (at : ℕ) where
         committed_somewhere (λ n p. IfSome (first_to_commit t n) (λ f. ¬ HaveSameOutcome t e f n))
         (λ n p. some_if _ (λ f. decided_not (same_outcome t e n f)) (first_to_commit t n))
     agreement_decided code.TransferBalances =
-        taken_somewhere (λ n x. ¬ HasBalancesOfFirst t n x) (λ n x. decided_not (balances_of_first t n x))
+        transferred_somewhere (λ n x. ¬ HasBalancesOfFirst t n x) (λ n x. decided_not (balances_of_first t n x))
     agreement_decided c = inr (λ stands. absurd stands)

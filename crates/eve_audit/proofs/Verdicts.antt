@@ -1,7 +1,7 @@
 -- From what is found in the bytes and in their trace to the verdict.
 use Rattle.std.proofs.Common.{◌≡◌, ℕ, ◌<◌, ◌≤◌, inl, inr, List, length, sym, subst, ◌∙◌, arith}
 use Rattle.eve_grammar.specs.Trace.{Trace}
-use Rattle.eve_grammar.specs.Following.{Spells}
+use Rattle.eve_grammar.specs.FrameOrder.{Spells}
 use Rattle.eve_views.specs.Code.{phase_of}
 use Rattle.eve_views.specs.Form.{Precedes, IfFound, IsLeast, HasNone, StandsInForm, IsFaultOutside}
 use Rattle.eve_views.specs.declared.fault.CheckFault.{CheckFault}
@@ -16,7 +16,7 @@ use Rattle.eve_audit.proofs.Phases.{form_phase}
 first_of_all : (bytes : List ℕ) (f : Fault) → Stands bytes f → ((g : Fault) → Stands bytes g → Precedes f g)
     → IsFirst bytes f
 first_of_all bytes f stands first = record {
-  judged = record { stands = stands; alone = λ g other hinders. late g hinders.0 (first g other) };
+  judged = record { stands = stands; alone = λ g other masks. late g masks.0 (first g other) };
   first = λ g judged. first g judged.stands;
 }
   where

@@ -4,11 +4,11 @@ use Rattle.std.specs.Prelude.{Option, Some, None, IsTrue, AllPairs, ◌≢◌, �
 use Rattle.std.specs.Option.{is_some}
 use Rattle.eve_smallbank.specs.Access.{Executed}
 use Rattle.eve_grammar.specs.Trace.{Commit, Rollback, Transfer, Sent, Trace}
-use Rattle.eve_grammar.specs.Trace.{Step, Attempts, Commits, RollsBack, TakesOver}
+use Rattle.eve_grammar.specs.Trace.{Step, Attempts, Commits, RollsBack, Transfers}
 use Rattle.eve_grammar.specs.Spelling.{steps_at}
 use Rattle.eve_grammar.specs.Certificate.{keeps_groups}
 use Rattle.eve_history.specs.Section.{Placed, ByTransfer, batch_at}
-use Rattle.eve_history.specs.SectionHistory.{landing_at, committed_at, is_reached, ByAttemptsTo, IsRightSection}
+use Rattle.eve_history.specs.SectionHistory.{how_reached_at, committed_at, is_reached, ByAttemptsTo, IsRightSection}
 use Rattle.eve_chains.specs.Visible.{execution, executions}
 use Rattle.eve_chains.specs.Committed.{opening_bank, bank_after, committed_to, Leads, IsSerialBetween}
 use Rattle.eve_chains.specs.Committed.{batch_request_ids, committed_request_ids}
@@ -35,13 +35,13 @@ abbrev pub first_executions : Trace → ℕ → List Executed
 first_executions t zero = []
 first_executions t (suc n) = first_executions t n ++ execution_of t (suc n) (first_to_commit t (suc n))
 
--- the numbers that commits and states taken over name, in the order of their frames
+-- the numbers that commits and states transferred name, in the order of their frames
 abbrev pub named_numbers : List (ℕ × Step) → List ℕ
 named_numbers [] = []
 named_numbers ((at, Attempts a) ∷ steps) = named_numbers steps
 named_numbers ((at, Commits c) ∷ steps) = c.seq ∷ named_numbers steps
 named_numbers ((at, RollsBack r) ∷ steps) = named_numbers steps
-named_numbers ((at, TakesOver x) ∷ steps) = x.seq ∷ named_numbers steps
+named_numbers ((at, Transfers x) ∷ steps) = x.seq ∷ named_numbers steps
 
 -- each is above the one before it, the first above this one
 abbrev pub RiseFrom : ℕ → List ℕ → Type 0
@@ -49,13 +49,13 @@ RiseFrom last [] = ⊤
 RiseFrom last (n ∷ ns) = (last < n) × RiseFrom n ns
 
 -- Each committed batch of each replica is SmallBank on one thread, and what else a yes says. A replica reached a number
--- by an attempt, where it committed the batch of that number, or by a state that it took over, where it skipped the
--- numbers between. All reached number 0: there the bank has the opening balances.
+-- by an attempt, where it committed the batch of that number, or by a state that was transferred to it, where it
+-- skipped the numbers between. All reached number 0: there the bank has the opening balances.
 pub record IsAudited (t : Trace) : Type 0 where
   -- Each step of a replica is right where it stands: a commit is of the first open attempt, with its number, view and
-  -- token; a rollback goes back to the last number that was reached; a state taken over is of a later one.
+  -- token; a rollback goes back to the last number that was reached; a state transferred is of a later one.
   pub right : (e : ℕ) → IsRightSection t e
-  -- the numbers of its commits and of the states that it took over rise: it came to none of them twice
+  -- the numbers of its commits and of the states that were transferred to it rise: it came to none of them twice
   pub rise : (e : ℕ) → RiseFrom 0 (named_numbers (steps_at t e))
   -- the attempt by which a replica committed batch n is of batch n
   pub numbered : (e n : ℕ) (p : Placed) → committed_at t e n ≡ Some p → p.attempt.seq ≡ n
@@ -64,7 +64,7 @@ pub record IsAudited (t : Trace) : Type 0 where
       → IsSerialBetween (bank_after t e (n - 1)) (bank_after t e n) (execution t p.attempt)
   -- and that before it is one that the replica reached
   pub before : (e n : ℕ) (p : Placed) → committed_at t e n ≡ Some p → IsTrue (is_reached t e (n - 1))
-  -- all of them, from the opening balances, up to where a replica took a state over first
+  -- all of them, from the opening balances, up to where a replica had a state transferred first
   pub from_opening : (e n : ℕ) → ByAttemptsTo t e n
       → Leads (opening_bank t) (executions t (committed_to t e n)) (bank_after t e n)
   -- And behind that: after whatever number a replica reached, its bank comes from the opening balances by all batches
@@ -80,11 +80,12 @@ pub record IsAudited (t : Trace) : Type 0 where
   pub agree : (e f n : ℕ) → IsTrue (is_reached t e n) → IsTrue (is_reached t f n) → bank_after t e n ≡ bank_after t f n
   pub same_replies : (e f n : ℕ) (p q : Placed) → committed_at t e n ≡ Some p → committed_at t f n ≡ Some q
       → p.attempt.replies ≡ q.attempt.replies
-  -- By each state that a replica took over it reached the state's number. The state has the balances after that number
-  -- of the lowest-numbered replica that committed its batch, and some commit of it is decided in the state's view.
-  pub reached : (e k at : ℕ) (x : Transfer) → slice_get (steps_at t e) k ≡ Some (at, TakesOver x)
-      → landing_at t e x.seq ≡ Some (ByTransfer at x)
-  pub taken_over : (e k at : ℕ) (x : Transfer) → slice_get (steps_at t e) k ≡ Some (at, TakesOver x)
+  -- By each state that was transferred to a replica it reached the state's number. The state has the balances after
+  -- that number of the lowest-numbered replica that committed its batch, and some commit of it is decided in the
+  -- state's view.
+  pub reached : (e k at : ℕ) (x : Transfer) → slice_get (steps_at t e) k ≡ Some (at, Transfers x)
+      → how_reached_at t e x.seq ≡ Some (ByTransfer at x)
+  pub transferred : (e k at : ℕ) (x : Transfer) → slice_get (steps_at t e) k ≡ Some (at, Transfers x)
       → HasBalancesOfFirst t x.seq x × SomeDecided t x.seq x.view
   -- after each rollback a replica works on what is committed
   pub restored : (e k at : ℕ) (r : Rollback) → slice_get (steps_at t e) k ≡ Some (at, RollsBack r)

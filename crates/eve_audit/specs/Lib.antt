@@ -1,9 +1,8 @@
 pub mod Verdict
 pub mod Reports
-pub mod Findings
-pub mod Peers
 pub mod Answer
 pub mod Where
 pub mod Alone
 pub mod Accepted
 pub mod Audited
+pub mod inner

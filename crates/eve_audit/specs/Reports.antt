@@ -9,7 +9,7 @@ use Rattle.eve_history.specs.Structure.{StandsInStructure}
 use Rattle.eve_chains.specs.Faults.{HasNoFault}
 use Rattle.eve_agree.specs.Restores.{StandsInRestores}
 use Rattle.eve_chains.specs.Sound.{SettledAreSound}
-use Rattle.eve_chains.specs.Settling.{Settling, settling}
+use Rattle.eve_chains.specs.CommittedValues.{Settling, settling}
 use Rattle.eve_agree.specs.Tables.{RestoresAreRight}
 use Rattle.eve_agree.specs.DueTokens.{TokensAreDue}
 use Rattle.eve_votes.specs.Faults.{AreVotesSound}
@@ -50,7 +50,7 @@ pub record IsSoundBeforeTokens (t : Trace) (e : ℕ) : Type 0 where
   pub rollbacks : HasNone (IsFaultIn StandsInRestores t e)
 
 -- the report of such a replica
-pub record IsSettledReportOf (t : Trace) (e : ℕ) (report : Report) : Type 0 where
+pub record IsReportBeforeTokens (t : Trace) (e : ℕ) (report : Report) : Type 0 where
   pub history : report.history ≡ section_history t e
   pub settled : report.settled ≡ settling t e
   pub sound : IsSoundBeforeTokens t e

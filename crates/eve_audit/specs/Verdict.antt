@@ -1,7 +1,7 @@
 -- The verdict on bytes. docs/MODEL.md, "Verdict".
 use Rattle.std.specs.Prelude.{◌≡◌, ℕ, ◌<◌, ◌≤◌, List, length}
 use Rattle.eve_grammar.specs.Trace.{Trace}
-use Rattle.eve_grammar.specs.Following.{Spells}
+use Rattle.eve_grammar.specs.FrameOrder.{Spells}
 use Rattle.eve_views.specs.Code.{phase_of}
 use Rattle.eve_views.specs.Form.{Precedes, StandsInForm, IsFaultOutside, IsFaultIn}
 use Rattle.eve_views.specs.declared.fault.Fault.{Fault}
@@ -48,13 +48,13 @@ pub data Stands (bytes : List ℕ) (f : Fault) : Type 0 where
 
 -- A fault of an earlier phase keeps another from being judged. In phases 3 to 7 a replica is judged by itself: where
 -- both are of these, only a fault of the same replica does.
-abbrev pub Hinders : Fault → Fault → Type 0
-Hinders g f = (phase_of g.code < phase_of f.code) × (3 ≤ phase_of g.code → phase_of f.code ≤ 7 → g.replica ≡ f.replica)
+abbrev pub Masks : Fault → Fault → Type 0
+Masks g f = (phase_of g.code < phase_of f.code) × (3 ≤ phase_of g.code → phase_of f.code ≤ 7 → g.replica ≡ f.replica)
 
--- a fault that stands, and that no fault of an earlier phase hinders
+-- a fault that stands, and that no fault of an earlier phase masks
 pub record IsJudged (bytes : List ℕ) (f : Fault) : Type 0 where
   pub stands : Stands bytes f
-  pub alone : (g : Fault) → Stands bytes g → ¬ Hinders g f
+  pub alone : (g : Fault) → Stands bytes g → ¬ Masks g f
 
 -- the first of the faults that are judged
 pub record IsFirst (bytes : List ℕ) (f : Fault) : Type 0 where

@@ -1,7 +1,7 @@
 -- Which replica a fault names. docs/MODEL.md, "Faults".
 use Rattle.std.specs.Prelude.{◌≡◌, ℕ, ◌↔◌, IsTrue, List, Some, None}
 use Rattle.eve_grammar.specs.Trace.{Trace}
-use Rattle.eve_grammar.specs.Following.{Spells}
+use Rattle.eve_grammar.specs.FrameOrder.{Spells}
 use Rattle.eve_views.specs.Parts.{is_in_section}
 use Rattle.eve_views.specs.declared.fault.Fault.{Fault}
 

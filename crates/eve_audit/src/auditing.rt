@@ -1,14 +1,14 @@
 //! The verdict on a trace, from what its phases find.
 
 ghost use Rattle.std.specs.Prelude.{◌≡◌, ◌≤◌, ℕ, List, IfOk, IfErr, length};
-ghost use Rattle.eve_grammar.specs.Following.{Spells};
+ghost use Rattle.eve_grammar.specs.FrameOrder.{Spells};
 ghost use Rattle.eve_views.specs.Form.{IfFound, HasNone, IsFaultOutside};
 ghost use Rattle.eve_history.specs.SectionHistory.{names_of, section_histories};
 ghost use Rattle.eve_history.specs.Order.{StandsInOrders};
-ghost use Rattle.eve_chains.specs.Settling.{settlings};
+ghost use Rattle.eve_chains.specs.CommittedValues.{settlings};
 ghost use Rattle.eve_audit.specs.Accepted.{IsAccepted};
 ghost use Rattle.eve_audit.specs.Answer.{IfAccepted, IsAnswer, IsRead, IsWholeAnswer, verdict_of};
-ghost use Rattle.eve_audit.specs.Findings.{AreTrue};
+ghost use Rattle.eve_audit.specs.inner.Findings.{AreTrue};
 ghost use Rattle.eve_audit.specs.Verdict.{IsSummary, IsVerdict, IsTraceFault, IsCommonFault, SpellsAudited};
 ghost use Rattle.eve_audit.specs.Where.{NamesItsSection};
 ghost use Rattle.eve_audit.specs.Reports.{IsFirstOf, IsSoundTogether};
@@ -41,7 +41,7 @@ use std::thread::Threads;
 
 /// A trace that was read, and the names of its customers.
 #[derive(Drop)]
-struct Opened<'a> {
+struct NamedTrace<'a> {
     trace: Trace<'a>,
     names: Names<'a>,
 }
@@ -53,10 +53,10 @@ fn open<'a, R: Threads + Sync>(
     bytes: &'a [u8],
     random: RandomState,
     jobs: u8,
-) -> Result<Opened<'a>, CheckFault>
-    ensures read { IfOk result (λ opened. IsRead bytes.now opened.trace) }
-    ensures names { IfOk result (λ opened. opened.names.items ≡ names_of opened.trace) }
-    ensures orders { IfOk result (λ opened. HasNone (IsFaultOutside StandsInOrders opened.trace)) }
+) -> Result<NamedTrace<'a>, CheckFault>
+    ensures read { IfOk result (λ named. IsRead bytes.now named.trace) }
+    ensures names { IfOk result (λ named. named.names.items ≡ names_of named.trace) }
+    ensures orders { IfOk result (λ named. HasNone (IsFaultOutside StandsInOrders named.trace)) }
     ensures fault { IfErr result (λ why. IfFound why (λ f. IsAnswer bytes.now (No f))) }
 {
     bytes_spell_one_trace();
@@ -69,7 +69,7 @@ fn open<'a, R: Threads + Sync>(
         Err(why) => return Err(why),
     };
     match orders(alloc, &trace, random) {
-        Ok(names) => Ok(Opened { trace, names }),
+        Ok(names) => Ok(NamedTrace { trace, names }),
         Err(why) => Err(why),
     }
 }
@@ -101,21 +101,21 @@ fn judge_together<R: Threads + Sync>(
 fn judge_trace<'a, R: Threads + Sync>(
     rt: &R,
     alloc: Global,
-    opened: Opened<'a>,
+    named: NamedTrace<'a>,
     findings: &mut [Finding<'a>],
     jobs: u8,
 ) -> Result<AcceptedTrace<'a>, CheckFault>
-    requires names { opened.names.items ≡ names_of opened.trace }
-    requires orders { HasNone (IsFaultOutside StandsInOrders opened.trace) }
-    requires findings { AreTrue opened.trace findings.old }
-    ensures trace { IfOk result (λ a. a.trace ≡ opened.entry.trace) }
-    ensures histories { IfOk result (λ a. a.histories.items ≡ section_histories opened.entry.trace) }
-    ensures summary { IfOk result (λ a. IsSummary opened.entry.trace a.summary) }
-    ensures accepted { IfOk result (λ _. IsAccepted opened.entry.trace) }
-    ensures none { IfOk result (λ _. HasNone (IsTraceFault opened.entry.trace)) }
-    ensures first { IfErr result (λ why. IfFound why (IsFirstOf (IsTraceFault opened.entry.trace))) }
+    requires names { named.names.items ≡ names_of named.trace }
+    requires orders { HasNone (IsFaultOutside StandsInOrders named.trace) }
+    requires findings { AreTrue named.trace findings.old }
+    ensures trace { IfOk result (λ a. a.trace ≡ named.entry.trace) }
+    ensures histories { IfOk result (λ a. a.histories.items ≡ section_histories named.entry.trace) }
+    ensures summary { IfOk result (λ a. IsSummary named.entry.trace a.summary) }
+    ensures accepted { IfOk result (λ _. IsAccepted named.entry.trace) }
+    ensures none { IfOk result (λ _. HasNone (IsTraceFault named.entry.trace)) }
+    ensures first { IfErr result (λ why. IfFound why (IsFirstOf (IsTraceFault named.entry.trace))) }
 {
-    let Opened { trace, names } = opened;
+    let NamedTrace { trace, names } = named;
     trace.recall_limits();
     right_heads_have_limits();
     requests_take_effect_once();
@@ -149,14 +149,14 @@ fn judge_trace<'a, R: Threads + Sync>(
 fn verdict_on<'a, R: Threads + Sync>(
     rt: &R,
     alloc: Global,
-    opened: Opened<'a>,
+    named: NamedTrace<'a>,
     findings: &mut [Finding<'a>],
     jobs: u8,
 ) -> Result<WholeVerdict<'a>, AuditFault>
-    requires names { opened.names.items ≡ names_of opened.trace }
-    requires orders { HasNone (IsFaultOutside StandsInOrders opened.trace) }
-    requires findings { AreTrue opened.trace findings.old }
-    ensures { IfOk result (λ w. (bytes : List ℕ) → IsRead bytes opened.entry.trace → IsWholeAnswer bytes w) }
+    requires names { named.names.items ≡ names_of named.trace }
+    requires orders { HasNone (IsFaultOutside StandsInOrders named.trace) }
+    requires findings { AreTrue named.trace findings.old }
+    ensures { IfOk result (λ w. (bytes : List ℕ) → IsRead bytes named.entry.trace → IsWholeAnswer bytes w) }
 {
     bytes_spell_one_trace();
     bytes_are_as_long_as_their_trace();
@@ -164,7 +164,7 @@ fn verdict_on<'a, R: Threads + Sync>(
     faults_lie_within();
     outcomes_come_of_steps();
     accepted_traces_are_audited();
-    match judge_trace(rt, alloc, opened, findings, jobs) {
+    match judge_trace(rt, alloc, named, findings, jobs) {
         Ok(accepted) => Ok(WholeVerdict::Yes(accepted)),
         Err(CheckFault::Found(fault)) => Ok(WholeVerdict::No(fault)),
         Err(CheckFault::Memory) => Err(AuditFault::Memory),
@@ -193,16 +193,16 @@ pub fn audit_one<R: Threads + Sync>(
     ensures within { IfOk result (λ v. (f : Fault) → v ≡ No f → f.offset ≤ length bytes.now) }
     ensures replica { IfOk result (λ v. (f : Fault) → v ≡ No f → NamesItsSection bytes.now f) }
 {
-    let opened = match open(rt, alloc, bytes, random, 1) {
-        Ok(opened) => opened,
+    let named = match open(rt, alloc, bytes, random, 1) {
+        Ok(named) => named,
         Err(CheckFault::Found(fault)) => return Ok(Verdict::No(fault)),
         Err(CheckFault::Memory) => return Err(AuditFault::Memory),
     };
-    let mut findings = match judge_in_turn(rt, alloc, &opened.trace, &opened.names) {
+    let mut findings = match judge_in_turn(rt, alloc, &named.trace, &named.names) {
         Ok(findings) => findings,
         Err(AllocError) => return Err(AuditFault::Memory),
     };
-    let whole = verdict_on(rt, alloc, opened, findings.as_mut_slice(), 1)?;
+    let whole = verdict_on(rt, alloc, named, findings.as_mut_slice(), 1)?;
     Ok(whole.verdict())
 }
 
@@ -212,7 +212,7 @@ pub fn audit_one<R: Threads + Sync>(
 /// docs/MODEL.md, "Verdict" and "The audit theorem".
 ///
 /// - First the caller reads the trace and judges its orders: the bodies of batches, attempts, access records and states
-///   taken over in up to `workers` threads, which end before a worker begins.
+///   transferred, in up to `workers` threads, which end before a worker begins.
 /// - Then up to `workers` workers judge the replicas, each by itself, but for its tokens. Who judges replica e enters
 ///   the gate with e first.
 /// - Of the replicas without a fault so far, the tokens of the one that committed most batches are judged in up to
@@ -263,14 +263,14 @@ pub fn audit_whole<'a, R: Threads + Wait + Sync, G: Gate>(
     ensures trace { IfOk result (λ w. IfAccepted w (λ a. Spells bytes.now a.trace)) }
     ensures histories { IfOk result (λ w. IfAccepted w (λ a. a.histories.items ≡ section_histories a.trace)) }
 {
-    let opened = match open(rt, alloc, bytes, random, workers) {
-        Ok(opened) => opened,
+    let named = match open(rt, alloc, bytes, random, workers) {
+        Ok(named) => named,
         Err(CheckFault::Found(fault)) => return Ok(WholeVerdict::No(fault)),
         Err(CheckFault::Memory) => return Err(AuditFault::Memory),
     };
-    let (trace, names) = (&opened.trace, &opened.names);
+    let (trace, names) = (&named.trace, &named.names);
     match judge_side_by_side(rt, alloc, trace, names, workers, gate) {
-        Ok(mut findings) => verdict_on(rt, alloc, opened, findings.as_mut_slice(), workers),
+        Ok(mut findings) => verdict_on(rt, alloc, named, findings.as_mut_slice(), workers),
         Err(AllocError) => Err(AuditFault::Memory),
     }
 }

@@ -5,10 +5,10 @@ ghost use Rattle.std.specs.Thread.{IsSync};
 ghost use Rattle.eve_views.specs.declared.fault.CheckFault.TheVariants.{Memory};
 ghost use Rattle.eve_history.specs.SectionHistory.{names_of};
 ghost use Rattle.eve_audit.specs.declared.findings.Finding.{Finding as FindingValue};
-ghost use Rattle.eve_audit.specs.Findings.{AreTrueSoFar, AreTrue, IsAnswerOf, IsSettledAnswerOf, AreOfReplicas};
-ghost use Rattle.eve_audit.specs.Peers.{IsSoundPeer};
+ghost use Rattle.eve_audit.specs.inner.Findings.{AreTrueSoFar, AreTrue, IsAnswerOf, IsAnswerBeforeTokens, AreOfReplicas};
+ghost use Rattle.eve_audit.specs.inner.Peers.{IsSoundPeer};
 
-use crate::replicas::{Report, settled_report};
+use crate::replicas::{Report, report_before_tokens};
 use eve_accounts::Names;
 use eve_agree::Peer;
 use eve_history::History;
@@ -53,7 +53,7 @@ impl<'a> Finding<'a> {
         ensures { IsAnswerOf trace.now e result.answer }
     {
         let mut finding = Finding::of_nothing(e);
-        finding.settle(rt, alloc, trace, names, 1);
+        finding.judge_section(rt, alloc, trace, names, 1);
         finding.judge_tokens(rt, alloc, trace, 1, None);
         finding
     }
@@ -70,7 +70,7 @@ impl<'a> Finding<'a> {
     }
 
     /// Judges the replica by itself, but for its tokens, in up to `jobs` threads, at least 1.
-    pub fn settle<R: Threads + Sync>(
+    pub fn judge_section<R: Threads + Sync>(
         &mut self,
         rt: &R,
         alloc: Global,
@@ -81,10 +81,10 @@ impl<'a> Finding<'a> {
         requires there { self.old.replica < length trace.now.sections }
         requires names { names.now.items ≡ names_of trace.now }
         requires jobs { 1 ≤ jobs }
-        ensures settled { IsSettledAnswerOf trace.now self.new.replica self.new.answer }
+        ensures settled { IsAnswerBeforeTokens trace.now self.new.replica self.new.answer }
         ensures replica { self.new.replica ≡ self.old.replica }
     {
-        self.answer = settled_report(rt, alloc, trace, names, self.replica, jobs);
+        self.answer = report_before_tokens(rt, alloc, trace, names, self.replica, jobs);
     }
 
     /// Judges the replica's tokens, if nothing was found against it.
@@ -96,11 +96,11 @@ impl<'a> Finding<'a> {
         jobs: u8,
         peer: Option<Peer<'_, 'a>>,
     )
-        requires settled { IsSettledAnswerOf trace.now self.old.replica self.old.answer }
+        requires settled { IsAnswerBeforeTokens trace.now self.old.replica self.old.answer }
         requires jobs { 1 ≤ jobs }
         requires peer { IsSoundPeer trace.now peer }
         ensures answer { IsAnswerOf trace.now self.new.replica self.new.answer }
-        ensures settled { IsSettledAnswerOf trace.now self.new.replica self.new.answer }
+        ensures settled { IsAnswerBeforeTokens trace.now self.new.replica self.new.answer }
         ensures replica { self.new.replica ≡ self.old.replica }
     {
         let judged = match &self.answer {
@@ -137,7 +137,7 @@ pub fn judge_in_turn<'a, R: Threads + Sync>(
     let mut findings = Vec::with_capacity(alloc, trace.section_count() as usize)?;
     for e in 0..trace.section_count() {
         let mut finding = Finding::of_nothing(e);
-        finding.settle(rt, alloc, trace, names, 1);
+        finding.judge_section(rt, alloc, trace, names, 1);
         findings.push(finding)?;
     }
     judge_all_tokens(rt, alloc, trace, findings.as_mut_slice(), 1);
@@ -162,7 +162,7 @@ pub fn judge_side_by_side<'a, R: Threads + Wait + Sync, G: Gate>(
     ensures found { IfOk result (λ findings. AreTrue trace.now findings.items) }
 {
     let mut findings = nothing_of_each(alloc, trace)?;
-    settle_each(
+    judge_sections(
         rt,
         alloc,
         trace,
@@ -179,7 +179,7 @@ pub fn judge_side_by_side<'a, R: Threads + Wait + Sync, G: Gate>(
 /// with e first. Where there are more workers than replicas, each replica has its part of the threads: at most
 /// `workers` threads work at once, and with one worker none is started. The caller does the work of a thread that can't
 /// be started.
-fn settle_each<'a, R: Threads + Wait + Sync, G: Gate>(
+fn judge_sections<'a, R: Threads + Wait + Sync, G: Gate>(
     rt: &R,
     alloc: Global,
     trace: &Trace<'a>,
@@ -201,10 +201,10 @@ fn settle_each<'a, R: Threads + Wait + Sync, G: Gate>(
         &|_: usize, finding: &mut Finding|
             requires { IsSync R.row × IsSync G.row × (names.now.items ≡ names_of trace.now) × (1 ≤ jobs)
                 × (finding.old.replica < length trace.now.sections) }
-            ensures { IsSettledAnswerOf trace.entry.now finding.new.replica finding.new.answer }
+            ensures { IsAnswerBeforeTokens trace.entry.now finding.new.replica finding.new.answer }
         {
             gate.enter(rt, u32::from(finding.replica));
-            finding.settle(rt, alloc, trace, names, jobs);
+            finding.judge_section(rt, alloc, trace, names, jobs);
         },
     );
 }
@@ -270,7 +270,7 @@ fn due_place<'a, R: Threads + Sync>(
     None
 }
 
-/// The place of the replica that committed most batches, of those that have a report: states that were taken over show
+/// The place of the replica that committed most batches, of those that have a report: states that were transferred show
 /// no token.
 fn place_of_most(findings: &[Finding<'_>]) -> Option<usize>
     ensures { IfSome result (λ place. place < length findings.now) }
@@ -291,7 +291,7 @@ fn place_of_most(findings: &[Finding<'_>]) -> Option<usize>
 
 /// How many batches a replica committed.
 pub fn batches_of(history: &History<'_>) -> u32
-    ensures { result ≤ length history.now.landings }
+    ensures { result ≤ length history.now.each_reached }
 {
     let mut batches = 0;
     for before in 0..history.committed() {
@@ -324,7 +324,7 @@ fn judge_each<'a, R: Threads + Sync>(
         jobs as usize,
         &|_: usize, finding: &mut Finding|
             requires { IsSync R.row × IsSoundPeer trace.now peer
-                × IsSettledAnswerOf trace.now finding.old.replica finding.old.answer }
+                × IsAnswerBeforeTokens trace.now finding.old.replica finding.old.answer }
             ensures { IsAnswerOf trace.entry.now finding.new.replica finding.new.answer }
         { finding.judge_tokens(rt, alloc, trace, 1, peer) },
     );

@@ -3,7 +3,7 @@
 ghost use Rattle.std.specs.Prelude.{◌≡◌, ◌≤◌, ℕ, List, Some, length};
 ghost use Rattle.eve_grammar.specs.Trace.{Trace};
 ghost use Rattle.eve_grammar.specs.Places.{IsBytes};
-ghost use Rattle.eve_grammar.specs.Following.{Spells};
+ghost use Rattle.eve_grammar.specs.FrameOrder.{Spells};
 ghost use Rattle.eve_views.specs.Code.{phase_of};
 ghost use Rattle.eve_views.specs.declared.fault.Fault.{Fault};
 ghost use Rattle.eve_history.specs.Section.{Placed};
@@ -148,12 +148,12 @@ pub fn accepted_traces_are_audited()
     rollbacks_restore_what_is_committed();
 }
 
-/// In version 1 of the format no replica takes a state over: each replica reached each of its numbers by an attempt. So
-/// what `IsAudited` says of numbers that were reached it says of committed batches, and each replica's bank after each
-/// of its batches comes from the opening balances by its own attempts.
+/// In version 1 of the format no replica has a state transferred: each replica reached each of its numbers by an
+/// attempt. So what `IsAudited` says of numbers that were reached it says of committed batches, and each replica's bank
+/// after each of its batches comes from the opening balances by its own attempts.
 ///
 /// docs/MODEL.md, "The audit theorem".
-pub fn version_1_takes_nothing_over()
+pub fn version_1_transfers_nothing()
     ensures attempts { (bytes : List ℕ) (t : Trace) (e n : ℕ) → Spells bytes t → t.head.version ≡ 1
         → ByAttemptsTo t e n }
     ensures from_opening { (bytes : List ℕ) (t : Trace) (e n : ℕ) → Spells bytes t → t.head.version ≡ 1 → IsAudited t

@@ -4,11 +4,11 @@ ghost use Rattle.std.specs.Prelude.{◌≡◌, ◌++◌, ◌∷◌, [], ℕ, IfO
 ghost use Rattle.eve_views.specs.Form.{IfFound, HasNone, IsFaultIn};
 ghost use Rattle.eve_history.specs.SectionHistory.{names_of, section_history, section_histories};
 ghost use Rattle.eve_history.specs.Structure.{StandsInStructure};
-ghost use Rattle.eve_chains.specs.Settling.{settling, settlings};
-ghost use Rattle.eve_audit.specs.Findings.{AreTrue, IsAnswerOf};
-ghost use Rattle.eve_audit.specs.Peers.{IsSoundPeer};
+ghost use Rattle.eve_chains.specs.CommittedValues.{settling, settlings};
+ghost use Rattle.eve_audit.specs.inner.Findings.{AreTrue, IsAnswerOf};
+ghost use Rattle.eve_audit.specs.inner.Peers.{IsSoundPeer};
 ghost use Rattle.eve_audit.specs.Verdict.{IsOwnFault};
-ghost use Rattle.eve_audit.specs.Reports.{IsFirstOf, IsReportOf, IsSettledReportOf, IsSoundBeforeTokens};
+ghost use Rattle.eve_audit.specs.Reports.{IsFirstOf, IsReportOf, IsReportBeforeTokens, IsSoundBeforeTokens};
 ghost use Rattle.eve_audit.specs.Reports.{IsSoundReplica, IsLeastBelow, IsFaultBelow};
 
 use crate::findings::Finding;
@@ -53,7 +53,7 @@ impl<'a> Report<'a> {
         jobs: u8,
         peer: Option<Peer<'_, 'a>>,
     ) -> Result<(), CheckFault>
-        requires settled { IsSettledReportOf trace.now self.now.history.replica self.now }
+        requires settled { IsReportBeforeTokens trace.now self.now.history.replica self.now }
         requires jobs { 1 ≤ jobs }
         requires peer { IsSoundPeer trace.now peer }
         ensures report { IfOk result (λ _. IsReportOf trace.now self.now.history.replica self.now) }
@@ -120,7 +120,7 @@ pub fn all_reports<'a, R: Threads + Sync>(
 /// A replica's report but for its tokens, which aren't judged yet, or the first of its own faults, by the replica's
 /// number from 0. Its records and chains are judged in up to `jobs` threads, at least 1; for one job no thread is
 /// started.
-pub fn settled_report<'a, R: Threads + Sync>(
+pub fn report_before_tokens<'a, R: Threads + Sync>(
     rt: &R,
     alloc: Global,
     trace: &Trace<'a>,
@@ -131,7 +131,7 @@ pub fn settled_report<'a, R: Threads + Sync>(
     requires there { e < length trace.now.sections }
     requires names { names.now.items ≡ names_of trace.now }
     requires jobs { 1 ≤ jobs }
-    ensures report { IfOk result (IsSettledReportOf trace.now e) }
+    ensures report { IfOk result (IsReportBeforeTokens trace.now e) }
     ensures first { IfErr result (λ why. IfFound why (IsFirstOf (IsOwnFault trace.now e))) }
 {
     let history = match History::of(alloc, trace, e) {

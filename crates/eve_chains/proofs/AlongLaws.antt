@@ -17,7 +17,7 @@ use Rattle.eve_views.specs.Form.{IsUpTo}
 use Rattle.eve_views.specs.declared.fault.Fault.{Fault}
 use Rattle.eve_grammar.proofs.Lists.{take_one_more}
 use Rattle.eve_chains.specs.Along.{entries_along, AreWithin}
-use Rattle.eve_chains.proofs.Linked.{none≢some}
+use Rattle.eve_chains.proofs.LinkedPaths.{none≢some}
 use Rattle.eve_views.specs.First.{is_before}
 use Rattle.eve_views.proofs.Firsts.{before_precedes, behind_precedes, up_to_from}
 
@@ -54,27 +54,29 @@ record_within rows (y ∷ xs) (suc k) x within at =
     within).1 at
 
 -- the record at this place is met, with its entries
-pub record IsMet (xs : List (ℕ × Access)) (k : ℕ) (x : ℕ × Access) (es : List Entry) : Type 0 where
+pub record IsCheckedRecord (xs : List (ℕ × Access)) (k : ℕ) (x : ℕ × Access) (es : List Entry) : Type 0 where
   pub there : slice_get xs k ≡ Some x
   pub entries : es ≡ x.1.entries
 
 -- they lie within, where the table has that many rows
-pub met_within : {xs : List (ℕ × Access)} {k : ℕ} {x : ℕ × Access} {es : List Entry} (rows n : ℕ) → IsMet xs k x es
+pub checked_within : {xs : List (ℕ × Access)} {k : ℕ} {x : ℕ × Access} {es : List Entry} (rows n : ℕ)
+    → IsCheckedRecord xs k x es
     → AreWithin rows xs → n ≡ rows → IsTrue (list_all (is_entry n) es)
-met_within {xs} {k} {x} rows n met within many =
-    subst (λ (es : List Entry). IsTrue (list_all (is_entry n) es)) (sym met.entries)
-    (subst (λ m. IsTrue (list_all (is_entry m) x.1.entries)) (sym many) (record_within rows xs k x within met.there))
+checked_within {xs} {k} {x} rows n checked within many =
+    subst (λ (es : List Entry). IsTrue (list_all (is_entry n) es)) (sym checked.entries)
+    (subst (λ m. IsTrue (list_all (is_entry m) x.1.entries)) (sym many)
+    (record_within rows xs k x within checked.there))
 
 -- What takes one list of entries after another takes those of the records up to a place, and then of one record more.
 module _ {T : Type 0} (after : T → List Entry → T)
     (joined : (base : T) (es fs : List Entry) → after base (es ++ fs) ≡ after (after base es) fs) where
   pub after_more : {xs : List (ℕ × Access)} {k : ℕ} {x : ℕ × Access} {es : List Entry} (base old new : T)
-      → IsMet xs k x es → old ≡ after base (entries_along (take k xs)) → new ≡ after old es
+      → IsCheckedRecord xs k x es → old ≡ after base (entries_along (take k xs)) → new ≡ after old es
       → new ≡ after base (entries_along (take (k + 1) xs))
-  after_more {xs} {k} {x} {es} base old new met so step =
-      step ∙ ap (λ (t : T). after t es) so ∙ ap (after (after base (entries_along (take k xs)))) met.entries
+  after_more {xs} {k} {x} {es} base old new checked so step =
+      step ∙ ap (λ (t : T). after t es) so ∙ ap (after (after base (entries_along (take k xs)))) checked.entries
       ∙ sym (joined base (entries_along (take k xs)) x.1.entries)
-      ∙ ap (after base) (sym (entries_more xs k x met.there))
+      ∙ ap (after base) (sym (entries_more xs k x checked.there))
 
 -- ---- places in a list with one more
 
@@ -92,7 +94,7 @@ split_last {A} (z ∷ xs) x (b ∷ before) y rest e =
     let head : z ≡ b = ap (λ zs. get_or zs 0 z) e in
     elim (split_last xs x before y rest (ap (λ zs. drop 1 zs) e)) [
       | inl last ↦ inl (ap (λ zs. b ∷ zs) last.0 ∙ ap (λ w. w ∷ xs) (sym head), last.1)
-      | inr front ↦ inr (front.0, ap (λ w. w ∷ xs) head ∙ ap (λ zs. b ∷ zs) front.1)
+      | inr prefix ↦ inr (prefix.0, ap (λ w. w ∷ xs) head ∙ ap (λ zs. b ∷ zs) prefix.1)
     ]
 
 -- ---- the order of faults

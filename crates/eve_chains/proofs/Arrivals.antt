@@ -11,10 +11,10 @@ use Rattle.eve_views.specs.declared.fault.Code.TheVariants as code
 use Rattle.eve_views.specs.Form.{SomePlace}
 use Rattle.eve_history.specs.Order.{request_ids_at, StandsInOrders}
 use Rattle.eve_grammar.specs.Trace.{RequestId, request_id}
-use Rattle.eve_smallbank.proofs.Members.{In, here, in_front, in_cons}
+use Rattle.eve_smallbank.proofs.Members.{In, here, in_prefix, in_cons}
 use Rattle.eve_chains.specs.Committed.{batch_request_ids}
 use Rattle.eve_chains.proofs.Distinct.{Distinct, in_right}
-use Rattle.eve_chains.proofs.Once.{place_in, distinct_pairs}
+use Rattle.eve_chains.proofs.DistinctRequests.{place_in, distinct_pairs}
 
 -- ---- each is new after those before
 
@@ -40,23 +40,23 @@ fresh_distinct before (x ∷ xs) f =
     apart : (z : RequestId) → In z before → ((y : RequestId) → In y (before ++ x ∷ []) → In y xs → ⊥) → (z ≡ x)
         ⊎ In z xs → ⊥
     apart z i rest (inl e) = f.0 (subst (λ (y : RequestId). In y before) e i)
-    apart z i rest (inr j) = rest z (in_front (x ∷ []) i) j
+    apart z i rest (inr j) = rest z (in_prefix (x ∷ []) i) j
 
 -- ---- one batch after another
 
 contained : {x : RequestId} (xs : List RequestId) → In x xs → Contains xs x
 contained xs i = let p = place_in xs i in (p.place, p.within, p.is)
 
-own_fresh : (noted front own : List RequestId)
-    → ((earlier : List RequestId) (x : RequestId) (rest : List RequestId) → front ++ own ≡ earlier ++ x ∷ rest
+own_fresh : (noted prefix own : List RequestId)
+    → ((earlier : List RequestId) (x : RequestId) (rest : List RequestId) → prefix ++ own ≡ earlier ++ x ∷ rest
     → Contains (noted ++ earlier) x → ⊥)
-    → Fresh (noted ++ front) own
-own_fresh noted front [] none = tt
-own_fresh noted front (x ∷ own) none = (
-  λ i. none front x own refl (contained (noted ++ front) i),
-  subst (λ (b : List RequestId). Fresh b own) (sym (append_assoc noted front (x ∷ [])))
-      (own_fresh noted (front ++ x ∷ []) own
-      (λ earlier y rest e c. none earlier y rest (sym (append_assoc front (x ∷ []) own) ∙ e) c)),
+    → Fresh (noted ++ prefix) own
+own_fresh noted prefix [] none = tt
+own_fresh noted prefix (x ∷ own) none = (
+  λ i. none prefix x own refl (contained (noted ++ prefix) i),
+  subst (λ (b : List RequestId). Fresh b own) (sym (append_assoc noted prefix (x ∷ [])))
+      (own_fresh noted (prefix ++ x ∷ []) own
+      (λ earlier y rest e c. none earlier y rest (sym (append_assoc prefix (x ∷ []) own) ∙ e) c)),
 )
 
 -- a batch with its number and its offset
@@ -68,21 +68,21 @@ NoneAgain bs =
     (before : List Numbered) (b : Numbered) (after : List Numbered) → bs ≡ before ++ b ∷ after
     → SomePlace (request_ids_at b) (λ earlier own. Contains (flat_map request_ids_at before ++ earlier) own) → ⊥
 
-all_fresh : (front rest : List Numbered) → NoneAgain (front ++ rest)
-    → Fresh (flat_map request_ids_at front) (flat_map request_ids_at rest)
-all_fresh front [] none = tt
-all_fresh front (b ∷ rest) none =
-    let noted : List RequestId = flat_map request_ids_at front in
+all_fresh : (prefix rest : List Numbered) → NoneAgain (prefix ++ rest)
+    → Fresh (flat_map request_ids_at prefix) (flat_map request_ids_at rest)
+all_fresh prefix [] none = tt
+all_fresh prefix (b ∷ rest) none =
+    let noted : List RequestId = flat_map request_ids_at prefix in
     fresh_append noted (request_ids_at b) (flat_map request_ids_at rest)
     (subst (λ (l : List RequestId). Fresh l (request_ids_at b)) (append-nil noted)
     (own_fresh noted [] (request_ids_at b)
-    (λ earlier x after e c. none front b rest refl
+    (λ earlier x after e c. none prefix b rest refl
     (record { before = earlier; item = x; rest = after; is = e; holds = c }))))
     (subst (λ (l : List RequestId). Fresh l (flat_map request_ids_at rest))
-    (flat_map-append request_ids_at front (b ∷ [])
+    (flat_map-append request_ids_at prefix (b ∷ [])
     ∙ ap (λ (l : List RequestId). noted ++ l) (append-nil (request_ids_at b)))
-    (all_fresh (front ++ b ∷ []) rest
-    (λ before c after e. none before c after (sym (append_assoc front (b ∷ []) rest) ∙ e))))
+    (all_fresh (prefix ++ b ∷ []) rest
+    (λ before c after e. none before c after (sym (append_assoc prefix (b ∷ []) rest) ∙ e))))
 
 request_ids_located : (text : ℕ × Batch → List ℕ) (at : ℕ) (bs : List (ℕ × Batch))
     → flat_map request_ids_at (located text at bs) ≡ flat_map (λ b. map request_id b.1.requests) bs

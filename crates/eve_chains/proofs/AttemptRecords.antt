@@ -6,7 +6,7 @@ use Rattle.std.specs.Prelude.{nat_le}
 use Rattle.std.specs.List.{AllByRecursion, list_all}
 use Rattle.std.proofs.lemmas.Bool.{and_parts, and_from, eqb-true}
 use Rattle.eve_smallbank.proofs.Members.{all_in, all_from_in}
-use Rattle.eve_grammar.specs.Trace.{Access, Attempt, Step, Attempts, Commits, RollsBack, TakesOver, Trace}
+use Rattle.eve_grammar.specs.Trace.{Access, Attempt, Step, Attempts, Commits, RollsBack, Transfers, Trace}
 use Rattle.eve_grammar.specs.Trace.{head_of}
 use Rattle.eve_grammar.specs.Frames.{OfAccess}
 use Rattle.eve_grammar.specs.Spelling.{frame_text, located, steps_at, accesses_at}
@@ -15,7 +15,7 @@ use Rattle.eve_grammar.specs.Limits.{HasLimits}
 use Rattle.eve_history.specs.Section.{Placed}
 use Rattle.eve_history.specs.SectionHistory.{access_with, ordered}
 use Rattle.eve_history.specs.SectionHistory.{attempts_among, placed_at}
-use Rattle.eve_history.proofs.Coming.{steps_fit}
+use Rattle.eve_history.proofs.SectionSteps.{steps_fit}
 use Rattle.eve_chains.specs.Along.{AreWithin}
 
 -- an attempt's access records, in its certificate's order
@@ -81,8 +81,8 @@ whole_among rows ((at, Commits c) ∷ steps) h = whole_among rows steps
     (and_parts (is_step rows (Commits c)) (list_all (λ x. is_step rows x.1) steps) h).1
 whole_among rows ((at, RollsBack r) ∷ steps) h = whole_among rows steps
     (and_parts (is_step rows (RollsBack r)) (list_all (λ x. is_step rows x.1) steps) h).1
-whole_among rows ((at, TakesOver x) ∷ steps) h = whole_among rows steps
-    (and_parts (is_step rows (TakesOver x)) (list_all (λ x. is_step rows x.1) steps) h).1
+whole_among rows ((at, Transfers x) ∷ steps) h = whole_among rows steps
+    (and_parts (is_step rows (Transfers x)) (list_all (λ x. is_step rows x.1) steps) h).1
 
 -- all attempts of a section
 pub whole_section : (t : Trace) (e : ℕ) → HasLimits t

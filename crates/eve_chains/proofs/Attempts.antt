@@ -4,8 +4,8 @@ use Rattle.std.proofs.Common.{◌≡◌, ℕ, ◌+◌, ◌<◌, ◌≤◌, ◌==
 use Rattle.std.proofs.Common.{refl, sym, subst, ap, ◌∙◌, inl, inr, ◌⊎◌, arith, IsTrue}
 use Rattle.std.proofs.lemmas.Bool.{and_parts, eqb-true, leb-true, eq-eqb, ne_eqb, cond-true, cond-false}
 use Rattle.std.specs.List.{AllByRecursion}
-use Rattle.eve_smallbank.proofs.Members.{In, here, there, all_in, all_from_in, in_front, in_cons}
-use Rattle.eve_grammar.specs.Trace.{Access, Attempt, Step, Attempts, Commits, RollsBack, TakesOver, Trace}
+use Rattle.eve_smallbank.proofs.Members.{In, here, there, all_in, all_from_in, in_prefix, in_cons}
+use Rattle.eve_grammar.specs.Trace.{Access, Attempt, Step, Attempts, Commits, RollsBack, Transfers, Trace}
 use Rattle.eve_grammar.specs.Frames.{OfAccess, OfAttempt}
 use Rattle.eve_grammar.specs.Spelling.{frame_text, located, steps_at, accesses_at}
 use Rattle.eve_history.specs.declared.fate.Fate.{Fate}
@@ -120,9 +120,9 @@ have_batches t s ((at, Commits c) ∷ steps) right =
 have_batches t s ((at, RollsBack r) ∷ steps) right =
     have_batches t (next s (at, RollsBack r)) steps
     (and_parts (is_right t s (RollsBack r)) (are_right t (next s (at, RollsBack r)) steps) right).1
-have_batches t s ((at, TakesOver x) ∷ steps) right =
-    have_batches t (next s (at, TakesOver x)) steps
-    (and_parts (is_right t s (TakesOver x)) (are_right t (next s (at, TakesOver x)) steps) right).1
+have_batches t s ((at, Transfers x) ∷ steps) right =
+    have_batches t (next s (at, Transfers x)) steps
+    (and_parts (is_right t s (Transfers x)) (are_right t (next s (at, Transfers x)) steps) right).1
 
 pub batch_there : (t : Trace) (e : ℕ) → IsRightSection t e → (x : ℕ × Attempt) → In x (attempts_among (steps_at t e))
     → (1 ≤ x.1.seq) × (x.1.seq ≤ length t.batches)
@@ -141,15 +141,15 @@ pub as_settled : (t : Trace) (e : ℕ) (x : ℕ × Attempt)
     ⊎ In x (picked is_discarded (attempts_among (steps_at t e)) (fates_from 0 (steps_at t e)))
     → SettledAs t e x
 as_settled t e x (inl i) =
-    let s = in_source placed_at (attempts_by (history t e).landings)
+    let s = in_source placed_at (attempts_by (history t e).each_reached)
     (subst (λ (xs : List (ℕ × Attempt)). In x xs) (sym (committed_are_picked t e)) i) in
-    record { placed = s.item; there_is = in_front (history t e).discarded s.there_is; is = s.is }
+    record { placed = s.item; there_is = in_prefix (history t e).discarded s.there_is; is = s.is }
 as_settled t e x (inr i) =
     let s = in_source placed_at (history t e).discarded
     (subst (λ (xs : List (ℕ × Attempt)). In x xs) (sym (discarded_are_picked t e)) i) in
     record {
       placed = s.item;
-      there_is = in_right (attempts_by (history t e).landings) (history t e).discarded s.there_is;
+      there_is = in_right (attempts_by (history t e).each_reached) (history t e).discarded s.there_is;
       is = s.is;
     }
 
@@ -157,9 +157,9 @@ pub from_settled : (t : Trace) (e : ℕ) (p : Placed) → In p (settled (history
     → In (placed_at p) (picked is_committed (attempts_among (steps_at t e)) (fates_from 0 (steps_at t e)))
     ⊎ In (placed_at p) (picked is_discarded (attempts_among (steps_at t e)) (fates_from 0 (steps_at t e)))
 from_settled t e p i =
-    elim (in_split (attempts_by (history t e).landings) (history t e).discarded i) [
+    elim (in_split (attempts_by (history t e).each_reached) (history t e).discarded i) [
       | inl j ↦ inl (subst (λ (xs : List (ℕ × Attempt)). In (placed_at p) xs) (committed_are_picked t e)
-          (in_map placed_at (attempts_by (history t e).landings) j))
+          (in_map placed_at (attempts_by (history t e).each_reached) j))
       | inr j ↦ inr (subst (λ (xs : List (ℕ × Attempt)). In (placed_at p) xs) (discarded_are_picked t e)
           (in_map placed_at (history t e).discarded j))
     ]

@@ -12,13 +12,13 @@ use Rattle.eve_smallbank.specs.declared.entry.Entry.{Entry}
 use Rattle.eve_grammar.specs.Trace.{Access, Trace}
 use Rattle.eve_grammar.specs.Frames.{Frame, frames_of}
 use Rattle.eve_grammar.specs.Limits.{is_entry}
-use Rattle.eve_grammar.specs.Following.{Spells}
+use Rattle.eve_grammar.specs.FrameOrder.{Spells}
 use Rattle.eve_grammar.specs.Spelling.{frame_text, frames_text, head_text, length_of, spelling}
 use Rattle.eve_grammar.proofs.HeaderParts.{length-head_text}
 use Rattle.eve_grammar.proofs.Lists.{take_one_more}
 use Rattle.eve_views.specs.Lent.{HasBytesAt}
 use Rattle.eve_chains.specs.Along.{AreWithin}
-use Rattle.eve_chains.proofs.Linked.{none≢some}
+use Rattle.eve_chains.proofs.LinkedPaths.{none≢some}
 use Rattle.eve_chains.specs.Rows.{Noted}
 
 -- ---- a record's entries, one after another

@@ -13,11 +13,11 @@ use Rattle.eve_grammar.specs.Limits.{row_count}
 use Rattle.eve_grammar.proofs.Lists.{same_first, same_others, no_item}
 use Rattle.eve_history.specs.declared.fate.Fate.{Fate}
 use Rattle.eve_history.specs.declared.fate.Fate.TheVariants.{Committed, Discarded, Open}
-use Rattle.eve_history.specs.Section.{Placed, Landing, ByAttempt, ByTransfer, Skipped, attempts_by}
+use Rattle.eve_history.specs.Section.{Placed, HowReached, ByAttempt, ByTransfer, Skipped, attempts_by}
 use Rattle.eve_history.specs.SectionHistory.{SectionHistory, section_history, ordered, history, IsRightSection}
 use Rattle.eve_chains.specs.Along.{entries_along}
 use Rattle.eve_chains.specs.Rows.{Fated, Noted, told_of, noted_by, all_noted, of_row}
-use Rattle.eve_chains.specs.Stretches.{IsWithin, Reaches}
+use Rattle.eve_chains.specs.inner.Stretches.{IsWithin, Reaches}
 use Rattle.eve_chains.specs.declared.changed.Changed.{Changed}
 use Rattle.eve_chains.specs.declared.stretch.Stretch.{Stretch}
 use Rattle.eve_chains.specs.declared.numbered.Numbered.{Numbered}
@@ -26,9 +26,9 @@ use Rattle.eve_chains.specs.Changes.{last_written, changes_below, with_change, c
 use Rattle.eve_chains.specs.Changes.{changes_of_rows, of_number, by_number, changes_at, changes_in_ranges}
 use Rattle.eve_chains.specs.Changes.{ranges_by_number}
 use Rattle.eve_chains.specs.Numbered.{HasNumber, IsRowBelow, HasNumbersTo}
-use Rattle.eve_chains.specs.Walked.{IsWalked, IsOfRange, AreOfRanges, reached}
+use Rattle.eve_chains.specs.inner.Walked.{IsWalked, IsOfRange, AreOfRanges, reached}
 use Rattle.eve_chains.proofs.ByNumber.{of_number-append}
-use Rattle.eve_chains.proofs.Linked.{AreLinked, linked_history, last_committed}
+use Rattle.eve_chains.proofs.LinkedPaths.{AreLinked, linked_history, last_committed}
 use Rattle.eve_chains.proofs.Paths.{all_placed, will_commit, committed_told}
 use Rattle.eve_chains.proofs.ChangedRows.{IsEarlier, change_in, row_changes, rows_changes, rows_more, rows_earlier}
 use Rattle.eve_chains.proofs.ChangedRows.{along_batch, numbers_are, IsOneOf, ones_of_rows}
@@ -57,39 +57,73 @@ committed_only cs (n ∷ ns) = by n.commits refl (λ (ds : List Changed). commit
 module _ (row : ℕ) where
   -- what is noted of the row in an attempt that is committed
   abbrev chunk : Fated → List Noted
-  chunk y = of_row row (flat_map (noted_by y.taken y.placed.attempt.view y.placed.attempt.seq true)
+  chunk y = of_row row (flat_map (noted_by y.transferred y.placed.attempt.view y.placed.attempt.seq true)
       (ordered y.placed.offset y.placed.attempt))
 
-  kept_of : (offset taken view number : ℕ) (b : Bool) (es : List Entry)
+  kept_of : (offset transferred view number : ℕ) (b : Bool) (es : List Entry)
       → filter (λ (n : Noted). n.commits) (of_row row
-      (map (λ e. record { offset = offset; taken = taken; view = view; number = number; commits = b; entry = e }) es))
+      (map (λ e. record {
+        offset = offset;
+        transferred = transferred;
+        view = view;
+        number = number;
+        commits = b;
+        entry =
+            e;
+      }) es))
       ≡ cond b (of_row row
-      (map (λ e. record { offset = offset; taken = taken; view = view; number = number; commits = b; entry = e })
+      (map (λ e. record {
+        offset = offset;
+        transferred = transferred;
+        view = view;
+        number = number;
+        commits = b;
+        entry =
+            e;
+      })
       es)) []
-  kept_of offset taken view number true [] = refl
-  kept_of offset taken view number false [] = refl
-  kept_of offset taken view number true (e ∷ es) = by (e.row == row) (kept_of offset taken view number true es)
+  kept_of offset transferred view number true [] = refl
+  kept_of offset transferred view number false [] = refl
+  kept_of offset transferred view number true (e ∷ es) = by (e.row == row)
+      (kept_of offset transferred view number true es)
     where
       here : Noted
-      here = record { offset = offset; taken = taken; view = view; number = number; commits = true; entry = e }
+      here = record {
+        offset = offset;
+        transferred = transferred;
+        view = view;
+        number = number;
+        commits = true;
+        entry =
+            e;
+      }
 
       rest : List Noted
       rest = of_row row (map (λ e. record
-          { offset = offset; taken = taken; view = view; number = number; commits = true; entry = e }) es)
+          { offset = offset; transferred = transferred; view = view; number = number; commits = true; entry = e }) es)
 
       by : (b : Bool) → filter (λ (n : Noted). n.commits) rest ≡ rest
           → filter (λ (n : Noted). n.commits) (cond b (here ∷ rest) rest) ≡ cond b (here ∷ rest) rest
       by true next = ap (λ (ns : List Noted). here ∷ ns) next
       by false next = next
-  kept_of offset taken view number false (e ∷ es) = by (e.row == row) (kept_of offset taken view number false es)
+  kept_of offset transferred view number false (e ∷ es) = by (e.row == row)
+      (kept_of offset transferred view number false es)
     where
       here : Noted
-      here = record { offset = offset; taken = taken; view = view; number = number; commits = false; entry = e }
+      here = record {
+        offset = offset;
+        transferred = transferred;
+        view = view;
+        number = number;
+        commits = false;
+        entry =
+            e;
+      }
 
       rest : List Noted
       rest = of_row row
           (map (λ e. record
-          { offset = offset; taken = taken; view = view; number = number; commits = false; entry = e }) es)
+          { offset = offset; transferred = transferred; view = view; number = number; commits = false; entry = e }) es)
 
       by : (b : Bool) → filter (λ (n : Noted). n.commits) rest ≡ []
           → filter (λ (n : Noted). n.commits) (cond b (here ∷ rest) rest) ≡ []
@@ -101,52 +135,52 @@ module _ (row : ℕ) where
   rows_apart xs ys = ap (filter (λ (n : Noted). n.commits)) (filter-append (λ (n : Noted). n.entry.row == row) xs ys)
       ∙ filter-append (λ (n : Noted). n.commits) (of_row row xs) (of_row row ys)
 
-  kept_all : (taken view number : ℕ) (xs : List (ℕ × Access))
-      → filter (λ (n : Noted). n.commits) (of_row row (flat_map (noted_by taken view number true) xs))
-      ≡ of_row row (flat_map (noted_by taken view number true) xs)
-  kept_all taken view number [] = refl
-  kept_all taken view number (x ∷ xs) =
-      rows_apart (noted_by taken view number true x) (flat_map (noted_by taken view number true) xs)
-      ∙ (λ i. kept_of x.0 taken view number true x.1.entries i ++ kept_all taken view number xs i)
-      ∙ sym (filter-append (λ (n : Noted). n.entry.row == row) (noted_by taken view number true x)
-      (flat_map (noted_by taken view number true) xs))
+  kept_all : (transferred view number : ℕ) (xs : List (ℕ × Access))
+      → filter (λ (n : Noted). n.commits) (of_row row (flat_map (noted_by transferred view number true) xs))
+      ≡ of_row row (flat_map (noted_by transferred view number true) xs)
+  kept_all transferred view number [] = refl
+  kept_all transferred view number (x ∷ xs) =
+      rows_apart (noted_by transferred view number true x) (flat_map (noted_by transferred view number true) xs)
+      ∙ (λ i. kept_of x.0 transferred view number true x.1.entries i ++ kept_all transferred view number xs i)
+      ∙ sym (filter-append (λ (n : Noted). n.entry.row == row) (noted_by transferred view number true x)
+      (flat_map (noted_by transferred view number true) xs))
 
-  kept_none : (taken view number : ℕ) (xs : List (ℕ × Access))
-      → filter (λ (n : Noted). n.commits) (of_row row (flat_map (noted_by taken view number false) xs)) ≡ []
-  kept_none taken view number [] = refl
-  kept_none taken view number (x ∷ xs) =
-      rows_apart (noted_by taken view number false x) (flat_map (noted_by taken view number false) xs)
-      ∙ (λ i. kept_of x.0 taken view number false x.1.entries i ++ kept_none taken view number xs i)
+  kept_none : (transferred view number : ℕ) (xs : List (ℕ × Access))
+      → filter (λ (n : Noted). n.commits) (of_row row (flat_map (noted_by transferred view number false) xs)) ≡ []
+  kept_none transferred view number [] = refl
+  kept_none transferred view number (x ∷ xs) =
+      rows_apart (noted_by transferred view number false x) (flat_map (noted_by transferred view number false) xs)
+      ∙ (λ i. kept_of x.0 transferred view number false x.1.entries i ++ kept_none transferred view number xs i)
 
   committed_notes : (ys : List Fated) → filter (λ (n : Noted). n.commits) (of_row row (all_noted ys))
       ≡ flat_map chunk (filter will_commit ys)
   committed_notes [] = refl
-  committed_notes (y ∷ ys) = by y.placed y.taken y.fate (committed_notes ys)
+  committed_notes (y ∷ ys) = by y.placed y.transferred y.fate (committed_notes ys)
     where
-      by : (p : Placed) (taken : ℕ) (fate : Fate)
+      by : (p : Placed) (transferred : ℕ) (fate : Fate)
           → filter (λ (n : Noted). n.commits) (of_row row (all_noted ys)) ≡ flat_map chunk (filter will_commit ys)
           → filter (λ (n : Noted). n.commits)
-          (of_row row (all_noted (record { placed = p; taken = taken; fate = fate } ∷ ys)))
-          ≡ flat_map chunk (filter will_commit (record { placed = p; taken = taken; fate = fate } ∷ ys))
-      by p taken Committed next =
-          rows_apart (flat_map (noted_by taken p.attempt.view p.attempt.seq true) (ordered p.offset p.attempt))
+          (of_row row (all_noted (record { placed = p; transferred = transferred; fate = fate } ∷ ys)))
+          ≡ flat_map chunk (filter will_commit (record { placed = p; transferred = transferred; fate = fate } ∷ ys))
+      by p transferred Committed next =
+          rows_apart (flat_map (noted_by transferred p.attempt.view p.attempt.seq true) (ordered p.offset p.attempt))
           (all_noted ys)
-          ∙ (λ i. kept_all taken p.attempt.view p.attempt.seq (ordered p.offset p.attempt) i ++ next i)
-      by p taken Discarded next =
-          rows_apart (flat_map (noted_by taken p.attempt.view p.attempt.seq false) (ordered p.offset p.attempt))
+          ∙ (λ i. kept_all transferred p.attempt.view p.attempt.seq (ordered p.offset p.attempt) i ++ next i)
+      by p transferred Discarded next =
+          rows_apart (flat_map (noted_by transferred p.attempt.view p.attempt.seq false) (ordered p.offset p.attempt))
           (all_noted ys)
-          ∙ (λ i. kept_none taken p.attempt.view p.attempt.seq (ordered p.offset p.attempt) i ++ next i)
-      by p taken Open next = next
+          ∙ (λ i. kept_none transferred p.attempt.view p.attempt.seq (ordered p.offset p.attempt) i ++ next i)
+      by p transferred Open next = next
 
 -- ---- a row, number after number
 
 -- the entries of the attempt by which a number was reached, in its certificate's order
-abbrev pub entries_by : Landing → List Entry
+abbrev pub entries_by : HowReached → List Entry
 entries_by (ByAttempt p) = entries_along (ordered p.offset p.attempt)
 entries_by (ByTransfer at x) = []
 entries_by Skipped = []
 
-abbrev pub entries_of_all : List Landing → List (List Entry)
+abbrev pub entries_of_all : List HowReached → List (List Entry)
 entries_of_all ls = map entries_by ls
 
 later : (m row : ℕ) (cs : List Changed) → AllByRecursion (IsEarlier m row) cs
@@ -164,11 +198,11 @@ all_append : {A : Type 0} (P : A → Type 0) (xs ys : List A) → AllByRecursion
 all_append P [] ys xs-all ys-all = ys-all
 all_append P (x ∷ xs) ys xs-all ys-all = (xs-all.0, all_append P xs ys xs-all.1 ys-all)
 
-one_longer : (before : List Landing) (l : Landing) (m : ℕ) → length before ≡ m → length (before ++ l ∷ []) ≡ suc m
+one_longer : (before : List HowReached) (l : HowReached) (m : ℕ) → length before ≡ m → length (before ++ l ∷ []) ≡ suc m
 one_longer before l m many = length-append before (l ∷ []) ∙ omega (arith, many)
 
 -- a number that no attempt reached changes nothing here
-along_batches : (t : Trace) (row m : ℕ) (before ls : List Landing) (ys : List Fated) (cs : List Changed)
+along_batches : (t : Trace) (row m : ℕ) (before ls : List HowReached) (ys : List Fated) (cs : List Changed)
     → AreLinked t before ls → length before ≡ m → all_placed ys ≡ attempts_by ls
     → AllByRecursion (IsEarlier (suc m) row) cs
     → changes_along cs (flat_map (chunk row) ys) ≡ cs ++ row_changes row (suc m) (entries_of_all ls)
@@ -184,8 +218,8 @@ along_batches t row m before (ByAttempt p ∷ ls) (y ∷ ys) cs linked many are 
     fold-append change_by cs (chunk row y) (flat_map (chunk row) ys)
     ∙ ap (λ (ds : List Changed). changes_along ds (flat_map (chunk row) ys))
     (ap (λ (k : ℕ). changes_along cs
-    (of_row row (flat_map (noted_by y.taken q.attempt.view k true) (ordered q.offset q.attempt)))) number
-    ∙ along_batch (suc m) row cs all y.taken q.attempt.view (ordered q.offset q.attempt)
+    (of_row row (flat_map (noted_by y.transferred q.attempt.view k true) (ordered q.offset q.attempt)))) number
+    ∙ along_batch (suc m) row cs all y.transferred q.attempt.view (ordered q.offset q.attempt)
     ∙ ap (λ (x : Placed). cs ++ change_in (suc m) row (last_written row (entries_along (ordered x.offset x.attempt))))
     first)
     ∙ along_batches t row (suc m) (before ++ ByAttempt p ∷ []) ls ys (cs ++ own) linked.1
@@ -205,7 +239,7 @@ along_batches t row m before (Skipped ∷ ls) ys cs linked many are all =
 module _ (t : Trace) (e : ℕ) (right : IsRightSection t e) where
   -- the entries of the attempt by which each number was reached
   abbrev pub batch_entries : List (List Entry)
-  batch_entries = entries_of_all (history t e).landings
+  batch_entries = entries_of_all (history t e).each_reached
 
   along_row : (from count : ℕ)
       → changes_along (rows_changes from count batch_entries) (of_row (from + count) (all_noted (told_of t e)))
@@ -215,7 +249,7 @@ module _ (t : Trace) (e : ℕ) (right : IsRightSection t e) where
       let cs = rows_changes from count batch_entries in
       committed_only cs (of_row row (all_noted (told_of t e)))
       ∙ ap (changes_along cs) (committed_notes row (told_of t e))
-      ∙ along_batches t row 0 [] (history t e).landings (filter will_commit (told_of t e)) cs
+      ∙ along_batches t row 0 [] (history t e).each_reached (filter will_commit (told_of t e)) cs
       (linked_history t e right) refl (committed_told t e right) (rows_earlier 1 from count batch_entries)
 
   pub along_rows : (from count : ℕ)
@@ -262,7 +296,7 @@ module _ (t : Trace) (e : ℕ) (right : IsRightSection t e) where
       ∙ (λ i. rows_changes (reaches.0 i) (all i) batch_entries))
 
   counted : length batch_entries ≡ reached t e
-  counted = length-map (history t e).landings _
+  counted = length-map (history t e).each_reached _
 
   -- ---- one range
 
@@ -335,9 +369,9 @@ unfolding section_history history
 last_told t e = refl
 
 -- as many numbers as the history tells
-pub landings_counted : (t : Trace) (e : ℕ) (h : SectionHistory) → IsRightSection t e
+pub each_reached_counted : (t : Trace) (e : ℕ) (h : SectionHistory) → IsRightSection t e
     → ((u : Trace) (f : ℕ) → IsRightSection u f
-    → length (section_history u f).landings ≡ (section_history u f).committed)
-    → h ≡ section_history t e → length h.landings ≡ length (history t e).landings
-landings_counted t e h right count is =
-    ap (λ (v : SectionHistory). length v.landings) is ∙ count t e right ∙ last_told t e ∙ last_committed t e right
+    → length (section_history u f).each_reached ≡ (section_history u f).committed)
+    → h ≡ section_history t e → length h.each_reached ≡ length (history t e).each_reached
+each_reached_counted t e h right count is =
+    ap (λ (v : SectionHistory). length v.each_reached) is ∙ count t e right ∙ last_told t e ∙ last_committed t e right

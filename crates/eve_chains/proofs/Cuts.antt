@@ -6,10 +6,10 @@ use Rattle.eve_grammar.proofs.Lists.{same_first, same_others, no_item, filter_ke
 -- ---- filtered
 
 pub record FilterCut {A : Type 0} (test : A → Bool) (xs before : List A) (x : A) : Type 0 where
-  pub front : List A
+  pub prefix : List A
   pub back : List A
-  pub is : xs ≡ front ++ x ∷ back
-  pub same : filter test front ≡ before
+  pub is : xs ≡ prefix ++ x ∷ back
+  pub same : filter test prefix ≡ before
   pub passes : test x ≡ true
 
 pub filter_cut : {A : Type 0} (test : A → Bool) (xs before : List A) (x : A) (rest : List A) → filter test xs
@@ -22,23 +22,24 @@ filter_cut {A} test (y ∷ xs) before x rest e = by (test y) refl before e (λ b
         → FilterCut test (y ∷ xs) before x
     by true k [] e more =
         let first = same_first y x (filter test xs) rest e in
-        record { front = []; back = xs; is = ap (λ z. z ∷ xs) first; same = refl; passes = ap test (sym first) ∙ k }
+        record { prefix = []; back = xs; is = ap (λ z. z ∷ xs) first; same = refl; passes = ap test (sym first) ∙ k }
     by true k (z ∷ own) e more =
         let c = more own (same_others y z (filter test xs) (own ++ x ∷ rest) e) in
         record {
-          front = y ∷ c.front;
+          prefix = y ∷ c.prefix;
           back = c.back;
           is = ap (λ l. y ∷ l) c.is;
-          same = filter_kept test y c.front k ∙ (λ i. same_first y z (filter test xs) (own ++ x ∷ rest) e i ∷ c.same i);
+          same = filter_kept test y c.prefix k
+              ∙ (λ i. same_first y z (filter test xs) (own ++ x ∷ rest) e i ∷ c.same i);
           passes = c.passes;
         }
     by false k own e more =
         let c = more own e in
         record {
-          front = y ∷ c.front;
+          prefix = y ∷ c.prefix;
           back = c.back;
           is = ap (λ l. y ∷ l) c.is;
-          same = filter_dropped test y c.front k
+          same = filter_dropped test y c.prefix k
               ∙ c.same;
           passes = c.passes;
         }
@@ -60,11 +61,11 @@ pub record FlatCut {A B : Type 0} (f : B → List A) (ys : List B) (before : Lis
   pub earlier : List B
   pub item : B
   pub later : List B
-  pub front : List A
+  pub prefix : List A
   pub back : List A
   pub is : ys ≡ earlier ++ item ∷ later
-  pub inner : f item ≡ front ++ x ∷ back
-  pub same : before ≡ flat_map f earlier ++ front
+  pub inner : f item ≡ prefix ++ x ∷ back
+  pub same : before ≡ flat_map f earlier ++ prefix
 
 pub flat_cut : {A B : Type 0} (f : B → List A) (ys : List B) (before : List A) (x : A) (rest : List A) → flat_map f ys
     ≡ before ++ x ∷ rest → FlatCut f ys before x
@@ -75,7 +76,7 @@ flat_cut f (y ∷ ys) before x rest e =
         earlier = [];
         item = y;
         later = ys;
-        front = before;
+        prefix = before;
         back = c.0;
         is = refl;
         inner = c.1;
@@ -87,11 +88,11 @@ flat_cut f (y ∷ ys) before x rest e =
             earlier = y ∷ r.earlier;
             item = r.item;
             later = r.later;
-            front = r.front;
+            prefix = r.prefix;
             back = r.back;
             is = ap (λ l. y ∷ l) r.is;
             inner = r.inner;
-            same = d.2 ∙ ap (λ l. f y ++ l) r.same ∙ sym (append_assoc (f y) (flat_map f r.earlier) r.front);
+            same = d.2 ∙ ap (λ l. f y ++ l) r.same ∙ sym (append_assoc (f y) (flat_map f r.earlier) r.prefix);
           }
     ]
 

@@ -5,9 +5,9 @@ use Rattle.std.specs.Prelude.{⊤}
 use Rattle.std.proofs.lemmas.Bool.{cases_lt, and_parts, eqb-true, eq-eqb, ltb-true, cond-true}
 use Rattle.std.specs.List.{list_all}
 use Rattle.eve_grammar.specs.Certificate.{occurrences, all_below, is_permutation}
-use Rattle.eve_smallbank.proofs.Members.{In, here, there, in_front, in_middle, in_around, in_cons}
+use Rattle.eve_smallbank.proofs.Members.{In, here, there, in_prefix, in_middle, in_around, in_cons}
 use Rattle.eve_chains.proofs.Permutations.{found}
-use Rattle.eve_grammar.proofs.Counting.{all_below_at, none_above}
+use Rattle.eve_grammar.proofs.Orders.{all_below_at, none_above}
 
 abbrev pub Distinct : {A : Type 0} → List A → Type 0
 Distinct [] = ⊤
@@ -45,7 +45,7 @@ in_source f (x ∷ xs) (there i) = let s = in_source f xs i in
 
 pub distinct_left : {A : Type 0} (xs ys : List A) → Distinct (xs ++ ys) → Distinct xs
 distinct_left [] ys d = tt
-distinct_left (x ∷ xs) ys d = (λ i. d.0 (in_front ys i), distinct_left xs ys d.1)
+distinct_left (x ∷ xs) ys d = (λ i. d.0 (in_prefix ys i), distinct_left xs ys d.1)
 
 pub distinct_right : {A : Type 0} (xs ys : List A) → Distinct (xs ++ ys) → Distinct ys
 distinct_right [] ys d = d
@@ -68,15 +68,16 @@ distinct_append {A} (x ∷ xs) ys d k apart = (
     own (inl i) = d.0 i
     own (inr j) = apart x here j
 
-distinct_middle : {A : Type 0} (x : A) (front back : List A) → Distinct (front ++ x ∷ back) → (In x (front ++ back) → ⊥)
-    × Distinct (front ++ back)
+distinct_middle : {A : Type 0} (x : A) (prefix back : List A) → Distinct (prefix ++ x ∷ back)
+    → (In x (prefix ++ back) → ⊥)
+    × Distinct (prefix ++ back)
 distinct_middle x [] back d = d
-distinct_middle {A} x (y ∷ front) back d =
-    let rest = distinct_middle x front back d.1 in
-    (λ i. other rest.0 (in_cons (front ++ back) i), (λ i. d.0 (in_around x front back i), rest.1))
+distinct_middle {A} x (y ∷ prefix) back d =
+    let rest = distinct_middle x prefix back d.1 in
+    (λ i. other rest.0 (in_cons (prefix ++ back) i), (λ i. d.0 (in_around x prefix back i), rest.1))
   where
-    other : (In x (front ++ back) → ⊥) → (x ≡ y) ⊎ In x (front ++ back) → ⊥
-    other none (inl e) = d.0 (subst (λ z. In z (front ++ x ∷ back)) e (in_middle x front back))
+    other : (In x (prefix ++ back) → ⊥) → (x ≡ y) ⊎ In x (prefix ++ back) → ⊥
+    other none (inl e) = d.0 (subst (λ z. In z (prefix ++ x ∷ back)) e (in_middle x prefix back))
     other none (inr i) = none i
 
 pub distinct_map : {A B : Type 0} (f : A → B) (xs : List A) → ((x y : A) → In x xs → In y xs → f x ≡ f y → x ≡ y)
@@ -148,9 +149,10 @@ in_permutation r i order h l =
 
 -- ---- as many as there can be
 
-length-middle : {A : Type 0} (x : A) (front back : List A) → length (front ++ x ∷ back) ≡ suc (length (front ++ back))
+length-middle : {A : Type 0} (x : A) (prefix back : List A) → length (prefix ++ x ∷ back)
+    ≡ suc (length (prefix ++ back))
 length-middle x [] back = refl
-length-middle x (y ∷ front) back = ap suc (length-middle x front back)
+length-middle x (y ∷ prefix) back = ap suc (length-middle x prefix back)
 
 -- no more than r distinct numbers are below r
 few : (r : ℕ) (xs : List ℕ) → Distinct xs → ((i : ℕ) → In i xs → i < r) → length xs ≤ r

@@ -153,12 +153,12 @@ entries_see_without_fault t e none =
     record { version = sees_version t e none p i x j y k; value = sees_value t e none p i x j y k })))
 
 -- no record of a settled attempt misses its request
-pub unfit_nowhere : (t : Trace) (e : ℕ) → HasNoFault t e
+pub mismatch_nowhere : (t : Trace) (e : ℕ) → HasNoFault t e
     → OfSettledAccesses t e (λ p x. ¬ ¬ Fits (names_of t) (executed_by t p.attempt x))
 unfolding fault_at
-unfit_nowhere t e none =
+mismatch_nowhere t e none =
     all_from_in (λ p. AllByRecursion (λ x. ¬ ¬ Fits (names_of t) (executed_by t p.attempt x)) p.attempt.accesses)
     (settled (history t e)) (λ p i.
-    all_from_in (λ x. ¬ ¬ Fits (names_of t) (executed_by t p.attempt x)) p.attempt.accesses (λ x j unfit.
-    let at = at_access t e p x (λ q z. ¬ Fits (names_of t) (executed_by t q.attempt z)) i j unfit in
+    all_from_in (λ x. ¬ ¬ Fits (names_of t) (executed_by t p.attempt x)) p.attempt.accesses (λ x j mismatch.
+    let at = at_access t e p x (λ q z. ¬ Fits (names_of t) (executed_by t q.attempt z)) i j mismatch in
     none.records (fault_at e code.Record at.0) (record { stands = at.1; inside = refl })))

@@ -5,8 +5,8 @@ use Rattle.eve_grammar.specs.Limits.{row_count, HasLimits}
 use Rattle.eve_grammar.specs.Trace.{Trace, head_of}
 use Rattle.eve_views.specs.declared.fault.Fault.{Fault}
 use Rattle.eve_chains.specs.Rows.{bases_of, IsWrongOnRow, EachSees}
-use Rattle.eve_chains.specs.Walked.{IsFirstOnRows, notes_on}
-use Rattle.eve_chains.proofs.Told.{none_past}
+use Rattle.eve_chains.specs.inner.Walked.{IsFirstOnRows, notes_on}
+use Rattle.eve_chains.proofs.ToldAttempts.{none_past}
 use Rattle.eve_chains.proofs.WalkedRows.{none_on_row}
 
 module _ (t : Trace) (e : ℕ) (limits : HasLimits t) where

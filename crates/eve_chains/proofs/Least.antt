@@ -11,78 +11,79 @@ use Rattle.eve_smallbank.specs.declared.request.Reply.{Reply}
 use Rattle.eve_smallbank.specs.declared.request.Reply.TheVariants.{Done}
 use Rattle.eve_smallbank.specs.SmallBank.{Balance, plain}
 use Rattle.eve_smallbank.specs.Access.{Executed, Fits}
-use Rattle.eve_smallbank.proofs.Members.{all_in, all_from_in, in_front}
+use Rattle.eve_smallbank.proofs.Members.{all_in, all_from_in, in_prefix}
 use Rattle.eve_grammar.specs.Trace.{Access}
 use Rattle.eve_grammar.proofs.Lists.{all-append}
 use Rattle.eve_views.specs.Form.{SomePlace}
 use Rattle.eve_chains.proofs.Distinct.{in_right}
 use Rattle.eve_chains.proofs.Faultless.{in_place, place_of}
-use Rattle.eve_chains.specs.Records.{recorded, recorded_of, IsLeastUnfit, lesser}
+use Rattle.eve_chains.specs.Records.{recorded, recorded_of, IsLeastMismatch, lesser}
 
 -- ---- two lists
 
 module _ (names : List (List ℕ)) where
-  abbrev Unfit : ℕ → ℕ × Executed → Type 0
-  Unfit at x = (x.0 ≡ at) × ¬ Fits names x.1
+  abbrev Mismatch : ℕ → ℕ × Executed → Type 0
+  Mismatch at x = (x.0 ≡ at) × ¬ Fits names x.1
 
-  abbrev IsUpToUnfit : ℕ → ℕ × Executed → Type 0
-  IsUpToUnfit at x = ¬ Fits names x.1 → at ≤ x.0
+  abbrev IsUpToMismatch : ℕ → ℕ × Executed → Type 0
+  IsUpToMismatch at x = ¬ Fits names x.1 → at ≤ x.0
 
-  unfit_left : (at : ℕ) (xs ys : List (ℕ × Executed)) → SomePlace xs (λ _ x. Unfit at x)
-      → SomePlace (xs ++ ys) (λ _ x. Unfit at x)
-  unfit_left at xs ys place = place_of (Unfit at) (xs ++ ys) (in_front ys (in_place xs place)) place.holds
+  mismatch_left : (at : ℕ) (xs ys : List (ℕ × Executed)) → SomePlace xs (λ _ x. Mismatch at x)
+      → SomePlace (xs ++ ys) (λ _ x. Mismatch at x)
+  mismatch_left at xs ys place = place_of (Mismatch at) (xs ++ ys) (in_prefix ys (in_place xs place)) place.holds
 
-  unfit_right : (at : ℕ) (xs ys : List (ℕ × Executed)) → SomePlace ys (λ _ x. Unfit at x)
-      → SomePlace (xs ++ ys) (λ _ x. Unfit at x)
-  unfit_right at xs ys place = place_of (Unfit at) (xs ++ ys) (in_right xs ys (in_place ys place)) place.holds
+  mismatch_right : (at : ℕ) (xs ys : List (ℕ × Executed)) → SomePlace ys (λ _ x. Mismatch at x)
+      → SomePlace (xs ++ ys) (λ _ x. Mismatch at x)
+  mismatch_right at xs ys place = place_of (Mismatch at) (xs ++ ys) (in_right xs ys (in_place ys place)) place.holds
 
   up_from_fit : (at : ℕ) (xs : List (ℕ × Executed)) → AllByRecursion (λ x. Fits names x.1) xs
-      → AllByRecursion (IsUpToUnfit at) xs
-  up_from_fit at xs all = all_from_in (IsUpToUnfit at) xs
-      (λ x i unfit. absurd (unfit (all_in (λ x. Fits names x.1) all i)))
+      → AllByRecursion (IsUpToMismatch at) xs
+  up_from_fit at xs all = all_from_in (IsUpToMismatch at) xs
+      (λ x i mismatch. absurd (mismatch (all_in (λ x. Fits names x.1) all i)))
 
-  up_from_less : (m n : ℕ) (xs : List (ℕ × Executed)) → m ≤ n → AllByRecursion (IsUpToUnfit n) xs
-      → AllByRecursion (IsUpToUnfit m) xs
+  up_from_less : (m n : ℕ) (xs : List (ℕ × Executed)) → m ≤ n → AllByRecursion (IsUpToMismatch n) xs
+      → AllByRecursion (IsUpToMismatch m) xs
   up_from_less m n xs up all =
-      all_from_in (IsUpToUnfit m) xs (λ x i unfit. through x.0 (all_in (IsUpToUnfit n) all i unfit))
+      all_from_in (IsUpToMismatch m) xs (λ x i mismatch. through x.0 (all_in (IsUpToMismatch n) all i mismatch))
     where
       through : (k : ℕ) → n ≤ k → m ≤ k
       through k h = omega arith
 
-  lesser_of : (m n : ℕ) (xs ys : List (ℕ × Executed)) (b : Bool) → nat_lt n m ≡ b → IsLeastUnfit names xs (Some m)
-      → IsLeastUnfit names ys (Some n)
-      → IsLeastUnfit names (xs ++ ys) (cond b (Some n) (Some m))
+  lesser_of : (m n : ℕ) (xs ys : List (ℕ × Executed)) (b : Bool) → nat_lt n m ≡ b → IsLeastMismatch names xs (Some m)
+      → IsLeastMismatch names ys (Some n)
+      → IsLeastMismatch names (xs ++ ys) (cond b (Some n) (Some m))
   lesser_of m n xs ys true less first other = (
-    unfit_right n xs ys other.0,
-    all-append (IsUpToUnfit n) xs ys (up_from_less n m xs (below (ltb-true n m less)) first.1) other.1,
+    mismatch_right n xs ys other.0,
+    all-append (IsUpToMismatch n) xs ys (up_from_less n m xs (below (ltb-true n m less)) first.1) other.1,
   )
     where
       below : n < m → n ≤ m
       below h = omega arith
   lesser_of m n xs ys false more first other = (
-    unfit_left m xs ys first.0,
-    all-append (IsUpToUnfit m) xs ys first.1 (up_from_less m n ys (above (cases_lt n m)) other.1),
+    mismatch_left m xs ys first.0,
+    all-append (IsUpToMismatch m) xs ys first.1 (up_from_less m n ys (above (cases_lt n m)) other.1),
   )
     where
       above : (n < m) ⊎ (m ≤ n) → m ≤ n
       above (inl h) = absurd (false≢true (sym more ∙ lt-ltb n m h))
       above (inr h) = h
 
-  pub least_append : (xs ys : List (ℕ × Executed)) (o p : Option ℕ) → IsLeastUnfit names xs o → IsLeastUnfit names ys p
-      → IsLeastUnfit names (xs ++ ys) (lesser o p)
+  pub least_append : (xs ys : List (ℕ × Executed)) (o p : Option ℕ) → IsLeastMismatch names xs o
+      → IsLeastMismatch names ys p
+      → IsLeastMismatch names (xs ++ ys) (lesser o p)
   least_append xs ys None None first other = all-append (λ x. Fits names x.1) xs ys first other
   least_append xs ys None (Some n) first other =
-      (unfit_right n xs ys other.0, all-append (IsUpToUnfit n) xs ys (up_from_fit n xs first) other.1)
+      (mismatch_right n xs ys other.0, all-append (IsUpToMismatch n) xs ys (up_from_fit n xs first) other.1)
   least_append xs ys (Some m) None first other =
-      (unfit_left m xs ys first.0, all-append (IsUpToUnfit m) xs ys first.1 (up_from_fit m ys other))
+      (mismatch_left m xs ys first.0, all-append (IsUpToMismatch m) xs ys first.1 (up_from_fit m ys other))
   least_append xs ys (Some m) (Some n) first other = lesser_of m n xs ys (nat_lt n m) refl first other
 
 -- ---- one record
 
-pub unfit_alone : (names : List (List ℕ)) (x : ℕ × Executed) (at : ℕ) → at ≡ x.0 → (Fits names x.1 → ⊥)
-    → IsLeastUnfit names (x ∷ []) (Some at)
-unfit_alone names x at same unfit =
-    (record { before = []; item = x; rest = []; is = refl; holds = (sym same, unfit) }, (λ _. up same, tt))
+pub mismatch_alone : (names : List (List ℕ)) (x : ℕ × Executed) (at : ℕ) → at ≡ x.0 → (Fits names x.1 → ⊥)
+    → IsLeastMismatch names (x ∷ []) (Some at)
+mismatch_alone names x at same mismatch =
+    (record { before = []; item = x; rest = []; is = refl; holds = (sym same, mismatch) }, (λ _. up same, tt))
   where
     up : at ≡ x.0 → at ≤ x.0
     up e = omega arith
@@ -106,12 +107,12 @@ recorded_at requests replies x index request reply is within read answered =
 -- the item at a place, where all before it were judged
 pub least_next : (names : List (List ℕ)) (f : ℕ × Access → ℕ × Executed) (xs : List (ℕ × Access)) (i : ℕ)
     (x : ℕ × Access) (y : ℕ × Executed) (o p : Option ℕ) → slice_get xs i ≡ Some x → f x ≡ y
-    → IsLeastUnfit names (map f (take i xs)) o → IsLeastUnfit names (y ∷ []) p
-    → IsLeastUnfit names (map f (take (i + 1) xs)) (lesser o p)
+    → IsLeastMismatch names (map f (take i xs)) o → IsLeastMismatch names (y ∷ []) p
+    → IsLeastMismatch names (map f (take (i + 1) xs)) (lesser o p)
 least_next names f xs i x y o p at is first other =
     let within = slice_get_within xs i x at in
     let one : map f (take (i + 1) xs) ≡ map f (take i xs) ++ y ∷ [] =
     map_more f xs i x within ∙ ap (λ (z : ℕ × Access). map f (take i xs) ++ f z ∷ [])
     (get_or_from_slice_get xs i x x at) ∙ ap (λ (z : ℕ × Executed). map f (take i xs) ++ z ∷ []) is in
-    subst (λ (zs : List (ℕ × Executed)). IsLeastUnfit names zs (lesser o p)) (sym one)
+    subst (λ (zs : List (ℕ × Executed)). IsLeastMismatch names zs (lesser o p)) (sym one)
     (least_append names (map f (take i xs)) (y ∷ []) o p first other)

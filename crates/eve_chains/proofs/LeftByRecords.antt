@@ -8,16 +8,16 @@ use Rattle.eve_smallbank.specs.declared.entry.Entry.{Entry}
 use Rattle.eve_smallbank.specs.Access.{Executed}
 use Rattle.eve_smallbank.specs.declared.versioned.Versioned.{Versioned}
 use Rattle.eve_smallbank.specs.Chain.{Table, table_after, table_after_all}
-use Rattle.eve_smallbank.proofs.Members.{In, here, there, all_in, in_front, in_middle}
+use Rattle.eve_smallbank.proofs.Members.{In, here, there, all_in, in_prefix, in_middle}
 use Rattle.eve_smallbank.proofs.Chains.{table_after-append}
 use Rattle.eve_grammar.specs.Trace.{Access, Attempt, Trace}
 use Rattle.eve_grammar.specs.Limits.{HasLimits}
 use Rattle.eve_grammar.specs.Frames.{OfAccess, OfAttempt}
 use Rattle.eve_grammar.specs.Spelling.{frame_text, accesses_at}
-use Rattle.eve_history.specs.Section.{Came, Ran, TookOver, Placed, settled, request_count}
+use Rattle.eve_history.specs.Section.{Came, Ran, Transferred, Placed, settled, request_count}
 use Rattle.eve_history.specs.SectionHistory.{access_with, history, IsRightSection}
 use Rattle.eve_chains.specs.Visible.{opening_table, entries_with, executed_at, execution, executions}
-use Rattle.eve_chains.specs.Visible.{taken_table, with_came, rows_after, before_index, visible_to}
+use Rattle.eve_chains.specs.Visible.{transferred_table, with_came, rows_after, before_index, visible_to}
 use Rattle.eve_chains.specs.Committed.{attempts_of}
 use Rattle.eve_chains.specs.Along.{entries_along}
 use Rattle.eve_chains.proofs.AlongLaws.{table_after_all-append}
@@ -35,10 +35,10 @@ pub rows_after-push : (t : Trace) (path : List Came) (a : Attempt) → rows_afte
     ≡ table_after_all (rows_after t path) (execution t a)
 rows_after-push t path a = fold-append (with_came t) (opening_table t) path (Ran a ∷ [])
 
--- what stands before a state that was taken over doesn't matter
-pub rows_after-taken : (t : Trace) (before : List Came) (rows : List Versioned) (path : List Came)
-    → rows_after t (before ++ TookOver rows ∷ path) ≡ fold (with_came t) (taken_table rows) path
-rows_after-taken t before rows path = fold-append (with_came t) (opening_table t) before (TookOver rows ∷ path)
+-- what stands before a state that was transferred doesn't matter
+pub rows_after-transferred : (t : Trace) (before : List Came) (rows : List Versioned) (path : List Came)
+    → rows_after t (before ++ Transferred rows ∷ path) ≡ fold (with_came t) (transferred_table rows) path
+rows_after-transferred t before rows path = fold-append (with_came t) (opening_table t) before (Transferred rows ∷ path)
 
 pub with_attempts : (t : Trace) (table : Table) (attempts : List Attempt) → fold (with_came t) table (map Ran attempts)
     ≡ table_after_all table (executions t attempts)
@@ -79,13 +79,13 @@ table_between table f g (i ∷ order) same =
     ∙ ap (λ (es : List Entry). table_after (table_after table es) (entries_along (map g order))) (same i here)
     ∙ table_between (table_after table (f i).entries) f g order (λ j k. same j (there k))
 
-before_itself : (front : List ℕ) (i : ℕ) (back : List ℕ) → Distinct (front ++ i ∷ back)
-    → before_index i (front ++ i ∷ back) ≡ front
+before_itself : (prefix : List ℕ) (i : ℕ) (back : List ℕ) → Distinct (prefix ++ i ∷ back)
+    → before_index i (prefix ++ i ∷ back) ≡ prefix
 before_itself [] i back d = cond-true (i == i) [] (i ∷ before_index i back) (eq-eqb i i refl)
-before_itself (j ∷ front) i back d =
-    cond-false (j == i) [] (j ∷ before_index i (front ++ i ∷ back))
-    (ne_eqb j i (λ e. d.0 (subst (λ k. In k (front ++ i ∷ back)) (sym e) (in_middle i front back))))
-    ∙ ap (λ (ks : List ℕ). j ∷ ks) (before_itself front i back d.1)
+before_itself (j ∷ prefix) i back d =
+    cond-false (j == i) [] (j ∷ before_index i (prefix ++ i ∷ back))
+    (ne_eqb j i (λ e. d.0 (subst (λ k. In k (prefix ++ i ∷ back)) (sym e) (in_middle i prefix back))))
+    ∙ ap (λ (ks : List ℕ). j ∷ ks) (before_itself prefix i back d.1)
 
 -- ---- one attempt
 
@@ -135,15 +135,15 @@ module _ (t : Trace) (p : Placed) (right : IsRightAlone t p.attempt) (complete :
       let m = map_cut (access_with (accesses_at p.offset p.attempt)) p.attempt.certificate xs x zs is in
       let member : In m.item p.attempt.certificate = subst (In m.item) (sym m.is)
       (in_middle m.item m.earlier m.later) in
-      let front : before_index m.item p.attempt.certificate ≡ m.earlier = ap (before_index m.item) m.is
+      let prefix : before_index m.item p.attempt.certificate ≡ m.earlier = ap (before_index m.item) m.is
       ∙ before_itself m.earlier m.item m.later
       (subst Distinct m.is (distinct_permutation (request_count t p.attempt) p.attempt.certificate
       (permutes t p.attempt right.certificate))) in
       ap (λ (ys : List (ℕ × Access)). table_after (rows_after t p.path) (entries_along ys)) m.same
       ∙ table_between (rows_after t p.path) (executed_at t p.attempt) (access_with (accesses_at p.offset p.attempt))
       m.earlier
-      (λ j k. same_entries j (subst (In j) (sym m.is) (in_front (m.item ∷ m.later) k)))
-      ∙ ap (λ (ks : List ℕ). table_after_all (rows_after t p.path) (map (executed_at t p.attempt) ks)) (sym front)
+      (λ j k. same_entries j (subst (In j) (sym m.is) (in_prefix (m.item ∷ m.later) k)))
+      ∙ ap (λ (ks : List ℕ). table_after_all (rows_after t p.path) (map (executed_at t p.attempt) ks)) (sym prefix)
       ∙ ap (visible_to t p) (sym (record_there m.item member).1 ∙ ap (λ (y : ℕ × Access). y.1.index) (sym m.it))
 
 -- ---- settled attempts

@@ -1,45 +1,45 @@
 pub mod AttemptRecords
-mod TakenStates
-mod Told
+mod TransferredStates
+mod ToldAttempts
 mod ByRow
 mod WalkedRows
-mod Grouping
-mod Gathering
-mod Joined
-mod Collecting
+mod NumberGroups
+mod GatheredEntries
+mod JoinedStretches
+mod CollectedParts
 mod JudgedRows
 mod Paths
 mod RowWalks
-mod Meeting
+mod EntriesAlongWalks
 mod Cuts
 mod RowFaults
 pub mod Permutations
 pub mod Distinct
-pub mod Linked
+pub mod LinkedPaths
 pub mod SerialSections
 pub mod SettledAttempts
 pub mod Soundness
 pub mod Faultless
-pub mod Once
+pub mod DistinctRequests
 pub mod Arrivals
 mod Openings
 pub mod AlongLaws
 pub mod LeftByRecords
-pub mod Advancing
+pub mod BalanceSteps
 mod WorkedCases
 mod WorkedNumbers
-pub mod Nearest
+pub mod NearestWrites
 pub mod Least
 pub mod Attempts
-pub mod Judged
+pub mod JudgedRecords
 pub mod Stretches
 mod CommittedBatches
-mod Changing
+mod ChangeLists
 mod ByNumber
 mod ChangedRows
 mod CommittedChanges
-mod SettingRows
-mod AdvancingBanks
-mod LandedChanges
-mod TakenRows
-mod SameAgain
+mod SetRows
+mod BankSteps
+mod ReachedChanges
+mod TransferredRows
+mod EqualBalances

@@ -3,7 +3,7 @@ use Rattle.std.proofs.Common.{◌≡◌, ℕ, Some}
 use Rattle.std.specs.Prelude.{slice_get}
 use Rattle.eve_grammar.specs.Trace.{Customer, Trace}
 use Rattle.eve_grammar.specs.Spelling.{customer_text, customers_at}
-use Rattle.eve_views.proofs.Locating.{located_get}
+use Rattle.eve_views.proofs.FrameOffsets.{located_get}
 
 pub customer_there : (t : Trace) (i o : ℕ) (c : Customer) → slice_get (customers_at t) i ≡ Some (o, c)
     → slice_get t.customers i ≡ Some c

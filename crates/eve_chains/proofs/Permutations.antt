@@ -7,15 +7,15 @@ use Rattle.std.specs.List.{list_all}
 use Rattle.eve_grammar.specs.Certificate.{occurrences, all_below, is_permutation}
 use Rattle.eve_smallbank.specs.Conflict.{IsReordering}
 use Rattle.eve_smallbank.proofs.Members.{reordering_map}
-use Rattle.eve_grammar.proofs.Counting.{all_below_at, none_above}
+use Rattle.eve_grammar.proofs.Orders.{all_below_at, none_above}
 
 -- ---- from counts
 
-occurrences-middle : (i x : ℕ) (front back : List ℕ) → occurrences i (front ++ x ∷ back)
-    ≡ cond (x == i) (suc (occurrences i (front ++ back))) (occurrences i (front ++ back))
+occurrences-middle : (i x : ℕ) (prefix back : List ℕ) → occurrences i (prefix ++ x ∷ back)
+    ≡ cond (x == i) (suc (occurrences i (prefix ++ back))) (occurrences i (prefix ++ back))
 occurrences-middle i x [] back = refl
-occurrences-middle i x (y ∷ front) back = ap (λ n. cond (y == i) (suc n) n) (occurrences-middle i x front back)
-    ∙ exchange (y == i) (x == i) (occurrences i (front ++ back))
+occurrences-middle i x (y ∷ prefix) back = ap (λ n. cond (y == i) (suc n) n) (occurrences-middle i x prefix back)
+    ∙ exchange (y == i) (x == i) (occurrences i (prefix ++ back))
   where
     exchange : (b c : Bool) (n : ℕ) → cond b (suc (cond c (suc n) n)) (cond c (suc n) n)
         ≡ cond c (suc (cond b (suc n) n)) (cond b (suc n) n)
@@ -25,7 +25,8 @@ occurrences-middle i x (y ∷ front) back = ap (λ n. cond (y == i) (suc n) n) (
     exchange false false n = refl
 
 -- a number that occurs stands somewhere
-pub found : (x : ℕ) (ys : List ℕ) → 0 < occurrences x ys → (front : List ℕ) × (back : List ℕ) × (ys ≡ front ++ x ∷ back)
+pub found : (x : ℕ) (ys : List ℕ) → 0 < occurrences x ys → (prefix : List ℕ) × (back : List ℕ)
+    × (ys ≡ prefix ++ x ∷ back)
 found x [] h = absurd (omega arith)
 found x (y ∷ ys) h =
     elim (cases_Bool (y == x)) [

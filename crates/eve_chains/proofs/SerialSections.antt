@@ -19,7 +19,7 @@ use Rattle.eve_smallbank.proofs.Chains.{visible_at-before_rest}
 use Rattle.eve_smallbank.proofs.SerialOrders.{serial}
 use Rattle.eve_grammar.specs.Trace.{Trace}
 use Rattle.eve_grammar.specs.Certificate.{is_permutation, keeps_groups}
-use Rattle.eve_history.specs.Section.{Came, Placed, Landing, ByAttempt, ByTransfer, Skipped, came_by, attempts_by}
+use Rattle.eve_history.specs.Section.{Came, Placed, HowReached, ByAttempt, ByTransfer, Skipped, came_by, attempts_by}
 use Rattle.eve_history.specs.Section.{batch_at, request_count, IsByAttempt}
 use Rattle.eve_history.specs.SectionHistory.{ByAttemptsTo, history, committed_at, IsRightSection, names_of}
 use Rattle.eve_chains.specs.Visible.{opening_table, executed_at, executed_in, execution, executions, with_came}
@@ -28,7 +28,8 @@ use Rattle.eve_chains.specs.Committed.{attempts_of, committed_to, path_to, bank_
 use Rattle.eve_chains.specs.Committed.{IsSerialBetween}
 use Rattle.eve_chains.specs.Sound.{IsSoundAlong, SettledAreSound}
 use Rattle.eve_chains.proofs.Permutations.{reordering_of_permutations}
-use Rattle.eve_chains.proofs.Linked.{linked_history, linked_number, none≢some, linked_at, landing_by, in_attempts}
+use Rattle.eve_chains.proofs.LinkedPaths.{linked_history, linked_number, none≢some, linked_at, how_reached_by}
+use Rattle.eve_chains.proofs.LinkedPaths.{in_attempts}
 use Rattle.eve_history.proofs.FateLaws.{attempts_by_push}
 
 -- ---- lists
@@ -45,14 +46,14 @@ take_no_more [] (suc n) e = refl
 take_no_more (y ∷ xs) zero e = none≢some y (sym e)
 take_no_more (y ∷ xs) (suc n) e = ap (λ zs. y ∷ zs) (take_no_more xs n e)
 
-all-front : {A : Type 0} (P : A → Type 0) (xs ys : List A) → AllByRecursion P (xs ++ ys) → AllByRecursion P xs
-all-front P [] ys all = tt
-all-front P (x ∷ xs) ys all = (all.0, all-front P xs ys all.1)
+all-prefix : {A : Type 0} (P : A → Type 0) (xs ys : List A) → AllByRecursion P (xs ++ ys) → AllByRecursion P xs
+all-prefix P [] ys all = tt
+all-prefix P (x ∷ xs) ys all = (all.0, all-prefix P xs ys all.1)
 
 -- ---- banks
 
 -- the requests of one more attempt by which a number was reached
-pub one_more : (t : Trace) (ls : List Landing) (n : ℕ) (p : Placed) → slice_get ls n ≡ Some (ByAttempt p)
+pub one_more : (t : Trace) (ls : List HowReached) (n : ℕ) (p : Placed) → slice_get ls n ≡ Some (ByAttempt p)
     → executions t (attempts_of (attempts_by (take (suc n) ls)))
     ≡ executions t (attempts_of (attempts_by (take n ls))) ++ execution t p.attempt
 one_more t ls n p e =
@@ -64,7 +65,7 @@ one_more t ls n p e =
     (append-nil (execution t p.attempt))
 
 -- what the rows have after one more number
-pub rows_next : (t : Trace) (ls : List Landing) (n : ℕ) (l : Landing) → slice_get ls n ≡ Some l
+pub rows_next : (t : Trace) (ls : List HowReached) (n : ℕ) (l : HowReached) → slice_get ls n ≡ Some l
     → rows_after t (flat_map came_by (take (suc n) ls))
     ≡ fold (with_came t) (rows_after t (flat_map came_by (take n ls))) (came_by l)
 rows_next t ls n l e =
@@ -75,30 +76,30 @@ rows_next t ls n l e =
 -- ---- the law
 
 module _ (t : Trace) (e : ℕ) (right : IsRightSection t e) (sound : SettledAreSound t e) (n : ℕ) where
-  committed_serial : (p : Placed) → slice_get (history t e).landings n ≡ Some (ByAttempt p)
+  committed_serial : (p : Placed) → slice_get (history t e).each_reached n ≡ Some (ByAttempt p)
       → IsSerial (names_of t) (rows_after t (path_to t e n)) [] (execution t p.attempt)
   committed_serial p at =
       let own = all_in (IsSoundAlong t)
-      (all-front (IsSoundAlong t) (attempts_by (history t e).landings) (history t e).discarded sound)
-      (in_attempts (history t e).landings n p at) in
-      let along = (linked_at t [] (history t e).landings n p (linked_history t e right) at).path in
+      (all-prefix (IsSoundAlong t) (attempts_by (history t e).each_reached) (history t e).discarded sound)
+      (in_attempts (history t e).each_reached n p at) in
+      let along = (linked_at t [] (history t e).each_reached n p (linked_history t e right) at).path in
       serial (names_of t) (rows_after t (path_to t e n)) [] (execution t p.attempt)
       (subst (λ path. IsSound (names_of t) (rows_after t path) [] (execution t p.attempt)) along own)
 
-  bank_next : (p : Placed) → slice_get (history t e).landings n ≡ Some (ByAttempt p)
+  bank_next : (p : Placed) → slice_get (history t e).each_reached n ≡ Some (ByAttempt p)
       → bank_at (names_of t) (rows_after t (path_to t e n)) (before_rest [] (execution t p.attempt))
       ≡ bank_after t e (suc n)
   unfolding bank_after
   bank_next p at = ap (λ (table : Table). bank_of (names_of t) (values_of table))
       (visible_at-before_rest (rows_after t (path_to t e n)) [] (execution t p.attempt)
-      ∙ sym (rows_next t (history t e).landings n (ByAttempt p) at))
+      ∙ sym (rows_next t (history t e).each_reached n (ByAttempt p) at))
 
   bank_now : bank_after t e n ≡ bank_at (names_of t) (rows_after t (path_to t e n)) []
   unfolding bank_after
   bank_now = refl
 
   -- a run from the rows after the path is one between the banks
-  run_between : (p : Placed) → slice_get (history t e).landings n ≡ Some (ByAttempt p)
+  run_between : (p : Placed) → slice_get (history t e).each_reached n ≡ Some (ByAttempt p)
       → (requests : List Request) (replies : List Reply)
       → run (bank_at (names_of t) (rows_after t (path_to t e n)) []) requests
       ≡ (
@@ -109,7 +110,7 @@ module _ (t : Trace) (e : ℕ) (right : IsRightSection t e) (sound : SettledAreS
   run_between p at requests replies runs =
       ap (λ (bank : Bank). run bank requests) bank_now ∙ runs ∙ ap (λ (bank : Bank). (bank, replies)) (bank_next p at)
 
-  serial_next : (p : Placed) → slice_get (history t e).landings n ≡ Some (ByAttempt p)
+  serial_next : (p : Placed) → slice_get (history t e).each_reached n ≡ Some (ByAttempt p)
       → IsSerialBetween (bank_after t e n) (bank_after t e (suc n)) (execution t p.attempt)
   serial_next p at =
       let own = committed_serial p at in
@@ -122,10 +123,10 @@ module _ (t : Trace) (e : ℕ) (right : IsRightSection t e) (sound : SettledAreS
       }
 
   -- past the last number the bank stays
-  bank_stays : slice_get (history t e).landings n ≡ None → bank_after t e n ≡ bank_after t e (suc n)
+  bank_stays : slice_get (history t e).each_reached n ≡ None → bank_after t e n ≡ bank_after t e (suc n)
   unfolding bank_after
-  bank_stays none = ap (λ (ls : List Landing). bank_of (names_of t) (values_of (rows_after t (flat_map came_by ls))))
-      (sym (take_no_more (history t e).landings n none))
+  bank_stays none = ap (λ (ls : List HowReached). bank_of (names_of t) (values_of (rows_after t (flat_map came_by ls))))
+      (sym (take_no_more (history t e).each_reached n none))
 
 pub serial_between : (t : Trace) (e : ℕ) → IsRightSection t e → SettledAreSound t e → (n : ℕ) (p : Placed)
     → committed_at t e n ≡ Some p
@@ -133,7 +134,7 @@ pub serial_between : (t : Trace) (e : ℕ) → IsRightSection t e → SettledAre
 serial_between t e right sound zero p at = none≢some p at
 serial_between t e right sound (suc n) p at =
     subst (λ (m : ℕ). IsSerialBetween (bank_after t e m) (bank_after t e (suc n)) (execution t p.attempt)) (same n)
-    (serial_next t e right sound n p (landing_by (slice_get (history t e).landings n) p at))
+    (serial_next t e right sound n p (how_reached_by (slice_get (history t e).each_reached n) p at))
   where
     same : (n : ℕ) → n ≡ suc n - 1
     same n = omega arith
@@ -168,17 +169,17 @@ module _ (t : Trace) (e : ℕ) (right : IsRightSection t e) (sound : SettledAreS
   abbrev leads : ℕ → Type 0
   leads n = Leads (opening_bank t) (executions t (committed_to t e n)) (bank_after t e n)
 
-  leads_next : (n : ℕ) → leads n → (o : Option Landing) → slice_get (history t e).landings n ≡ o
-      → ((l : Landing) → slice_get (history t e).landings n ≡ Some l → IsByAttempt l) → leads (suc n)
+  leads_next : (n : ℕ) → leads n → (o : Option HowReached) → slice_get (history t e).each_reached n ≡ o
+      → ((l : HowReached) → slice_get (history t e).each_reached n ≡ Some l → IsByAttempt l) → leads (suc n)
   leads_next n before None none alone =
-      subst (λ (ls : List Landing). Leads (opening_bank t) (executions t (attempts_of (attempts_by ls)))
+      subst (λ (ls : List HowReached). Leads (opening_bank t) (executions t (attempts_of (attempts_by ls)))
       (bank_after t e (suc n)))
-      (sym (take_no_more (history t e).landings n none))
+      (sym (take_no_more (history t e).each_reached n none))
       (subst (λ (bank : Bank). Leads (opening_bank t) (executions t (committed_to t e n)) bank)
       (bank_stays t e right sound n none) before)
   leads_next n before (Some (ByAttempt p)) at alone =
       subst (λ (xs : List Executed). Leads (opening_bank t) xs (bank_after t e (suc n)))
-      (sym (one_more t (history t e).landings n p at))
+      (sym (one_more t (history t e).each_reached n p at))
       (leads-append (opening_bank t) (bank_after t e n) (bank_after t e (suc n)) (executions t (committed_to t e n))
       (execution t p.attempt) before
       (serial_next t e right sound n p at).serial)
@@ -187,10 +188,11 @@ module _ (t : Trace) (e : ℕ) (right : IsRightSection t e) (sound : SettledAreS
 
   -- where every number up to n was reached by an attempt
   leads_by_attempts : (n : ℕ)
-      → ((m : ℕ) (l : Landing) → m < n → slice_get (history t e).landings m ≡ Some l → IsByAttempt l) → leads n
+      → ((m : ℕ) (l : HowReached) → m < n → slice_get (history t e).each_reached m ≡ Some l → IsByAttempt l) → leads n
   leads_by_attempts zero alone = ap (λ (bank : Bank). (bank, [])) (opening_is_first t e)
   leads_by_attempts (suc n) alone =
-      leads_next n (leads_by_attempts n (λ m l less. alone m l (omega arith))) (slice_get (history t e).landings n) refl
+      leads_next n (leads_by_attempts n (λ m l less. alone m l (omega arith))) (slice_get (history t e).each_reached n)
+      refl
       (λ l. alone n l (omega arith))
 
   pub leads_from_opening : (n : ℕ) → ByAttemptsTo t e n → leads n

@@ -4,7 +4,7 @@ use Rattle.std.proofs.Common.{IsTrue, sym, subst}
 use Rattle.std.specs.Prelude.{⊤}
 use Rattle.std.proofs.lemmas.Bool.{and_parts, eqb-true}
 use Rattle.std.specs.List.{AllByRecursion, list_all}
-use Rattle.eve_grammar.specs.Trace.{Attempt, Step, Attempts, Commits, RollsBack, TakesOver, Trace, head_of}
+use Rattle.eve_grammar.specs.Trace.{Attempt, Step, Attempts, Commits, RollsBack, Transfers, Trace, head_of}
 use Rattle.eve_grammar.specs.Spelling.{steps_at}
 use Rattle.eve_grammar.specs.Limits.{is_attempt, is_access, is_step, row_count, HasLimits}
 use Rattle.eve_grammar.proofs.Lists.{all-append}
@@ -13,9 +13,9 @@ use Rattle.eve_history.specs.Section.{settled}
 use Rattle.eve_history.specs.Section.{request_count, is_due, is_right_attempt, is_right_certificate, are_right_accesses}
 use Rattle.eve_history.specs.Section.{is_right, are_right}
 use Rattle.eve_history.specs.SectionHistory.{history, IsRightSection}
-use Rattle.eve_history.proofs.Coming.{steps_fit}
+use Rattle.eve_history.proofs.SectionSteps.{steps_fit}
 use Rattle.eve_history.proofs.FateLaws.{attempts_by_push}
-use Rattle.eve_chains.proofs.Linked.{attempts_taking}
+use Rattle.eve_chains.proofs.LinkedPaths.{attempts_transferring}
 
 -- ---- of any fact on attempts
 
@@ -25,7 +25,7 @@ IfAttempt (Attempts a) P = P a
 IfAttempt _ P = ⊤
 
 record AreAll (P : Attempt → Type 0) (s : SectionState) : Type 0 where
-  committed : AllByRecursion (λ p. P p.attempt) (attempts_by s.landings)
+  committed : AllByRecursion (λ p. P p.attempt) (attempts_by s.each_reached)
   pending : AllByRecursion (λ p. P p.attempt) s.pending
   discarded : AllByRecursion (λ p. P p.attempt) s.discarded
 
@@ -34,8 +34,8 @@ all_committing : (P : Attempt → Type 0) (s : SectionState) (pending : List Pla
 all_committing P s [] all known = known
 all_committing P s (p ∷ ps) all known =
     record {
-      committed = subst (AllByRecursion (λ q. P q.attempt)) (sym (attempts_by_push s.landings p))
-          (all-append (λ q. P q.attempt) (attempts_by s.landings) (p ∷ []) known.committed (all.0, tt));
+      committed = subst (AllByRecursion (λ q. P q.attempt)) (sym (attempts_by_push s.each_reached p))
+          (all-append (λ q. P q.attempt) (attempts_by s.each_reached) (p ∷ []) known.committed (all.0, tt));
       pending = all.1;
       discarded = known.discarded;
     }
@@ -56,10 +56,10 @@ all_next P s (at, RollsBack r) own known =
       discarded = all-append (λ q. P q.attempt) s.discarded s.pending
           known.discarded known.pending;
     }
-all_next P s (at, TakesOver x) own known =
+all_next P s (at, Transfers x) own known =
     record {
       committed = subst (AllByRecursion (λ q. P q.attempt))
-          (sym (attempts_taking s.landings (x.seq - (s.last + 1)) at x)) known.committed;
+          (sym (attempts_transferring s.each_reached (x.seq - (s.last + 1)) at x)) known.committed;
       pending = tt;
       discarded = all-append (λ q. P q.attempt) s.discarded s.pending known.discarded known.pending;
     }
@@ -74,7 +74,7 @@ all_settled : (t : Trace) (e : ℕ) (P : Attempt → Type 0) → AllByRecursion 
 unfolding history
 all_settled t e P own =
     let known = all_after P start (steps_at t e) own (record { committed = tt; pending = tt; discarded = tt }) in
-    all-append (λ p. P p.attempt) (attempts_by (history t e).landings) (history t e).discarded known.committed
+    all-append (λ p. P p.attempt) (attempts_by (history t e).each_reached) (history t e).discarded known.committed
     known.discarded
 
 -- ---- right steps
@@ -98,7 +98,7 @@ right_step t s (Attempts a) right =
     }
 right_step t s (Commits c) right = tt
 right_step t s (RollsBack r) right = tt
-right_step t s (TakesOver x) right = tt
+right_step t s (Transfers x) right = tt
 
 right_steps : (t : Trace) (s : SectionState) (steps : List (ℕ × Step)) → IsTrue (are_right t s steps)
     → AllByRecursion (λ step. IfAttempt step.1 (IsRightAlone t)) steps
@@ -124,7 +124,7 @@ complete_step rows (Attempts a) h =
     (and_parts (is_attempt a) _ h).1).0
 complete_step rows (Commits c) h = tt
 complete_step rows (RollsBack r) h = tt
-complete_step rows (TakesOver x) h = tt
+complete_step rows (Transfers x) h = tt
 
 complete_steps : (rows : ℕ) (steps : List (ℕ × Step)) → IsTrue (list_all (λ x. is_step rows x.1) steps)
     → AllByRecursion (λ step. IfAttempt step.1 IsComplete) steps

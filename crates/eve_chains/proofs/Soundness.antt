@@ -7,7 +7,7 @@ use Rattle.std.proofs.lemmas.List.{length-map}
 use Rattle.std.specs.List.{AllByRecursion, list_any}
 use Rattle.eve_smallbank.specs.Access.{Executed, Fits}
 use Rattle.eve_smallbank.specs.Chain.{Table, Sees, table_after, table_after_all}
-use Rattle.eve_smallbank.proofs.Members.{In, here, there, all_in, all_from_in, none_of_list_any, in_front, in_middle}
+use Rattle.eve_smallbank.proofs.Members.{In, here, there, all_in, all_from_in, none_of_list_any, in_prefix, in_middle}
 use Rattle.eve_smallbank.proofs.Chains.{Follows, follows_chain, chain_follows, chained_by_rows, rows_by_chain}
 use Rattle.eve_grammar.specs.Trace.{Access, Attempt, Trace}
 use Rattle.eve_grammar.specs.Limits.{HasLimits}
@@ -55,7 +55,7 @@ other_index t a before (x ∷ xs) y z right i here =
     none_of_list_any (λ w. w.index == x.index) before
     (index_parts t a before x (and_parts (is_right_access t a before x) _ right).0).1 i
 other_index t a before (w ∷ xs) y x right i (there j) = other_index t a (before ++ w ∷ []) xs y x
-    (rest_right t a before w xs right) (in_front (w ∷ []) i) j
+    (rest_right t a before w xs right) (in_prefix (w ∷ []) i) j
 
 pub distinct_indexes : (t : Trace) (a : Attempt) (before xs : List Access) → are_right_accesses t a before xs ≡ true
     → Distinct (indexes_of xs)
@@ -111,9 +111,9 @@ chain_at table f [] i follows member = elim member [ ]
 chain_at table f (j ∷ order) i follows member =
     elim (cases_Bool (j == i)) [
       | inl same ↦ subst (SeesAt table f (j ∷ order)) (eqb-true j i same)
-          (subst (λ (front : List ℕ). AllByRecursion (Sees (table_after_all table (map f front))) (f j).entries)
+          (subst (λ (prefix : List ℕ). AllByRecursion (Sees (table_after_all table (map f prefix))) (f j).entries)
           (sym (sees_first order j)) follows.0)
-      | inr other ↦ subst (λ (front : List ℕ). AllByRecursion (Sees (table_after_all table (map f front)))
+      | inr other ↦ subst (λ (prefix : List ℕ). AllByRecursion (Sees (table_after_all table (map f prefix)))
           (f i).entries)
           (sym (sees_later order i j other))
           (chain_at (table_after table (f j).entries) f order i follows.1 (in_rest i j order other member))
@@ -124,10 +124,10 @@ chain_from : (table : Table) (f : ℕ → Executed) (order : List ℕ) → Disti
     → ((i : ℕ) → In i order → SeesAt table f order i) → Follows table (map f order)
 chain_from table f [] d sees = tt
 chain_from table f (j ∷ order) d sees = (
-  subst (λ (front : List ℕ). AllByRecursion (Sees (table_after_all table (map f front))) (f j).entries)
+  subst (λ (prefix : List ℕ). AllByRecursion (Sees (table_after_all table (map f prefix))) (f j).entries)
       (sees_first order j) (sees j here),
   chain_from (table_after table (f j).entries) f order d.1 (λ i k.
-      subst (λ (front : List ℕ). AllByRecursion (Sees (table_after_all table (map f front))) (f i).entries)
+      subst (λ (prefix : List ℕ). AllByRecursion (Sees (table_after_all table (map f prefix))) (f i).entries)
       (sees_later order i j (ne_eqb j i (λ e. d.0 (subst (λ n. In n order) (sym e) k)))) (sees i (there k))),
 )
 

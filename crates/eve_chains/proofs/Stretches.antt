@@ -10,12 +10,12 @@ use Rattle.eve_grammar.specs.Trace.{Trace}
 use Rattle.eve_grammar.proofs.Lists.{item_within}
 use Rattle.eve_history.specs.declared.fate.Fate.{Fate}
 use Rattle.eve_history.specs.SectionHistory.{SectionHistory}
-use Rattle.eve_chains.specs.Records.{by_fates, by_fates_between, records_if_settled, records_between, IsLeastUnfit}
-use Rattle.eve_chains.specs.Records.{IsLeastOfAttempt, lesser, IsLooked}
-use Rattle.eve_chains.specs.Stretches.{IsWithin, Reaches, AreBetween}
+use Rattle.eve_chains.specs.Records.{by_fates, by_fates_between, records_if_settled, records_between, IsLeastMismatch}
+use Rattle.eve_chains.specs.Records.{IsLeastOfAttempt, lesser, IsSearched}
+use Rattle.eve_chains.specs.inner.Stretches.{IsWithin, Reaches, AreBetween}
 use Rattle.eve_chains.specs.declared.stretch.Stretch.{Stretch}
 use Rattle.eve_chains.proofs.Least.{least_append}
-use Rattle.eve_chains.proofs.Linked.{from_place}
+use Rattle.eve_chains.proofs.LinkedPaths.{from_place}
 
 -- ---- one after another
 
@@ -56,19 +56,19 @@ module _ {A B : Type 0} (of : B → Fate → List A) where
   own_fates (r ∷ rs) (fate ∷ fates) = ap (λ (l : List A). of r fate ++ l) (own_fates rs fates)
 
   -- of the first m attempts, and of n after them
-  front_and_back : (m n : ℕ) (rs : List B) (fates : List Fate)
+  prefix_and_back : (m n : ℕ) (rs : List B) (fates : List Fate)
       → by_fates of (take (m + n) rs) (take (m + n) fates)
       ≡ by_fates of (take m rs) (take m fates) ++ by_fates of (take n (drop m rs)) (take n (drop m fates))
-  front_and_back zero n rs fates =
+  prefix_and_back zero n rs fates =
       let same : 0 + n ≡ n = omega arith in ap (λ (k : ℕ). by_fates of (take k rs) (take k fates)) same
-  front_and_back (suc m) n [] fates =
+  prefix_and_back (suc m) n [] fates =
       none_here (suc m + n) (take (suc m + n) fates) ∙ sym (none_here n (take n (drop (suc m) fates)))
-  front_and_back (suc m) n (r ∷ rs) [] =
+  prefix_and_back (suc m) n (r ∷ rs) [] =
       no_fates (suc m + n) (take (suc m + n) (r ∷ rs)) ∙ sym (no_fates n (take n (drop m rs)))
-  front_and_back (suc m) n (r ∷ rs) (fate ∷ fates) =
+  prefix_and_back (suc m) n (r ∷ rs) (fate ∷ fates) =
       let same : suc m + n ≡ suc (m + n) = omega arith in
       ap (λ (k : ℕ). by_fates of (take k (r ∷ rs)) (take k (fate ∷ fates))) same
-      ∙ ap (λ (l : List A). of r fate ++ l) (front_and_back m n rs fates)
+      ∙ ap (λ (l : List A). of r fate ++ l) (prefix_and_back m n rs fates)
       ∙ sym (append_assoc (of r fate) (by_fates of (take m rs) (take m fates))
       (by_fates of (take n (drop m rs)) (take n (drop m fates))))
 
@@ -86,7 +86,7 @@ module _ {A B : Type 0} (of : B → Fate → List A) where
         let its : drop mid fates ≡ drop m (drop from fates) =
         sym (drop-drop m from fates ∙ ap (λ (k : ℕ). drop k fates) at) in
         (λ k. by_fates_between of xs fates from mid ++ by_fates of (take n (rs k)) (take n (its k)))
-        ∙ sym (front_and_back m n (drop from xs) (drop from fates))
+        ∙ sym (prefix_and_back m n (drop from xs) (drop from fates))
         ∙ ap (λ (k : ℕ). by_fates of (take k (drop from xs)) (take k (drop from fates))) sum
 
     pub none_between : (i : ℕ) → by_fates_between of xs fates i i ≡ []
@@ -115,51 +115,51 @@ module _ {A B : Type 0} (of : B → Fate → List A) where
 -- ---- the least offset of what doesn't fit
 
 module _ (t : Trace) (h : SectionHistory) (names : List (List ℕ)) where
-  pub none_judged : (i : ℕ) → IsLeastUnfit names (records_between t h i i) None
-  none_judged i = subst (λ (xs : List _). IsLeastUnfit names xs None)
+  pub none_judged : (i : ℕ) → IsLeastMismatch names (records_between t h i i) None
+  none_judged i = subst (λ (xs : List _). IsLeastMismatch names xs None)
       (sym (none_between (records_if_settled t) h.attempts h.fates i)) tt
 
   joined : (from mid to : ℕ) (first other : Option ℕ) → from ≤ mid → mid ≤ to
-      → IsLeastUnfit names (records_between t h from mid) first
-      → IsLeastUnfit names (records_between t h mid to) other
-      → IsLeastUnfit names (records_between t h from to) (lesser first other)
+      → IsLeastMismatch names (records_between t h from mid) first
+      → IsLeastMismatch names (records_between t h mid to) other
+      → IsLeastMismatch names (records_between t h from to) (lesser first other)
   joined from mid to first other low high is rest =
-      subst (λ (xs : List _). IsLeastUnfit names xs (lesser first other))
+      subst (λ (xs : List _). IsLeastMismatch names xs (lesser first other))
       (between_joined (records_if_settled t) h.attempts h.fates from mid to low high)
       (least_append names (records_between t h from mid) (records_between t h mid to) first other is rest)
 
   -- one more attempt
   pub one_judged : (from i : ℕ) (least found : Option ℕ) → from ≤ i → i < length h.attempts → i < length h.fates
-      → IsLeastUnfit names (records_between t h from i) least → IsLeastOfAttempt names t h i found
-      → IsLeastUnfit names (records_between t h from (i + 1)) (lesser least found)
+      → IsLeastMismatch names (records_between t h from i) least → IsLeastOfAttempt names t h i found
+      → IsLeastMismatch names (records_between t h from (i + 1)) (lesser least found)
   one_judged from i least found low there fate is its =
       let a = item_within h.attempts i there in
       let f = item_within h.fates i fate in
       joined from i (i + 1) least found low (omega arith) is
-      (subst (λ (xs : List _). IsLeastUnfit names xs found)
+      (subst (λ (xs : List _). IsLeastMismatch names xs found)
       (one_between (records_if_settled t) h.attempts h.fates i a.0 f.0 a.1 f.1)
       (its a.0 f.0 a.1 f.1))
 
   -- of stretches that follow one another
   found_all : (start from last : ℕ) (xs : List Stretch) (ls : List (Option ℕ)) (first : Option ℕ) → start ≤ from
-      → AllZip (IsLooked names t h) xs ls → Reaches from last xs → All (IsWithin last) xs
-      → IsLeastUnfit names (records_between t h start from) first
-      → IsLeastUnfit names (records_between t h start last) (fold (λ (least l : Option ℕ). lesser least l) first ls)
+      → AllZip (IsSearched names t h) xs ls → Reaches from last xs → All (IsWithin last) xs
+      → IsLeastMismatch names (records_between t h start from) first
+      → IsLeastMismatch names (records_between t h start last) (fold (λ (least l : Option ℕ). lesser least l) first ls)
   found_all start from last [] [] first low each reaches within is =
-      subst (λ (n : ℕ). IsLeastUnfit names (records_between t h start n) first) reaches is
+      subst (λ (n : ℕ). IsLeastMismatch names (records_between t h start n) first) reaches is
   found_all start from last [] (l ∷ ls) first low each reaches within is = absurd each
   found_all start from last (x ∷ xs) [] first low each reaches within is = absurd each
   found_all start from last (x ∷ xs) (l ∷ ls) first low each reaches within is =
       found_all start x.to last xs ls (lesser first l) (omega (arith, low, reaches.0, rising)) each.1 reaches.1
       (λ i d less. within (suc i) d (omega arith))
       (joined start x.from x.to first l (omega (arith, low, reaches.0)) rising
-      (subst (λ (n : ℕ). IsLeastUnfit names (records_between t h start n) first) (sym reaches.0) is) each.0)
+      (subst (λ (n : ℕ). IsLeastMismatch names (records_between t h start n) first) (sym reaches.0) is) each.0)
     where
       rising : x.from ≤ x.to
       rising = (within 0 x (omega arith)).rising
 
-  pub least_in_all : (from last : ℕ) (xs : List Stretch) (ls : List (Option ℕ)) → AllZip (IsLooked names t h) xs ls
+  pub least_in_all : (from last : ℕ) (xs : List Stretch) (ls : List (Option ℕ)) → AllZip (IsSearched names t h) xs ls
       → AreBetween from last xs
-      → IsLeastUnfit names (records_between t h from last) (fold (λ (least l : Option ℕ). lesser least l) None ls)
+      → IsLeastMismatch names (records_between t h from last) (fold (λ (least l : Option ℕ). lesser least l) None ls)
   least_in_all from last xs ls each cut =
       found_all from from last xs ls None (omega arith) each cut.reaches cut.within (none_judged from)

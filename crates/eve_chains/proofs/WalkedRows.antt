@@ -17,13 +17,13 @@ use Rattle.eve_views.proofs.Firsts.{up_to-trans}
 use Rattle.eve_grammar.specs.Trace.{Trace}
 use Rattle.eve_chains.specs.Along.{SeesAnother, fault_if}
 use Rattle.eve_chains.specs.Rows.{bases_of}
-use Rattle.eve_chains.specs.Rows.{Noted, met_by, next_pair, pair_after, at_first, IsWrongOnRow, EachSees}
+use Rattle.eve_chains.specs.Rows.{Noted, checked_against, next_pair, pair_after, at_first, IsWrongOnRow, EachSees}
 use Rattle.eve_chains.specs.Changes.{change_by, changes_along}
 use Rattle.eve_chains.specs.declared.changed.Changed.{Changed}
-use Rattle.eve_chains.specs.Stretches.{IsWithin, Reaches, AreStretches}
-use Rattle.eve_chains.specs.Walked.{IsFirstOrNone, IsMismatch, IsFirstOnRow, IsWrongOnSome, IsFirstOnRows}
+use Rattle.eve_chains.specs.inner.Stretches.{IsWithin, Reaches, AreStretches}
+use Rattle.eve_chains.specs.inner.Walked.{IsFirstOrNone, IsMismatch, IsFirstOnRow, IsWrongOnSome, IsFirstOnRows}
 use Rattle.std.proofs.lemmas.List.Elements.{All-nil, All-cons}
-use Rattle.eve_chains.specs.Walked.{IsOfRange, AreOfRanges, notes_on}
+use Rattle.eve_chains.specs.inner.Walked.{IsOfRange, AreOfRanges, notes_on}
 use Rattle.eve_chains.specs.declared.stretch.Stretch.{Stretch}
 use Rattle.eve_chains.specs.declared.numbered.Numbered.{Numbered}
 use Rattle.eve_chains.proofs.AlongLaws.{before_up, not_before_up, split_last}
@@ -122,19 +122,20 @@ first_here e v n (Some c) is = record {
 -- ---- one entry more
 
 module _ (e : ℕ) (bases : ℕ → Versioned) (ns : List Noted) (n : Noted) where
-  abbrev met : Versioned
-  met = met_by bases (pair_after bases ns) n
+  abbrev checked : Versioned
+  checked = checked_against bases (pair_after bases ns) n
 
-  sees_more : EachSees bases ns → SeesHere met n → EachSees bases (ns ++ n ∷ [])
+  sees_more : EachSees bases ns → SeesHere checked n → EachSees bases (ns ++ n ∷ [])
   sees_more each here before m rest is =
       elim (split_last ns n before m rest is) [
-        | inl last ↦ subst (λ (bs : List Noted). SeesHere (met_by bases (pair_after bases bs) m) m) (sym last.0)
-            (subst (λ (k : Noted). SeesHere (met_by bases (pair_after bases ns) k) k) (sym last.1) here)
-        | inr front ↦ each before m front.0 front.1
+        | inl last ↦ subst (λ (bs : List Noted). SeesHere (checked_against bases (pair_after bases bs) m) m)
+            (sym last.0)
+            (subst (λ (k : Noted). SeesHere (checked_against bases (pair_after bases ns) k) k) (sym last.1) here)
+        | inr prefix ↦ each before m prefix.0 prefix.1
       ]
 
-  front_wrong : (f : Fault) → IsWrongOnRow e bases ns f → IsWrongOnRow e bases (ns ++ n ∷ []) f
-  front_wrong f wrong = record {
+  prefix_wrong : (f : Fault) → IsWrongOnRow e bases ns f → IsWrongOnRow e bases (ns ++ n ∷ []) f
+  prefix_wrong f wrong = record {
     stands = record {
       before = wrong.stands.before;
       item = wrong.stands.item;
@@ -146,30 +147,32 @@ module _ (e : ℕ) (bases : ℕ → Versioned) (ns : List Noted) (n : Noted) whe
     inside = wrong.inside;
   }
 
-  last_wrong : (f : Fault) → IsWrongHere e met n f → IsWrongOnRow e bases (ns ++ n ∷ []) f
+  last_wrong : (f : Fault) → IsWrongHere e checked n f → IsWrongOnRow e bases (ns ++ n ∷ []) f
   last_wrong f wrong = record {
     stands = record { before = ns; item = n; rest = []; is = refl; holds = (wrong.at, wrong.other) };
     inside = wrong.inside;
   }
 
-  which_wrong : (f : Fault) → IsWrongOnRow e bases (ns ++ n ∷ []) f → IsWrongOnRow e bases ns f ⊎ IsWrongHere e met n f
+  which_wrong : (f : Fault) → IsWrongOnRow e bases (ns ++ n ∷ []) f → IsWrongOnRow e bases ns f
+      ⊎ IsWrongHere e checked n f
   which_wrong f wrong =
       let place = wrong.stands in
       elim (split_last ns n place.before place.item place.rest place.is) [
         | inl last ↦ inr (record {
           at = ap (λ (k : Noted). k.offset) (sym last.1) ∙ place.holds.0;
-          other = subst (λ (k : Noted). SeesAnother f.code (met_by bases (pair_after bases ns) k) k.entry) last.1
-              (subst (λ (bs : List Noted). SeesAnother f.code (met_by bases (pair_after bases bs) place.item)
+          other = subst (λ (k : Noted). SeesAnother f.code (checked_against bases (pair_after bases ns) k) k.entry)
+              last.1
+              (subst (λ (bs : List Noted). SeesAnother f.code (checked_against bases (pair_after bases bs) place.item)
               place.item.entry)
               last.0 place.holds.1);
           inside = wrong.inside;
         })
-        | inr front ↦ inl (record {
+        | inr prefix ↦ inl (record {
           stands = record {
             before = place.before;
             item = place.item;
-            rest = front.0;
-            is = front.1;
+            rest = prefix.0;
+            is = prefix.1;
             holds = place.holds;
           };
           inside = wrong.inside;
@@ -177,15 +180,16 @@ module _ (e : ℕ) (bases : ℕ → Versioned) (ns : List Noted) (n : Noted) whe
       ]
 
   pub first_noted : (first : Option Fault) (wrong : Option Code) → IsFirstOnRow e bases ns first
-      → IsMismatch met n.entry wrong → IsFirstOnRow e bases (ns ++ n ∷ []) (first_of first (fault_if e n.offset wrong))
+      → IsMismatch checked n.entry wrong
+      → IsFirstOnRow e bases (ns ++ n ∷ []) (first_of first (fault_if e n.offset wrong))
   first_noted first wrong known is =
       first_of_both {S = IsWrongOnRow e bases (ns ++ n ∷ [])} (record {
         well = sees_more;
-        one = front_wrong;
+        one = prefix_wrong;
         other = last_wrong;
         which = which_wrong;
         phase = λ f w. chain_phase f.code _ _ w.stands.holds.1;
-      }) first (fault_if e n.offset wrong) known (first_here e met n wrong is)
+      }) first (fault_if e n.offset wrong) known (first_here e checked n wrong is)
 
 pub pair_more : (bases : ℕ → Versioned) (ns : List Noted) (n : Noted) → pair_after bases (ns ++ n ∷ [])
     ≡ next_pair bases (pair_after bases ns) n

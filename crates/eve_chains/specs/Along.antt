@@ -6,15 +6,15 @@ use Rattle.eve_smallbank.specs.declared.entry.Entry.{Entry}
 use Rattle.eve_smallbank.specs.declared.versioned.Versioned.{Versioned}
 use Rattle.eve_grammar.specs.Trace.{Access}
 use Rattle.eve_grammar.specs.Limits.{is_entry}
-use Rattle.eve_frames.specs.Said.{access_said}
+use Rattle.eve_frames.specs.Decoded.{access_decoded}
 use Rattle.eve_frames.specs.declared.access.AccessView.{AccessView}
 use Rattle.eve_views.specs.declared.fault.Code.{Code}
 use Rattle.eve_views.specs.declared.fault.Code.TheVariants as code
 use Rattle.eve_views.specs.declared.fault.Fault.{Fault}
 
 -- what an access frame says, with its offset
-abbrev pub said_at : AccessView → ℕ × Access
-said_at v = (v.offset, access_said v)
+abbrev pub decoded_at : AccessView → ℕ × Access
+decoded_at v = (v.offset, access_decoded v)
 
 -- the entries of one record after another
 abbrev pub entries_along : List (ℕ × Access) → List Entry

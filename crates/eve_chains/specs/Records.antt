@@ -64,14 +64,14 @@ records_between t h from to = by_fates_between (records_if_settled t) h.attempts
 -- ---- the first that doesn't fit
 
 -- each fits its request, or this is the least offset of those that don't
-abbrev pub IsLeastUnfit : List (List ℕ) → List (ℕ × Executed) → Option ℕ → Type 0
-IsLeastUnfit names xs None = AllByRecursion (λ x. Fits names x.1) xs
-IsLeastUnfit names xs (Some at) =
+abbrev pub IsLeastMismatch : List (List ℕ) → List (ℕ × Executed) → Option ℕ → Type 0
+IsLeastMismatch names xs None = AllByRecursion (λ x. Fits names x.1) xs
+IsLeastMismatch names xs (Some at) =
     SomePlace xs (λ _ x. (x.0 ≡ at) × ¬ Fits names x.1) × AllByRecursion (λ x. ¬ Fits names x.1 → at ≤ x.0) xs
 
 -- the same of those of a stretch of attempts
-abbrev pub IsLooked : List (List ℕ) → Trace → SectionHistory → Stretch → Option ℕ → Type 0
-IsLooked names t h x least = IsLeastUnfit names (records_between t h x.from x.to) least
+abbrev pub IsSearched : List (List ℕ) → Trace → SectionHistory → Stretch → Option ℕ → Type 0
+IsSearched names t h x least = IsLeastMismatch names (records_between t h x.from x.to) least
 
 -- the attempt at this place is one of those that a right section tells
 pub record CanBeJudged (t : Trace) (h : SectionHistory) (i : ℕ) : Type 0 where
@@ -84,7 +84,7 @@ pub record CanBeJudged (t : Trace) (h : SectionHistory) (i : ℕ) : Type 0 where
 abbrev pub IsLeastOfAttempt : List (List ℕ) → Trace → SectionHistory → ℕ → Option ℕ → Type 0
 IsLeastOfAttempt names t h i least =
     (r : ExecutedAttempt) (fate : Fate) → slice_get h.attempts i ≡ Some r → slice_get h.fates i ≡ Some fate
-    → IsLeastUnfit names (records_if_settled t r fate) least
+    → IsLeastMismatch names (records_if_settled t r fate) least
 
 abbrev pub lesser : Option ℕ → Option ℕ → Option ℕ
 lesser None other = other

@@ -7,7 +7,7 @@ use Rattle.eve_smallbank.specs.Access.{Executed}
 use Rattle.eve_smallbank.specs.Chain.{Table, before_rest, table_after_all}
 use Rattle.eve_smallbank.specs.declared.versioned.Versioned.{Versioned}
 use Rattle.eve_grammar.specs.Trace.{Access, Attempt, Trace}
-use Rattle.eve_history.specs.Section.{Came, Ran, TookOver, Placed}
+use Rattle.eve_history.specs.Section.{Came, Ran, Transferred, Placed}
 use Rattle.eve_history.specs.SectionHistory.{asked_in}
 
 -- ---- the opening
@@ -54,14 +54,14 @@ executions t attempts = flat_map (execution t) attempts
 
 -- ---- what an entry must see
 
--- a state that was taken over, row by row; past its end version 0 and value 0
-abbrev pub taken_table : List Versioned → Table
-taken_table rows row = slice_index_or rows row (record { version = 0; value = pos 0 })
+-- a state that was transferred, row by row; past its end version 0 and value 0
+abbrev pub transferred_table : List Versioned → Table
+transferred_table rows row = slice_index_or rows row (record { version = 0; value = pos 0 })
 
 -- a table after what happened to the rows: what an attempt executed, or a state in its place
 abbrev pub with_came : Trace → Table → Came → Table
 with_came t table (Ran a) = table_after_all table (execution t a)
-with_came t table (TookOver rows) = taken_table rows
+with_came t table (Transferred rows) = transferred_table rows
 
 -- what the rows have after a path: the opening balances, and what came since
 abbrev pub rows_after : Trace → List Came → Table
@@ -74,6 +74,7 @@ before_index index (j ∷ order) = if j == index then [] else j ∷ before_index
 
 -- What the request with this index must see: the rows as the path leaves them, and in the attempt itself the requests
 -- that stand before this index in the certificate.
+-- F40 Version and F41 Value.
 abbrev pub visible_to : Trace → Placed → ℕ → Table
 visible_to t p index = table_after_all (rows_after t p.path)
     (executed_in t p.attempt (before_index index p.attempt.certificate))

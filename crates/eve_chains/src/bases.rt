@@ -1,37 +1,37 @@
-//! What rows have at first, and after each state that was taken over.
+//! What rows have at first, and after each state that was transferred.
 
 ghost use Rattle.std.specs.Prelude.{◌≡◌, [], map, pos, slice_index_or};
 ghost use Rattle.eve_smallbank.specs.Access.{balance_of_row};
-ghost use Rattle.eve_frames.specs.Said.{transfer_said};
-ghost use Rattle.eve_chains.specs.Bases.{base_at};
-ghost use Rattle.eve_chains.specs.Visible.{taken_table};
+ghost use Rattle.eve_frames.specs.Decoded.{transfer_decoded};
+ghost use Rattle.eve_chains.specs.inner.Bases.{base_at};
+ghost use Rattle.eve_chains.specs.Visible.{transferred_table};
 
 use eve_accounts::{Balances, Cents, Row};
 use eve_frames::TransferView;
 use eve_history::History;
 use eve_smallbank::Versioned;
 
-/// What the rows' walks go back to where more states were taken over. Nothing is kept of it row by row: a state is read
-/// where it lies.
+/// What the rows' walks go back to where more states were transferred. Nothing is kept of it row by row: a state is
+/// read where it lies.
 #[derive(Clone, Copy)]
 pub struct Bases<'b, 'a> {
     /// The opening balances.
     pub opening: &'b Balances,
-    /// The replica's history, with the states that it took over.
+    /// The replica's history, with the states that were transferred to it.
     pub history: &'b History<'a>,
 }
 
 impl<'b, 'a> Bases<'b, 'a> {
     /// What a row has after this many states: the opening balance after none, and else what the last of them has. Past
     /// the end it is version 0 and value 0.
-    pub fn row(&self, row: Row, taken: u32) -> Versioned
-        ensures { result ≡ base_at self.now row taken }
+    pub fn row(&self, row: Row, transferred: u32) -> Versioned
+        ensures { result ≡ base_at self.now row transferred }
     {
         let number = row.number() as usize;
-        if taken == 0 {
+        if transferred == 0 {
             return opening_row(self.opening, number);
         }
-        state_row(self.history, taken as usize - 1, number)
+        state_row(self.history, transferred as usize - 1, number)
     }
 }
 
@@ -49,7 +49,7 @@ fn opening_row(opening: &Balances, number: usize) -> Versioned
 
 /// What it has in the state at this place.
 fn state_row(history: &History<'_>, k: usize, number: usize) -> Versioned
-    ensures { result ≡ taken_table (slice_index_or (map (λ x. x.1.rows) history.now.transfers) k []) number }
+    ensures { result ≡ transferred_table (slice_index_or (map (λ x. x.1.rows) history.now.transfers) k []) number }
 {
     if k < history.transfers() {
         row_in(&history.transfer(k), number)
@@ -60,7 +60,7 @@ fn state_row(history: &History<'_>, k: usize, number: usize) -> Versioned
 
 /// What it has in a state.
 fn row_in(state: &TransferView<'_>, number: usize) -> Versioned
-    ensures { result ≡ taken_table (transfer_said state.now).rows number }
+    ensures { result ≡ transferred_table (transfer_decoded state.now).rows number }
 {
     if number < state.len() {
         state.row(number)

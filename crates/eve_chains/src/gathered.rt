@@ -3,16 +3,16 @@
 ghost use Rattle.std.specs.Prelude.{◌≡◌, ◌≤◌, ◌<◌, ◌++◌, ◌^◌, ℕ, List, Some, All, IsTrue, IfOk, OnOk, length, map};
 ghost use Rattle.std.specs.Prelude.{slice_get};
 ghost use Rattle.std.specs.List.{list_all};
-ghost use Rattle.eve_frames.specs.Said.{access_said};
+ghost use Rattle.eve_frames.specs.Decoded.{access_decoded};
 ghost use Rattle.eve_grammar.specs.Limits.{is_entry, row_count};
 ghost use Rattle.eve_grammar.specs.Trace.{head_of};
 ghost use Rattle.eve_history.specs.declared.fate.Fate.{Fate as FateValue};
 ghost use Rattle.eve_history.specs.SectionHistory.{ExecutedAttempt, section_history, is_committed};
 ghost use Rattle.eve_chains.specs.Along.{AreWithin};
-ghost use Rattle.eve_chains.specs.Gathered.{as_noted, noted_of_entry, noted_if_settled, notes_between};
-ghost use Rattle.eve_chains.specs.Gathered.{HasGathered, AreGathered};
+ghost use Rattle.eve_chains.specs.inner.Gathered.{as_noted, noted_of_entry, noted_if_settled, notes_between};
+ghost use Rattle.eve_chains.specs.inner.Gathered.{HasGathered, AreGathered};
 ghost use Rattle.eve_chains.specs.Rows.{Noted, noted_by};
-ghost use Rattle.eve_chains.specs.Stretches.{IsWithin};
+ghost use Rattle.eve_chains.specs.inner.Stretches.{IsWithin};
 
 use crate::grouped::Grouped;
 use crate::note::Note;
@@ -31,7 +31,7 @@ const LEAST_ENTRIES: usize = 4096;
 /// What all entries of an attempt have.
 #[derive(Clone, Copy)]
 struct Noting {
-    taken: u32,
+    transferred: u32,
     view: u32,
     number: u32,
     commits: bool,
@@ -102,10 +102,10 @@ fn note_attempt(
     requires fate { i < length history.now.fates }
     requires within { (r : ExecutedAttempt) → slice_get history.now.attempts i ≡ Some r
         → AreWithin (row_count (head_of trace.now)) r.ordered }
-    ensures { OnOk result ((r : ExecutedAttempt) (taken : ℕ) (fate : FateValue)
-        → slice_get history.now.attempts i ≡ Some r → slice_get history.now.taken i ≡ Some taken
+    ensures { OnOk result ((r : ExecutedAttempt) (transferred : ℕ) (fate : FateValue)
+        → slice_get history.now.attempts i ≡ Some r → slice_get history.now.transferred i ≡ Some transferred
         → slice_get history.now.fates i ≡ Some fate
-        → map as_noted notes.new.items ≡ map as_noted notes.old.items ++ noted_if_settled (r, taken) fate) }
+        → map as_noted notes.new.items ≡ map as_noted notes.old.items ++ noted_if_settled (r, transferred) fate) }
 {
     let _bytes = trace.bytes();
     let fate = history.fate(i);
@@ -114,7 +114,7 @@ fn note_attempt(
     }
     let attempt = history.attempt(i);
     let noting = Noting {
-        taken: history.taken_before(i),
+        transferred: history.transferred_before(i),
         view: attempt.view(),
         number: attempt.seq(),
         commits: is_committed(fate),
@@ -144,10 +144,10 @@ fn note_record(
     access: &AccessView<'_>,
 ) -> Result<(), AllocError>
     requires offset { access.now.offset < 2 ^ 32 }
-    requires within { (count : ℕ) × IsTrue (list_all (is_entry count) (access_said access.now).entries) }
+    requires within { (count : ℕ) × IsTrue (list_all (is_entry count) (access_decoded access.now).entries) }
     ensures { OnOk result (map as_noted notes.new.items ≡ map as_noted notes.old.items
-        ++ noted_by noting.taken noting.view noting.number noting.commits
-        (access.now.offset, access_said access.now)) }
+        ++ noted_by noting.transferred noting.view noting.number noting.commits
+        (access.now.offset, access_decoded access.now)) }
 {
     let at = access.offset() as u32;
     for place in 0..access.len() {
@@ -167,7 +167,7 @@ fn note_of(noting: Noting, at: u32, entry: &Entry) -> Note
         after: entry.after,
         row: entry.row,
         at,
-        taken: noting.taken,
+        transferred: noting.transferred,
         view: noting.view,
         number: noting.number,
         commits: noting.commits,

@@ -7,10 +7,10 @@ ghost use Rattle.eve_views.specs.Form.{IfFound, IsLeast, IsFaultIn};
 ghost use Rattle.eve_history.specs.SectionHistory.{section_history, names_of, IsRightSection};
 ghost use Rattle.eve_chains.specs.Sound.{RecordsFit, SettledAreSound};
 ghost use Rattle.eve_chains.specs.Faults.{HasNoFault, IsLeastFault, StandsInChains};
-ghost use Rattle.eve_chains.specs.Gathered.{notes_between, AreGathered};
-ghost use Rattle.eve_chains.specs.Judged.{AreFoundIn};
-ghost use Rattle.eve_chains.specs.Settling.{settling};
-ghost use Rattle.eve_chains.specs.Walked.{IsFirstOnRows, AreWalked};
+ghost use Rattle.eve_chains.specs.inner.Gathered.{notes_between, AreGathered};
+ghost use Rattle.eve_chains.specs.inner.Judged.{AreFoundIn};
+ghost use Rattle.eve_chains.specs.CommittedValues.{settling};
+ghost use Rattle.eve_chains.specs.inner.Walked.{IsFirstOnRows, AreWalked};
 
 use crate::grouped::Grouped;
 use crate::laws::{rows_are_judged_by_themselves, sound_sections_have_no_fault};
@@ -19,7 +19,7 @@ use crate::opening::{opening_balances, row_count};
 use crate::records::records;
 use crate::rows::{WalkedRange, changed_ranges, first_of_all, walk_all};
 use crate::settled::Settled;
-use crate::side_by_side::{Judged, all_parts, judge_all, least_unfit};
+use crate::side_by_side::{Judged, all_parts, judge_all, least_mismatch};
 use crate::stretch::Stretch;
 use eve_accounts::{Balances, Names};
 use eve_history::History;
@@ -133,7 +133,7 @@ pub fn check<'a, R: Threads + Sync>(
     history.recall_right();
     let opening = opening_balances(alloc, trace)?;
     let judged = judge_attempts(rt, alloc, history, trace, names, jobs)?;
-    if let Err(why) = records(history, trace, least_unfit(&judged)) {
+    if let Err(why) = records(history, trace, least_mismatch(&judged)) {
         return Err(why);
     }
     let parts = all_parts(alloc, judged)?;

@@ -6,9 +6,9 @@ ghost use Rattle.eve_grammar.specs.Limits.{HasLimits};
 ghost use Rattle.eve_views.specs.declared.fault.Fault.{Fault};
 ghost use Rattle.eve_views.specs.Form.{IsFaultIn};
 ghost use Rattle.eve_history.specs.SectionHistory.{IsRightSection, ordered, committed_at, names_of};
-ghost use Rattle.eve_history.specs.SectionHistory.{is_reached, landing_at, ByAttemptsTo};
+ghost use Rattle.eve_history.specs.SectionHistory.{is_reached, how_reached_at, ByAttemptsTo};
 ghost use Rattle.eve_chains.specs.Visible.{opening_table, executed_by, executed_in, execution, executions, rows_after};
-ghost use Rattle.eve_chains.specs.Visible.{taken_table, before_index, visible_to, entries_before};
+ghost use Rattle.eve_chains.specs.Visible.{transferred_table, before_index, visible_to, entries_before};
 ghost use Rattle.eve_chains.specs.Sound.{SettledAreSound, RecordsFit, OfSettledAccesses, EntriesSee};
 ghost use Rattle.eve_chains.specs.Faults.{HasNoFault, StandsInChains};
 ghost use Rattle.eve_chains.specs.Rows.{bases_of, told_of, all_noted, of_row, IsWrongOnRow, EachSees};
@@ -18,20 +18,20 @@ ghost use Rattle.eve_smallbank.specs.Chain.{Table, table_after, visible_at, befo
 ghost use Rattle.eve_smallbank.specs.Conflict.{IsReordering};
 ghost use Rattle.eve_grammar.specs.Certificate.{is_permutation, keeps_groups};
 ghost use Rattle.eve_smallbank.specs.declared.versioned.Versioned.{Versioned};
-ghost use Rattle.eve_history.specs.Section.{Came, Ran, TookOver, Placed, ByTransfer, batch_at, request_count};
+ghost use Rattle.eve_history.specs.Section.{Came, Ran, Transferred, Placed, ByTransfer, batch_at, request_count};
 ghost use Rattle.eve_views.specs.declared.fault.Code.TheVariants as code;
 ghost use Rattle.eve_history.specs.Order.{StandsInOrders};
 ghost use Rattle.eve_chains.specs.Committed.{committed_to, values_to, balances_to, opening_bank, bank_after, Leads};
 ghost use Rattle.eve_chains.specs.Committed.{IsSerialBetween};
 ghost use Rattle.eve_chains.specs.Committed.{committed_request_ids, batch_request_ids};
 ghost use Rattle.eve_chains.specs.Along.{entries_along};
-ghost use Rattle.eve_chains.specs.Settling.{settling, values_in, defined};
+ghost use Rattle.eve_chains.specs.CommittedValues.{settling, values_in, defined};
 
 /// Rows can be judged each by itself: in a right section whose settled records fit, the faults of chains are exactly
 /// those that the walks of single rows meet. Where no walk meets one, the settled attempts are sound.
 ///
 /// A walk goes along one row's entries, with no other row in sight, from what the row has at first and after each state
-/// that was taken over.
+/// that was transferred.
 ///
 /// docs/MODEL.md, "What an entry must see".
 pub fn rows_are_judged_by_themselves()
@@ -45,9 +45,9 @@ pub fn rows_are_judged_by_themselves()
         → ((row : ℕ) → EachSees (bases_of t e row) (of_row row (all_noted (told_of t e)))) → SettledAreSound t e }
 {}
 
-/// A replica whose section is right, and whose settled attempts fit and are chained row by row, committed
-/// what SmallBank on one thread gives: batch after batch, and from the opening balances on up to where it took a state
-/// over first.
+/// A replica whose section is right, and whose settled attempts fit and are chained row by row, committed what
+/// SmallBank on one thread gives: batch after batch, and from the opening balances on up to where it had a state
+/// transferred first.
 ///
 /// docs/MODEL.md, "The audit theorem".
 pub fn serial_order_of_a_section()
@@ -112,16 +112,16 @@ pub fn balances_advance_along_the_records()
 {}
 
 /// What the rows have after attempts is what the nearest write of each left, or else the opening balance; behind a
-/// state that was taken over, or else that state, whatever came before it. So is what each entry must see: what the
+/// state that was transferred, or else that state, whatever came before it. So is what each entry must see: what the
 /// nearest write left of the attempts behind any part of the path, or else what the rows had after that part.
 ///
 /// docs/MODEL.md, "What an entry must see".
 pub fn rows_have_what_the_nearest_writes_left()
     ensures rows { (t : Trace) (attempts : List Attempt) → rows_after t (map Ran attempts)
         ≡ visible_at (opening_table t) (entries_before t attempts) }
-    ensures taken { (t : Trace) (before : List Came) (rows : List Versioned) (attempts : List Attempt)
-        → rows_after t (before ++ TookOver rows ∷ map Ran attempts)
-        ≡ visible_at (taken_table rows) (entries_before t attempts) }
+    ensures transferred { (t : Trace) (before : List Came) (rows : List Versioned) (attempts : List Attempt)
+        → rows_after t (before ++ Transferred rows ∷ map Ran attempts)
+        ≡ visible_at (transferred_table rows) (entries_before t attempts) }
     ensures seen { (t : Trace) (p : Placed) (index : ℕ) (before : List Came) (attempts : List Attempt)
         → p.path ≡ before ++ map Ran attempts
         → visible_to t p index ≡ visible_at (rows_after t before) (before_rest (entries_before t attempts)
@@ -137,7 +137,7 @@ pub fn settled_values_are_the_banks()
 /// After a number that was reached by a state, the balances are the values of that state.
 pub fn states_are_the_balances()
     ensures { (t : Trace) (e n at : ℕ) (x : Transfer) → HasLimits t → IsRightSection t e
-        → landing_at t e n ≡ Some (ByTransfer at x) → balances_to t e n ≡ map (λ v. v.value) x.rows }
+        → how_reached_at t e n ≡ Some (ByTransfer at x) → balances_to t e n ≡ map (λ v. v.value) x.rows }
 {}
 
 /// There are balances after a number exactly where it was reached.

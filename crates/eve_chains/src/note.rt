@@ -20,8 +20,8 @@ pub struct Note {
     pub row: Row,
     /// The offset of the record's frame.
     pub at: u32,
-    /// How many states were taken over before the attempt.
-    pub taken: u32,
+    /// How many states were transferred before the attempt.
+    pub transferred: u32,
     /// The attempt's view.
     pub view: u32,
     /// The number of the attempt's batch.

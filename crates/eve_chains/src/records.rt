@@ -4,13 +4,13 @@ ghost use Rattle.std.specs.Prelude.{◌≡◌, ◌<◌, ◌∷◌, [], Some, IfO
 ghost use Rattle.std.specs.Bool.{Decides};
 ghost use Rattle.eve_smallbank.specs.SmallBank.{plain};
 ghost use Rattle.eve_smallbank.specs.Access.{Fits};
-ghost use Rattle.eve_frames.specs.Said.{access_said, batch_said};
+ghost use Rattle.eve_frames.specs.Decoded.{access_decoded, batch_decoded};
 ghost use Rattle.eve_views.specs.Form.{IfFound, IsLeast, HasNone, IsFaultIn};
 ghost use Rattle.eve_history.specs.SectionHistory.{ExecutedAttempt, section_history, names_of, IsRightSection};
 ghost use Rattle.eve_chains.specs.Records.{recorded, is_settled, recorded_of, records_between, HasRequests};
-ghost use Rattle.eve_chains.specs.Records.{IsLeastUnfit, CanBeJudged, IsLeastOfAttempt, lesser, IsLooked};
+ghost use Rattle.eve_chains.specs.Records.{IsLeastMismatch, CanBeJudged, IsLeastOfAttempt, lesser, IsSearched};
 ghost use Rattle.eve_chains.specs.Sound.{RecordsFit};
-ghost use Rattle.eve_chains.specs.Stretches.{IsWithin};
+ghost use Rattle.eve_chains.specs.inner.Stretches.{IsWithin};
 ghost use Rattle.eve_chains.specs.Faults.{StandsInRecords};
 
 use crate::stretch::Stretch;
@@ -31,7 +31,7 @@ pub(crate) fn records(
     least: Option<u64>,
 ) -> Result<(), CheckFault>
     requires history { history.now ≡ section_history trace.now history.now.replica }
-    requires least { IsLeastUnfit (names_of trace.now)
+    requires least { IsLeastMismatch (names_of trace.now)
         (records_between trace.now history.now 0 (length history.now.attempts)) least }
     ensures fit { IfOk result (λ _. RecordsFit trace.now history.now.replica) }
     ensures none { IfOk result (λ _. HasNone (IsFaultIn StandsInRecords trace.now history.now.replica)) }
@@ -51,7 +51,7 @@ pub(crate) fn records(
 }
 
 /// The least offset of the records that don't fit, among those of a stretch's settled attempts.
-pub(crate) fn unfit_in(
+pub(crate) fn mismatch_in(
     alloc: Global,
     history: &History<'_>,
     trace: &Trace<'_>,
@@ -61,16 +61,16 @@ pub(crate) fn unfit_in(
     requires history { history.now ≡ section_history trace.now history.now.replica }
     requires right { IsRightSection trace.now history.now.replica }
     requires within { IsWithin (length history.now.attempts) stretch }
-    ensures { IfOk result (IsLooked names.now.items trace.now history.now stretch) }
+    ensures { IfOk result (IsSearched names.now.items trace.now history.now stretch) }
 {
     let to = stretch.to;
     prove!(to <= history.attempts());
-    let mut unfit = None;
+    let mut mismatch = None;
     for i in stretch.from..to {
         let found = judge_attempt(alloc, history, i, trace, names)?;
-        unfit = lesser(unfit, found);
+        mismatch = lesser(mismatch, found);
     }
-    Ok(unfit)
+    Ok(mismatch)
 }
 
 /// The least offset of an attempt's records that don't fit. Those of an open attempt are not judged.
@@ -106,7 +106,7 @@ pub(crate) fn is_settled(fate: Fate) -> bool
 /// The requests of a batch.
 fn requests_of<'a>(alloc: Global, batch: &BatchView<'a>) -> Result<Vec<Request<'a>>, AllocError>
     ensures { IfOk result (λ requests. map plain requests.items
-        ≡ map (λ a. a.request) (batch_said batch.now).1.requests) }
+        ≡ map (λ a. a.request) (batch_decoded batch.now).1.requests) }
 {
     let mut requests = Vec::with_capacity(alloc, batch.len())?;
     for asked in batch.requests() {
@@ -126,7 +126,8 @@ fn judge_records(
     requires requests { (r : ExecutedAttempt) → slice_get history.now.attempts i ≡ Some r
         → HasRequests (length requests.now) r }
     ensures { (r : ExecutedAttempt) → slice_get history.now.attempts i ≡ Some r
-        → IsLeastUnfit names.now.items (map (recorded_of (map plain requests.now) r.attempt.replies) r.ordered) result }
+        → IsLeastMismatch names.now.items (map (recorded_of (map plain requests.now) r.attempt.replies) r.ordered)
+        result }
 {
     let attempt = history.attempt(i);
     let mut least = None;
@@ -147,8 +148,8 @@ fn judge_record(
     reply: Reply,
     access: &AccessView<'_>,
 ) -> Option<u64>
-    ensures { IsLeastUnfit names.now.items
-        ((access.now.offset, recorded (plain request.now) reply (access_said access.now).entries) ∷ []) result }
+    ensures { IsLeastMismatch names.now.items
+        ((access.now.offset, recorded (plain request.now) reply (access_decoded access.now).entries) ∷ []) result }
 {
     if fits(request, names, reply, access) {
         None
@@ -163,7 +164,7 @@ fn judge_record(
 /// docs/MODEL.md, "A record fits its request".
 fn fits(request: &Request, names: &Names, reply: Reply, access: &AccessView<'_>) -> bool
     ensures { Decides result
-        (Fits names.now.items (recorded (plain request.now) reply (access_said access.now).entries)) }
+        (Fits names.now.items (recorded (plain request.now) reply (access_decoded access.now).entries)) }
 {
     let reached = touched(request, names);
     eve_smallbank::fits(request, &reached, reply, &entries_of(access))
@@ -171,7 +172,7 @@ fn fits(request: &Request, names: &Names, reply: Reply, access: &AccessView<'_>)
 
 /// The entries of a record.
 fn entries_of(access: &AccessView<'_>) -> UpToThree<Entry>
-    ensures { result ≡ (access_said access.now).entries }
+    ensures { result ≡ (access_decoded access.now).entries }
 {
     match access.len() {
         0 => UpToThree::new(),

@@ -5,12 +5,12 @@ ghost use Rattle.eve_smallbank.specs.declared.versioned.Versioned.{Versioned as 
 ghost use Rattle.eve_views.specs.First.{first_of};
 ghost use Rattle.eve_views.specs.declared.fault.Code.{Code as CodeValue};
 ghost use Rattle.eve_chains.specs.Along.{fault_if};
-ghost use Rattle.eve_chains.specs.Bases.{base_at};
-ghost use Rattle.eve_chains.specs.Rows.{Noted, arrived_by, taken_by};
+ghost use Rattle.eve_chains.specs.inner.Bases.{base_at};
+ghost use Rattle.eve_chains.specs.Rows.{Noted, arrived_by, updated_by};
 ghost use Rattle.eve_chains.specs.Changes.{changes_along};
-ghost use Rattle.eve_chains.specs.Gathered.{as_noted, own_along};
-ghost use Rattle.eve_chains.specs.Grouped.{HasGroups};
-ghost use Rattle.eve_chains.specs.Walked.{pair_of, IsMismatch, IsFirstOnRow, HasMet};
+ghost use Rattle.eve_chains.specs.inner.Gathered.{as_noted, own_along};
+ghost use Rattle.eve_chains.specs.inner.Grouped.{HasGroups};
+ghost use Rattle.eve_chains.specs.inner.Walked.{pair_of, IsMismatch, IsFirstOnRow, HasChecked};
 
 use crate::bases::Bases;
 use crate::changed::{Changed, add_change};
@@ -66,8 +66,8 @@ fn walk_part(
     row: Row,
     changes: &mut Vec<Changed>,
 ) -> Result<(), AllocError>
-    ensures met { OnOk result ((ns : List Noted) → HasMet replica (base_at bases.now row) ns walk.old
-        → HasMet replica (base_at bases.now row) (ns ++ map as_noted notes.now) walk.new) }
+    ensures checked { OnOk result ((ns : List Noted) → HasChecked replica (base_at bases.now row) ns walk.old
+        → HasChecked replica (base_at bases.now row) (ns ++ map as_noted notes.now) walk.new) }
     ensures changes { OnOk result (changes.new.items ≡ changes_along changes.old.items (map as_noted notes.now)) }
 {
     for note in notes {
@@ -97,8 +97,8 @@ fn note_change(changes: &mut Vec<Changed>, note: &Note) -> Result<(), AllocError
 /// Where a row's walk has come to.
 #[derive(Clone, Copy)]
 pub struct RowWalk {
-    /// How many states were taken over before the last entry's attempt, 0 before the first entry.
-    pub taken: u32,
+    /// How many states were transferred before the last entry's attempt, 0 before the first entry.
+    pub transferred: u32,
     /// The view of the last entry, 0 before the first.
     pub view: u32,
     /// What the row has after the committed attempts behind the last of these states.
@@ -112,12 +112,12 @@ pub struct RowWalk {
 impl RowWalk {
     /// A row with what it has at first, before any entry.
     fn new(opening: Versioned) -> RowWalk
-        ensures { (e : ℕ) (bases : ℕ → VersionedValue) → bases 0 ≡ opening → HasMet e bases [] result }
+        ensures { (e : ℕ) (bases : ℕ → VersionedValue) → bases 0 ≡ opening → HasChecked e bases [] result }
     {
         let committed = opening;
         let working = opening;
         RowWalk {
-            taken: 0,
+            transferred: 0,
             view: 0,
             committed,
             working,
@@ -125,27 +125,27 @@ impl RowWalk {
         }
     }
 
-    /// Goes to where the row's next entry comes. Where another number of states was taken over, the row has what the
+    /// Goes to where the row's next entry comes. Where another number of states was transferred, the row has what the
     /// last of them has, whatever came before it. With a new view a rollback came, which took the open attempts back.
     fn go_to(&mut self, bases: &Bases<'_, '_>, row: Row, note: &Note)
         ensures pair { pair_of self.new
             ≡ arrived_by (base_at bases.now row) (pair_of self.old) (as_noted note.now) }
         ensures first { self.new.first ≡ self.old.first }
     {
-        if note.taken == self.taken && note.view == self.view {
+        if note.transferred == self.transferred && note.view == self.view {
             return;
         }
-        if note.taken != self.taken {
-            self.committed = bases.row(row, note.taken);
+        if note.transferred != self.transferred {
+            self.committed = bases.row(row, note.transferred);
         }
-        self.taken = note.taken;
+        self.transferred = note.transferred;
         self.view = note.view;
         self.working = self.committed;
     }
 
     /// Takes the write of the entry that comes here, if it is one.
     fn take(&mut self, note: &Note)
-        ensures pair { pair_of self.new ≡ taken_by (pair_of self.old) (as_noted note.now) }
+        ensures pair { pair_of self.new ≡ updated_by (pair_of self.old) (as_noted note.now) }
         ensures first { self.new.first ≡ self.old.first }
     {
         if note.kind.is_write() {
@@ -190,8 +190,8 @@ impl RowWalk {
     ///
     /// docs/MODEL.md, "What an entry must see".
     fn meet(&mut self, replica: u8, bases: &Bases<'_, '_>, row: Row, note: &Note)
-        ensures { (ns : List Noted) → HasMet replica (base_at bases.now row) ns self.old
-            → HasMet replica (base_at bases.now row) (ns ++ as_noted note.now ∷ []) self.new }
+        ensures { (ns : List Noted) → HasChecked replica (base_at bases.now row) ns self.old
+            → HasChecked replica (base_at bases.now row) (ns ++ as_noted note.now ∷ []) self.new }
     {
         self.go_to(bases, row, note);
         self.judge(replica, note);
@@ -200,6 +200,7 @@ impl RowWalk {
 }
 
 /// What is wrong with what an entry sees, where its row has this: the version before the value.
+/// F40 Version and F41 Value.
 fn mismatch(row: &Versioned, note: &Note) -> Option<Code>
     ensures { IsMismatch row.now (as_noted note.now).entry result }
 {

@@ -8,9 +8,9 @@ ghost use Rattle.eve_grammar.specs.Limits.{row_count};
 ghost use Rattle.eve_history.specs.SectionHistory.{section_history};
 ghost use Rattle.eve_views.specs.First.{first_of};
 ghost use Rattle.eve_views.specs.declared.fault.Fault.{Fault as FaultValue};
-ghost use Rattle.eve_chains.specs.Gathered.{notes_between, AreGathered};
-ghost use Rattle.eve_chains.specs.Stretches.{IsWithin};
-ghost use Rattle.eve_chains.specs.Walked.{IsWalked, IsOfRange, AreOfRanges, IsWalkedRange};
+ghost use Rattle.eve_chains.specs.inner.Gathered.{notes_between, AreGathered};
+ghost use Rattle.eve_chains.specs.inner.Stretches.{IsWithin};
+ghost use Rattle.eve_chains.specs.inner.Walked.{IsWalked, IsOfRange, AreOfRanges, IsWalkedRange};
 ghost use Rattle.eve_chains.specs.declared.rows.WalkedRange.{WalkedRange as WalkedRangeValue};
 
 use crate::bases::Bases;

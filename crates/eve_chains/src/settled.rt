@@ -7,13 +7,13 @@ ghost use Rattle.eve_accounts.specs.declared.limits.TheConstants.{MOST_NAMED_ROW
 ghost use Rattle.eve_smallbank.specs.Access.{balance_of_row};
 ghost use Rattle.eve_grammar.specs.Trace.{opening_rows, head_of};
 ghost use Rattle.eve_grammar.specs.Limits.{row_count};
-ghost use Rattle.eve_frames.specs.Said.{transfer_said};
+ghost use Rattle.eve_frames.specs.Decoded.{transfer_decoded};
 ghost use Rattle.eve_history.specs.SectionHistory.{section_history, IsToldOf};
 ghost use Rattle.eve_chains.specs.Changes.{change_of, changes_in_ranges, values_changed};
-ghost use Rattle.eve_chains.specs.Landed.{change_said, IsOfRows, transfer_at, rows_changed_at};
+ghost use Rattle.eve_chains.specs.ReachedChanges.{change_decoded, IsOfRows, transfer_at, rows_changed_at};
 ghost use Rattle.eve_chains.specs.Numbered.{IsRowBelow, HasNumbersTo, is_same_where_changed};
-ghost use Rattle.eve_chains.specs.Settling.{settling, values_in, defined, AreBankAfter, HaveSameBalances};
-ghost use Rattle.eve_chains.specs.Walked.{AreOfRanges};
+ghost use Rattle.eve_chains.specs.CommittedValues.{settling, values_in, defined, AreBankAfter, HaveSameBalances};
+ghost use Rattle.eve_chains.specs.inner.Walked.{AreOfRanges};
 
 use crate::changed::Changed;
 use crate::numbered::Numbered;
@@ -22,7 +22,7 @@ use crate::rows::{changed_in_section, row_at};
 use eve_accounts::{Balances, SetRow};
 use eve_frames::TransferView;
 use eve_history::laws::numbers_are_reached;
-use eve_history::{History, Landing};
+use eve_history::{History, HowReached};
 use eve_views::Trace;
 use std::alloc::{AllocError, Global};
 use std::marker::Model;
@@ -34,8 +34,8 @@ const ROWS_A_CHANGE: usize = 2;
 /// The opening balances, and what each number that a replica reached changed, which give the balances after each.
 ///
 /// docs/MODEL.md, "Bank and replies after a committed batch". It takes eight bytes for each row, eight for each number
-/// and eight more for each in each range of rows, and sixteen for each row that a batch changed. A state that was taken
-/// over is read where it lies in the trace.
+/// and eight more for each in each range of rows, and sixteen for each row that a batch changed. A state that was
+/// transferred is read where it lies in the trace.
 #[derive(Drop)]
 pub struct Settled<'a> {
     opening: Balances,
@@ -44,8 +44,8 @@ pub struct Settled<'a> {
     // what the numbers up to it changed, range of rows after range
     ranges: Vec<Numbered>,
     // how each number was reached, from 1 on
-    landings: Vec<Landing>,
-    // the states that were taken over
+    each_reached: Vec<HowReached>,
+    // the states that were transferred
     transfers: Vec<TransferView<'a>>,
 }
 
@@ -54,8 +54,8 @@ pub struct Settled<'a> {
 enum Change<'a> {
     /// Some rows: those that its batch wrote, range after range.
     Wrote(&'a [Numbered]),
-    /// All rows: this state was taken over.
-    TookOver(TransferView<'a>),
+    /// All rows: this state was transferred.
+    Transferred(TransferView<'a>),
     /// No row: the number was skipped.
     Nothing,
 }
@@ -64,18 +64,18 @@ impl<'a> Model for Settled<'a> {
     ghost use Rattle.std.specs.Prelude.{All, length};
     ghost use Rattle.eve_chains.specs.Changes.{ranges_by_number};
     ghost use Rattle.eve_chains.specs.Numbered.{HasNumbersTo};
-    ghost use Rattle.eve_chains.specs.Landed.{AreLandings, changes_in};
-    ghost use Rattle.eve_chains.specs.Settling.{Settling};
+    ghost use Rattle.eve_chains.specs.ReachedChanges.{AreEachReached, changes_in};
+    ghost use Rattle.eve_chains.specs.CommittedValues.{Settling};
 
     ghost Value = { Settling };
 
     ghost view = { λ s. record {
       opening = s.opening;
-      numbers = changes_in s.transfers.items s.landings.items (ranges_by_number s.count s.ranges.items);
+      numbers = changes_in s.transfers.items s.each_reached.items (ranges_by_number s.count s.ranges.items);
     } };
 
     ghost invariant = { λ s. All (HasNumbersTo (length s.opening) s.count) s.ranges.items
-        × AreLandings (length s.opening) s.count s.transfers.items s.landings.items };
+        × AreEachReached (length s.opening) s.count s.transfers.items s.each_reached.items };
 }
 
 impl<'a> Settled<'a> {
@@ -109,13 +109,13 @@ impl<'a> Settled<'a> {
         trace.recall_limits();
         history.recall_right();
         numbers_are_reached();
-        let landings = landings_of(alloc, history)?;
+        let each_reached = each_reached_of(alloc, history)?;
         let transfers = transfers_of(alloc, history)?;
         Ok(Settled {
             opening,
             count: history.committed(),
             ranges,
-            landings,
+            each_reached,
             transfers,
         })
     }
@@ -140,10 +140,10 @@ impl<'a> Settled<'a> {
         if self.count < n {
             return false;
         }
-        match self.landings[n as usize - 1] {
-            Landing::Attempt(_) => true,
-            Landing::Transfer(_) => true,
-            Landing::Skipped => false,
+        match self.each_reached[n as usize - 1] {
+            HowReached::Attempt(_) => true,
+            HowReached::Transfer(_) => true,
+            HowReached::Skipped => false,
         }
     }
 
@@ -151,13 +151,13 @@ impl<'a> Settled<'a> {
     fn change_at(&self, n: u32) -> Change<'_>
         requires one { 1 ≤ n }
         requires there { n ≤ length self.now.numbers }
-        ensures says { slice_get self.now.numbers (n - 1) ≡ Some (change_said n result) }
+        ensures says { slice_get self.now.numbers (n - 1) ≡ Some (change_decoded n result) }
         ensures rows { IsOfRows (length self.now.opening) n result }
     {
-        match self.landings[n as usize - 1] {
-            Landing::Attempt(_) => Change::Wrote(&self.ranges),
-            Landing::Transfer(i) => Change::TookOver(self.transfers[i as usize]),
-            Landing::Skipped => Change::Nothing,
+        match self.each_reached[n as usize - 1] {
+            HowReached::Attempt(_) => Change::Wrote(&self.ranges),
+            HowReached::Transfer(i) => Change::Transferred(self.transfers[i as usize]),
+            HowReached::Skipped => Change::Nothing,
         }
     }
 
@@ -194,15 +194,15 @@ impl<'a> Settled<'a> {
         let change = self.change_at(n);
         match change {
             Change::Wrote(ranges) => set_all(rows, ranges, n),
-            Change::TookOver(state) => take_over(rows, &state),
+            Change::Transferred(state) => apply_transfer(rows, &state),
             Change::Nothing => {}
         }
     }
 
     /// Whether the balances after batch n, of the batches from 1 on, are those that another replica has after it.
     /// `before` says that those after the batch before are known to be the same: then only the rows are compared that
-    /// batch n changed in the one or in the other, unless comparing all balances is quicker. Where either took a state
-    /// over, all balances are compared.
+    /// batch n changed in the one or in the other, unless comparing all balances is quicker. Where either had a state
+    /// transferred, all balances are compared.
     ///
     /// docs/MODEL.md, "Bank and replies after a committed batch".
     pub fn are_same_after(
@@ -269,25 +269,25 @@ impl<'a> Settled<'a> {
     {
         match self.change_at(n) {
             Change::Wrote(ranges) => Some(ranges),
-            Change::TookOver(_) => None,
+            Change::Transferred(_) => None,
             Change::Nothing => Some(&[]),
         }
     }
 }
 
 /// How each number was reached, from 1 on.
-fn landings_of(alloc: Global, history: &History<'_>) -> Result<Vec<Landing>, AllocError>
-    ensures { IfOk result (λ landings. AllZip (IsToldOf history.now) landings.items history.now.landings) }
+fn each_reached_of(alloc: Global, history: &History<'_>) -> Result<Vec<HowReached>, AllocError>
+    ensures { IfOk result (λ each_reached. AllZip (IsToldOf history.now) each_reached.items history.now.each_reached) }
 {
     let count = history.committed();
-    let mut landings = Vec::with_capacity(alloc, count as usize)?;
+    let mut each_reached = Vec::with_capacity(alloc, count as usize)?;
     for before in 0..count {
-        landings.push(history.landing(before + 1))?;
+        each_reached.push(history.how_reached(before + 1))?;
     }
-    Ok(landings)
+    Ok(each_reached)
 }
 
-/// The states that were taken over.
+/// The states that were transferred.
 fn transfers_of<'a>(
     alloc: Global,
     history: &History<'a>,
@@ -339,11 +339,11 @@ fn set_each<T: SetRow>(rows: &mut T, changes: &[Changed])
     }
 }
 
-/// Gives each row what it has in a state that was taken over.
-fn take_over<T: SetRow>(rows: &mut T, state: &TransferView<'_>)
-    requires as_many { length (transfer_said state.now).rows ≡ length (T.rows rows.old) }
+/// Gives each row what it has in a state that was transferred.
+fn apply_transfer<T: SetRow>(rows: &mut T, state: &TransferView<'_>)
+    requires as_many { length (transfer_decoded state.now).rows ≡ length (T.rows rows.old) }
     requires few { length (T.rows rows.old) ≤ MOST_NAMED_ROWS }
-    ensures { T.rows rows.new ≡ map (λ v. v.value) (transfer_said state.now).rows }
+    ensures { T.rows rows.new ≡ map (λ v. v.value) (transfer_decoded state.now).rows }
 {
     for i in 0..state.len() {
         rows.set(row_at(i as u32), state.row(i).value);

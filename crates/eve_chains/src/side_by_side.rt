@@ -5,15 +5,15 @@ ghost use Rattle.std.specs.List.{AllZip, flat_map};
 ghost use Rattle.eve_grammar.specs.Trace.{head_of};
 ghost use Rattle.eve_grammar.specs.Limits.{row_count};
 ghost use Rattle.eve_history.specs.SectionHistory.{section_history, IsRightSection};
-ghost use Rattle.eve_chains.specs.Judged.{IsFoundIn};
-ghost use Rattle.eve_chains.specs.Stretches.{IsWithin};
+ghost use Rattle.eve_chains.specs.inner.Judged.{IsFoundIn};
+ghost use Rattle.eve_chains.specs.inner.Stretches.{IsWithin};
 ghost use Rattle.eve_chains.specs.Records.{lesser};
 ghost use Rattle.eve_chains.specs.declared.side_by_side.Judged.{Judged as JudgedValue};
 
 use crate::gathered::gather;
 use crate::grouped::Grouped;
 use crate::note::Note;
-use crate::records::{lesser, unfit_in};
+use crate::records::{lesser, mismatch_in};
 use crate::stretch::Stretch;
 use eve_accounts::Names;
 use eve_history::History;
@@ -26,7 +26,7 @@ use std::thread::Threads;
 #[derive(Drop)]
 pub struct Judged {
     /// The least offset of the records that don't fit.
-    pub unfit: Option<u64>,
+    pub mismatch: Option<u64>,
     /// The entries, in parts, each of them in order by row.
     pub parts: Vec<Grouped<Note>>,
 }
@@ -46,9 +46,9 @@ fn judge(
     requires within { IsWithin (length history.now.attempts) stretch }
     ensures { IfOk result (IsFoundIn names.now.items trace.now history.now stretch) }
 {
-    let unfit = unfit_in(alloc, history, trace, names, stretch)?;
+    let mismatch = mismatch_in(alloc, history, trace, names, stretch)?;
     let parts = gather(alloc, history, trace, rows, stretch)?;
-    Ok(Judged { unfit, parts })
+    Ok(Judged { mismatch, parts })
 }
 
 /// Each stretch judged, in rayon's pieces: as many threads as there are stretches, with the caller's. Of one stretch
@@ -85,12 +85,12 @@ pub(crate) fn judge_all<R: Threads + Sync>(
 }
 
 /// The least offset of all records that don't fit.
-pub(crate) fn least_unfit(judged: &[Judged]) -> Option<u64>
-    ensures { result ≡ fold (λ (least : Option ℕ) (one : JudgedValue). lesser least one.unfit) None judged.now }
+pub(crate) fn least_mismatch(judged: &[Judged]) -> Option<u64>
+    ensures { result ≡ fold (λ (least : Option ℕ) (one : JudgedValue). lesser least one.mismatch) None judged.now }
 {
     let mut least = None;
     for one in judged {
-        least = lesser(least, one.unfit);
+        least = lesser(least, one.mismatch);
     }
     least
 }

@@ -1,7 +1,7 @@
 //! Stretches of attempts or of rows, which are worked through side by side.
 
 ghost use Rattle.std.specs.Prelude.{◌≡◌, ◌≤◌, ◌+◌, IfOk, OnOk, length};
-ghost use Rattle.eve_chains.specs.Stretches.{AreBetween};
+ghost use Rattle.eve_chains.specs.inner.Stretches.{AreBetween};
 
 use eve_views::part_size;
 use std::alloc::{AllocError, Global};

@@ -11,7 +11,7 @@ use Rattle.std.proofs.lemmas.Option.{same_Some, slice_get_within, slice_get-get_
 use Rattle.eve_grammar.specs.Certificate.{occurrences, group_of, is_permutation, is_grouped, counts_from, keeps_groups}
 use Rattle.eve_grammar.specs.Certificate.{is_certificate}
 use Rattle.eve_grammar.specs.Trace.{Attempt, Batch, Trace}
-use Rattle.eve_grammar.proofs.Counting.{occurrences-append, permutes}
+use Rattle.eve_grammar.proofs.Orders.{occurrences-append, permutes}
 use Rattle.eve_grammar.proofs.Lists.{take_one_more, drop_here, slice_get-behind}
 use Rattle.eve_history.specs.Section.{no_batch, batch_at, request_count, is_right_certificate}
 use Rattle.eve_history.proofs.Places.{weaker_place}
@@ -123,9 +123,9 @@ pub right_more : (sizes : List ℕ) (r : ℕ) (serial : Bool) (order : List ℕ)
 right_more sizes r serial order place index got before own k i there = elim (cases_lt k place) [
   | inl lt ↦
       let here : slice_get order k ≡ Some i = sym (get-take order k (place + 1) (omega arith)) ∙ there in
-      let front : take k (take place order) ≡ take k (take (place + 1) order) =
+      let prefix : take k (take place order) ≡ take k (take (place + 1) order) =
       take-take k place order (omega arith) ∙ sym (take-take k (place + 1) order (omega arith)) in
-      subst (λ (xs : List ℕ). IsRightPlace sizes r serial xs i) front (before k i (get-take order k place lt ∙ here))
+      subst (λ (xs : List ℕ). IsRightPlace sizes r serial xs i) prefix (before k i (get-take order k place lt ∙ here))
   | inr ge ↦
       let long = slice_get_within order place index got in
       let count : length (take (place + 1) order) ≡ place + 1 = length-take-le (place + 1) order (omega arith) in
@@ -134,10 +134,10 @@ right_more sizes r serial order place index got before own k i there = elim (cas
       let same : index ≡ i =
       same_Some index i (sym (get-take order place (place + 1) (omega arith) ∙ got)
       ∙ ap (slice_get (take (place + 1) order)) (sym at) ∙ there) in
-      let front : take place order ≡ take k (take (place + 1) order) =
+      let prefix : take place order ≡ take k (take (place + 1) order) =
       sym (take-take place (place + 1) order (omega arith))
       ∙ ap (λ (n : ℕ). take n (take (place + 1) order)) (sym at) in
-      subst (λ (xs : List ℕ). IsRightPlace sizes r serial xs i) front
+      subst (λ (xs : List ℕ). IsRightPlace sizes r serial xs i) prefix
       (subst (IsRightPlace sizes r serial (take place order)) same own)
 ]
 
@@ -202,33 +202,34 @@ module _ (sizes : List ℕ) (r : ℕ) (serial : Bool) (order : List ℕ) (right 
     | inr le ↦ le
   ]
 
-  grouped_from : (front rest : List ℕ) → front ++ rest ≡ order → is_grouped sizes rest ≡ true
-  grouped_from front [] whole = refl
-  grouped_from front (i ∷ rest) whole =
-      let got : slice_get order (length front + 0) ≡ Some i =
-      ap (λ (xs : List ℕ). slice_get xs (length front + 0)) (sym whole) ∙ slice_get-behind front (i ∷ rest) 0 in
+  grouped_from : (prefix rest : List ℕ) → prefix ++ rest ≡ order → is_grouped sizes rest ≡ true
+  grouped_from prefix [] whole = refl
+  grouped_from prefix (i ∷ rest) whole =
+      let got : slice_get order (length prefix + 0) ≡ Some i =
+      ap (λ (xs : List ℕ). slice_get xs (length prefix + 0)) (sym whole) ∙ slice_get-behind prefix (i ∷ rest) 0 in
       and_from (list_all (λ j. nat_le (group_of sizes i) (group_of sizes j)) rest) (is_grouped sizes rest)
       (all_get (λ j. nat_le (group_of sizes i) (group_of sizes j)) rest (λ k j there.
-      le-leb (group_of sizes i) (group_of sizes j) (not_earlier (length front + 0) (length front + suc k) i j
+      le-leb (group_of sizes i) (group_of sizes j) (not_earlier (length prefix + 0) (length prefix + suc k) i j
       (omega arith) got
-      (ap (λ (xs : List ℕ). slice_get xs (length front + suc k)) (sym whole)
-      ∙ slice_get-behind front (i ∷ rest) (suc k) ∙ there))))
-      (grouped_from (front ++ i ∷ []) rest (append_assoc front (i ∷ []) rest ∙ whole))
+      (ap (λ (xs : List ℕ). slice_get xs (length prefix + suc k)) (sym whole)
+      ∙ slice_get-behind prefix (i ∷ rest) (suc k) ∙ there))))
+      (grouped_from (prefix ++ i ∷ []) rest (append_assoc prefix (i ∷ []) rest ∙ whole))
 
-  listed_from : IsTrue serial → (front rest : List ℕ) → front ++ rest ≡ order → counts_from (length front) rest ≡ true
-  listed_from is front [] whole = refl
-  listed_from is front (i ∷ rest) whole =
-      let got : slice_get order (length front + 0) ≡ Some i =
-      ap (λ (xs : List ℕ). slice_get xs (length front + 0)) (sym whole) ∙ slice_get-behind front (i ∷ rest) 0 in
-      let within = slice_get_within order (length front + 0) i got in
-      let place : length (take (length front + 0) order) ≡ length front + 0 =
-      length-take-le (length front + 0) order (omega arith) in
-      let own : i ≡ length front = omega (arith, (right (length front + 0) i got).listed is, place) in
-      let longer : length (front ++ i ∷ []) ≡ suc (length front) =
-      length-append front (i ∷ []) ∙ add-one (length front) in
-      and_from (i == length front) (counts_from (suc (length front)) rest) (eq-eqb i (length front) own)
+  listed_from : IsTrue serial → (prefix rest : List ℕ) → prefix ++ rest ≡ order → counts_from (length prefix) rest
+      ≡ true
+  listed_from is prefix [] whole = refl
+  listed_from is prefix (i ∷ rest) whole =
+      let got : slice_get order (length prefix + 0) ≡ Some i =
+      ap (λ (xs : List ℕ). slice_get xs (length prefix + 0)) (sym whole) ∙ slice_get-behind prefix (i ∷ rest) 0 in
+      let within = slice_get_within order (length prefix + 0) i got in
+      let place : length (take (length prefix + 0) order) ≡ length prefix + 0 =
+      length-take-le (length prefix + 0) order (omega arith) in
+      let own : i ≡ length prefix = omega (arith, (right (length prefix + 0) i got).listed is, place) in
+      let longer : length (prefix ++ i ∷ []) ≡ suc (length prefix) =
+      length-append prefix (i ∷ []) ∙ add-one (length prefix) in
+      and_from (i == length prefix) (counts_from (suc (length prefix)) rest) (eq-eqb i (length prefix) own)
       (subst (λ (n : ℕ). counts_from n rest ≡ true) longer
-      (listed_from is (front ++ i ∷ []) rest (append_assoc front (i ∷ []) rest ∙ whole)))
+      (listed_from is (prefix ++ i ∷ []) rest (append_assoc prefix (i ∷ []) rest ∙ whole)))
 
   pub all_right : length order ≡ r → is_certificate sizes r serial order ≡ true
   all_right count =

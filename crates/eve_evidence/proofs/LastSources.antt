@@ -6,26 +6,27 @@ use Rattle.std.specs.Prelude.{IsTrue, ◌↔◌}
 use Rattle.std.proofs.lemmas.List.Sums.{fold-append}
 use Rattle.std.proofs.lemmas.List.{length-append}
 use Rattle.eve_smallbank.specs.declared.versioned.Versioned.{Versioned}
-use Rattle.eve_grammar.specs.Trace.{Attempt, Commit, Rollback, Step, Attempts, Commits, RollsBack, TakesOver, Trace}
+use Rattle.eve_grammar.specs.Trace.{Attempt, Commit, Rollback, Step, Attempts, Commits, RollsBack, Transfers, Trace}
 use Rattle.eve_grammar.specs.Trace.{Transfer}
 use Rattle.eve_grammar.proofs.Lists.{all-push}
 use Rattle.eve_views.specs.Form.{SomePlace}
-use Rattle.eve_history.specs.Section.{Placed, Landing, ByAttempt, ByTransfer, Skipped, SectionState, start, next}
+use Rattle.eve_history.specs.Section.{Placed, HowReached, ByAttempt, ByTransfer, Skipped, SectionState, start, next}
 use Rattle.eve_history.specs.Section.{state_after, attempts_by, committing, path_of}
 use Rattle.eve_history.specs.SectionHistory.{placed_at}
 use Rattle.eve_history.proofs.StructureLaws.{state_after-append}
 use Rattle.eve_evidence.specs.declared.evidence.Source.{Source}
 use Rattle.eve_evidence.specs.declared.evidence.Source.TheVariants as source
-use Rattle.eve_evidence.specs.declared.front.Front.{Front}
-use Rattle.eve_evidence.specs.declared.front.LastSource.{LastSource}
-use Rattle.eve_evidence.specs.declared.front.Since.{Since}
-use Rattle.eve_evidence.specs.declared.front.Since.TheVariants as since
+use Rattle.eve_evidence.specs.declared.prefix.Prefix.{Prefix}
+use Rattle.eve_evidence.specs.declared.prefix.LastSource.{LastSource}
+use Rattle.eve_evidence.specs.declared.prefix.Since.{Since}
+use Rattle.eve_evidence.specs.declared.prefix.Since.TheVariants as since
 use Rattle.eve_evidence.specs.Course.{last_state, later_state}
 use Rattle.eve_evidence.specs.Seen.{and_rollback, rollbacks_behind, NamesRow, Restores}
 use Rattle.eve_evidence.specs.Seen.{NoneAmong, NoneIn, IsLastAmong, IsLastIn, IsDiscardedBy, IsCommittedIn}
-use Rattle.eve_evidence.specs.Front.{IsOpenAfter, IsSince, IsLastSource}
-use Rattle.eve_evidence.specs.Front.{since_commit, since_discarded, last_found, last_with, IsSourceFound, IsRestoredBy}
-use Rattle.eve_evidence.specs.Front.{IsFront}
+use Rattle.eve_evidence.specs.inner.LastSource.{IsOpenAfter, IsSince, IsLastSource}
+use Rattle.eve_evidence.specs.inner.LastSource.{since_commit, since_discarded, last_found, last_with, IsSourceFound}
+use Rattle.eve_evidence.specs.inner.LastSource.{IsRestoredBy}
+use Rattle.eve_evidence.specs.inner.LastSource.{IsPrefix}
 
 -- ---- one step more
 
@@ -43,22 +44,22 @@ place_grows {A} P xs ys place = record {
 abbrev open_count : SectionState → ℕ
 open_count s = length s.pending
 
--- where a state is taken over
-abbrev over : SectionState → ℕ → Transfer → List Landing
+-- where a state is transferred
+abbrev over : SectionState → ℕ → Transfer → List HowReached
 over s at x = replicate (x.seq - (s.last + 1)) Skipped ++ ByTransfer at x ∷ []
 
-attempts_by-append : (xs ys : List Landing) → attempts_by (xs ++ ys) ≡ attempts_by xs ++ attempts_by ys
+attempts_by-append : (xs ys : List HowReached) → attempts_by (xs ++ ys) ≡ attempts_by xs ++ attempts_by ys
 attempts_by-append [] ys = refl
 attempts_by-append (ByAttempt p ∷ xs) ys = ap (λ (ps : List Placed). p ∷ ps) (attempts_by-append xs ys)
 attempts_by-append (ByTransfer at x ∷ xs) ys = attempts_by-append xs ys
 attempts_by-append (Skipped ∷ xs) ys = attempts_by-append xs ys
 
-committed_grows : (landings more : List Landing) (b : ℕ × Attempt)
-    → SomePlace (attempts_by landings) (λ _ p. placed_at p ≡ b)
-    → SomePlace (attempts_by (landings ++ more)) (λ _ p. placed_at p ≡ b)
-committed_grows landings more b place =
-    subst (λ (ps : List Placed). SomePlace ps (λ _ p. placed_at p ≡ b)) (sym (attempts_by-append landings more))
-    (place_grows (λ _ p. placed_at p ≡ b) (attempts_by landings) (attempts_by more) place)
+committed_grows : (each_reached more : List HowReached) (b : ℕ × Attempt)
+    → SomePlace (attempts_by each_reached) (λ _ p. placed_at p ≡ b)
+    → SomePlace (attempts_by (each_reached ++ more)) (λ _ p. placed_at p ≡ b)
+committed_grows each_reached more b place =
+    subst (λ (ps : List Placed). SomePlace ps (λ _ p. placed_at p ≡ b)) (sym (attempts_by-append each_reached more))
+    (place_grows (λ _ p. placed_at p ≡ b) (attempts_by each_reached) (attempts_by more) place)
 
 module _ (steps : List (ℕ × Step)) (step : ℕ × Step) where
   came : state_after start (steps ++ step ∷ []) ≡ next (state_after start steps) step
@@ -115,7 +116,7 @@ module _ (steps : List (ℕ × Step)) (step : ℕ × Step) where
   last_goes_on t row has to settled goes own (Some l) (inr (inl of)) = inr (inl (record {
     at = of.at;
     state = of.state;
-    last = last_grows row has (of.at, TakesOver of.state) l.source of.last own;
+    last = last_grows row has (of.at, Transfers of.state) l.source of.last own;
     came = ap to of.came ∙ settled;
   }))
   last_goes_on t row has to settled goes own (Some l) (inr (inr of)) = inr (inr (record {
@@ -174,17 +175,19 @@ module _ (row : ℕ) (steps : List (ℕ × Step)) (at : ℕ) (a : Attempt) where
       subst (IsLastSource t row has (steps ++ step_a ∷ [])) (same_last last)
       (last_goes_on steps step_a t row has (λ w. w) refl since_attempt own last is)
 
-  pub front_attempt : (t : Trace) (has : Versioned) (f : Front) (found : Option Source) (opened : ℕ) (last : Option LastSource)
+  pub prefix_attempt : (t : Trace) (has : Versioned) (f : Prefix) (found : Option Source) (opened : ℕ)
+      (last : Option LastSource)
       → opened ≡ f.pending + 1
       → last ≡ last_found f.pending f.last found
-      → IsFront t row has steps f → IsSourceFound row has step_a found
-      → IsFront t row has (steps ++ step_a ∷ [])
+      → IsPrefix t row has steps f → IsSourceFound row has step_a found
+      → IsPrefix t row has (steps ++ step_a ∷ [])
       (record { pending = opened; base = f.base; restored = f.restored; last = last })
-  front_attempt t has f found opened last opened_is last_is is own =
+  prefix_attempt t has f found opened last opened_is last_is is own =
       let s = state_after start steps in record {
         open_is = opened_is ∙ ap (λ (n : ℕ). n + 1) is.open_is ∙ sym (length-append s.pending (placed_a ∷ []))
             ∙ ap open_count (sym (came steps step_a));
-        base_is = is.base_is ∙ ap (λ (st : SectionState). option_map (λ (y : ℕ × Transfer). y.0) (last_state st.landings))
+        base_is = is.base_is
+            ∙ ap (λ (st : SectionState). option_map (λ (y : ℕ × Transfer). y.0) (last_state st.each_reached))
             (sym (came steps step_a));
         restored_is = subst (λ (rs : List (ℕ × Rollback)). IsRestoredBy row has rs f.restored)
             (sym (rollbacks_came steps step_a)) is.restored_is;
@@ -206,8 +209,8 @@ module _ (row : ℕ) (steps : List (ℕ × Step)) (at : ℕ) (c : Commit) where
       → length before ≡ 0 → IsCommittedIn (committing before_c (before ++ p ∷ behind)) b
   first_commits b [] p behind same none =
       subst (λ (ps : List Placed). SomePlace ps (λ _ q. placed_at q ≡ b))
-      (sym (attempts_by-append before_c.landings (ByAttempt p ∷ []))) (record {
-        before = attempts_by before_c.landings;
+      (sym (attempts_by-append before_c.each_reached (ByAttempt p ∷ []))) (record {
+        before = attempts_by before_c.each_reached;
         item = p;
         rest = [];
         is = refl;
@@ -232,7 +235,7 @@ module _ (row : ℕ) (steps : List (ℕ × Step)) (at : ℕ) (c : Commit) where
   stays_committed : (b : ℕ × Attempt) (ps : List Placed) → IsCommittedIn before_c b
       → IsCommittedIn (committing before_c ps) b
   stays_committed b [] is = is
-  stays_committed b (p ∷ ps) is = committed_grows before_c.landings (ByAttempt p ∷ []) b is
+  stays_committed b (p ∷ ps) is = committed_grows before_c.each_reached (ByAttempt p ∷ []) b is
 
   since_committed : (b : ℕ × Attempt) (w : Since) → IsSince row steps b w
       → IsSince row (steps ++ step_c ∷ []) b (since_commit w)
@@ -249,22 +252,23 @@ module _ (row : ℕ) (steps : List (ℕ × Step)) (at : ℕ) (c : Commit) where
   since_committed b (since.RolledBack by restores) is = (is.0, discarded_grows steps step_c b _ is.1, is.2)
   since_committed b (since.Discarded by) is = (is.0, discarded_grows steps step_c b _ is.1)
 
-  fewer : (n : ℕ) (ps : List Placed) → n ≡ length ps → n - 1 ≡ open_count (committing (record before_c { pending = ps }) ps)
+  fewer : (n : ℕ) (ps : List Placed) → n ≡ length ps → n - 1
+      ≡ open_count (committing (record before_c { pending = ps }) ps)
   fewer n [] e = omega (arith, e)
   fewer n (p ∷ ps) e = omega (arith, e)
 
-  same_base : (ps : List Placed) → last_state (committing before_c ps).landings ≡ last_state before_c.landings
+  same_base : (ps : List Placed) → last_state (committing before_c ps).each_reached ≡ last_state before_c.each_reached
   same_base [] = refl
-  same_base (p ∷ ps) = fold-append later_state None before_c.landings (ByAttempt p ∷ [])
+  same_base (p ∷ ps) = fold-append later_state None before_c.each_reached (ByAttempt p ∷ [])
 
-  pub front_commit : (t : Trace) (has : Versioned) (f : Front) (many : ℕ) (last : Option LastSource)
-      → many ≡ f.pending - 1 → last ≡ last_with since_commit f.last → IsFront t row has steps f
-      → IsFront t row has (steps ++ step_c ∷ [])
+  pub prefix_commit : (t : Trace) (has : Versioned) (f : Prefix) (many : ℕ) (last : Option LastSource)
+      → many ≡ f.pending - 1 → last ≡ last_with since_commit f.last → IsPrefix t row has steps f
+      → IsPrefix t row has (steps ++ step_c ∷ [])
       (record { pending = many; base = f.base; restored = f.restored; last = last })
-  front_commit t has f many last open_is last_is is = record {
+  prefix_commit t has f many last open_is last_is is = record {
     open_is = open_is ∙ fewer f.pending before_c.pending is.open_is ∙ ap open_count (sym (came steps step_c));
     base_is = is.base_is ∙ ap (option_map (λ (y : ℕ × Transfer). y.0)) (sym (same_base before_c.pending)
-        ∙ ap (λ (s : SectionState). last_state s.landings) (sym (came steps step_c)));
+        ∙ ap (λ (s : SectionState). last_state s.each_reached) (sym (came steps step_c)));
     restored_is = subst (λ (rs : List (ℕ × Rollback)). IsRestoredBy row has rs f.restored)
         (sym (rollbacks_came steps step_c)) is.restored_is;
     last_is = subst (IsLastSource t row has (steps ++ step_c ∷ [])) (sym last_is)
@@ -306,15 +310,16 @@ module _ (row : ℕ) (steps : List (ℕ × Step)) (at : ℕ) (r : Rollback) wher
   restoring_now has rs gives =
       record { before = rs; item = r; behind = []; is = refl; gives = gives; none = tt }
 
-  pub front_rollback : (t : Trace) (has : Versioned) (f : Front) (restored : Option ℕ) (restores : Bool)
+  pub prefix_rollback : (t : Trace) (has : Versioned) (f : Prefix) (restored : Option ℕ) (restores : Bool)
       (last : Option LastSource) → (IsTrue restores ↔ NamesRow row r)
       → last ≡ last_with (since_discarded (since.RolledBack at restores)) f.last
-      → IsRestoredBy row has (rollbacks_behind steps ++ (at, r) ∷ []) restored → IsFront t row has steps f
-      → IsFront t row has (steps ++ step_r ∷ [])
+      → IsRestoredBy row has (rollbacks_behind steps ++ (at, r) ∷ []) restored → IsPrefix t row has steps f
+      → IsPrefix t row has (steps ++ step_r ∷ [])
       (record { pending = 0; base = f.base; restored = restored; last = last })
-  front_rollback t has f restored restores last names last_is again is = record {
+  prefix_rollback t has f restored restores last names last_is again is = record {
     open_is = ap open_count (sym (came steps step_r));
-    base_is = is.base_is ∙ ap (λ (st : SectionState). option_map (λ (y : ℕ × Transfer). y.0) (last_state st.landings))
+    base_is = is.base_is
+        ∙ ap (λ (st : SectionState). option_map (λ (y : ℕ × Transfer). y.0) (last_state st.each_reached))
         (sym (came steps step_r));
     restored_is = subst (λ (rs : List (ℕ × Rollback)). IsRestoredBy row has rs restored)
         (sym (rollbacks_came steps step_r)) again;
@@ -323,11 +328,11 @@ module _ (row : ℕ) (steps : List (ℕ × Step)) (at : ℕ) (r : Rollback) wher
         (since_rolled_back restores names) tt f.last is.last_is);
   }
 
--- ---- a state that is taken over
+-- ---- a state that is transferred
 
 module _ (row : ℕ) (steps : List (ℕ × Step)) (at : ℕ) (x : Transfer) where
   abbrev step_x : ℕ × Step
-  step_x = (at, TakesOver x)
+  step_x = (at, Transfers x)
 
   abbrev before_x : SectionState
   before_x = state_after start steps
@@ -337,26 +342,28 @@ module _ (row : ℕ) (steps : List (ℕ × Step)) (at : ℕ) (x : Transfer) wher
   since_over b (since.Open count) is = (x, discarded_now steps step_x b count is)
   since_over b since.Settled is =
       subst (λ (s : SectionState). IsCommittedIn s b) (sym (came steps step_x))
-      (committed_grows before_x.landings (over before_x at x) b is)
+      (committed_grows before_x.each_reached (over before_x at x) b is)
   since_over b (since.RolledBack by restores) is = (is.0, discarded_grows steps step_x b _ is.1, is.2)
   since_over b (since.Discarded by) is = (is.0, discarded_grows steps step_x b _ is.1)
 
-  base_now : Some at ≡ option_map (λ (y : ℕ × Transfer). y.0) (last_state (state_after start (steps ++ step_x ∷ [])).landings)
+  base_now : Some at ≡ option_map (λ (y : ℕ × Transfer). y.0)
+      (last_state (state_after start (steps ++ step_x ∷ [])).each_reached)
   base_now =
-      let skipped : List Landing = replicate (x.seq - (before_x.last + 1)) Skipped in
+      let skipped : List HowReached = replicate (x.seq - (before_x.last + 1)) Skipped in
       ap (option_map (λ (y : ℕ × Transfer). y.0))
-      (sym (fold-append later_state None before_x.landings (skipped ++ ByTransfer at x ∷ [])
-      ∙ fold-append later_state (last_state before_x.landings) skipped (ByTransfer at x ∷ []))
-      ∙ ap (λ (s : SectionState). last_state s.landings) (sym (came steps step_x)))
+      (sym (fold-append later_state None before_x.each_reached (skipped ++ ByTransfer at x ∷ [])
+      ∙ fold-append later_state (last_state before_x.each_reached) skipped (ByTransfer at x ∷ []))
+      ∙ ap (λ (s : SectionState). last_state s.each_reached) (sym (came steps step_x)))
 
-  pub front_state : (t : Trace) (has : Versioned) (last : Option LastSource)
+  pub prefix_state : (t : Trace) (has : Versioned) (last : Option LastSource)
       → IsLastSource t row has (steps ++ step_x ∷ []) last
-      → IsFront t row has (steps ++ step_x ∷ [])
+      → IsPrefix t row has (steps ++ step_x ∷ [])
       (record { pending = 0; base = Some at; restored = None; last = last })
-  front_state t has last last_is = record {
+  prefix_state t has last last_is = record {
     open_is = ap open_count (sym (came steps step_x));
     base_is = base_now;
-    restored_is = subst (λ (rs : List (ℕ × Rollback)). IsRestoredBy row has rs None) (sym (rollbacks_came steps step_x)) tt;
+    restored_is = subst (λ (rs : List (ℕ × Rollback)). IsRestoredBy row has rs None) (sym (rollbacks_came steps step_x))
+        tt;
     last_is = last_is;
   }
 

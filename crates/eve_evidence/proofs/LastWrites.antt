@@ -14,7 +14,7 @@ use Rattle.eve_grammar.proofs.Lists.{all-append}
 use Rattle.eve_evidence.specs.declared.sources.Left.{Left}
 use Rattle.eve_evidence.specs.Sources.{Passed, IsWriter, NoneWrites, IsLeftBy, last_left, table_after_way}
 use Rattle.eve_evidence.specs.declared.evidence.Source.TheVariants.{Write}
-use Rattle.eve_evidence.specs.Lasts.{IsLeftAlone, IsLast}
+use Rattle.eve_evidence.specs.inner.Lasts.{IsLeftAlone, IsLast}
 
 module _ (row : ℕ) where
   abbrev pub step : Option Versioned → Entry → Option Versioned
@@ -97,34 +97,34 @@ module _ (row : ℕ) where
       ∙ ap (λ (o : Option Versioned). unwrap_or o (before row)) last.own.left
 
   -- a way that goes on without a write, behind another
-  pub last_inside : (front way behind : List Passed) (l : Left) → IsLast row way l → NoneWrites row behind
-      → IsLast row (front ++ (way ++ behind)) l
-  last_inside front way behind l last none =
+  pub last_inside : (prefix way behind : List Passed) (l : Left) → IsLast row way l → NoneWrites row behind
+      → IsLast row (prefix ++ (way ++ behind)) l
+  last_inside prefix way behind l last none =
       let n = last.nearest in
       record {
         found = last.found;
         nearest = record {
-          before = front ++ n.before;
+          before = prefix ++ n.before;
           behind = n.behind ++ behind;
-          is = ap (λ (w : List Passed). front ++ (w ++ behind)) n.is
-              ∙ ap (λ (w : List Passed). front ++ w) (append_assoc n.before (last.found ∷ n.behind) behind)
-              ∙ sym (append_assoc front n.before (last.found ∷ (n.behind ++ behind)));
+          is = ap (λ (w : List Passed). prefix ++ (w ++ behind)) n.is
+              ∙ ap (λ (w : List Passed). prefix ++ w) (append_assoc n.before (last.found ∷ n.behind) behind)
+              ∙ sym (append_assoc prefix n.before (last.found ∷ (n.behind ++ behind)));
           writes = n.writes;
           none = all-append (λ (x : Passed). ¬ IsWriter row x) n.behind behind n.none none;
         };
         own = last.own;
       }
 
-  pub last_behind : (front way : List Passed) (l : Left) → IsLast row way l → IsLast row (front ++ way) l
-  last_behind front way l last =
-      subst (λ (w : List Passed). IsLast row (front ++ w) l) (append-nil way) (last_inside front way [] l last tt)
+  pub last_behind : (prefix way : List Passed) (l : Left) → IsLast row way l → IsLast row (prefix ++ way) l
+  last_behind prefix way l last =
+      subst (λ (w : List Passed). IsLast row (prefix ++ w) l) (append-nil way) (last_inside prefix way [] l last tt)
 
   -- a record that writes, before others that don't
-  pub last_here : (front behind : List Passed) (x : Passed) (l : Left) → IsLeftAlone row x l → NoneWrites row behind
-      → IsLast row (front ++ x ∷ behind) l
-  last_here front behind x l own none = record {
+  pub last_here : (prefix behind : List Passed) (x : Passed) (l : Left) → IsLeftAlone row x l → NoneWrites row behind
+      → IsLast row (prefix ++ x ∷ behind) l
+  last_here prefix behind x l own none = record {
     found = x;
-    nearest = record { before = front; behind = behind; is = refl; writes = own.writes; none = none };
+    nearest = record { before = prefix; behind = behind; is = refl; writes = own.writes; none = none };
     own = own;
   }
 

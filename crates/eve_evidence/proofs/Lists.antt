@@ -25,15 +25,15 @@ pub nth_is : {A B : Type 0} (view : A → B) (s u : List B) (n : ℕ) (x : A)
 nth_is view s u n x ran = subst (λ (k : ℕ). slice_get s k ≡ Some (view x)) ran.2
     (skipped view ran.0 s ran.1.0 u x ran.1.1 ran.1.2)
 
--- ---- fronts
+-- ---- prefixes
 
--- what holds of all of a front, and of the next
+-- what holds of all of a prefix, and of the next
 pub all_more : {A : Type 0} (P : A → Type 0) (xs : List A) (i : ℕ) (x : A) → slice_get xs i ≡ Some x
     → AllByRecursion P (take i xs) → P x → AllByRecursion P (take (i + 1) xs)
 all_more P xs i x got all own =
     subst (AllByRecursion P) (sym (take_one_more xs i x got)) (all-push P (take i xs) x all own)
 
--- what holds of all items holds of a front's
+-- what holds of all items holds of a prefix's
 pub all-take : {A : Type 0} (P : A → Type 0) (n : ℕ) (xs : List A) → AllByRecursion P xs → AllByRecursion P (take n xs)
 all-take P zero xs all = tt
 all-take P (suc n) [] all = tt
@@ -62,10 +62,10 @@ get-take [] i (suc n) lt = refl
 get-take (x ∷ xs) zero (suc n) lt = refl
 get-take (x ∷ xs) (suc i) (suc n) lt = get-take xs i n (omega arith)
 
--- and of a front of it
-pub place_in_front : {A : Type 0} (P : List A → A → Type 0) (xs : List A) (n i : ℕ) (x : A) → i < n
+-- and of a prefix of it
+pub place_in_prefix : {A : Type 0} (P : List A → A → Type 0) (xs : List A) (n i : ℕ) (x : A) → i < n
     → slice_get xs i ≡ Some x → P (take i xs) x → SomePlace (take n xs) P
-place_in_front P xs n i x lt got holds =
+place_in_prefix P xs n i x lt got holds =
     place_at P (take n xs) i x (get-take xs i n lt ∙ got)
     (subst (λ ys. P ys x) (sym (take-take i n xs (omega arith))) holds)
 
@@ -73,9 +73,9 @@ place_in_front P xs n i x lt got holds =
 
 pub same_more : {A : Type 0} (xs ys : List A) (i : ℕ) (x y : A) → slice_get xs i ≡ Some x → slice_get ys i ≡ Some y
     → x ≡ y → take i xs ≡ take i ys → take (i + 1) xs ≡ take (i + 1) ys
-same_more xs ys i x y got other same front =
+same_more xs ys i x y got other same prefix =
     take_one_more xs i x got
-    ∙ (λ j. front j ++ same j ∷ [])
+    ∙ (λ j. prefix j ++ same j ∷ [])
     ∙ sym (take_one_more ys i y other)
 
 pub same_whole : {A : Type 0} (xs ys : List A) (i : ℕ) → length xs ≤ i → length ys ≤ i → take i xs ≡ take i ys → xs ≡ ys
@@ -112,7 +112,7 @@ no_place_more {A} P xs i x got none not_here place =
     let moved : SomePlace (take i xs ++ x ∷ []) P = subst (λ (ys : List A). SomePlace ys P) (take_one_more xs i x got)
     place
     in
-    elim (place_push P (take i xs) x moved) [ inl front ↦ none front | inr here ↦ not_here here ]
+    elim (place_push P (take i xs) x moved) [ inl prefix ↦ none prefix | inr here ↦ not_here here ]
 
 pub item_there : {A : Type 0} (xs : List A) (i n : ℕ) → i < n → n ≡ length xs → (x : A) × (slice_get xs i ≡ Some x)
 item_there xs i n lt e = item_within xs i (omega arith)

@@ -15,13 +15,13 @@ use Rattle.eve_grammar.specs.Trace.{Access, Asked, Attempt, Batch, Commit, Custo
 use Rattle.eve_grammar.specs.Spelling.{customers_at, batches_at, customer_text}
 use Rattle.eve_grammar.specs.declared.head.TheConstants.{HEADER_LEN}
 use Rattle.eve_grammar.proofs.Lists.{slice_get-behind}
-use Rattle.eve_frames.specs.Said.{attempt_said}
-use Rattle.eve_views.proofs.Locating.{located_get}
+use Rattle.eve_frames.specs.Decoded.{attempt_decoded}
+use Rattle.eve_views.proofs.FrameOffsets.{located_get}
 use Rattle.eve_history.specs.Section.{Placed, SectionState, no_batch, batch_at, commits_first}
 use Rattle.eve_history.specs.Section.{is_right_commit}
 use Rattle.eve_history.specs.Section.{is_due, is_right_attempt, is_right_access, request_count, worker_count}
 use Rattle.eve_history.specs.SectionHistory.{names_of, placed_at}
-use Rattle.eve_history.proofs.Finding.{batch_is}
+use Rattle.eve_history.proofs.Lookups.{batch_is}
 use Rattle.eve_evidence.specs.declared.course.Course.{Course}
 use Rattle.eve_evidence.specs.declared.course.OnPath.{OnPath}
 use Rattle.eve_evidence.specs.Course.{placed_on, attempts_behind, standing, IsCourse}
@@ -114,8 +114,8 @@ module _ (worker : ℕ) (xs : List (ℕ × Access)) (k : ℕ) (x : ℕ × Access
   behind : slice_get (accesses_of xs) k ≡ Some x.1
   behind = slice_get-map (λ (y : ℕ × Access). y.1) xs k ∙ ap (option_map (λ (y : ℕ × Access). y.1)) got
 
-  fronts : (n : ℕ) → count_by its_worker (accesses_of (take n xs)) ≡ count_by its_worker (take n (accesses_of xs))
-  fronts n = ap (count_by its_worker) (sym (take-map (λ (y : ℕ × Access). y.1) n xs))
+  prefixes : (n : ℕ) → count_by its_worker (accesses_of (take n xs)) ≡ count_by its_worker (take n (accesses_of xs))
+  prefixes n = ap (count_by its_worker) (sym (take-map (λ (y : ℕ × Access). y.1) n xs))
 
   read : get_or (accesses_of xs) k x.1 ≡ x.1
   read = get_or_from_slice_get (accesses_of xs) k x.1 x.1 behind
@@ -124,18 +124,18 @@ module _ (worker : ℕ) (xs : List (ℕ × Access)) (k : ℕ) (x : ℕ × Access
   pub count_more : x.1.worker ≡ worker → count_by its_worker (accesses_of (take (k + 1) xs))
       ≡ count_by its_worker (accesses_of (take k xs)) + 1
   count_more e =
-      fronts (k + 1)
+      prefixes (k + 1)
       ∙ count_by_more_yes its_worker (accesses_of xs) k x.1 (slice_get_within (accesses_of xs) k x.1 behind)
       (ap its_worker read ∙ eq-eqb x.1.worker worker e)
-      ∙ ap (λ (n : ℕ). n + 1) (sym (fronts k))
+      ∙ ap (λ (n : ℕ). n + 1) (sym (prefixes k))
 
   pub count_same : (x.1.worker ≡ worker → ⊥) → count_by its_worker (accesses_of (take (k + 1) xs))
       ≡ count_by its_worker (accesses_of (take k xs))
   count_same other =
-      fronts (k + 1)
+      prefixes (k + 1)
       ∙ count_by_more_no its_worker (accesses_of xs) k x.1 (slice_get_within (accesses_of xs) k x.1 behind)
       (ap its_worker read ∙ ne_eqb x.1.worker worker other)
-      ∙ sym (fronts k)
+      ∙ sym (prefixes k)
 
 none_with : (xs : List (ℕ × Access)) (i : ℕ) → AllByRecursion (λ z. z.1.index ≢ i) xs
     → list_any (λ (y : Access). y.index == i) (accesses_of xs) ≡ false
@@ -163,26 +163,27 @@ pub record FirstOpen (s : SectionState) (o : OnPath) : Type 0 where
   pub placed : Placed
   pub others : List Placed
   pub is : s.pending ≡ placed ∷ others
-  pub said : placed_on o ≡ placed_at placed
+  pub decoded : placed_on o ≡ placed_at placed
 
 pub first_open : (s : SectionState) (c : Course) (o : OnPath) → IsCourse s c → slice_get c.path.items
     c.committed ≡ Some o
     → FirstOpen s o
 first_open s c o is got = by s.pending refl
   where
-    there : slice_get (standing s) (length (attempts_behind s.landings)) ≡ Some (placed_on o)
-    there = ap (λ (xs : List (ℕ × Attempt)). slice_get xs (length (attempts_behind s.landings))) (sym is.path)
+    there : slice_get (standing s) (length (attempts_behind s.each_reached)) ≡ Some (placed_on o)
+    there = ap (λ (xs : List (ℕ × Attempt)). slice_get xs (length (attempts_behind s.each_reached))) (sym is.path)
         ∙ ap (slice_get (map placed_on c.path.items)) (sym is.committed)
         ∙ slice_get-map placed_on c.path.items c.committed ∙ ap (option_map placed_on) got
 
     behind : slice_get (map placed_at s.pending) 0 ≡ Some (placed_on o)
     behind =
-        sym (slice_get-behind (map placed_at (attempts_behind s.landings)) (map placed_at s.pending) 0)
-        ∙ ap (slice_get (map placed_at (attempts_behind s.landings) ++ map placed_at s.pending))
-        (add-zero (length (map placed_at (attempts_behind s.landings))) ∙ length-map (attempts_behind s.landings)
+        sym (slice_get-behind (map placed_at (attempts_behind s.each_reached)) (map placed_at s.pending) 0)
+        ∙ ap (slice_get (map placed_at (attempts_behind s.each_reached) ++ map placed_at s.pending))
+        (add-zero (length (map placed_at (attempts_behind s.each_reached)))
+        ∙ length-map (attempts_behind s.each_reached)
         placed_at)
-        ∙ ap (λ (xs : List (ℕ × Attempt)). slice_get xs (length (attempts_behind s.landings)))
-        (sym (map-append placed_at (attempts_behind s.landings) s.pending))
+        ∙ ap (λ (xs : List (ℕ × Attempt)). slice_get xs (length (attempts_behind s.each_reached)))
+        (sym (map-append placed_at (attempts_behind s.each_reached) s.pending))
         ∙ there
 
     none-some : {A : Type 0} (x : A) → ◌≡◌ {A = Option A} None (Some x) → ⊥
@@ -195,7 +196,7 @@ first_open s c o is got = by s.pending refl
       placed = p;
       others = ps;
       is = e;
-      said = sym (same_Some (placed_at p) (placed_on o)
+      decoded = sym (same_Some (placed_at p) (placed_on o)
           (sym (ap (λ (qs : List Placed). slice_get (map placed_at qs) 0) e) ∙ behind));
     }
 
@@ -231,25 +232,25 @@ module _ (s : SectionState) (c : Course) (o : OnPath) (is : IsCourse s c)
   own = first_open s c o is got
 
   -- its view and its token
-  its : (attempt_said o.attempt).view ≡ own.placed.attempt.view
-  its = ap (λ (x : ℕ × Attempt). x.1.view) own.said
+  its : (attempt_decoded o.attempt).view ≡ own.placed.attempt.view
+  its = ap (λ (x : ℕ × Attempt). x.1.view) own.decoded
 
-  token : (attempt_said o.attempt).token ≡ own.placed.attempt.token
-  token = ap (λ (x : ℕ × Attempt). x.1.token) own.said
+  token : (attempt_decoded o.attempt).token ≡ own.placed.attempt.token
+  token = ap (λ (x : ℕ × Attempt). x.1.token) own.decoded
 
-  pub other_view : (n : Numbers) → n ≡ numbers d.view (attempt_said o.attempt).view
-      → (d.view ≡ (attempt_said o.attempt).view → ⊥) → IsCommitFault s.last s.pending d (View n)
+  pub other_view : (n : Numbers) → n ≡ numbers d.view (attempt_decoded o.attempt).view
+      → (d.view ≡ (attempt_decoded o.attempt).view → ⊥) → IsCommitFault s.last s.pending d (View n)
   other_view n n_is other = subst (λ (ps : List Placed). IsCommitFault s.last ps d (View n)) (sym own.is)
       (n_is ∙ ap (numbers d.view) its, next, λ e. other (e ∙ sym its))
 
-  pub other_token : (found due : Bor (List ℕ)) → found.now ≡ d.token → due.now ≡ (attempt_said o.attempt).token
-      → d.view ≡ (attempt_said o.attempt).view → (found.now ≡ due.now → ⊥)
+  pub other_token : (found due : Bor (List ℕ)) → found.now ≡ d.token → due.now ≡ (attempt_decoded o.attempt).token
+      → d.view ≡ (attempt_decoded o.attempt).view → (found.now ≡ due.now → ⊥)
       → IsCommitFault s.last s.pending d (Token found due)
   other_token found due found_is due_is view other =
       subst (λ (ps : List Placed). IsCommitFault s.last ps d (Token found due)) (sym own.is)
       (found_is, due_is ∙ token, next, view ∙ its, λ e. other (found_is ∙ e ∙ sym token ∙ sym due_is))
 
-  pub right_commit : d.view ≡ (attempt_said o.attempt).view → d.token ≡ (attempt_said o.attempt).token
+  pub right_commit : d.view ≡ (attempt_decoded o.attempt).view → d.token ≡ (attempt_decoded o.attempt).token
       → is_right_commit s d ≡ true
   right_commit view_is token_is =
       and_from (d.seq == s.last + 1) (commits_first s.pending d) (eq-eqb d.seq (s.last + 1) next)

@@ -13,14 +13,14 @@ use Rattle.eve_grammar.specs.Spelling.{customers_at, customer_text}
 use Rattle.eve_grammar.specs.declared.head.TheConstants.{HEADER_LEN}
 use Rattle.eve_grammar.proofs.Lists.{drop_here, all-append}
 use Rattle.eve_grammar.proofs.OpeningRows.{length-opening_rows}
-use Rattle.eve_views.proofs.Locating.{located_get}
+use Rattle.eve_views.proofs.FrameOffsets.{located_get}
 use Rattle.eve_history.specs.SectionHistory.{access_with, no_access}
 use Rattle.eve_chains.specs.Visible.{before_index, opening_of}
 use Rattle.eve_evidence.specs.declared.course.OnPath.{OnPath}
 use Rattle.eve_evidence.specs.declared.sources.Left.{Left}
 use Rattle.eve_evidence.specs.Course.{placed_on}
 use Rattle.eve_evidence.specs.Sources.{Passed, passed_by, passed, passed_in, IsWriter, NoneWrites}
-use Rattle.eve_evidence.specs.Lasts.{IsLeftAlone, IsLast}
+use Rattle.eve_evidence.specs.inner.Lasts.{IsLeftAlone, IsLast}
 use Rattle.eve_evidence.proofs.LastWrites.{last_here, last_inside}
 
 -- ---- a record by its index

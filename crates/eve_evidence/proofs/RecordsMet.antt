@@ -15,26 +15,26 @@ use Rattle.eve_evidence.specs.declared.course.OnPath.{OnPath}
 use Rattle.eve_evidence.specs.declared.evidence.Source.{Source}
 use Rattle.eve_evidence.specs.declared.sought.Sought.{Sought}
 use Rattle.eve_evidence.specs.declared.sought.Sought.TheVariants.{Left}
-use Rattle.eve_evidence.specs.Front.{IsSourceFound}
+use Rattle.eve_evidence.specs.inner.LastSource.{IsSourceFound}
 use Rattle.eve_evidence.specs.Course.{placed_on}
 use Rattle.eve_evidence.specs.Sources.{Passed, passed_by, passed, passed_in}
-use Rattle.eve_evidence.specs.Sought.{MeetsIn, RecordMeets, NoneMet, IsMetAlone, IsFirstMet, IsLastMet}
+use Rattle.eve_evidence.specs.Sought.{MeetsIn, RecordMeets, NoneFound, IsFoundAlone, IsFirstFound, IsLastFound}
 use Rattle.eve_evidence.proofs.RecordLookups.{with_kept, on_way, parts_on_way}
 
 -- where no record has one, the one of an index doesn't
-pub none_met : (s : Sought) (seq : ℕ) (xs : List (ℕ × Access)) (order : List ℕ)
-    → AllByRecursion (λ x. ¬ MeetsIn s x.1.entries) xs → NoneMet s (passed seq xs order)
-none_met s seq xs [] all = tt
-none_met s seq xs (i ∷ order) all = (
+pub none_found : (s : Sought) (seq : ℕ) (xs : List (ℕ × Access)) (order : List ℕ)
+    → AllByRecursion (λ x. ¬ MeetsIn s x.1.entries) xs → NoneFound s (passed seq xs order)
+none_found s seq xs [] all = tt
+none_found s seq xs (i ∷ order) all = (
   with_kept (λ (x : ℕ × Access). ¬ MeetsIn s x.1.entries) (λ place. no_place _ place) xs i all,
-  none_met s seq xs order all,
+  none_found s seq xs order all,
 )
 
 module _ (s : Sought) where
   -- the last inside is the last where none follows
-  pub met_inside : (xs ys zs : List Passed) (source : Source) → IsLastMet s ys source → NoneMet s zs
-      → IsLastMet s (xs ++ (ys ++ zs)) source
-  met_inside xs ys zs source last none = record {
+  pub found_inside : (xs ys zs : List Passed) (source : Source) → IsLastFound s ys source → NoneFound s zs
+      → IsLastFound s (xs ++ (ys ++ zs)) source
+  found_inside xs ys zs source last none = record {
     before = xs ++ last.before;
     item = last.item;
     behind = last.behind ++ zs;
@@ -57,8 +57,8 @@ module _ (s : Sought) where
         ∙ map-append (λ (i : ℕ). passed_by seq (access_with xs i)) (take k order) (drop k order)
         ∙ ap (λ (ys : List ℕ). passed seq xs (take k order) ++ passed seq xs ys) (drop_here order k index got)
 
-    pub last_here : (source : Source) → IsMetAlone s (passed_by seq (access_with xs index)) source
-        → NoneMet s (passed seq xs (drop (k + 1) order)) → IsLastMet s (passed seq xs order) source
+    pub last_here : (source : Source) → IsFoundAlone s (passed_by seq (access_with xs index)) source
+        → NoneFound s (passed seq xs (drop (k + 1) order)) → IsLastFound s (passed seq xs order) source
     last_here source own none = record {
       before = passed seq xs (take k order);
       item = passed_by seq (access_with xs index);
@@ -70,12 +70,12 @@ module _ (s : Sought) where
     }
 
     pub none_back : (RecordMeets s (passed_by seq (access_with xs index)) → ⊥)
-        → NoneMet s (passed seq xs (drop (k + 1) order)) → NoneMet s (passed seq xs (drop k order))
-    none_back own none = subst (λ (ys : List ℕ). NoneMet s (passed seq xs ys)) (sym (drop_here order k index got))
+        → NoneFound s (passed seq xs (drop (k + 1) order)) → NoneFound s (passed seq xs (drop k order))
+    none_back own none = subst (λ (ys : List ℕ). NoneFound s (passed seq xs ys)) (sym (drop_here order k index got))
         (own, none)
 
-    pub first_here : (source : Source) → IsMetAlone s (passed_by seq (access_with xs index)) source
-        → NoneMet s (passed seq xs (take k order)) → IsFirstMet s (passed seq xs order) source
+    pub first_here : (source : Source) → IsFoundAlone s (passed_by seq (access_with xs index)) source
+        → NoneFound s (passed seq xs (take k order)) → IsFirstFound s (passed seq xs order) source
     first_here source own none = record {
       before = passed seq xs (take k order);
       item = passed_by seq (access_with xs index);
@@ -86,27 +86,29 @@ module _ (s : Sought) where
       source_is = own.source_is;
     }
 
-    pub none_ahead : NoneMet s (passed seq xs (take k order))
-        → (RecordMeets s (passed_by seq (access_with xs index)) → ⊥) → NoneMet s (passed seq xs (take (k + 1) order))
+    pub none_ahead : NoneFound s (passed seq xs (take k order))
+        → (RecordMeets s (passed_by seq (access_with xs index)) → ⊥) → NoneFound s (passed seq xs (take (k + 1) order))
     none_ahead none own =
         let longer : passed seq xs (take (k + 1) order)
         ≡ passed seq xs (take k order) ++ passed_by seq (access_with xs index) ∷ [] =
         ap (passed seq xs) (take_one_more order k index got)
         ∙ map-append (λ (i : ℕ). passed_by seq (access_with xs i)) (take k order) (index ∷ []) in
-        subst (NoneMet s) (sym longer)
-        (all-push (λ (x : Passed). ¬ RecordMeets s x) (passed seq xs (take k order)) (passed_by seq (access_with xs index))
+        subst (NoneFound s) (sym longer)
+        (all-push (λ (x : Passed). ¬ RecordMeets s x) (passed seq xs (take k order))
+        (passed_by seq (access_with xs index))
         none own)
 
   -- ---- along attempts
 
   module _ (os : List OnPath) (k : ℕ) (o : OnPath) (got : slice_get os k ≡ Some o)
-      (none : NoneMet s (on_way (drop (k + 1) os))) where
-    pub last_met_on : (source : Source) → IsLastMet s (passed_in (placed_on o)) source → IsLastMet s (on_way os) source
-    last_met_on source last = subst (λ (w : List Passed). IsLastMet s w source) (sym (parts_on_way os k o got))
-        (met_inside (on_way (take k os)) (passed_in (placed_on o)) (on_way (drop (k + 1) os)) source last none)
+      (none : NoneFound s (on_way (drop (k + 1) os))) where
+    pub last_found_on : (source : Source) → IsLastFound s (passed_in (placed_on o)) source
+        → IsLastFound s (on_way os) source
+    last_found_on source last = subst (λ (w : List Passed). IsLastFound s w source) (sym (parts_on_way os k o got))
+        (found_inside (on_way (take k os)) (passed_in (placed_on o)) (on_way (drop (k + 1) os)) source last none)
 
-    pub none_met_on : NoneMet s (passed_in (placed_on o)) → NoneMet s (on_way (drop k os))
-    none_met_on own = subst (λ (ps : List OnPath). NoneMet s (on_way ps)) (sym (drop_here os k o got))
+    pub none_found_on : NoneFound s (passed_in (placed_on o)) → NoneFound s (on_way (drop k os))
+    none_found_on own = subst (λ (ps : List OnPath). NoneFound s (on_way ps)) (sym (drop_here os k o got))
         (all-append (λ (x : Passed). ¬ RecordMeets s x) (passed_in (placed_on o)) (on_way (drop (k + 1) os)) own none)
 
 -- ---- a stretch of a certificate
@@ -121,22 +123,22 @@ get_dropped {A} (x ∷ xs) (suc n) k =
 -- ---- a whole attempt
 
 -- the last source of an attempt, by what was found in the whole of its certificate
-pub source_found : (row : ℕ) (has : Versioned) (at : ℕ) (said a : Attempt) (xs : List (ℕ × Access)) (n : ℕ)
-    (found : Option Source) → said ≡ without_accesses a → xs ≡ accesses_at at a → n ≡ length said.certificate
-    → IfSome found (IsLastMet (Left row has) (passed said.seq xs (take n said.certificate)))
-    → IfNone found (NoneMet (Left row has) (passed said.seq xs (take n said.certificate)))
+pub source_found : (row : ℕ) (has : Versioned) (at : ℕ) (decoded a : Attempt) (xs : List (ℕ × Access)) (n : ℕ)
+    (found : Option Source) → decoded ≡ without_accesses a → xs ≡ accesses_at at a → n ≡ length decoded.certificate
+    → IfSome found (IsLastFound (Left row has) (passed decoded.seq xs (take n decoded.certificate)))
+    → IfNone found (NoneFound (Left row has) (passed decoded.seq xs (take n decoded.certificate)))
     → IsSourceFound row has (at, Attempts a) found
-source_found row has at said a xs n found said_is xs_are whole some none = by found some none
+source_found row has at decoded a xs n found decoded_is xs_are whole some none = by found some none
   where
-    same : passed said.seq xs (take n said.certificate) ≡ passed_in (at, a)
+    same : passed decoded.seq xs (take n decoded.certificate) ≡ passed_in (at, a)
     same =
-        ap (passed said.seq xs) (take_all n said.certificate (omega (arith, whole)))
-        ∙ ap (λ (b : Attempt). passed b.seq xs b.certificate) said_is
+        ap (passed decoded.seq xs) (take_all n decoded.certificate (omega (arith, whole)))
+        ∙ ap (λ (b : Attempt). passed b.seq xs b.certificate) decoded_is
         ∙ ap (λ (ys : List (ℕ × Access)). passed a.seq ys a.certificate) xs_are
 
     by : (o : Option Source)
-        → IfSome o (IsLastMet (Left row has) (passed said.seq xs (take n said.certificate)))
-        → IfNone o (NoneMet (Left row has) (passed said.seq xs (take n said.certificate)))
+        → IfSome o (IsLastFound (Left row has) (passed decoded.seq xs (take n decoded.certificate)))
+        → IfNone o (NoneFound (Left row has) (passed decoded.seq xs (take n decoded.certificate)))
         → IsSourceFound row has (at, Attempts a) o
-    by None some none = subst (NoneMet (Left row has)) same none
-    by (Some s) some none = subst (λ (w : List Passed). IsLastMet (Left row has) w s) same some
+    by None some none = subst (NoneFound (Left row has)) same none
+    by (Some s) some none = subst (λ (w : List Passed). IsLastFound (Left row has) w s) same some

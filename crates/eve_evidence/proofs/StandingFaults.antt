@@ -5,7 +5,7 @@ use Rattle.std.specs.Prelude.{IsTrue, IsFalse}
 use Rattle.std.proofs.lemmas.Bool.{and_parts, eqb-true}
 use Rattle.eve_smallbank.proofs.Members.{In, here, there}
 use Rattle.eve_grammar.specs.Accesses.{is_right_place}
-use Rattle.eve_grammar.specs.Trace.{Access, Attempt, Step, Attempts, Commits, RollsBack, TakesOver, Trace}
+use Rattle.eve_grammar.specs.Trace.{Access, Attempt, Step, Attempts, Commits, RollsBack, Transfers, Trace}
 use Rattle.eve_grammar.specs.Spelling.{steps_at, accesses_at}
 use Rattle.eve_views.specs.declared.fault.Code.{Code}
 use Rattle.eve_views.specs.declared.fault.Code.TheVariants as code
@@ -17,7 +17,7 @@ use Rattle.eve_history.specs.Section.{is_right_rollback, is_right_transfer, are_
 use Rattle.eve_history.specs.SectionHistory.{history}
 use Rattle.eve_history.specs.Structure.{OfAttempt, OfCommit, OfRollback, OfTransfer, AtStep, AtAccess, accesses_of}
 use Rattle.eve_history.specs.Structure.{StandsInStructure}
-use Rattle.eve_history.proofs.FateLaws.{attempts_by_push, attempts_by_taking}
+use Rattle.eve_history.proofs.FateLaws.{attempts_by_push, attempts_by_transferring}
 use Rattle.eve_history.proofs.Places.{weaker_place, place_here, place_later}
 use Rattle.eve_chains.proofs.Distinct.{in_right, in_split}
 use Rattle.eve_chains.specs.Visible.{visible_to}
@@ -53,7 +53,7 @@ module _ (t : Trace) (e at : ℕ) where
           (λ own x w. (w.1.0, to (state_after start before) o a own x.1 w.1.1)) h.2)
       by before (o, Commits d) h = elim h [ ]
       by before (o, RollsBack r) h = elim h [ ]
-      by before (o, TakesOver x) h = elim h [ ]
+      by before (o, Transfers x) h = elim h [ ]
 
   true_there : (b : Bool) → (b ≡ false → ⊥) → b ≡ true
   true_there true other = refl
@@ -91,35 +91,35 @@ module _ (t : Trace) (e at : ℕ) where
           inl (h.1.0, (eqb-true (length a.certificate) (request_count t a) count.1, h.1.1))
       by (o, Commits c) none h = elim h.1.1 [ ]
       by (o, RollsBack r) none h = elim h.1.1 [ ]
-      by (o, TakesOver x) none h = elim h.1.1 [ ]
+      by (o, Transfers x) none h = elim h.1.1 [ ]
 
   at_attempt : (s : SectionState) (step : ℕ × Step) → step.0 ≡ at
       → OfAttempt step.1 (λ a. IsFalse (is_right_attempt t s a)) → StandsAtStep code.Attempt t at s step
   at_attempt s (o, Attempts a) offset wrong = inl (offset, wrong)
   at_attempt s (o, Commits c) offset wrong = elim wrong [ ]
   at_attempt s (o, RollsBack r) offset wrong = elim wrong [ ]
-  at_attempt s (o, TakesOver x) offset wrong = elim wrong [ ]
+  at_attempt s (o, Transfers x) offset wrong = elim wrong [ ]
 
   at_commit : (s : SectionState) (step : ℕ × Step) → step.0 ≡ at
       → OfCommit step.1 (λ c. IsFalse (is_right_commit s c)) → StandsAtStep code.Commit t at s step
   at_commit s (o, Attempts a) offset wrong = elim wrong [ ]
   at_commit s (o, Commits c) offset wrong = (offset, wrong)
   at_commit s (o, RollsBack r) offset wrong = elim wrong [ ]
-  at_commit s (o, TakesOver x) offset wrong = elim wrong [ ]
+  at_commit s (o, Transfers x) offset wrong = elim wrong [ ]
 
   at_rollback : (s : SectionState) (step : ℕ × Step) → step.0 ≡ at
       → OfRollback step.1 (λ r. IsFalse (is_right_rollback t s r)) → StandsAtStep code.Rollback t at s step
   at_rollback s (o, Attempts a) offset wrong = elim wrong [ ]
   at_rollback s (o, Commits c) offset wrong = elim wrong [ ]
   at_rollback s (o, RollsBack r) offset wrong = (offset, wrong)
-  at_rollback s (o, TakesOver x) offset wrong = elim wrong [ ]
+  at_rollback s (o, Transfers x) offset wrong = elim wrong [ ]
 
   at_state : (s : SectionState) (step : ℕ × Step) → step.0 ≡ at
       → OfTransfer step.1 (λ x. IsFalse (is_right_transfer t s x)) → StandsAtStep code.Transfer t at s step
   at_state s (o, Attempts a) offset wrong = elim wrong [ ]
   at_state s (o, Commits c) offset wrong = elim wrong [ ]
   at_state s (o, RollsBack r) offset wrong = elim wrong [ ]
-  at_state s (o, TakesOver x) offset wrong = (offset, wrong)
+  at_state s (o, Transfers x) offset wrong = (offset, wrong)
 
 pub structure_along : (t : Trace) (c : Code) (e at : ℕ) → StandsInStructure c t e at
     → (c ≡ code.Certificate → StandsInStructure code.Attempt t e at → ⊥) → StandsAlong c t e at
@@ -138,7 +138,7 @@ structure_along t c e at stands apart = absurd stands
 
 -- it is one of the state's attempts
 abbrev Has : Placed → SectionState → Type 0
-Has p s = In p (attempts_by s.landings) ⊎ (In p s.pending ⊎ In p s.discarded)
+Has p s = In p (attempts_by s.each_reached) ⊎ (In p s.pending ⊎ In p s.discarded)
 
 -- at this step, where the section has come to this state, it comes
 abbrev Comes : Placed → SectionState → ℕ × Step → Type 0
@@ -151,8 +151,8 @@ only (there i) = elim i [ ]
 commits_from : (p : Placed) (s : SectionState) (ps : List Placed) → ((q : Placed) → In q ps → Has q s)
     → Has p (committing s ps) → Has p s
 commits_from p s [] old has = has
-commits_from p s (q ∷ ps) old (inl i) = elim (in_split (attempts_by s.landings) (q ∷ [])
-    (subst (In p) (attempts_by_push s.landings q) i)) [
+commits_from p s (q ∷ ps) old (inl i) = elim (in_split (attempts_by s.each_reached) (q ∷ [])
+    (subst (In p) (attempts_by_push s.each_reached q) i)) [
       | inl j ↦ inl j
       | inr j ↦ subst (λ (x : Placed). Has x s) (sym (only j)) (old q here)
     ]
@@ -173,9 +173,9 @@ has_next p s (o, RollsBack r) (inr (inr i)) = elim (in_split s.discarded s.pendi
   | inl j ↦ inl (inr (inr j))
   | inr j ↦ inl (inr (inl j))
 ]
-has_next p s (o, TakesOver x) (inl i) = inl (inl (subst (In p) (attempts_by_taking s o x) i))
-has_next p s (o, TakesOver x) (inr (inl i)) = elim i [ ]
-has_next p s (o, TakesOver x) (inr (inr i)) = elim (in_split s.discarded s.pending i) [
+has_next p s (o, Transfers x) (inl i) = inl (inl (subst (In p) (attempts_by_transferring s o x) i))
+has_next p s (o, Transfers x) (inr (inl i)) = elim i [ ]
+has_next p s (o, Transfers x) (inr (inr i)) = elim (in_split s.discarded s.pending i) [
   | inl j ↦ inl (inr (inr j))
   | inr j ↦ inl (inr (inl j))
 ]
@@ -205,7 +205,7 @@ settled_comes t e p i = elim (has_after p start (steps_at t e) has) [
 ]
   where
     has : Has p (state_after start (steps_at t e))
-    has = elim (in_split (attempts_by (state_after start (steps_at t e)).landings)
+    has = elim (in_split (attempts_by (state_after start (steps_at t e)).each_reached)
         (state_after start (steps_at t e)).discarded i) [
           | inl j ↦ inl j
           | inr j ↦ inr (inr j)

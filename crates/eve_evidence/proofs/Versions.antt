@@ -7,8 +7,8 @@ use Rattle.std.proofs.lemmas.Option.{same_Some}
 use Rattle.eve_smallbank.specs.declared.entry.Entry.{Entry}
 use Rattle.eve_grammar.specs.Trace.{Access}
 use Rattle.eve_grammar.specs.Limits.{is_entry}
-use Rattle.eve_grammar.specs.Reading.{number_at, both, made, only, many_at, entry_fields_at, entry_at, access_from}
-use Rattle.eve_grammar.specs.Reading.{entries_at, access_of}
+use Rattle.eve_grammar.specs.Readers.{number_at, both, made, only, many_at, entry_fields_at, entry_at, access_from}
+use Rattle.eve_grammar.specs.Readers.{entries_at, access_of}
 use Rattle.eve_grammar.specs.declared.limits.TheConstants.{MOST_ROWS, MOST_VERSIONS}
 use Rattle.eve_grammar.proofs.Codec.{bind_some, guard_some}
 use Rattle.eve_frames.specs.Views.{body_in, has_access_body, access_in}

@@ -12,35 +12,35 @@ use Rattle.eve_chains.specs.Visible.{before_index, visible_to}
 use Rattle.eve_evidence.specs.declared.course.Course.{Course}
 use Rattle.eve_evidence.specs.declared.evidence.Source.{Source}
 use Rattle.eve_evidence.specs.declared.sources.Left.{Left}
-use Rattle.eve_evidence.specs.Course.{placed_on, last_state, standing, state_said, IsCourse}
+use Rattle.eve_evidence.specs.Course.{placed_on, last_state, standing, state_decoded, IsCourse}
 use Rattle.eve_evidence.specs.Told.{placed_in}
 use Rattle.eve_evidence.specs.Sources.{Passed, passed, passed_in, way_to, IsWriter, NoneWrites, IsLeftBy}
 use Rattle.eve_evidence.specs.Sources.{state_table, table_after_way}
-use Rattle.eve_evidence.specs.Lasts.{IsLast}
+use Rattle.eve_evidence.specs.inner.Lasts.{IsLast}
 use Rattle.eve_evidence.proofs.LastWrites.{last_inside, last_behind, last_table, left_of_last, kept_along}
 use Rattle.eve_evidence.proofs.Ways.{way_table}
 
-module _ (t : Trace) (s : SectionState) (course : Course) (said a : Attempt) (xs : List (ℕ × Access))
-    (at index place row : ℕ) (is : IsCourse s course) (said_is : said ≡ without_accesses a)
+module _ (t : Trace) (s : SectionState) (course : Course) (decoded a : Attempt) (xs : List (ℕ × Access))
+    (at index place row : ℕ) (is : IsCourse s course) (decoded_is : decoded ≡ without_accesses a)
     (xs_are : xs ≡ accesses_at at a)
-    (before : take place said.certificate ≡ before_index index said.certificate) where
+    (before : take place decoded.certificate ≡ before_index index decoded.certificate) where
   abbrev pub own : List Passed
-  own = passed said.seq xs (take place said.certificate)
+  own = passed decoded.seq xs (take place decoded.certificate)
 
   abbrev pub path : List Passed
   path = flat_map passed_in (map placed_on course.path.items)
 
   own_is : own ≡ passed a.seq (accesses_at at a) (before_index index a.certificate)
   own_is =
-      ap (passed said.seq xs) before
-      ∙ ap (λ (b : Attempt). passed b.seq xs (before_index index b.certificate)) said_is
+      ap (passed decoded.seq xs) before
+      ∙ ap (λ (b : Attempt). passed b.seq xs (before_index index b.certificate)) decoded_is
       ∙ ap (λ (ys : List (ℕ × Access)). passed a.seq ys (before_index index a.certificate)) xs_are
 
   pub whole : path ++ own ≡ way_to (standing s) at a index
   whole i = flat_map passed_in (is.path i) ++ own_is i
 
   abbrev state : Option (ℕ × Transfer)
-  state = last_state s.landings
+  state = last_state s.each_reached
 
   from_last : (l : Left) → IsLast row (path ++ own) l → IsLeftBy state row (way_to (standing s) at a index) l.by
   from_last l last =
@@ -73,15 +73,15 @@ module _ (t : Trace) (s : SectionState) (course : Course) (said a : Attempt) (xs
   none_all none_path none_own = all-append (λ (x : Passed). ¬ IsWriter row x) path own none_path none_own
 
   pub by_first : (by : Source)
-      → ((way : List Passed) → NoneWrites row way → IsLeftBy (state_said course.taken) row way by)
+      → ((way : List Passed) → NoneWrites row way → IsLeftBy (state_decoded course.transferred) row way by)
       → NoneWrites row path → NoneWrites row own → IsLeftBy state row (way_to (standing s) at a index) by
   by_first by left none_path none_own =
-      subst (λ (st : Option (ℕ × Transfer)). IsLeftBy st row (way_to (standing s) at a index) by) is.taken
-      (subst (λ (w : List Passed). IsLeftBy (state_said course.taken) row w by) whole
+      subst (λ (st : Option (ℕ × Transfer)). IsLeftBy st row (way_to (standing s) at a index) by) is.transferred
+      (subst (λ (w : List Passed). IsLeftBy (state_decoded course.transferred) row w by) whole
       (left (path ++ own) (none_all none_path none_own)))
 
-  pub has_first : (v : Versioned) → v ≡ state_table t (state_said course.taken) row → NoneWrites row path
+  pub has_first : (v : Versioned) → v ≡ state_table t (state_decoded course.transferred) row → NoneWrites row path
       → NoneWrites row own → v ≡ visible_to t (placed_in s at a) index row
   has_first v v_is none_path none_own =
-      v_is ∙ ap (λ (st : Option (ℕ × Transfer)). state_table t st row) is.taken
+      v_is ∙ ap (λ (st : Option (ℕ × Transfer)). state_table t st row) is.transferred
       ∙ sym (seen ∙ kept_along row (path ++ own) (state_table t state) (none_all none_path none_own))

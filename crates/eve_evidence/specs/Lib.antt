@@ -4,11 +4,9 @@ pub mod Certificate
 pub mod Structure
 pub mod Record
 pub mod Sources
-pub mod Lasts
 pub mod Sought
 pub mod Seen
-pub mod Front
 pub mod Chain
 pub mod Section
-pub mod Places
 pub mod FrameKinds
+pub mod inner

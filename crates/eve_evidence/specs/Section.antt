@@ -1,7 +1,7 @@
 -- Faults of a replica's section as they stand at its steps, and what shows them. docs/MODEL.md, "Faults".
 use Rattle.std.specs.Prelude.{◌≡◌, ◌≢◌, ℕ, IsFalse, List, ◌∷◌, ◌++◌, length, ◌⊎◌, ⊤, None, Some}
 use Rattle.eve_smallbank.specs.Access.{Fits}
-use Rattle.eve_grammar.specs.Trace.{Access, Attempt, Commit, Rollback, Step, Attempts, Commits, RollsBack, TakesOver}
+use Rattle.eve_grammar.specs.Trace.{Access, Attempt, Commit, Rollback, Step, Attempts, Commits, RollsBack, Transfers}
 use Rattle.eve_grammar.specs.Trace.{Transfer, Trace}
 use Rattle.eve_grammar.specs.Accesses.{is_right_place}
 use Rattle.eve_grammar.specs.Spelling.{accesses_at, steps_at}
@@ -54,7 +54,7 @@ abbrev pub WrongRollback : Code → Trace → SectionState → Rollback → Type
 WrongRollback code.Rollback t s r = IsFalse (is_right_rollback t s r)
 WrongRollback _ t s r = ⊥
 
--- with a state that is taken over
+-- with a state that is transferred
 abbrev pub WrongTransfer : Code → Trace → SectionState → Transfer → Type 0
 WrongTransfer code.Transfer t s x = IsFalse (is_right_transfer t s x)
 WrongTransfer _ t s x = ⊥
@@ -66,7 +66,7 @@ StandsAtStep c t place s (at, Attempts a) =
     ⊎ SomePlace (accesses_at at a) (λ own x. (x.0 ≡ place) × WrongAccess c t s at a own x.1)
 StandsAtStep c t place s (at, Commits d) = (at ≡ place) × WrongCommit c s d
 StandsAtStep c t place s (at, RollsBack r) = (at ≡ place) × WrongRollback c t s r
-StandsAtStep c t place s (at, TakesOver x) = (at ≡ place) × WrongTransfer c t s x
+StandsAtStep c t place s (at, Transfers x) = (at ≡ place) × WrongTransfer c t s x
 
 -- it stands somewhere along replica e's section
 abbrev pub StandsAlong : Code → Trace → ℕ → ℕ → Type 0
@@ -108,7 +108,7 @@ abbrev pub TellsRollback : Code → Trace → SectionState → Rollback → Evid
 TellsRollback c t s r (shown.Rollback x) = (c ≡ code.Rollback) × IsRollbackFault t s r x
 TellsRollback c t s r _ = ⊥
 
--- at a state that is taken over
+-- at a state that is transferred
 abbrev pub TellsTransfer : Code → Trace → SectionState → ℕ → Transfer → Evidence → Type 0
 TellsTransfer c t s at x (shown.Transfer state wrong) =
     (c ≡ code.Transfer) × (state ≡ told_transfer at x) × IsTransferFault t s x wrong
@@ -121,21 +121,21 @@ TellsStep c t place s (at, Attempts a) evidence =
     ⊎ SomePlace (accesses_at at a) (λ own x. (x.0 ≡ place) × TellsAccess c t s at a own x evidence)
 TellsStep c t place s (at, Commits d) evidence = (at ≡ place) × TellsCommit c s d evidence
 TellsStep c t place s (at, RollsBack r) evidence = (at ≡ place) × TellsRollback c t s r evidence
-TellsStep c t place s (at, TakesOver x) evidence = (at ≡ place) × TellsTransfer c t s at x evidence
+TellsStep c t place s (at, Transfers x) evidence = (at ≡ place) × TellsTransfer c t s at x evidence
 
 -- and of a wrong entry where what it saw comes from, by the steps in front of it and behind it
 abbrev pub TellsSeen : Trace → List (ℕ × Step) → ℕ × Step → List (ℕ × Step) → Evidence → Type 0
-TellsSeen t front (at, Attempts a) behind (shown.Chain attempt request place wrong (Some seen)) =
-    IsSeenFrom t (look front behind at a request.index wrong.row.row wrong.saw) seen
-TellsSeen t front (at, Attempts a) behind (shown.Chain attempt request place wrong None) = ⊥
-TellsSeen t front step behind evidence = ⊤
+TellsSeen t prefix (at, Attempts a) behind (shown.Chain attempt request place wrong (Some seen)) =
+    IsSeenFrom t (look prefix behind at a request.index wrong.row.row wrong.saw) seen
+TellsSeen t prefix (at, Attempts a) behind (shown.Chain attempt request place wrong None) = ⊥
+TellsSeen t prefix step behind evidence = ⊤
 
 -- The evidence shows a fault of this code at this byte, somewhere along replica e's section, by where the section has
 -- come to there.
 pub record TellsAlong (c : Code) (t : Trace) (e place : ℕ) (evidence : Evidence) : Type 0 where
-  pub front : List (ℕ × Step)
+  pub prefix : List (ℕ × Step)
   pub step : ℕ × Step
   pub behind : List (ℕ × Step)
-  pub is : steps_at t e ≡ front ++ step ∷ behind
-  pub told : TellsStep c t place (state_after start front) step evidence
-  pub seen : TellsSeen t front step behind evidence
+  pub is : steps_at t e ≡ prefix ++ step ∷ behind
+  pub told : TellsStep c t place (state_after start prefix) step evidence
+  pub seen : TellsSeen t prefix step behind evidence

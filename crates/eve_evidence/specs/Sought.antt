@@ -30,30 +30,30 @@ abbrev pub RecordMeets : Sought → Passed → Type 0
 RecordMeets s x = MeetsIn s x.entries
 
 -- none of the records has
-abbrev pub NoneMet : Sought → List Passed → Type 0
-NoneMet s xs = AllByRecursion (λ x. ¬ RecordMeets s x) xs
+abbrev pub NoneFound : Sought → List Passed → Type 0
+NoneFound s xs = AllByRecursion (λ x. ¬ RecordMeets s x) xs
 
 -- the record is the last of these that has one
-pub record IsLastMet (s : Sought) (xs : List Passed) (source : Source) : Type 0 where
+pub record IsLastFound (s : Sought) (xs : List Passed) (source : Source) : Type 0 where
   pub before : List Passed
   pub item : Passed
   pub behind : List Passed
   pub is : xs ≡ before ++ item ∷ behind
   pub has : RecordMeets s item
-  pub none : NoneMet s behind
+  pub none : NoneFound s behind
   pub source_is : source ≡ Write item.index item.batch item.at
 
 -- the first
-pub record IsFirstMet (s : Sought) (xs : List Passed) (source : Source) : Type 0 where
+pub record IsFirstFound (s : Sought) (xs : List Passed) (source : Source) : Type 0 where
   pub before : List Passed
   pub item : Passed
   pub behind : List Passed
   pub is : xs ≡ before ++ item ∷ behind
   pub has : RecordMeets s item
-  pub none : NoneMet s before
+  pub none : NoneFound s before
   pub source_is : source ≡ Write item.index item.batch item.at
 
 -- the record of an index alone, if it has one
-pub record IsMetAlone (s : Sought) (x : Passed) (source : Source) : Type 0 where
+pub record IsFoundAlone (s : Sought) (x : Passed) (source : Source) : Type 0 where
   pub has : RecordMeets s x
   pub source_is : source ≡ Write x.index x.batch x.at

@@ -1,4 +1,4 @@
--- Who left what an entry must see: the nearest earlier write of its row, or the last state that was taken over.
+-- Who left what an entry must see: the nearest earlier write of its row, or the last state that was transferred.
 -- docs/MODEL.md, "Visible version, chained".
 use Rattle.std.specs.Prelude.{◌≡◌, ℕ, ◌++◌, List, ◌∷◌, map, IsTrue, Option, None, Some, if◌then◌else◌, fold}
 use Rattle.std.specs.List.{AllByRecursion, flat_map, list_any}
@@ -10,7 +10,7 @@ use Rattle.eve_smallbank.specs.Chain.{Table, left_by, table_after}
 use Rattle.eve_grammar.specs.Trace.{Access, Attempt, Trace, Transfer}
 use Rattle.eve_grammar.specs.Spelling.{accesses_at}
 use Rattle.eve_history.specs.SectionHistory.{access_with}
-use Rattle.eve_chains.specs.Visible.{before_index, opening_table, taken_table}
+use Rattle.eve_chains.specs.Visible.{before_index, opening_table, transferred_table}
 use Rattle.eve_evidence.specs.declared.evidence.Source.{Source}
 use Rattle.eve_evidence.specs.declared.evidence.Source.TheVariants as source
 
@@ -66,7 +66,7 @@ IsLeftBy state row way (source.Write index batch at) =
 -- what the rows have in this state, or at the opening
 abbrev pub state_table : Trace → Option (ℕ × Transfer) → Table
 state_table t None = opening_table t
-state_table t (Some x) = taken_table x.1.rows
+state_table t (Some x) = transferred_table x.1.rows
 
 -- what the last of these entries that writes the row leaves in it, if one does
 abbrev pub last_left : ℕ → List Entry → Option Versioned

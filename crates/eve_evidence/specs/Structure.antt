@@ -89,7 +89,7 @@ IsRollbackFault t s r (rollback.NothingLeft n) =
 IsRollbackFault t s r (rollback.View n) =
     (n ≡ numbers r.view (s.view + 1)) × (r.to ≡ s.last) × (s.last < length t.batches) × (r.view ≢ s.view + 1)
 
--- ---- a state that is taken over
+-- ---- a state that is transferred
 
 -- the first thing that is wrong with it where the section has come to this
 abbrev pub IsTransferFault : Trace → SectionState → Transfer → TransferFault → Type 0

@@ -14,7 +14,7 @@ use Rattle.eve_evidence.specs.declared.evidence.ToldTransfer.{ToldTransfer}
 abbrev pub told_attempt : ℕ → Attempt → ToldAttempt
 told_attempt at a = record { batch = a.seq; view = a.view; serial = a.serial; at = at }
 
--- a state that was taken over, whose frame stands at this offset
+-- a state that was transferred, whose frame stands at this offset
 abbrev pub told_transfer : ℕ → Transfer → ToldTransfer
 told_transfer at x = record { batch = x.seq; view = x.view; at = at }
 

@@ -4,7 +4,7 @@ ghost use Rattle.std.specs.Prelude.{◌≡◌, ◌≢◌, ◌<◌, ◌≤◌, �
 ghost use Rattle.std.specs.Prelude.{slice_get, Some};
 ghost use Rattle.eve_grammar.specs.Certificate.{group_of, is_certificate};
 ghost use Rattle.eve_grammar.specs.declared.limits.TheConstants.{MOST_REQUESTS};
-ghost use Rattle.eve_frames.specs.Said.{attempt_said, batch_said};
+ghost use Rattle.eve_frames.specs.Decoded.{attempt_decoded, batch_decoded};
 ghost use Rattle.eve_history.specs.Section.{batch_at, request_count, is_right_certificate};
 ghost use Rattle.eve_evidence.specs.Certificate.{HasNot, IsFirstPlace, IsMissing, IsLeastMissing, IsRightPlace};
 ghost use Rattle.eve_evidence.specs.Certificate.{IsWrongPlace, IsCertificateFault};
@@ -15,10 +15,10 @@ use eve_views::Trace;
 
 /// The first of a certificate's first places at which the index stands, if it stands at one.
 fn place_before(attempt: &AttemptView<'_>, count: usize, index: u16) -> Option<u16>
-    requires few { length (attempt_said attempt.now).certificate ≤ MOST_REQUESTS }
-    requires there { count ≤ length (attempt_said attempt.now).certificate }
-    ensures first { IfSome result (IsFirstPlace (take count (attempt_said attempt.now).certificate) index) }
-    ensures none { IfNone result (HasNot (take count (attempt_said attempt.now).certificate) index) }
+    requires few { length (attempt_decoded attempt.now).certificate ≤ MOST_REQUESTS }
+    requires there { count ≤ length (attempt_decoded attempt.now).certificate }
+    ensures first { IfSome result (IsFirstPlace (take count (attempt_decoded attempt.now).certificate) index) }
+    ensures none { IfNone result (HasNot (take count (attempt_decoded attempt.now).certificate) index) }
 {
     for place in 0..count {
         if attempt.index_at(place) == index {
@@ -31,9 +31,9 @@ fn place_before(attempt: &AttemptView<'_>, count: usize, index: u16) -> Option<u
 /// The index with which the parallelBatch of this one begins: those below it are of earlier ones.
 fn group_start(batch: &BatchView<'_>, index: u16) -> u16
     ensures earlier { (m : ℕ) → m < result
-        → group_of (batch_said batch.now).1.sizes m < group_of (batch_said batch.now).1.sizes index }
+        → group_of (batch_decoded batch.now).1.sizes m < group_of (batch_decoded batch.now).1.sizes index }
     ensures later { (m : ℕ) → result ≤ m
-        → group_of (batch_said batch.now).1.sizes index ≤ group_of (batch_said batch.now).1.sizes m }
+        → group_of (batch_decoded batch.now).1.sizes index ≤ group_of (batch_decoded batch.now).1.sizes m }
 {
     let mut start: u16 = 0;
     for group in 0..batch.groups() {
@@ -54,12 +54,12 @@ fn missing_before(
     count: usize,
     index: u16,
 ) -> Option<u16>
-    requires few { length (attempt_said attempt.now).certificate ≤ MOST_REQUESTS }
-    requires there { count ≤ length (attempt_said attempt.now).certificate }
-    ensures least { IfSome result (IsLeastMissing (batch_said batch.now).1.sizes
-        (take count (attempt_said attempt.now).certificate) index) }
-    ensures none { IfNone result ((m : ℕ) → ¬ IsMissing (batch_said batch.now).1.sizes
-        (take count (attempt_said attempt.now).certificate) index m) }
+    requires few { length (attempt_decoded attempt.now).certificate ≤ MOST_REQUESTS }
+    requires there { count ≤ length (attempt_decoded attempt.now).certificate }
+    ensures least { IfSome result (IsLeastMissing (batch_decoded batch.now).1.sizes
+        (take count (attempt_decoded attempt.now).certificate) index) }
+    ensures none { IfNone result ((m : ℕ) → ¬ IsMissing (batch_decoded batch.now).1.sizes
+        (take count (attempt_decoded attempt.now).certificate) index m) }
 {
     for m in 0..group_start(batch, index) {
         match place_before(attempt, count, m) {
@@ -72,8 +72,8 @@ fn missing_before(
 
 /// Whether an index is not its place in the certificate of a serial attempt.
 fn is_out_of_order(attempt: &AttemptView<'_>, index: u16, place: u16) -> bool
-    ensures yes { IsTrue result → IsTrue (attempt_said attempt.now).serial × (index ≢ place) }
-    ensures no { IsFalse result → IsTrue (attempt_said attempt.now).serial → index ≡ place }
+    ensures yes { IsTrue result → IsTrue (attempt_decoded attempt.now).serial × (index ≢ place) }
+    ensures no { IsFalse result → IsTrue (attempt_decoded attempt.now).serial → index ≡ place }
 {
     if attempt.is_serial() {
         index != place
@@ -88,15 +88,15 @@ fn wrong_place(
     attempt: &AttemptView<'_>,
     place: usize,
 ) -> Option<CertificateFault>
-    requires few { length (attempt_said attempt.now).certificate ≤ MOST_REQUESTS }
-    requires there { place < length (attempt_said attempt.now).certificate }
+    requires few { length (attempt_decoded attempt.now).certificate ≤ MOST_REQUESTS }
+    requires there { place < length (attempt_decoded attempt.now).certificate }
     ensures wrong { IfSome result (λ w. (index : ℕ)
-        → slice_get (attempt_said attempt.now).certificate place ≡ Some index
-        → IsWrongPlace (batch_said batch.now).1.sizes (length (batch_said batch.now).1.requests)
-        (attempt_said attempt.now).serial (take place (attempt_said attempt.now).certificate) index w) }
-    ensures right { IfNone result ((index : ℕ) → slice_get (attempt_said attempt.now).certificate place ≡ Some index
-        → IsRightPlace (batch_said batch.now).1.sizes (length (batch_said batch.now).1.requests)
-        (attempt_said attempt.now).serial (take place (attempt_said attempt.now).certificate) index) }
+        → slice_get (attempt_decoded attempt.now).certificate place ≡ Some index
+        → IsWrongPlace (batch_decoded batch.now).1.sizes (length (batch_decoded batch.now).1.requests)
+        (attempt_decoded attempt.now).serial (take place (attempt_decoded attempt.now).certificate) index w) }
+    ensures right { IfNone result ((index : ℕ) → slice_get (attempt_decoded attempt.now).certificate place ≡ Some index
+        → IsRightPlace (batch_decoded batch.now).1.sizes (length (batch_decoded batch.now).1.requests)
+        (attempt_decoded attempt.now).serial (take place (attempt_decoded attempt.now).certificate) index) }
 {
     let index = attempt.index_at(place);
     let requests = batch.len();
@@ -130,14 +130,14 @@ fn wrong_place(
 
 /// The first place of an attempt's certificate that is wrong, and what is, beside its batch.
 fn fault_beside(batch: &BatchView<'_>, attempt: &AttemptView<'_>) -> Option<CertificateFault>
-    requires { length (attempt_said attempt.now).certificate ≤ MOST_REQUESTS }
-    ensures told { IfSome result (IsCertificateFault (batch_said batch.now).1.sizes
-        (length (batch_said batch.now).1.requests) (attempt_said attempt.now).serial
-        (attempt_said attempt.now).certificate) }
+    requires { length (attempt_decoded attempt.now).certificate ≤ MOST_REQUESTS }
+    ensures told { IfSome result (IsCertificateFault (batch_decoded batch.now).1.sizes
+        (length (batch_decoded batch.now).1.requests) (attempt_decoded attempt.now).serial
+        (attempt_decoded attempt.now).certificate) }
     ensures right { IfNone result
-        (length (attempt_said attempt.now).certificate ≡ length (batch_said batch.now).1.requests
-        → IsTrue (is_certificate (batch_said batch.now).1.sizes (length (batch_said batch.now).1.requests)
-        (attempt_said attempt.now).serial (attempt_said attempt.now).certificate)) }
+        (length (attempt_decoded attempt.now).certificate ≡ length (batch_decoded batch.now).1.requests
+        → IsTrue (is_certificate (batch_decoded batch.now).1.sizes (length (batch_decoded batch.now).1.requests)
+        (attempt_decoded attempt.now).serial (attempt_decoded attempt.now).certificate)) }
 {
     for place in 0..attempt.len() {
         let wrong = wrong_place(batch, attempt, place);
@@ -153,12 +153,12 @@ fn fault_beside(batch: &BatchView<'_>, attempt: &AttemptView<'_>) -> Option<Cert
 ///
 /// docs/MODEL.md, "Certificate order, keeps the groups".
 pub fn certificate_fault(trace: &Trace<'_>, attempt: &AttemptView<'_>) -> Option<CertificateFault>
-    ensures told { IfSome result (IsCertificateFault (batch_at trace.now (attempt_said attempt.now).seq).sizes
-        (request_count trace.now (attempt_said attempt.now)) (attempt_said attempt.now).serial
-        (attempt_said attempt.now).certificate) }
+    ensures told { IfSome result (IsCertificateFault (batch_at trace.now (attempt_decoded attempt.now).seq).sizes
+        (request_count trace.now (attempt_decoded attempt.now)) (attempt_decoded attempt.now).serial
+        (attempt_decoded attempt.now).certificate) }
     ensures right { IfNone result
-        (length (attempt_said attempt.now).certificate ≡ request_count trace.now (attempt_said attempt.now)
-        → IsTrue (is_right_certificate trace.now (attempt_said attempt.now))) }
+        (length (attempt_decoded attempt.now).certificate ≡ request_count trace.now (attempt_decoded attempt.now)
+        → IsTrue (is_right_certificate trace.now (attempt_decoded attempt.now))) }
 {
     let number = attempt.seq().max(1);
     if trace.batch_count() < number {

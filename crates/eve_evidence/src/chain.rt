@@ -5,7 +5,7 @@ ghost use Rattle.std.specs.List.{AllByRecursion};
 ghost use Rattle.eve_grammar.specs.Trace.{Attempt as AttemptValue};
 ghost use Rattle.eve_grammar.specs.Frames.{without_accesses};
 ghost use Rattle.eve_grammar.specs.Spelling.{accesses_at};
-ghost use Rattle.eve_frames.specs.Said.{access_said, attempt_said};
+ghost use Rattle.eve_frames.specs.Decoded.{access_decoded, attempt_decoded};
 ghost use Rattle.eve_history.specs.Section.{SectionState};
 ghost use Rattle.eve_chains.specs.Visible.{visible_to};
 ghost use Rattle.eve_chains.specs.Along.{SeesAnother};
@@ -45,13 +45,13 @@ pub fn wrong_entry<'a>(
 ) -> Option<WrongEntry<'a>>
     requires { (s : SectionState) × IsCourse s course.now }
     ensures told { IfSome result (λ w. (s : SectionState) (a : AttemptValue) → IsCourse s course.now
-        → attempt_said attempt.now ≡ without_accesses a → accesses.now ≡ accesses_at attempt.now.offset a
-        → IsFirstWrongEntry trace.now code s attempt.now.offset a (access_said access.now) w) }
+        → attempt_decoded attempt.now ≡ without_accesses a → accesses.now ≡ accesses_at attempt.now.offset a
+        → IsFirstWrongEntry trace.now code s attempt.now.offset a (access_decoded access.now) w) }
     ensures none { IfNone result ((s : SectionState) (a : AttemptValue) → IsCourse s course.now
-        → attempt_said attempt.now ≡ without_accesses a → accesses.now ≡ accesses_at attempt.now.offset a
+        → attempt_decoded attempt.now ≡ without_accesses a → accesses.now ≡ accesses_at attempt.now.offset a
         → AllByRecursion (λ y. ¬ SeesAnother code
-        (visible_to trace.now (placed_in s attempt.now.offset a) (access_said access.now).index y.row) y)
-        (access_said access.now).entries) }
+        (visible_to trace.now (placed_in s attempt.now.offset a) (access_decoded access.now).index y.row) y)
+        (access_decoded access.now).entries) }
 {
     let index = access.index();
     for i in 0..access.len() {

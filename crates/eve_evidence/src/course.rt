@@ -4,7 +4,7 @@ ghost use Rattle.std.specs.Prelude.{◌≡◌, ℕ, OnOk};
 ghost use Rattle.eve_grammar.specs.Trace.{Step as StepValue};
 ghost use Rattle.eve_views.specs.StepKinds.{IsStep};
 ghost use Rattle.eve_history.specs.Section.{SectionState, start, next};
-ghost use Rattle.eve_evidence.specs.Course.{IsCourse, state_number, state_said};
+ghost use Rattle.eve_evidence.specs.Course.{IsCourse, state_number, state_decoded};
 
 use eve_frames::{AttemptView, TransferView};
 use eve_views::{Accesses, Step};
@@ -28,8 +28,8 @@ pub struct Course<'t, 'a> {
     pub view: u32,
     /// Whether no attempt came since a rollback.
     pub rolled_back: bool,
-    /// The last state that was taken over. The path begins behind it.
-    pub taken: Option<TransferView<'a>>,
+    /// The last state that was transferred. The path begins behind it.
+    pub transferred: Option<TransferView<'a>>,
     /// How many of the attempts on the path are committed. The others are open.
     pub committed: usize,
     /// The attempts behind that state that no rollback discarded, in the order of their frames.
@@ -44,17 +44,17 @@ impl<'t, 'a> Course<'t, 'a> {
         Course {
             view: 0,
             rolled_back: false,
-            taken: None,
+            transferred: None,
             committed: 0,
             path: Vec::new(alloc),
         }
     }
 
-    /// The number of the last state that was taken over, or 0.
+    /// The number of the last state that was transferred, or 0.
     pub fn state_number(&self) -> u32
-        ensures { result ≡ state_number (state_said self.now.taken) }
+        ensures { result ≡ state_number (state_decoded self.now.transferred) }
     {
-        match self.taken {
+        match self.transferred {
             Some(state) => state.seq(),
             None => 0,
         }
@@ -85,7 +85,7 @@ impl<'t, 'a> Course<'t, 'a> {
                 self.committed = 0;
                 self.view = state.view();
                 self.rolled_back = false;
-                self.taken = Some(state);
+                self.transferred = Some(state);
             }
         }
         Ok(())

@@ -20,7 +20,7 @@ pub struct ToldAttempt {
     pub at: u64,
 }
 
-/// A state that was taken over, as its own frame says it.
+/// A state that was transferred, as its own frame says it.
 #[derive(Clone, Copy)]
 pub struct ToldTransfer {
     /// The number of its batch.
@@ -288,7 +288,7 @@ pub enum RollbackFault {
     View(Numbers),
 }
 
-/// The first thing that is wrong with a state that was taken over.
+/// The first thing that is wrong with a state that was transferred.
 #[derive(Clone, Copy)]
 pub enum TransferFault {
     /// Its number is not above the last one that was reached: due is above that.
@@ -340,7 +340,7 @@ pub enum Source {
     Opening,
     /// The nearest earlier write, by the request of this index and batch, whose Access frame begins at byte `at`.
     Write { index: u16, batch: u32, at: u64 },
-    /// No write came after the last state that was taken over, whose Transfer frame begins at byte `at`.
+    /// No write came after the last state that was transferred, whose Transfer frame begins at byte `at`.
     Transfer { at: u64 },
 }
 
@@ -359,12 +359,12 @@ pub enum SeenFrom {
         by: u64,
         restores: bool,
     },
-    /// That source, which was discarded when the state at byte `by` was taken over.
+    /// That source, which was discarded when the state at byte `by` was transferred.
     Discarded {
         source: Source,
         by: u64,
     },
-    /// That source, which stands before the last state that was taken over, at byte `state`.
+    /// That source, which stands before the last state that was transferred, at byte `state`.
     BeforeState {
         source: Source,
         state: u64,
@@ -480,7 +480,7 @@ pub enum VerifierChoice<'a> {
     NoVote,
 }
 
-/// Who voted for the commit of a batch whose state was taken over, where no token has a majority.
+/// Who voted for the commit of a batch whose state was transferred, where no token has a majority.
 #[derive(Clone, Copy)]
 pub struct TransferPoll<'a> {
     /// The number of the batch.
@@ -497,7 +497,7 @@ pub struct TransferPoll<'a> {
     pub votes: [VerifierChoice<'a>; VERIFIERS],
 }
 
-/// The first thing in which a state that was taken over differs from the one that was committed.
+/// The first thing in which a state that was transferred differs from the one that was committed.
 #[derive(Clone, Copy)]
 pub enum StateFault<'a> {
     /// No replica committed the batch by an attempt.
@@ -683,7 +683,7 @@ pub enum Evidence<'a> {
     },
     /// F72 and F73.
     Majority(Poll<'a>),
-    /// F74: who voted for the commit of the state taken over at byte `at`.
+    /// F74: who voted for the commit of the state transferred at byte `at`.
     TransferMajority {
         at: u64,
         poll: TransferPoll<'a>,
@@ -716,8 +716,8 @@ pub enum Evidence<'a> {
 pub struct ReplicaCounts {
     /// How many numbers it committed by an attempt.
     pub committed: u32,
-    /// How many states it took over: none in version 1.
-    pub taken_over: u32,
+    /// How many states it got by a transfer: none in version 1.
+    pub transferred: u32,
     /// How many attempts it discarded.
     pub discarded: u32,
     /// How many attempts are open at the end.
@@ -730,7 +730,7 @@ impl ReplicaCounts {
     /// What a replica did that did nothing.
     pub const NONE: ReplicaCounts = ReplicaCounts {
         committed: 0,
-        taken_over: 0,
+        transferred: 0,
         discarded: 0,
         open: 0,
         rollbacks: 0,

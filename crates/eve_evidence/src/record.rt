@@ -6,7 +6,7 @@ ghost use Rattle.eve_smallbank.specs.SmallBank.{plain};
 ghost use Rattle.eve_smallbank.specs.Access.{Executed, Fits};
 ghost use Rattle.eve_smallbank.specs.Decide.{effect_in};
 ghost use Rattle.eve_grammar.specs.Trace.{Trace as TraceValue};
-ghost use Rattle.eve_frames.specs.Said.{access_said};
+ghost use Rattle.eve_frames.specs.Decoded.{access_decoded};
 ghost use Rattle.eve_chains.specs.Records.{recorded};
 ghost use Rattle.eve_evidence.specs.Record.{IsRecordFault, IsDueRecord, touched_rows, rows_noted};
 
@@ -23,11 +23,11 @@ fn row_fault<'a>(
     access: &AccessView<'_>,
     rows: &UpToThree<(Row, Kind)>,
 ) -> Option<RecordFault<'a>>
-    requires { length (access_said access.now).entries ≡ length rows.now }
+    requires { length (access_decoded access.now).entries ≡ length rows.now }
     ensures told { IfSome result (λ w. (names : List (List ℕ)) (x : Executed)
-        → x.entries ≡ (access_said access.now).entries → touched_rows names x.request ≡ map (λ r. r.0) rows.now
+        → x.entries ≡ (access_decoded access.now).entries → touched_rows names x.request ≡ map (λ r. r.0) rows.now
         → IsRecordFault trace.now names x w) }
-    ensures same { IfNone result (rows_noted (access_said access.now).entries ≡ map (λ r. r.0) rows.now) }
+    ensures same { IfNone result (rows_noted (access_decoded access.now).entries ≡ map (λ r. r.0) rows.now) }
 {
     for i in 0..access.len() {
         let entry = access.entry(i);
@@ -47,11 +47,11 @@ fn row_fault<'a>(
 
 /// The first entry of another kind than is due, or that leaves another value, if one does.
 fn effect_fault<'a>(access: &AccessView<'_>, effects: &UpToThree<Effect>) -> Option<RecordFault<'a>>
-    requires { length (access_said access.now).entries ≡ length effects.now }
+    requires { length (access_decoded access.now).entries ≡ length effects.now }
     ensures told { IfSome result (λ w. (t : TraceValue) (names : List (List ℕ)) (x due : Executed)
-        → x.entries ≡ (access_said access.now).entries → IsDueRecord names x due
+        → x.entries ≡ (access_decoded access.now).entries → IsDueRecord names x due
         → map effect_in due.entries ≡ effects.now → IsRecordFault t names x w) }
-    ensures same { IfNone result (map effect_in (access_said access.now).entries ≡ effects.now) }
+    ensures same { IfNone result (map effect_in (access_decoded access.now).entries ≡ effects.now) }
 {
     for i in 0..access.len() {
         let entry = access.entry(i);
@@ -78,8 +78,8 @@ fn effect_fault<'a>(access: &AccessView<'_>, effects: &UpToThree<Effect>) -> Opt
 
 /// The values that the entries saw, first in an array.
 fn values_seen(access: &AccessView<'_>) -> [Cents; 3]
-    ensures { take (length (access_said access.now).entries) result ≡ map (λ e. e.seen)
-        (access_said access.now).entries }
+    ensures { take (length (access_decoded access.now).entries) result ≡ map (λ e. e.seen)
+        (access_decoded access.now).entries }
 {
     match access.len() {
         0 => [Cents::ZERO; 3],
@@ -112,9 +112,9 @@ pub fn record_fault<'a>(
     access: &AccessView<'_>,
 ) -> Option<RecordFault<'a>>
     ensures told { IfSome result (IsRecordFault trace.now names.now.items
-        (recorded (plain request.now) reply (access_said access.now).entries)) }
+        (recorded (plain request.now) reply (access_decoded access.now).entries)) }
     ensures fits { IfNone result (Fits names.now.items
-        (recorded (plain request.now) reply (access_said access.now).entries)) }
+        (recorded (plain request.now) reply (access_decoded access.now).entries)) }
 {
     let touched = touched(request, names);
     let rows = touched.rows();

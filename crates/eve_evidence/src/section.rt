@@ -12,7 +12,8 @@ ghost use Rattle.eve_grammar.specs.Trace.{Access as AccessValue, Attempt as Atte
 ghost use Rattle.eve_grammar.specs.Trace.{Attempts};
 ghost use Rattle.eve_grammar.specs.Frames.{without_accesses};
 ghost use Rattle.eve_grammar.specs.Spelling.{accesses_at, steps_at};
-ghost use Rattle.eve_frames.specs.Said.{access_said, attempt_said, commit_said, rollback_said, transfer_said};
+ghost use Rattle.eve_frames.specs.Decoded.{access_decoded, attempt_decoded, commit_decoded, rollback_decoded};
+ghost use Rattle.eve_frames.specs.Decoded.{transfer_decoded};
 ghost use Rattle.eve_views.specs.Form.{SomePlace};
 ghost use Rattle.eve_views.specs.StepKinds.{IsStep};
 ghost use Rattle.eve_history.specs.Section.{SectionState, start, state_after};
@@ -21,8 +22,8 @@ ghost use Rattle.eve_evidence.specs.Course.{IsCourse};
 ghost use Rattle.eve_evidence.specs.Section.{WrongAttempt, WrongCommit, WrongRollback, WrongTransfer};
 ghost use Rattle.eve_evidence.specs.Section.{StandsAlong, TellsAttempt, TellsAccess, TellsCommit};
 ghost use Rattle.eve_evidence.specs.Section.{TellsRollback, TellsTransfer, TellsAlong};
-ghost use Rattle.eve_evidence.specs.Places.{ToldAlong, NoneAlong, ToldAtStep, NoneAtStep, HasLook, TellsSeenWith};
-ghost use Rattle.eve_evidence.specs.Places.{TellsPlace, HasNonePlace, TellsRecord, HasNoneWrong};
+ghost use Rattle.eve_evidence.specs.inner.Places.{ToldAlong, NoneAlong, ToldAtStep, NoneAtStep, HasLook, TellsSeenWith};
+ghost use Rattle.eve_evidence.specs.inner.Places.{TellsPlace, HasNonePlace, TellsRecord, HasNoneWrong};
 
 use crate::certificate::certificate_fault;
 use crate::chain::wrong_entry;
@@ -48,9 +49,9 @@ fn at_attempt<'a>(
 ) -> Option<Evidence<'a>>
     requires { (s : SectionState) × IsCourse s course.now }
     ensures told { IfSome result (λ x. (s : SectionState) → IsCourse s course.now
-        → TellsAttempt code trace.now s attempt.now.offset (attempt_said attempt.now) x) }
+        → TellsAttempt code trace.now s attempt.now.offset (attempt_decoded attempt.now) x) }
     ensures none { IfNone result ((s : SectionState) → IsCourse s course.now
-        → ¬ WrongAttempt code trace.now s (attempt_said attempt.now)) }
+        → ¬ WrongAttempt code trace.now s (attempt_decoded attempt.now)) }
 {
     match code {
         Code::Attempt => match attempt_fault(trace, course, attempt) {
@@ -79,9 +80,9 @@ fn at_own_frame<'a>(
     requires { (s : SectionState) × IsCourse s course.now }
     ensures told { IfSome result (λ x. (s : SectionState) → IsCourse s course.now
         → (attempt.now.offset ≡ place)
-        × TellsAttempt code trace.now s attempt.now.offset (attempt_said attempt.now) x) }
+        × TellsAttempt code trace.now s attempt.now.offset (attempt_decoded attempt.now) x) }
     ensures none { IfNone result ((s : SectionState) → IsCourse s course.now → attempt.now.offset ≡ place
-        → ¬ WrongAttempt code trace.now s (attempt_said attempt.now)) }
+        → ¬ WrongAttempt code trace.now s (attempt_decoded attempt.now)) }
 {
     if attempt.offset() != place {
         return None;
@@ -143,7 +144,7 @@ fn chain_at<'a>(
     ensures told { IfSome result (TellsRecord code trace.now course.now attempt.now accesses.now i) }
     ensures none { IfNone result ((x : ℕ × AccessValue) → slice_get accesses.now i ≡ Some x
         → (s : SectionState) (a : AttemptValue) → IsCourse s course.now
-        → attempt_said attempt.now ≡ without_accesses a → accesses.now ≡ accesses_at attempt.now.offset a
+        → attempt_decoded attempt.now ≡ without_accesses a → accesses.now ≡ accesses_at attempt.now.offset a
         → ¬ SomePlace x.1.entries (λ _ y. SeesAnother code
         (visible_to trace.now (placed_in s attempt.now.offset a) x.1.index y.row) y)) }
 {
@@ -168,11 +169,12 @@ fn record_at<'a>(
     access: &AccessView<'a>,
 ) -> Option<Evidence<'a>>
     requires { names.now.items ≡ names_of trace.now }
-    ensures told { IfSome result (λ e. (a : AttemptValue) → attempt_said attempt.now ≡ without_accesses a
+    ensures told { IfSome result (λ e. (a : AttemptValue) → attempt_decoded attempt.now ≡ without_accesses a
         → (s : SectionState) (own : List (ℕ × AccessValue))
-        → TellsAccess code.Record trace.now s attempt.now.offset a own (access.now.offset, access_said access.now) e) }
+        → TellsAccess code.Record trace.now s attempt.now.offset a own (access.now.offset, access_decoded access.now)
+        e) }
     ensures none { IfNone result (Fits (names_of trace.now)
-        (executed_by trace.now (attempt_said attempt.now) (access_said access.now))) }
+        (executed_by trace.now (attempt_decoded attempt.now) (access_decoded access.now))) }
 {
     let index = access.index();
     let request = told_request(trace, attempt.seq(), index);
@@ -282,9 +284,9 @@ fn at_commit<'a>(
 ) -> Option<Evidence<'a>>
     requires { (s : SectionState) × IsCourse s course.now }
     ensures told { IfSome result (λ x. (s : SectionState) → IsCourse s course.now
-        → TellsCommit code s (commit_said commit.now) x) }
+        → TellsCommit code s (commit_decoded commit.now) x) }
     ensures none { IfNone result ((s : SectionState) → IsCourse s course.now
-        → ¬ WrongCommit code s (commit_said commit.now)) }
+        → ¬ WrongCommit code s (commit_decoded commit.now)) }
 {
     match code {
         Code::Commit => match commit_fault(course, commit) {
@@ -304,9 +306,9 @@ fn at_rollback<'a>(
 ) -> Option<Evidence<'a>>
     requires { (s : SectionState) × IsCourse s course.now }
     ensures told { IfSome result (λ x. (s : SectionState) → IsCourse s course.now
-        → TellsRollback code trace.now s (rollback_said rollback.now) x) }
+        → TellsRollback code trace.now s (rollback_decoded rollback.now) x) }
     ensures none { IfNone result ((s : SectionState) → IsCourse s course.now
-        → ¬ WrongRollback code trace.now s (rollback_said rollback.now)) }
+        → ¬ WrongRollback code trace.now s (rollback_decoded rollback.now)) }
 {
     match code {
         Code::Rollback => match rollback_fault(trace, course, rollback) {
@@ -317,7 +319,7 @@ fn at_rollback<'a>(
     }
 }
 
-/// What shows a fault at a state that is taken over, if there is one of this code.
+/// What shows a fault at a state that is transferred, if there is one of this code.
 fn at_transfer<'a>(
     trace: &Trace<'a>,
     course: &Course<'_, 'a>,
@@ -326,9 +328,9 @@ fn at_transfer<'a>(
 ) -> Option<Evidence<'a>>
     requires { (s : SectionState) × IsCourse s course.now }
     ensures told { IfSome result (λ x. (s : SectionState) → IsCourse s course.now
-        → TellsTransfer code trace.now s state.now.offset (transfer_said state.now) x) }
+        → TellsTransfer code trace.now s state.now.offset (transfer_decoded state.now) x) }
     ensures none { IfNone result ((s : SectionState) → IsCourse s course.now
-        → ¬ WrongTransfer code trace.now s (transfer_said state.now)) }
+        → ¬ WrongTransfer code trace.now s (transfer_decoded state.now)) }
 {
     match code {
         Code::Transfer => match transfer_fault(trace, course, state) {
@@ -354,11 +356,11 @@ fn seen_in<'a>(
 ) -> Option<SeenFrom>
     requires there { e < length trace.now.sections }
     requires look { HasLook trace.now e course.now own.now accesses.now }
-    ensures { (front behind : List (ℕ × StepValue)) (a : AttemptValue)
-        → steps_at trace.now e ≡ front ++ (own.now.offset, Attempts a) ∷ behind
-        → IsCourse (state_after start front) course.now → attempt_said own.now ≡ without_accesses a
+    ensures { (prefix behind : List (ℕ × StepValue)) (a : AttemptValue)
+        → steps_at trace.now e ≡ prefix ++ (own.now.offset, Attempts a) ∷ behind
+        → IsCourse (state_after start prefix) course.now → attempt_decoded own.now ≡ without_accesses a
         → accesses.now ≡ accesses_at own.now.offset a
-        → TellsSeenWith trace.now front (own.now.offset, Attempts a) behind evidence.now result }
+        → TellsSeenWith trace.now prefix (own.now.offset, Attempts a) behind evidence.now result }
 {
     match evidence {
         Evidence::Chain { request, wrong, .. } => {
@@ -388,11 +390,13 @@ fn seen_at<'a>(
     evidence: &Evidence<'a>,
 ) -> Option<SeenFrom>
     requires there { e < length trace.now.sections }
-    requires look { (front : List (ℕ × StepValue)) × (is : ℕ × StepValue) × (behind : List (ℕ × StepValue))
-        × (steps_at trace.now e ≡ front ++ is ∷ behind) × IsStep step.now is × IsCourse (state_after start front) course.now }
-    ensures { (front : List (ℕ × StepValue)) (is : ℕ × StepValue) (behind : List (ℕ × StepValue))
-        → steps_at trace.now e ≡ front ++ is ∷ behind → IsStep step.now is → IsCourse (state_after start front) course.now
-        → TellsSeenWith trace.now front is behind evidence.now result }
+    requires look { (prefix : List (ℕ × StepValue)) × (is : ℕ × StepValue) × (behind : List (ℕ × StepValue))
+        × (steps_at trace.now e ≡ prefix ++ is ∷ behind) × IsStep step.now is
+        × IsCourse (state_after start prefix) course.now }
+    ensures { (prefix : List (ℕ × StepValue)) (is : ℕ × StepValue) (behind : List (ℕ × StepValue))
+        → steps_at trace.now e ≡ prefix ++ is ∷ behind → IsStep step.now is
+        → IsCourse (state_after start prefix) course.now
+        → TellsSeenWith trace.now prefix is behind evidence.now result }
 {
     match step {
         Step::Attempt(own, accesses) => seen_in(trace, e, course, own, accesses, evidence),

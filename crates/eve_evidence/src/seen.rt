@@ -5,7 +5,7 @@ ghost use Rattle.eve_grammar.specs.declared.limits.TheConstants.{MOST_VERSIONS};
 ghost use Rattle.eve_grammar.specs.Trace.{Attempt as AttemptValue, Step as StepValue, Attempts};
 ghost use Rattle.eve_grammar.specs.Frames.{without_accesses};
 ghost use Rattle.eve_grammar.specs.Spelling.{accesses_at, steps_at};
-ghost use Rattle.eve_frames.specs.Said.{attempt_said};
+ghost use Rattle.eve_frames.specs.Decoded.{attempt_decoded};
 ghost use Rattle.eve_history.specs.Section.{SectionState, start, state_after};
 ghost use Rattle.eve_chains.specs.Visible.{before_index};
 ghost use Rattle.eve_evidence.specs.Course.{IsCourse};
@@ -14,8 +14,8 @@ ghost use Rattle.eve_evidence.specs.Seen.{look, IsSeenBy, IsSeenFrom, NoneNear};
 
 use crate::course::Course;
 use crate::evidence::{SeenFrom, Source};
-use crate::front::{Since, first_among, front_of};
-use crate::sought::{Sought, first_met, is_same, last_met, last_met_on_path};
+use crate::prefix::{Since, first_among, prefix_of};
+use crate::sought::{Sought, first_found, is_same, last_found_in, last_found_on_path};
 use crate::sources::{left_at_first, place_of};
 use eve_accounts::Row;
 use eve_frames::AttemptView;
@@ -30,9 +30,10 @@ pub fn seen_by(
     entry: &Entry,
 ) -> Option<Source>
     requires { entry.now.version ≤ MOST_VERSIONS }
-    ensures { (a : AttemptValue) → attempt_said attempt.now ≡ without_accesses a
+    ensures { (a : AttemptValue) → attempt_decoded attempt.now ≡ without_accesses a
         → accesses.now ≡ accesses_at attempt.now.offset a
-        → IsSeenBy (passed a.seq (accesses_at attempt.now.offset a) (before_index index a.certificate)) entry.now result }
+        → IsSeenBy (passed a.seq (accesses_at attempt.now.offset a) (before_index index a.certificate)) entry.now
+        result }
 {
     if !entry.kind.is_write() {
         return None;
@@ -42,7 +43,7 @@ pub fn seen_by(
         value: entry.after,
     };
     let places = place_of(attempt, index);
-    first_met(attempt, accesses, 0, places, &Sought::Seen(entry.row, left))
+    first_found(attempt, accesses, 0, places, &Sought::Seen(entry.row, left))
 }
 
 /// Where what an entry of the record with this index saw in a row comes from, on its way or behind it in its attempt.
@@ -56,21 +57,21 @@ fn near(
     saw: &Versioned,
 ) -> Option<SeenFrom>
     requires { (s : SectionState) × IsCourse s course.now }
-    ensures seen { IfSome result (λ x. (front behind : List (ℕ × StepValue)) (a : AttemptValue)
-        → IsCourse (state_after start front) course.now → attempt_said attempt.now ≡ without_accesses a
+    ensures seen { IfSome result (λ x. (prefix behind : List (ℕ × StepValue)) (a : AttemptValue)
+        → IsCourse (state_after start prefix) course.now → attempt_decoded attempt.now ≡ without_accesses a
         → accesses.now ≡ accesses_at attempt.now.offset a
-        → IsSeenFrom trace.now (look front behind attempt.now.offset a index row saw.now) x) }
-    ensures none { IfNone result ((front behind : List (ℕ × StepValue)) (a : AttemptValue)
-        → IsCourse (state_after start front) course.now → attempt_said attempt.now ≡ without_accesses a
+        → IsSeenFrom trace.now (look prefix behind attempt.now.offset a index row saw.now) x) }
+    ensures none { IfNone result ((prefix behind : List (ℕ × StepValue)) (a : AttemptValue)
+        → IsCourse (state_after start prefix) course.now → attempt_decoded attempt.now ≡ without_accesses a
         → accesses.now ≡ accesses_at attempt.now.offset a
-        → NoneNear trace.now (look front behind attempt.now.offset a index row saw.now)) }
+        → NoneNear trace.now (look prefix behind attempt.now.offset a index row saw.now)) }
 {
     let sought = Sought::Left(row, *saw);
     let place = place_of(attempt, index);
-    if let Some(source) = last_met(attempt, accesses, place, &sought) {
+    if let Some(source) = last_found_in(attempt, accesses, place, &sought) {
         return Some(SeenFrom::Overwritten(source));
     }
-    if let Some(source) = last_met_on_path(course, &sought) {
+    if let Some(source) = last_found_on_path(course, &sought) {
         return Some(SeenFrom::Overwritten(source));
     }
     let first = left_at_first(trace, course, row);
@@ -84,7 +85,7 @@ fn near(
     if count <= place {
         return None;
     }
-    let Some(source) = first_met(attempt, accesses, place + 1, count, &sought) else {
+    let Some(source) = first_found(attempt, accesses, place + 1, count, &sought) else {
         return None;
     };
     Some(SeenFrom::BehindIt(source))
@@ -94,20 +95,20 @@ fn near(
 /// attempt, whose frame begins at byte `at`.
 fn elsewhere(trace: &Trace<'_>, e: u8, at: u64, row: Row, saw: &Versioned) -> SeenFrom
     requires there { e < length trace.now.sections }
-    requires look { (front : List (ℕ × StepValue)) × (behind : List (ℕ × StepValue)) × (a : AttemptValue) × (index : ℕ)
-        × (steps_at trace.now e ≡ front ++ (at, Attempts a) ∷ behind)
-        × NoneNear trace.now (look front behind at a index row saw.now) }
-    ensures { (front behind : List (ℕ × StepValue)) (a : AttemptValue) (index : ℕ)
-        → steps_at trace.now e ≡ front ++ (at, Attempts a) ∷ behind
-        → NoneNear trace.now (look front behind at a index row saw.now)
-        → IsSeenFrom trace.now (look front behind at a index row saw.now) result }
+    requires look { (prefix : List (ℕ × StepValue)) × (behind : List (ℕ × StepValue)) × (a : AttemptValue) × (index : ℕ)
+        × (steps_at trace.now e ≡ prefix ++ (at, Attempts a) ∷ behind)
+        × NoneNear trace.now (look prefix behind at a index row saw.now) }
+    ensures { (prefix behind : List (ℕ × StepValue)) (a : AttemptValue) (index : ℕ)
+        → steps_at trace.now e ≡ prefix ++ (at, Attempts a) ∷ behind
+        → NoneNear trace.now (look prefix behind at a index row saw.now)
+        → IsSeenFrom trace.now (look prefix behind at a index row saw.now) result }
 {
     let mut steps = trace.section(e);
-    let front = front_of(trace, &mut steps, e, at, row, saw);
-    if let Some(at) = front.restored {
+    let prefix = prefix_of(trace, &mut steps, e, at, row, saw);
+    if let Some(at) = prefix.restored {
         return SeenFrom::Restored(at);
     }
-    let Some(last) = front.last else {
+    let Some(last) = prefix.last else {
         let Some(source) = first_among(&mut steps, row, saw) else {
             return SeenFrom::Nobody;
         };
@@ -123,7 +124,7 @@ fn elsewhere(trace: &Trace<'_>, e: u8, at: u64, row: Row, saw: &Versioned) -> Se
             source: last.source,
             by,
         },
-        Since::Settled => match front.base {
+        Since::Settled => match prefix.base {
             Some(state) => SeenFrom::BeforeState {
                 source: last.source,
                 state,
@@ -150,15 +151,15 @@ pub fn seen_from(
     saw: &Versioned,
 ) -> SeenFrom
     requires there { e < length trace.now.sections }
-    requires look { (front : List (ℕ × StepValue)) × (behind : List (ℕ × StepValue)) × (a : AttemptValue)
-        × (steps_at trace.now e ≡ front ++ (attempt.now.offset, Attempts a) ∷ behind)
-        × IsCourse (state_after start front) course.now × (attempt_said attempt.now ≡ without_accesses a)
+    requires look { (prefix : List (ℕ × StepValue)) × (behind : List (ℕ × StepValue)) × (a : AttemptValue)
+        × (steps_at trace.now e ≡ prefix ++ (attempt.now.offset, Attempts a) ∷ behind)
+        × IsCourse (state_after start prefix) course.now × (attempt_decoded attempt.now ≡ without_accesses a)
         × (accesses.now ≡ accesses_at attempt.now.offset a) }
-    ensures { (front behind : List (ℕ × StepValue)) (a : AttemptValue)
-        → steps_at trace.now e ≡ front ++ (attempt.now.offset, Attempts a) ∷ behind
-        → IsCourse (state_after start front) course.now → attempt_said attempt.now ≡ without_accesses a
+    ensures { (prefix behind : List (ℕ × StepValue)) (a : AttemptValue)
+        → steps_at trace.now e ≡ prefix ++ (attempt.now.offset, Attempts a) ∷ behind
+        → IsCourse (state_after start prefix) course.now → attempt_decoded attempt.now ≡ without_accesses a
         → accesses.now ≡ accesses_at attempt.now.offset a
-        → IsSeenFrom trace.now (look front behind attempt.now.offset a index row saw.now) result }
+        → IsSeenFrom trace.now (look prefix behind attempt.now.offset a index row saw.now) result }
 {
     match near(trace, course, attempt, accesses, index, row, saw) {
         Some(seen) => seen,

@@ -3,11 +3,12 @@
 ghost use Rattle.std.specs.Prelude.{◌≡◌, ◌≤◌, ◌↔◌, IfSome, IfNone, IsTrue, IsFalse, length, take, drop, map};
 ghost use Rattle.std.specs.List.{AllByRecursion, flat_map};
 ghost use Rattle.eve_grammar.specs.declared.limits.TheConstants.{MOST_VERSIONS};
-ghost use Rattle.eve_frames.specs.Said.{access_said, attempt_said};
+ghost use Rattle.eve_frames.specs.Decoded.{access_decoded, attempt_decoded};
 ghost use Rattle.eve_history.specs.SectionHistory.{access_with};
 ghost use Rattle.eve_evidence.specs.Course.{IsOnPath, placed_on};
 ghost use Rattle.eve_evidence.specs.Sources.{passed, passed_by, passed_in};
-ghost use Rattle.eve_evidence.specs.Sought.{Meets, MeetsIn, RecordMeets, NoneMet, IsMetAlone, IsFirstMet, IsLastMet};
+ghost use Rattle.eve_evidence.specs.Sought.{Meets, MeetsIn, RecordMeets, NoneFound, IsFoundAlone, IsFirstFound};
+ghost use Rattle.eve_evidence.specs.Sought.{IsLastFound};
 
 use crate::course::{Course, OnPath};
 use crate::evidence::Source;
@@ -57,8 +58,8 @@ fn meets(entry: &Entry, sought: &Sought) -> bool
 /// Whether a record has one of those entries.
 #[tactic(auto, using(crate::proofs::Versions::small_version))]
 fn has_met(access: &AccessView<'_>, sought: &Sought) -> bool
-    ensures yes { IsTrue result → MeetsIn sought.now (access_said access.now).entries }
-    ensures no { IsFalse result → ¬ MeetsIn sought.now (access_said access.now).entries }
+    ensures yes { IsTrue result → MeetsIn sought.now (access_decoded access.now).entries }
+    ensures no { IsFalse result → ¬ MeetsIn sought.now (access_decoded access.now).entries }
 {
     for i in 0..access.len() {
         if meets(&access.entry(i), sought) {
@@ -69,7 +70,7 @@ fn has_met(access: &AccessView<'_>, sought: &Sought) -> bool
 }
 
 /// Whether a record of an attempt may have one: no says that none does.
-fn may_have_met(accesses: &Accesses<'_, '_>, sought: &Sought) -> bool
+fn may_have_found(accesses: &Accesses<'_, '_>, sought: &Sought) -> bool
     ensures { IsFalse result → AllByRecursion (λ x. ¬ MeetsIn sought.now x.1.entries) accesses.now }
 {
     for i in 0..accesses.len() {
@@ -81,15 +82,15 @@ fn may_have_met(accesses: &Accesses<'_, '_>, sought: &Sought) -> bool
 }
 
 /// The record with this index of an attempt, if it has one.
-fn met_alone(
+fn found_alone(
     attempt: &AttemptView<'_>,
     accesses: &Accesses<'_, '_>,
     index: u16,
     sought: &Sought,
 ) -> Option<Source>
-    ensures met { IfSome result (IsMetAlone sought.now (passed_by (attempt_said attempt.now).seq
+    ensures met { IfSome result (IsFoundAlone sought.now (passed_by (attempt_decoded attempt.now).seq
         (access_with accesses.now index))) }
-    ensures none { IfNone result (¬ RecordMeets sought.now (passed_by (attempt_said attempt.now).seq
+    ensures none { IfNone result (¬ RecordMeets sought.now (passed_by (attempt_decoded attempt.now).seq
         (access_with accesses.now index))) }
 {
     let Some(access) = record_of(accesses, index) else {
@@ -106,24 +107,24 @@ fn met_alone(
 }
 
 /// The last record that has one, of those at the first places of an attempt's certificate.
-pub fn last_met(
+pub fn last_found_in(
     attempt: &AttemptView<'_>,
     accesses: &Accesses<'_, '_>,
     places: usize,
     sought: &Sought,
 ) -> Option<Source>
-    requires { places ≤ length (attempt_said attempt.now).certificate }
-    ensures last { IfSome result (IsLastMet sought.now (passed (attempt_said attempt.now).seq accesses.now
-        (take places (attempt_said attempt.now).certificate))) }
-    ensures none { IfNone result (NoneMet sought.now (passed (attempt_said attempt.now).seq accesses.now
-        (take places (attempt_said attempt.now).certificate))) }
+    requires { places ≤ length (attempt_decoded attempt.now).certificate }
+    ensures last { IfSome result (IsLastFound sought.now (passed (attempt_decoded attempt.now).seq accesses.now
+        (take places (attempt_decoded attempt.now).certificate))) }
+    ensures none { IfNone result (NoneFound sought.now (passed (attempt_decoded attempt.now).seq accesses.now
+        (take places (attempt_decoded attempt.now).certificate))) }
 {
-    if !may_have_met(accesses, sought) {
+    if !may_have_found(accesses, sought) {
         return None;
     }
     for back in 0..places {
         let index = attempt.index_at(places - 1 - back);
-        let found = met_alone(attempt, accesses, index, sought);
+        let found = found_alone(attempt, accesses, index, sought);
         if found.is_some() {
             return found;
         }
@@ -132,7 +133,7 @@ pub fn last_met(
 }
 
 /// The first record that has one, of those at these places of an attempt's certificate.
-pub fn first_met(
+pub fn first_found(
     attempt: &AttemptView<'_>,
     accesses: &Accesses<'_, '_>,
     from: usize,
@@ -140,18 +141,18 @@ pub fn first_met(
     sought: &Sought,
 ) -> Option<Source>
     requires from { from ≤ to }
-    requires to { to ≤ length (attempt_said attempt.now).certificate }
-    ensures first { IfSome result (IsFirstMet sought.now (passed (attempt_said attempt.now).seq accesses.now
-        (drop from (take to (attempt_said attempt.now).certificate)))) }
-    ensures none { IfNone result (NoneMet sought.now (passed (attempt_said attempt.now).seq accesses.now
-        (drop from (take to (attempt_said attempt.now).certificate)))) }
+    requires to { to ≤ length (attempt_decoded attempt.now).certificate }
+    ensures first { IfSome result (IsFirstFound sought.now (passed (attempt_decoded attempt.now).seq accesses.now
+        (drop from (take to (attempt_decoded attempt.now).certificate)))) }
+    ensures none { IfNone result (NoneFound sought.now (passed (attempt_decoded attempt.now).seq accesses.now
+        (drop from (take to (attempt_decoded attempt.now).certificate)))) }
 {
-    if !may_have_met(accesses, sought) {
+    if !may_have_found(accesses, sought) {
         return None;
     }
     for place in from..to {
         let index = attempt.index_at(place);
-        let found = met_alone(attempt, accesses, index, sought);
+        let found = found_alone(attempt, accesses, index, sought);
         if found.is_some() {
             return found;
         }
@@ -160,23 +161,23 @@ pub fn first_met(
 }
 
 /// The last record of an attempt that has one.
-fn last_of_met(on: &OnPath<'_, '_>, sought: &Sought) -> Option<Source>
+fn last_of_found(on: &OnPath<'_, '_>, sought: &Sought) -> Option<Source>
     requires { IsOnPath on.now }
-    ensures last { IfSome result (IsLastMet sought.now (passed_in (placed_on on.now))) }
-    ensures none { IfNone result (NoneMet sought.now (passed_in (placed_on on.now))) }
+    ensures last { IfSome result (IsLastFound sought.now (passed_in (placed_on on.now))) }
+    ensures none { IfNone result (NoneFound sought.now (passed_in (placed_on on.now))) }
 {
-    last_met(&on.attempt, &on.accesses, on.attempt.len(), sought)
+    last_found_in(&on.attempt, &on.accesses, on.attempt.len(), sought)
 }
 
 /// The last record that has one, of those of the attempts that no rollback discarded.
-pub fn last_met_on_path(course: &Course<'_, '_>, sought: &Sought) -> Option<Source>
+pub fn last_found_on_path(course: &Course<'_, '_>, sought: &Sought) -> Option<Source>
     requires { AllByRecursion IsOnPath course.now.path.items }
-    ensures last { IfSome result (IsLastMet sought.now (flat_map passed_in (map placed_on course.now.path.items))) }
-    ensures none { IfNone result (NoneMet sought.now (flat_map passed_in (map placed_on course.now.path.items))) }
+    ensures last { IfSome result (IsLastFound sought.now (flat_map passed_in (map placed_on course.now.path.items))) }
+    ensures none { IfNone result (NoneFound sought.now (flat_map passed_in (map placed_on course.now.path.items))) }
 {
     let count = course.path.len();
     for back in 0..count {
-        let found = last_of_met(&course.path[count - 1 - back], sought);
+        let found = last_of_found(&course.path[count - 1 - back], sought);
         if found.is_some() {
             return found;
         }

@@ -1,4 +1,4 @@
-//! Who left what an entry must see: the nearest earlier write of its row, or the last state that was taken over.
+//! Who left what an entry must see: the nearest earlier write of its row, or the last state that was transferred.
 
 ghost use Rattle.std.specs.Prelude.{◌≡◌, ◌≤◌, IfSome, IfNone, IsFalse, List, Some, length, take, map, if◌then◌else◌};
 ghost use Rattle.std.specs.List.{AllByRecursion, flat_map, list_any};
@@ -8,16 +8,16 @@ ghost use Rattle.eve_grammar.specs.Spelling.{accesses_at};
 ghost use Rattle.eve_smallbank.specs.Access.{writes_row};
 ghost use Rattle.eve_smallbank.specs.Chain.{left_by};
 ghost use Rattle.eve_grammar.specs.declared.limits.TheConstants.{MOST_VERSIONS};
-ghost use Rattle.eve_frames.specs.Said.{access_said, attempt_said, transfer_said};
+ghost use Rattle.eve_frames.specs.Decoded.{access_decoded, attempt_decoded, transfer_decoded};
 ghost use Rattle.eve_history.specs.Section.{SectionState};
 ghost use Rattle.eve_history.specs.SectionHistory.{access_with, no_access};
-ghost use Rattle.eve_chains.specs.Visible.{opening_of, before_index, taken_table, visible_to};
-ghost use Rattle.eve_evidence.specs.Course.{IsCourse, IsOnPath, last_state, placed_on, standing, state_said};
+ghost use Rattle.eve_chains.specs.Visible.{opening_of, before_index, transferred_table, visible_to};
+ghost use Rattle.eve_evidence.specs.Course.{IsCourse, IsOnPath, last_state, placed_on, standing, state_decoded};
 ghost use Rattle.eve_evidence.specs.Told.{placed_in};
 ghost use Rattle.eve_evidence.specs.Sources.{passed, passed_by, passed_in, way_to};
 ghost use Rattle.eve_evidence.specs.Sources.{last_left, IsWriter, NoneWrites, IsLeftBy};
 ghost use Rattle.eve_evidence.specs.Sources.{Passed, state_table};
-ghost use Rattle.eve_evidence.specs.Lasts.{IsLast, IsLeftAlone};
+ghost use Rattle.eve_evidence.specs.inner.Lasts.{IsLast, IsLeftAlone};
 
 use crate::course::{Course, OnPath};
 use crate::evidence::Source;
@@ -31,7 +31,7 @@ use eve_views::{Accesses, Trace};
 pub struct Left {
     /// Its version and its value.
     pub has: Versioned,
-    /// The nearest earlier write, or where none came the state that was taken over, or the opening.
+    /// The nearest earlier write, or where none came the state that was transferred, or the opening.
     pub by: Source,
 }
 
@@ -53,7 +53,7 @@ fn left_after(left: Option<Versioned>, entry: &Entry, row: Row) -> Option<Versio
 /// What the last entry of a record that writes the row leaves in it, if one does.
 #[tactic(auto, using(crate::proofs::Versions::small_version))]
 fn left_by_record(access: &AccessView<'_>, row: Row) -> Option<Versioned>
-    ensures { result ≡ last_left row (access_said access.now).entries }
+    ensures { result ≡ last_left row (access_decoded access.now).entries }
 {
     let mut left = None;
     for i in 0..access.len() {
@@ -64,7 +64,7 @@ fn left_by_record(access: &AccessView<'_>, row: Row) -> Option<Versioned>
 
 /// The first record with this index.
 pub fn record_of<'a>(accesses: &Accesses<'_, 'a>, index: u16) -> Option<AccessView<'a>>
-    ensures found { IfSome result (λ x. access_with accesses.now index ≡ (x.offset, access_said x)) }
+    ensures found { IfSome result (λ x. access_with accesses.now index ≡ (x.offset, access_decoded x)) }
     ensures none { IfNone result (access_with accesses.now index ≡ no_access) }
 {
     for i in 0..accesses.len() {
@@ -95,11 +95,11 @@ fn last_at(
     places: usize,
     row: Row,
 ) -> Option<Left>
-    requires { places ≤ length (attempt_said attempt.now).certificate }
-    ensures last { IfSome result (IsLast row (passed (attempt_said attempt.now).seq accesses.now
-        (take places (attempt_said attempt.now).certificate))) }
-    ensures none { IfNone result (NoneWrites row (passed (attempt_said attempt.now).seq accesses.now
-        (take places (attempt_said attempt.now).certificate))) }
+    requires { places ≤ length (attempt_decoded attempt.now).certificate }
+    ensures last { IfSome result (IsLast row (passed (attempt_decoded attempt.now).seq accesses.now
+        (take places (attempt_decoded attempt.now).certificate))) }
+    ensures none { IfNone result (NoneWrites row (passed (attempt_decoded attempt.now).seq accesses.now
+        (take places (attempt_decoded attempt.now).certificate))) }
 {
     for back in 0..places {
         let index = attempt.index_at(places - 1 - back);
@@ -118,9 +118,9 @@ fn left_at(
     index: u16,
     row: Row,
 ) -> Option<Left>
-    ensures written { IfSome result (IsLeftAlone row (passed_by (attempt_said attempt.now).seq
+    ensures written { IfSome result (IsLeftAlone row (passed_by (attempt_decoded attempt.now).seq
         (access_with accesses.now index))) }
-    ensures none { IfNone result (¬ IsWriter row (passed_by (attempt_said attempt.now).seq
+    ensures none { IfNone result (¬ IsWriter row (passed_by (attempt_decoded attempt.now).seq
         (access_with accesses.now index))) }
 {
     let Some(access) = record_of(accesses, index) else {
@@ -169,9 +169,9 @@ fn last_of(on: &OnPath<'_, '_>, row: Row) -> Option<Left>
 
 /// The first place of an index in an attempt's certificate, or how many places there are.
 pub fn place_of(attempt: &AttemptView<'_>, index: u16) -> usize
-    ensures within { result ≤ length (attempt_said attempt.now).certificate }
-    ensures before { take result (attempt_said attempt.now).certificate
-        ≡ before_index index (attempt_said attempt.now).certificate }
+    ensures within { result ≤ length (attempt_decoded attempt.now).certificate }
+    ensures before { take result (attempt_decoded attempt.now).certificate
+        ≡ before_index index (attempt_decoded attempt.now).certificate }
 {
     for place in 0..attempt.len() {
         if attempt.index_at(place) == index {
@@ -198,7 +198,7 @@ pub fn opening_value(trace: &Trace<'_>, row: Row) -> Cents
 
 /// What a row has in a state.
 pub fn row_in(state: &TransferView<'_>, row: Row) -> Versioned
-    ensures { result ≡ taken_table (transfer_said state.now).rows row }
+    ensures { result ≡ transferred_table (transfer_decoded state.now).rows row }
 {
     let number = row.number() as usize;
     if number < state.len() {
@@ -210,12 +210,13 @@ pub fn row_in(state: &TransferView<'_>, row: Row) -> Versioned
     }
 }
 
-/// What a row has where the path begins, and who left it: the last state that was taken over, or the opening.
+/// What a row has where the path begins, and who left it: the last state that was transferred, or the opening.
 pub fn left_at_first(trace: &Trace<'_>, course: &Course<'_, '_>, row: Row) -> Left
-    ensures by { (way : List Passed) → NoneWrites row way → IsLeftBy (state_said course.now.taken) row way result.by }
-    ensures has { result.has ≡ state_table trace.now (state_said course.now.taken) row }
+    ensures by { (way : List Passed) → NoneWrites row way
+        → IsLeftBy (state_decoded course.now.transferred) row way result.by }
+    ensures has { result.has ≡ state_table trace.now (state_decoded course.now.transferred) row }
 {
-    match course.taken {
+    match course.transferred {
         Some(state) => Left {
             has: row_in(&state, row),
             by: Source::Transfer { at: state.offset() },
@@ -233,7 +234,7 @@ pub fn left_at_first(trace: &Trace<'_>, course: &Course<'_, '_>, row: Row) -> Le
 /// What the request with this index of an attempt must see in a row, and who left it.
 ///
 /// docs/MODEL.md, "Visible version, chained". It goes back over the records until it finds the write, and no further
-/// than to the last state that was taken over.
+/// than to the last state that was transferred.
 pub fn left_to(
     trace: &Trace<'_>,
     course: &Course<'_, '_>,
@@ -244,10 +245,10 @@ pub fn left_to(
 ) -> Left
     requires { (s : SectionState) × IsCourse s course.now }
     ensures by { (s : SectionState) (a : AttemptValue) → IsCourse s course.now
-        → attempt_said attempt.now ≡ without_accesses a → accesses.now ≡ accesses_at attempt.now.offset a
-        → IsLeftBy (last_state s.landings) row (way_to (standing s) attempt.now.offset a index) result.by }
+        → attempt_decoded attempt.now ≡ without_accesses a → accesses.now ≡ accesses_at attempt.now.offset a
+        → IsLeftBy (last_state s.each_reached) row (way_to (standing s) attempt.now.offset a index) result.by }
     ensures has { (s : SectionState) (a : AttemptValue) → IsCourse s course.now
-        → attempt_said attempt.now ≡ without_accesses a → accesses.now ≡ accesses_at attempt.now.offset a
+        → attempt_decoded attempt.now ≡ without_accesses a → accesses.now ≡ accesses_at attempt.now.offset a
         → result.has ≡ visible_to trace.now (placed_in s attempt.now.offset a) index row }
 {
     if let Some(left) = last_at(attempt, accesses, place_of(attempt, index), row) {

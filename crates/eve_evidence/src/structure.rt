@@ -2,7 +2,7 @@
 
 ghost use Rattle.std.specs.Prelude.{◌≡◌, ◌≢◌, ◌<◌, ◌≤◌, ◌+◌, ℕ, IfSome, IfNone, IsTrue, length, take, slice_get, Some};
 ghost use Rattle.std.specs.List.{AllByRecursion};
-ghost use Rattle.eve_frames.specs.Said.{attempt_said, commit_said, rollback_said, transfer_said};
+ghost use Rattle.eve_frames.specs.Decoded.{attempt_decoded, commit_decoded, rollback_decoded, transfer_decoded};
 ghost use Rattle.eve_history.specs.Section.{SectionState, request_count};
 ghost use Rattle.eve_history.specs.Section.{worker_count, is_right_attempt, is_right_access};
 ghost use Rattle.eve_history.specs.Section.{is_right_commit, is_right_rollback, is_right_transfer};
@@ -61,9 +61,9 @@ pub fn attempt_fault(
 ) -> Option<AttemptFault>
     requires { (s : SectionState) × IsCourse s course.now }
     ensures told { IfSome result (λ x. (s : SectionState) → IsCourse s course.now
-        → IsAttemptFault trace.now s (attempt_said attempt.now) x) }
+        → IsAttemptFault trace.now s (attempt_decoded attempt.now) x) }
     ensures right { IfNone result ((s : SectionState) → IsCourse s course.now
-        → IsTrue (is_right_attempt trace.now s (attempt_said attempt.now))) }
+        → IsTrue (is_right_attempt trace.now s (attempt_decoded attempt.now))) }
 {
     let seq = attempt.seq();
     let found = u64::from(seq);
@@ -88,13 +88,13 @@ fn content_fault(
     course: &Course<'_, '_>,
     attempt: &AttemptView<'_>,
 ) -> Option<AttemptFault>
-    requires { (s : SectionState) × IsCourse s course.now × IsNumbered trace.now s (attempt_said attempt.now) }
+    requires { (s : SectionState) × IsCourse s course.now × IsNumbered trace.now s (attempt_decoded attempt.now) }
     ensures told { IfSome result (λ x. (s : SectionState) → IsCourse s course.now
-        → IsNumbered trace.now s (attempt_said attempt.now)
-        → IsAttemptFault trace.now s (attempt_said attempt.now) x) }
+        → IsNumbered trace.now s (attempt_decoded attempt.now)
+        → IsAttemptFault trace.now s (attempt_decoded attempt.now) x) }
     ensures right { IfNone result ((s : SectionState) → IsCourse s course.now
-        → IsNumbered trace.now s (attempt_said attempt.now)
-        → IsTrue (is_right_attempt trace.now s (attempt_said attempt.now))) }
+        → IsNumbered trace.now s (attempt_decoded attempt.now)
+        → IsTrue (is_right_attempt trace.now s (attempt_decoded attempt.now))) }
 {
     let view = attempt.view();
     if view != course.view {
@@ -119,9 +119,9 @@ fn content_fault(
 pub fn commit_fault<'a>(course: &Course<'_, 'a>, commit: &CommitView<'a>) -> Option<CommitFault<'a>>
     requires { (s : SectionState) × IsCourse s course.now }
     ensures told { IfSome result (λ x. (s : SectionState) → IsCourse s course.now
-        → IsCommitFault s.last s.pending (commit_said commit.now) x) }
+        → IsCommitFault s.last s.pending (commit_decoded commit.now) x) }
     ensures right { IfNone result ((s : SectionState) → IsCourse s course.now
-        → IsTrue (is_right_commit s (commit_said commit.now))) }
+        → IsTrue (is_right_commit s (commit_decoded commit.now))) }
 {
     let seq = u64::from(commit.seq());
     let next = commit_number(course);
@@ -151,9 +151,9 @@ pub fn rollback_fault(
 ) -> Option<RollbackFault>
     requires { (s : SectionState) × IsCourse s course.now }
     ensures told { IfSome result (λ x. (s : SectionState) → IsCourse s course.now
-        → IsRollbackFault trace.now s (rollback_said rollback.now) x) }
+        → IsRollbackFault trace.now s (rollback_decoded rollback.now) x) }
     ensures right { IfNone result ((s : SectionState) → IsCourse s course.now
-        → IsTrue (is_right_rollback trace.now s (rollback_said rollback.now))) }
+        → IsTrue (is_right_rollback trace.now s (rollback_decoded rollback.now))) }
 {
     let to = u64::from(rollback.to());
     let last = last_number(course);
@@ -172,7 +172,7 @@ pub fn rollback_fault(
     None
 }
 
-/// The first thing that is wrong with a state that is taken over where its section has come to.
+/// The first thing that is wrong with a state that is transferred where its section has come to.
 pub fn transfer_fault(
     trace: &Trace<'_>,
     course: &Course<'_, '_>,
@@ -180,9 +180,9 @@ pub fn transfer_fault(
 ) -> Option<TransferFault>
     requires { (s : SectionState) × IsCourse s course.now }
     ensures told { IfSome result (λ x. (s : SectionState) → IsCourse s course.now
-        → IsTransferFault trace.now s (transfer_said state.now) x) }
+        → IsTransferFault trace.now s (transfer_decoded state.now) x) }
     ensures right { IfNone result ((s : SectionState) → IsCourse s course.now
-        → IsTrue (is_right_transfer trace.now s (transfer_said state.now))) }
+        → IsTrue (is_right_transfer trace.now s (transfer_decoded state.now))) }
 {
     let seq = u64::from(state.seq());
     let last = last_number(course);
@@ -203,7 +203,7 @@ pub fn transfer_fault(
 
 /// How many requests the batch of an attempt has; none where there is no such batch.
 fn request_count(trace: &Trace<'_>, attempt: &AttemptView<'_>) -> usize
-    ensures { result ≡ request_count trace.now (attempt_said attempt.now) }
+    ensures { result ≡ request_count trace.now (attempt_decoded attempt.now) }
 {
     let number = attempt.seq().max(1);
     if number <= trace.batch_count() {
@@ -215,7 +215,7 @@ fn request_count(trace: &Trace<'_>, attempt: &AttemptView<'_>) -> usize
 
 /// How many workers an attempt may have.
 fn worker_count(trace: &Trace<'_>, attempt: &AttemptView<'_>) -> u8
-    ensures { result ≡ worker_count trace.now (attempt_said attempt.now) }
+    ensures { result ≡ worker_count trace.now (attempt_decoded attempt.now) }
 {
     if attempt.is_serial() {
         1
@@ -249,9 +249,9 @@ pub fn access_fault(
 ) -> Option<AccessFault>
     requires { i < length accesses.now }
     ensures told { IfSome result (λ w. (x : ℕ × AccessValue) → slice_get accesses.now i ≡ Some x
-        → IsAccessFault trace.now (attempt_said attempt.now) (take i accesses.now) x.1 w) }
+        → IsAccessFault trace.now (attempt_decoded attempt.now) (take i accesses.now) x.1 w) }
     ensures right { IfNone result ((x : ℕ × AccessValue) → slice_get accesses.now i ≡ Some x
-        → IsTrue (is_right_access trace.now (attempt_said attempt.now) (accesses_of (take i accesses.now)) x.1)) }
+        → IsTrue (is_right_access trace.now (attempt_decoded attempt.now) (accesses_of (take i accesses.now)) x.1)) }
 {
     let access = accesses.get(i);
     let (worker, workers) = (access.worker(), worker_count(trace, attempt));

@@ -4,7 +4,7 @@ ghost use Rattle.std.specs.Prelude.{◌≡◌, ◌≢◌, ◌<◌, IsTrue, IsFal
 ghost use Rattle.eve_smallbank.specs.declared.request.Reply.TheVariants.{Done};
 ghost use Rattle.eve_grammar.specs.Trace.{no_request, request_id};
 ghost use Rattle.eve_grammar.specs.Bodies.{borrowed_asked};
-ghost use Rattle.eve_frames.specs.Said.{attempt_said, batch_said, transfer_said};
+ghost use Rattle.eve_frames.specs.Decoded.{attempt_decoded, batch_decoded, transfer_decoded};
 ghost use Rattle.eve_evidence.specs.Told.{told_attempt, told_transfer, request_in, IsToldRequest, IsToldRow};
 
 use crate::evidence::{ToldAttempt, ToldRequest, ToldRow, ToldTransfer};
@@ -16,7 +16,7 @@ use eve_views::Trace;
 
 /// An attempt, by its own frame.
 pub fn told_attempt(attempt: &AttemptView<'_>) -> ToldAttempt
-    ensures { result ≡ told_attempt attempt.now.offset (attempt_said attempt.now) }
+    ensures { result ≡ told_attempt attempt.now.offset (attempt_decoded attempt.now) }
 {
     ToldAttempt {
         batch: attempt.seq(),
@@ -26,9 +26,9 @@ pub fn told_attempt(attempt: &AttemptView<'_>) -> ToldAttempt
     }
 }
 
-/// A state that was taken over, by its own frame.
+/// A state that was transferred, by its own frame.
 pub fn told_transfer(state: &TransferView<'_>) -> ToldTransfer
-    ensures { result ≡ told_transfer state.now.offset (transfer_said state.now) }
+    ensures { result ≡ told_transfer state.now.offset (transfer_decoded state.now) }
 {
     ToldTransfer {
         batch: state.seq(),
@@ -39,8 +39,8 @@ pub fn told_transfer(state: &TransferView<'_>) -> ToldTransfer
 
 /// The request with this index of a batch.
 fn asked_at<'a>(batch: &BatchView<'a>, index: usize) -> Asked<'a>
-    requires { index < length (batch_said batch.now).1.requests }
-    ensures { slice_get (batch_said batch.now).1.requests index ≡ Some (borrowed_asked result) }
+    requires { index < length (batch_decoded batch.now).1.requests }
+    ensures { slice_get (batch_decoded batch.now).1.requests index ≡ Some (borrowed_asked result) }
 {
     match batch.requests().nth(index) {
         Some(asked) => asked,
@@ -95,7 +95,7 @@ pub fn told_request<'a>(trace: &Trace<'a>, seq: u32, index: u16) -> ToldRequest<
 
 /// The reply that an attempt has for the request of an index, or `Done` where it has none.
 pub fn reply_of(attempt: &AttemptView<'_>, index: u16) -> Reply
-    ensures { result ≡ slice_index_or (attempt_said attempt.now).replies index Done }
+    ensures { result ≡ slice_index_or (attempt_decoded attempt.now).replies index Done }
 {
     if (index as usize) < attempt.len() {
         attempt.reply(index as usize)

@@ -9,9 +9,9 @@ use Rattle.eve_grammar.specs.Frames.{batches_of}
 use Rattle.eve_grammar.specs.Spelling.{customer_text, batch_text, batches_start, customers_at, batches_at}
 use Rattle.eve_grammar.specs.Limits.{is_batch, HasLimits}
 use Rattle.eve_grammar.specs.declared.limits.TheConstants.{MOST_REQUESTS}
-use Rattle.eve_grammar.proofs.Grouping.{all_at}
+use Rattle.eve_grammar.proofs.GroupOrder.{all_at}
 use Rattle.eve_grammar.proofs.Numbered.{numbered_get}
-use Rattle.eve_views.proofs.Locating.{length-located, located_get}
+use Rattle.eve_views.proofs.FrameOffsets.{length-located, located_get}
 
 pub customer_count : (t : Trace) → length (customers_at t) ≡ length t.customers
 unfolding customers_at

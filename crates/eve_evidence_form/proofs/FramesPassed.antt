@@ -9,32 +9,32 @@ use Rattle.std.proofs.lemmas.List.Concat.{flat_map-append}
 use Rattle.eve_grammar.specs.Frames.{Frame, kind_of, start_place, next_place}
 use Rattle.eve_grammar.specs.Spelling.{frame_text, frames_text}
 use Rattle.eve_grammar.specs.Limits.{FitsAt}
-use Rattle.eve_grammar.specs.Following.{Follow, after}
-use Rattle.eve_grammar.specs.Reading.{header_of}
+use Rattle.eve_grammar.specs.FrameOrder.{Follow, after}
+use Rattle.eve_grammar.specs.Readers.{header_of}
 use Rattle.eve_grammar.specs.declared.head.Head.{Head}
 use Rattle.eve_grammar.specs.declared.place.Place.{Place}
 use Rattle.eve_grammar.proofs.FrameLaws.{Exact-header}
-use Rattle.eve_views.specs.Form.{IsReached, SaysHead, said_by}
+use Rattle.eve_views.specs.Form.{IsReached, SaysHead, decoded_by}
 use Rattle.eve_views.proofs.FrameLaws.{length-frame_text}
-use Rattle.eve_views.specs.Places.{accesses_in}
+use Rattle.eve_views.specs.inner.Places.{accesses_in}
 use Rattle.eve_evidence_form.specs.Records.{TellsRecords, records_after}
-use Rattle.eve_evidence_form.specs.Walk.{BeginsWith}
+use Rattle.eve_evidence_form.specs.inner.Walk.{BeginsWith}
 use Rattle.eve_evidence_form.specs.declared.walk.PlaceReached.{PlaceReached}
-use Rattle.eve_evidence_form.proofs.Headers.{said_by_text}
+use Rattle.eve_evidence_form.proofs.Headers.{decoded_by_text}
 use Rattle.eve_evidence_form.proofs.Records.{few_found, no_records, told_after}
 
 -- what a header says is read
-pub head_again : (bytes : List ℕ) (h : Head) → SaysHead bytes h → header_of (said_by bytes) ≡ Some h
-head_again bytes h s = ap header_of (s.said ∙ said_by_text h) ∙ Exact-header.again h s.limits
+pub head_again : (bytes : List ℕ) (h : Head) → SaysHead bytes h → header_of (decoded_by bytes) ≡ Some h
+head_again bytes h s = ap header_of (s.decoded ∙ decoded_by_text h) ∙ Exact-header.again h s.limits
 
 -- the frames up to the byte `next` have been gone over
 pub record IsPassed (bytes : List ℕ) (at : ℕ) (r : IsReached bytes at) (next : ℕ) (so_far : PlaceReached) : Type 0 where
-  pub front : List Frame
+  pub prefix : List Frame
   pub rest : List Frame
-  pub is : r.front ≡ front ++ rest
-  pub next_at : next ≡ 32 + length (frames_text front)
-  pub place_is : so_far.place ≡ after start_place front
-  pub records_are : TellsRecords front so_far.records
+  pub is : r.prefix ≡ prefix ++ rest
+  pub next_at : next ≡ 32 + length (frames_text prefix)
+  pub place_is : so_far.place ≡ after start_place prefix
+  pub records_are : TellsRecords prefix so_far.records
 
 -- how far a frame more comes, which begins at the byte `next`
 pub record IsFurther (next : ℕ) (so_far : PlaceReached) (f : Frame) (further : PlaceReached) : Type 0 where
@@ -54,8 +54,8 @@ pub record IsNext (bytes : List ℕ) (at : ℕ) (r : IsReached bytes at) (next :
 pub none_passed : (bytes : List ℕ) (at : ℕ) (r : IsReached bytes at) (so_far : PlaceReached)
     → so_far.place ≡ start_place → so_far.records ≡ None → IsPassed bytes at r 32 so_far
 none_passed bytes at r so_far place records = record {
-  front = [];
-  rest = r.front;
+  prefix = [];
+  rest = r.prefix;
   is = refl;
   next_at = refl;
   place_is = place;
@@ -65,13 +65,13 @@ none_passed bytes at r so_far place records = record {
 -- where the byte itself was reached, all have been
 pub all_passed : (bytes : List ℕ) (at : ℕ) (r : IsReached bytes at) (next : ℕ) (so_far : PlaceReached)
     → IsPassed bytes at r next so_far → at ≤ next
-    → (so_far.place ≡ after start_place r.front) × TellsRecords r.front so_far.records
+    → (so_far.place ≡ after start_place r.prefix) × TellsRecords r.prefix so_far.records
 all_passed bytes at r next so_far passed le = by passed.rest passed.is
   where
-    by : (rest : List Frame) → r.front ≡ passed.front ++ rest
-        → (so_far.place ≡ after start_place r.front) × TellsRecords r.front so_far.records
+    by : (rest : List Frame) → r.prefix ≡ passed.prefix ++ rest
+        → (so_far.place ≡ after start_place r.prefix) × TellsRecords r.prefix so_far.records
     by [] e =
-        let whole : passed.front ≡ r.front = sym (append-nil passed.front) ∙ sym e in (
+        let whole : passed.prefix ≡ r.prefix = sym (append-nil passed.prefix) ∙ sym e in (
           passed.place_is ∙ ap (after start_place) whole,
           subst (λ (fs : List Frame). TellsRecords fs so_far.records) whole passed.records_are,
         )
@@ -80,52 +80,52 @@ all_passed bytes at r next so_far passed le = by passed.rest passed.is
       r.at_is,
       passed.next_at,
       le,
-      ap (λ (fs : List Frame). length (frames_text fs)) e ∙ ap length (flat_map-append frame_text passed.front
+      ap (λ (fs : List Frame). length (frames_text fs)) e ∙ ap length (flat_map-append frame_text passed.prefix
           (f ∷ more)),
-      length-append (frames_text passed.front) (frames_text (f ∷ more)),
+      length-append (frames_text passed.prefix) (frames_text (f ∷ more)),
       length-append (frame_text f) (frames_text more),
       length-frame_text f,
     ))
 
-fits_there : (h : Head) (p : Place) (front : List Frame) (f : Frame) (more : List Frame) → Follow h p (front
+fits_there : (h : Head) (p : Place) (prefix : List Frame) (f : Frame) (more : List Frame) → Follow h p (prefix
     ++ f ∷ more)
-    → FitsAt h (after p front) f
+    → FitsAt h (after p prefix) f
 fits_there h p [] f more follow = follow.0
-fits_there h p (g ∷ front) f more follow = fits_there h (next_place p g) front f more follow.1
+fits_there h p (g ∷ prefix) f more follow = fits_there h (next_place p g) prefix f more follow.1
 
-after_one : (p : Place) (front : List Frame) (f : Frame) → after p (front ++ f ∷ []) ≡ next_place (after p front) f
+after_one : (p : Place) (prefix : List Frame) (f : Frame) → after p (prefix ++ f ∷ []) ≡ next_place (after p prefix) f
 after_one p [] f = refl
-after_one p (g ∷ front) f = after_one (next_place p g) front f
+after_one p (g ∷ prefix) f = after_one (next_place p g) prefix f
 
 module _ (bytes : List ℕ) (at : ℕ) (r : IsReached bytes at) (next : ℕ) (so_far : PlaceReached)
     (passed : IsPassed bytes at r next so_far)
-    (f : Frame) (more : List Frame) (e : r.front ≡ passed.front ++ f ∷ more) where
-  texts : frames_text r.front ≡ frames_text passed.front ++ (frame_text f ++ frames_text more)
-  texts = ap frames_text e ∙ flat_map-append frame_text passed.front (f ∷ more)
+    (f : Frame) (more : List Frame) (e : r.prefix ≡ passed.prefix ++ f ∷ more) where
+  texts : frames_text r.prefix ≡ frames_text passed.prefix ++ (frame_text f ++ frames_text more)
+  texts = ap frames_text e ∙ flat_map-append frame_text passed.prefix (f ∷ more)
 
-  sizes : length (frames_text r.front) ≡ length (frames_text passed.front)
+  sizes : length (frames_text r.prefix) ≡ length (frames_text passed.prefix)
       + (length (frame_text f) + length (frames_text more))
   sizes = omega (
     arith,
     ap length texts,
-    length-append (frames_text passed.front) (frame_text f ++ frames_text more),
+    length-append (frames_text passed.prefix) (frame_text f ++ frames_text more),
     length-append (frame_text f) (frames_text more),
   )
 
-  whole : bytes ≡ (take 32 bytes ++ frames_text passed.front) ++ (frame_text f ++ (frames_text more ++ drop at bytes))
+  whole : bytes ≡ (take 32 bytes ++ frames_text passed.prefix) ++ (frame_text f ++ (frames_text more ++ drop at bytes))
   whole = sym (take-append-drop at bytes) ∙ ap (λ (b : List ℕ). b ++ drop at bytes) (r.before ∙ ap (λ (b : List ℕ).
-      take 32 bytes ++ b) texts ∙ sym (append_assoc (take 32 bytes) (frames_text passed.front)
+      take 32 bytes ++ b) texts ∙ sym (append_assoc (take 32 bytes) (frames_text passed.prefix)
       (frame_text f ++ frames_text more)))
-      ∙ append_assoc (take 32 bytes ++ frames_text passed.front) (frame_text f ++ frames_text more) (drop at bytes)
-      ∙ ap (λ (b : List ℕ). (take 32 bytes ++ frames_text passed.front) ++ b)
+      ∙ append_assoc (take 32 bytes ++ frames_text passed.prefix) (frame_text f ++ frames_text more) (drop at bytes)
+      ∙ ap (λ (b : List ℕ). (take 32 bytes ++ frames_text passed.prefix) ++ b)
       (append_assoc (frame_text f) (frames_text more) (drop at bytes))
 
   there : drop next bytes ≡ frame_text f ++ (frames_text more ++ drop at bytes)
-  there = ap (drop next) whole ∙ drop_at (take 32 bytes ++ frames_text passed.front)
+  there = ap (drop next) whole ∙ drop_at (take 32 bytes ++ frames_text passed.prefix)
       (frame_text f ++ (frames_text more ++ drop at bytes)) next
       (omega (
         arith,
-        length-append (take 32 bytes) (frames_text passed.front),
+        length-append (take 32 bytes) (frames_text passed.prefix),
         length-take 32 bytes,
         r.at_is,
         r.within,
@@ -134,7 +134,7 @@ module _ (bytes : List ℕ) (at : ℕ) (r : IsReached bytes at) (next : ℕ) (so
 
   fits : FitsAt r.head so_far.place f
   fits = subst (λ (p : Place). FitsAt r.head p f) (sym passed.place_is)
-      (fits_there r.head start_place passed.front f more (subst (Follow r.head start_place) e r.right))
+      (fits_there r.head start_place passed.prefix f more (subst (Follow r.head start_place) e r.right))
 
   next_one : IsNext bytes at r next so_far
   next_one = record {
@@ -149,22 +149,22 @@ module _ (bytes : List ℕ) (at : ℕ) (r : IsReached bytes at) (next : ℕ) (so
     };
     fits = fits;
     passed = λ further one. record {
-      front = passed.front ++ f ∷ [];
+      prefix = passed.prefix ++ f ∷ [];
       rest = more;
-      is = e ∙ sym (append_assoc passed.front (f ∷ []) more);
+      is = e ∙ sym (append_assoc passed.prefix (f ∷ []) more);
       next_at = omega (
         arith,
         passed.next_at,
-        ap length (flat_map-append frame_text passed.front (f ∷ [])),
-        length-append (frames_text passed.front) (frames_text (f ∷ [])),
+        ap length (flat_map-append frame_text passed.prefix (f ∷ [])),
+        length-append (frames_text passed.prefix) (frames_text (f ∷ [])),
         ap length (append-nil (frame_text f)),
       );
       place_is = one.place_is ∙ ap (λ (p : Place). next_place p f) passed.place_is
-          ∙ sym (after_one start_place passed.front f);
-      records_are = subst (TellsRecords (passed.front ++ f ∷ [])) (sym one.records_are)
-          (told_after passed.front f so_far.records next passed.next_at passed.records_are);
+          ∙ sym (after_one start_place passed.prefix f);
+      records_are = subst (TellsRecords (passed.prefix ++ f ∷ [])) (sym one.records_are)
+          (told_after passed.prefix f so_far.records next passed.next_at passed.records_are);
     };
-    few = few_found passed.front so_far.records next passed.next_at passed.records_are;
+    few = few_found passed.prefix so_far.records next passed.next_at passed.records_are;
     within = omega (arith, sizes, r.at_is, passed.next_at);
   }
 
@@ -173,13 +173,13 @@ pub next_frame : (bytes : List ℕ) (at : ℕ) (r : IsReached bytes at) (next : 
     → IsPassed bytes at r next so_far → next < at → IsNext bytes at r next so_far
 next_frame bytes at r next so_far passed lt = by passed.rest passed.is
   where
-    by : (rest : List Frame) → r.front ≡ passed.front ++ rest → IsNext bytes at r next so_far
+    by : (rest : List Frame) → r.prefix ≡ passed.prefix ++ rest → IsNext bytes at r next so_far
     by [] e = absurd (omega (
       arith,
       r.at_is,
       passed.next_at,
       lt,
-      ap (λ (fs : List Frame). length (frames_text fs)) (e ∙ append-nil passed.front),
+      ap (λ (fs : List Frame). length (frames_text fs)) (e ∙ append-nil passed.prefix),
     ))
     by (f ∷ more) e = next_one bytes at r next so_far passed f more e
 

@@ -14,9 +14,9 @@ use Rattle.eve_grammar.proofs.Codec.{IsBytes, IsBytes-drop, IsBytes-take}
 use Rattle.eve_grammar.proofs.FrameLaws.{limits_text}
 use Rattle.eve_grammar.proofs.HeaderParts.{header_parts, length-limits_text, behind_magic}
 use Rattle.eve_grammar.proofs.HeadLimits.{head_from_limits}
-use Rattle.eve_views.specs.Form.{said_by, SaysHead}
+use Rattle.eve_views.specs.Form.{decoded_by, SaysHead}
 use Rattle.eve_views.proofs.Bytes.{number_back}
-use Rattle.eve_evidence_form.specs.Header.{said, head_numbers, LiesWithin}
+use Rattle.eve_evidence_form.specs.Header.{decoded, head_numbers, LiesWithin}
 
 -- ---- bytes spell the numbers that they are
 
@@ -31,26 +31,26 @@ two_back bytes fits long =
     (IsBytes-take 2 bytes fits) (omega arith)
 
 -- a number, and the bytes behind it
-chunk : (n m at : ℕ) (bytes front behind : List ℕ) → front ≡ take n (drop at bytes)
-    → behind ≡ take m (drop (at + n) bytes) → front ++ behind ≡ take (n + m) (drop at bytes)
-chunk n m at bytes front behind e f =
+chunk : (n m at : ℕ) (bytes prefix behind : List ℕ) → prefix ≡ take n (drop at bytes)
+    → behind ≡ take m (drop (at + n) bytes) → prefix ++ behind ≡ take (n + m) (drop at bytes)
+chunk n m at bytes prefix behind e f =
     (λ i. e i ++ f i) ∙ ap (λ (ys : List ℕ). take n (drop at bytes) ++ take m ys) (sym (drop-drop n at bytes))
     ∙ sym (take-add n m (drop at bytes))
 
 one_at : (at m : ℕ) (bytes behind : List ℕ) → IsBytes bytes → at < length bytes → behind ≡ take m (drop (at + 1) bytes)
-    → big_bytes 1 (said 1 at bytes) ++ behind ≡ take (1 + m) (drop at bytes)
+    → big_bytes 1 (decoded 1 at bytes) ++ behind ≡ take (1 + m) (drop at bytes)
 one_at at m bytes behind fits long e =
-    chunk 1 m at bytes (big_bytes 1 (said 1 at bytes)) behind
+    chunk 1 m at bytes (big_bytes 1 (decoded 1 at bytes)) behind
     (one_back (drop at bytes) (IsBytes-drop at bytes fits) (omega (arith, length-drop at bytes))) e
 
-zero_at : (at m : ℕ) (bytes behind : List ℕ) → IsBytes bytes → at < length bytes → said 1 at bytes ≤ 0
+zero_at : (at m : ℕ) (bytes behind : List ℕ) → IsBytes bytes → at < length bytes → decoded 1 at bytes ≤ 0
     → behind ≡ take m (drop (at + 1) bytes) → big_bytes 1 0 ++ behind ≡ take (1 + m) (drop at bytes)
 zero_at at m bytes behind fits long zero e =
-    let none : 0 ≡ said 1 at bytes = omega arith in
+    let none : 0 ≡ decoded 1 at bytes = omega arith in
     ap (λ (n : ℕ). big_bytes 1 n ++ behind) none ∙ one_at at m bytes behind fits long e
 
 four_at : (at : ℕ) (bytes : List ℕ) → IsBytes bytes → at + 4 ≤ length bytes
-    → big_bytes 4 (said 4 at bytes) ≡ take 4 (drop at bytes)
+    → big_bytes 4 (decoded 4 at bytes) ≡ take 4 (drop at bytes)
 four_at at bytes fits long = number_back (drop at bytes) (IsBytes-drop at bytes fits) (omega
     (arith, length-drop at bytes))
 
@@ -59,14 +59,14 @@ four_at at bytes fits long = number_back (drop at bytes) (IsBytes-drop at bytes 
 -- what a header says
 abbrev pub head_in : List ℕ → Head
 head_in bytes = record {
-  version = said 2 6 bytes;
-  replicas = said 1 8 bytes;
-  verifiers = said 1 9 bytes;
-  quorum = said 1 10 bytes;
-  window = said 1 11 bytes;
-  workers = said 1 12 bytes;
-  customers = said 4 16 bytes;
-  batches = said 4 20 bytes;
+  version = decoded 2 6 bytes;
+  replicas = decoded 1 8 bytes;
+  verifiers = decoded 1 9 bytes;
+  quorum = decoded 1 10 bytes;
+  window = decoded 1 11 bytes;
+  workers = decoded 1 12 bytes;
+  customers = decoded 4 16 bytes;
+  batches = decoded 4 20 bytes;
 }
 
 is_right : (bytes : List ℕ) → AllByRecursion LiesWithin (head_numbers bytes) → IsTrue (is_head (head_in bytes))
@@ -109,7 +109,7 @@ is_right bytes (
       some_verifiers = verifiers.0;
       few_verifiers = verifiers.1;
       quorum = quorum.1;
-      majority = (let above : said 1 9 bytes / 2 + 1 ≤ said 1 10 bytes = quorum.0 in omega arith);
+      majority = (let above : decoded 1 9 bytes / 2 + 1 ≤ decoded 1 10 bytes = quorum.0 in omega arith);
       some_window = window.0;
       few_window = window.1;
       some_workers = workers.0;
@@ -119,9 +119,9 @@ is_right bytes (
       few_batches = batches.1;
     })
 
-limits_said : (bytes : List ℕ) → IsBytes bytes → 24 ≤ length bytes → AllByRecursion LiesWithin (head_numbers bytes)
-    → limits_text (head_in bytes) ≡ said_by bytes
-limits_said bytes fits long (version, (replicas, (verifiers, (quorum, (window, (workers, (z, (y, (x, rest))))))))) =
+limits_decoded : (bytes : List ℕ) → IsBytes bytes → 24 ≤ length bytes → AllByRecursion LiesWithin (head_numbers bytes)
+    → limits_text (head_in bytes) ≡ decoded_by bytes
+limits_decoded bytes fits long (version, (replicas, (verifiers, (quorum, (window, (workers, (z, (y, (x, rest))))))))) =
     let batches = four_at 20 bytes fits (omega arith) in
     let customers = chunk 4 4 16 bytes _ _ (four_at 16 bytes fits (omega arith)) batches in
     let zeros = zero_at 13 10 bytes _ fits (omega arith) z.1 (zero_at 14 9 bytes _ fits (omega arith) y.1
@@ -131,14 +131,14 @@ limits_said bytes fits long (version, (replicas, (verifiers, (quorum, (window, (
     (one_at 10 13 bytes _ fits (omega arith) (one_at 11 12 bytes _ fits (omega arith)
     (one_at 12 11 bytes _ fits (omega arith) zeros)))))
 
-pub said_by_text : (h : Head) → said_by (head_text h 0) ≡ limits_text h
-said_by_text h =
-    ap said_by (sym (append-nil (head_text h 0)) ∙ header_parts h 0 []) ∙ ap (take 18) (behind_magic h 0 [])
+pub decoded_by_text : (h : Head) → decoded_by (head_text h 0) ≡ limits_text h
+decoded_by_text h =
+    ap decoded_by (sym (append-nil (head_text h 0)) ∙ header_parts h 0 []) ∙ ap (take 18) (behind_magic h 0 [])
     ∙ take_at (limits_text h) (big_bytes 8 0 ++ []) 18 (length-limits_text h)
 
 pub says_head : (bytes : List ℕ) → IsBytes bytes → 24 ≤ length bytes → AllByRecursion LiesWithin (head_numbers bytes)
     → SaysHead bytes (head_in bytes)
 says_head bytes fits long all = record {
   limits = is_right bytes all;
-  said = sym (limits_said bytes fits long all) ∙ sym (said_by_text (head_in bytes));
+  decoded = sym (limits_decoded bytes fits long all) ∙ sym (decoded_by_text (head_in bytes));
 }

@@ -4,7 +4,7 @@ pub mod FirstFormFaults
 pub mod FrameCounts
 pub mod RequestSearches
 pub mod UnaskedIds
-pub mod Fronts
+pub mod FirstFrames
 pub mod Records
 pub mod FramesPassed
 pub mod FirstWrongFields

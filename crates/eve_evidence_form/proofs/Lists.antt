@@ -1,4 +1,4 @@
--- Lists: bytes that are the same, what a list contains; fronts; and options.
+-- Lists: bytes that are the same, what a list contains; prefixes; and options.
 use Rattle.std.proofs.Common.{◌≡◌, ◌≢◌, ℕ, zero, suc, ◌≤◌, true, false}
 use Rattle.std.proofs.Common.{List, [], ◌∷◌, Option, Some, None, length, map, take, drop, refl}
 use Rattle.std.proofs.Common.{sym, ap, subst, ◌∙◌, arith}
@@ -36,14 +36,14 @@ not_all_other f [] y (k, lt, e) all = absurd (omega arith)
 not_all_other f (x ∷ xs) y (zero, lt, e) all = all.0 e
 not_all_other f (x ∷ xs) y (suc k, lt, e) all = not_all_other f xs y (k, omega arith, e) all.1
 
--- ---- fronts
+-- ---- prefixes
 
-all_front : {A : Type 0} (P : A → Type 0) (xs : List A) (n : ℕ) → AllByRecursion P xs → AllByRecursion P (take n xs)
-all_front P xs zero all = tt
-all_front P [] (suc n) all = tt
-all_front P (x ∷ xs) (suc n) all = (all.0, all_front P xs n all.1)
+all_prefix : {A : Type 0} (P : A → Type 0) (xs : List A) (n : ℕ) → AllByRecursion P xs → AllByRecursion P (take n xs)
+all_prefix P xs zero all = tt
+all_prefix P [] (suc n) all = tt
+all_prefix P (x ∷ xs) (suc n) all = (all.0, all_prefix P xs n all.1)
 
--- of a shorter front
+-- of a shorter prefix
 pub all_before : {A : Type 0} (P : A → Type 0) (xs : List A) (n i : ℕ) → n ≤ i → AllByRecursion P (take i xs)
     → AllByRecursion P (take n xs)
 all_before P xs zero i le all = tt
@@ -55,7 +55,7 @@ all_before P (x ∷ xs) (suc n) (suc i) le all = (all.0, all_before P xs n i (om
 pub all_before_end : {A : Type 0} (P : A → Type 0) (xs : List A) (n i : ℕ) → length xs ≤ i
     → AllByRecursion P (take i xs)
     → AllByRecursion P (take n xs)
-all_before_end P xs n i le all = all_front P xs n (subst (AllByRecursion P) (take_all i xs le) all)
+all_before_end P xs n i le all = all_prefix P xs n (subst (AllByRecursion P) (take_all i xs le) all)
 
 -- where nothing is left, the end was reached
 pub none_left : {A : Type 0} (xs : List A) (i : ℕ) → drop i xs ≡ [] → length xs ≤ i

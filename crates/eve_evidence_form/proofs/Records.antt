@@ -9,7 +9,7 @@ use Rattle.eve_grammar.specs.Spelling.{frame_text, frames_text}
 use Rattle.eve_grammar.specs.Trace.{Access, Attempt}
 use Rattle.eve_grammar.proofs.Lists.{same_first, same_others}
 use Rattle.eve_views.proofs.FrameLaws.{length-frame_text}
-use Rattle.eve_views.specs.Places.{accesses_in}
+use Rattle.eve_views.specs.inner.Places.{accesses_in}
 use Rattle.eve_evidence.specs.declared.evidence.RecordsBefore.{RecordsBefore}
 use Rattle.eve_evidence_form.specs.Records.{TellsRecords, records_after}
 
@@ -41,17 +41,17 @@ no_records (f ∷ before) a xs e = cc
 
 -- ---- a frame more
 
-module _ (front : List Frame) (f : Frame) where
+module _ (prefix : List Frame) (f : Frame) where
   -- the last of an attempt and its records is the attempt or a record
   last_frame : (before : List Frame) (a : Attempt) (xs : List Access)
-      → front ++ f ∷ [] ≡ before ++ OfAttempt a ∷ map OfAccess xs
+      → prefix ++ f ∷ [] ≡ before ++ OfAttempt a ∷ map OfAccess xs
       → (f ≡ OfAttempt a)
-      ⊎ ((ys : List Access) × (y : Access) × (f ≡ OfAccess y) × (front ≡ before ++ OfAttempt a ∷ map OfAccess ys))
+      ⊎ ((ys : List Access) × (y : Access) × (f ≡ OfAccess y) × (prefix ≡ before ++ OfAttempt a ∷ map OfAccess ys))
   last_frame before a xs e = elim (with_last xs) [
-    | inl none ↦ inl (same_last front before f (OfAttempt a)
+    | inl none ↦ inl (same_last prefix before f (OfAttempt a)
         (e ∙ ap (λ (zs : List Access). before ++ OfAttempt a ∷ map OfAccess zs) none)).1
     | inr some ↦
-        let parts = same_last front (before ++ OfAttempt a ∷ map OfAccess some.0) f (OfAccess some.1)
+        let parts = same_last prefix (before ++ OfAttempt a ∷ map OfAccess some.0) f (OfAccess some.1)
         (e ∙ ap (λ (zs : List Access). before ++ OfAttempt a ∷ map OfAccess zs) some.2
         ∙ ap (λ (zs : List Frame). before ++ OfAttempt a ∷ zs) (map-append OfAccess some.0 (some.1 ∷ []))
         ∙ sym (append_assoc before (OfAttempt a ∷ map OfAccess some.0) (OfAccess some.1 ∷ []))) in
@@ -59,25 +59,25 @@ module _ (front : List Frame) (f : Frame) where
   ]
 
   -- behind another frame there are none
-  neither : ((a : Attempt) → f ≢ OfAttempt a) → ((x : Access) → f ≢ OfAccess x) → TellsRecords (front ++ f ∷ []) None
+  neither : ((a : Attempt) → f ≢ OfAttempt a) → ((x : Access) → f ≢ OfAccess x) → TellsRecords (prefix ++ f ∷ []) None
   neither no_attempt no_access before a xs e = elim (last_frame before a xs e) [
     | inl attempt ↦ no_attempt a attempt
     | inr access ↦ no_access access.1 access.2
   ]
 
 -- behind a record there are none where there were none before
-none_before : (front : List Frame) (x : Access) → TellsRecords front None
-    → TellsRecords (front ++ OfAccess x ∷ []) None
-none_before front x none before a xs e = elim (last_frame front (OfAccess x) before a xs e) [
+none_before : (prefix : List Frame) (x : Access) → TellsRecords prefix None
+    → TellsRecords (prefix ++ OfAccess x ∷ []) None
+none_before prefix x none before a xs e = elim (last_frame prefix (OfAccess x) before a xs e) [
   | inl attempt ↦ absurd cc
   | inr access ↦ none before a access.0 access.3
 ]
 
-pub told_after : (front : List Frame) (f : Frame) (records : Option RecordsBefore) (at : ℕ)
-    → at ≡ 32 + length (frames_text front) → TellsRecords front records
-    → TellsRecords (front ++ f ∷ []) (records_after records (kind_of f) at (accesses_in f))
-told_after front (OfAttempt a) records at is told = record {
-  before = front;
+pub told_after : (prefix : List Frame) (f : Frame) (records : Option RecordsBefore) (at : ℕ)
+    → at ≡ 32 + length (frames_text prefix) → TellsRecords prefix records
+    → TellsRecords (prefix ++ f ∷ []) (records_after records (kind_of f) at (accesses_in f))
+told_after prefix (OfAttempt a) records at is told = record {
+  before = prefix;
   attempt = a;
   accesses = [];
   is = refl;
@@ -85,8 +85,8 @@ told_after front (OfAttempt a) records at is told = record {
   due_is = refl;
   found_is = refl;
 }
-told_after front (OfAccess x) None at is told = none_before front x told
-told_after front (OfAccess x) (Some r) at is told = record {
+told_after prefix (OfAccess x) None at is told = none_before prefix x told
+told_after prefix (OfAccess x) (Some r) at is told = record {
   before = told.before;
   attempt = told.attempt;
   accesses = told.accesses ++ x ∷ [];
@@ -98,16 +98,16 @@ told_after front (OfAccess x) (Some r) at is told = record {
   due_is = told.due_is;
   found_is = omega (arith, told.found_is, length-append told.accesses (x ∷ []));
 }
-told_after front (OfCustomer d) records at is told = neither front (OfCustomer d) (λ a e. cc) (λ x e. cc)
-told_after front (OfBatch n b) records at is told = neither front (OfBatch n b) (λ a e. cc) (λ x e. cc)
-told_after front (OfReplica n) records at is told = neither front (OfReplica n) (λ a e. cc) (λ x e. cc)
-told_after front (OfCommit d) records at is told = neither front (OfCommit d) (λ a e. cc) (λ x e. cc)
-told_after front (OfRollback r) records at is told = neither front (OfRollback r) (λ a e. cc) (λ x e. cc)
-told_after front (OfTransfer x) records at is told = neither front (OfTransfer x) (λ a e. cc) (λ y e. cc)
-told_after front (OfVerifier n) records at is told = neither front (OfVerifier n) (λ a e. cc) (λ x e. cc)
-told_after front (OfVote v) records at is told = neither front (OfVote v) (λ a e. cc) (λ x e. cc)
-told_after front (OfSent s) records at is told = neither front (OfSent s) (λ a e. cc) (λ x e. cc)
-told_after front End records at is told = neither front End (λ a e. cc) (λ x e. cc)
+told_after prefix (OfCustomer d) records at is told = neither prefix (OfCustomer d) (λ a e. cc) (λ x e. cc)
+told_after prefix (OfBatch n b) records at is told = neither prefix (OfBatch n b) (λ a e. cc) (λ x e. cc)
+told_after prefix (OfReplica n) records at is told = neither prefix (OfReplica n) (λ a e. cc) (λ x e. cc)
+told_after prefix (OfCommit d) records at is told = neither prefix (OfCommit d) (λ a e. cc) (λ x e. cc)
+told_after prefix (OfRollback r) records at is told = neither prefix (OfRollback r) (λ a e. cc) (λ x e. cc)
+told_after prefix (OfTransfer x) records at is told = neither prefix (OfTransfer x) (λ a e. cc) (λ y e. cc)
+told_after prefix (OfVerifier n) records at is told = neither prefix (OfVerifier n) (λ a e. cc) (λ x e. cc)
+told_after prefix (OfVote v) records at is told = neither prefix (OfVote v) (λ a e. cc) (λ x e. cc)
+told_after prefix (OfSent s) records at is told = neither prefix (OfSent s) (λ a e. cc) (λ x e. cc)
+told_after prefix End records at is told = neither prefix End (λ a e. cc) (λ x e. cc)
 
 -- ---- how many there are
 
@@ -117,14 +117,14 @@ frames_long (f ∷ fs) =
     omega (arith, frames_long fs, length-frame_text f, length-append (frame_text f) (frames_text fs))
 
 -- no more than bytes
-pub few_found : (front : List Frame) (records : Option RecordsBefore) (at : ℕ) → at ≡ 32 + length (frames_text front)
-    → TellsRecords front records → IfSome records (λ r. r.found < at)
-few_found front None at is told = tt
-few_found front (Some r) at is told =
+pub few_found : (prefix : List Frame) (records : Option RecordsBefore) (at : ℕ) → at ≡ 32 + length (frames_text prefix)
+    → TellsRecords prefix records → IfSome records (λ r. r.found < at)
+few_found prefix None at is told = tt
+few_found prefix (Some r) at is told =
     omega (
       arith,
       is,
-      frames_long front,
+      frames_long prefix,
       ap length told.is,
       length-append told.before (OfAttempt told.attempt ∷ map OfAccess told.accesses),
       length-map told.accesses OfAccess,

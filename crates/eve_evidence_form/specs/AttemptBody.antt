@@ -2,7 +2,7 @@
 use Rattle.std.specs.Prelude.{ℕ, ◌+◌, ◌*◌, List, [], ◌∷◌, ◌++◌}
 use Rattle.eve_grammar.specs.declared.limits.TheConstants.{MOST_REQUESTS}
 use Rattle.eve_evidence.specs.declared.evidence.BodyField.TheVariants as name
-use Rattle.eve_evidence_form.specs.Header.{said}
+use Rattle.eve_evidence_form.specs.Header.{decoded}
 use Rattle.eve_evidence_form.specs.Fields.{field, fields_of, stand, stands_between, reply_fields}
 use Rattle.eve_evidence_form.specs.declared.fields.FieldThere.{FieldThere}
 
@@ -22,4 +22,4 @@ abbrev pub attempt_fields : List ℕ → List FieldThere
 attempt_fields body =
     field name.Number 0 (stand 4 0 body) ∷ field name.View 4 (stand 4 4 body)
     ∷ field name.Mode 8 (stands_between 0 1 1 8 body) ∷ field name.Requests 9 (stands_between 1 MOST_REQUESTS 2 9 body)
-    ∷ certified_fields (said 2 9 body) body
+    ∷ certified_fields (decoded 2 9 body) body

@@ -2,7 +2,7 @@
 use Rattle.std.specs.Prelude.{ℕ, zero, suc, ◌+◌, ◌*◌, nat_le, ◌==◌, Bool, ◌&&◌, if◌then◌else◌, List, [], ◌∷◌, ◌++◌}
 use Rattle.eve_grammar.specs.declared.limits.TheConstants.{MOST_REQUESTS}
 use Rattle.eve_evidence.specs.declared.evidence.BodyField.TheVariants as name
-use Rattle.eve_evidence_form.specs.Header.{said}
+use Rattle.eve_evidence_form.specs.Header.{decoded}
 use Rattle.eve_evidence_form.specs.Fields.{field, fields_of, stand, stands_between, stands_amount, named_fields}
 use Rattle.eve_evidence_form.specs.declared.fields.FieldThere.{FieldThere}
 
@@ -11,12 +11,12 @@ use Rattle.eve_evidence_form.specs.declared.fields.FieldThere.{FieldThere}
 -- the sum of the first n sizes of parallelBatches
 abbrev pub size_sum : ℕ → List ℕ → ℕ
 size_sum zero body = 0
-size_sum (suc n) body = size_sum n body + said 2 (6 + 2 * n) body
+size_sum (suc n) body = size_sum n body + decoded 2 (6 + 2 * n) body
 
 -- a size of one or more stands there, and with the sum of those before it no more requests than a batch may have
 abbrev pub stands_size : ℕ → ℕ → List ℕ → Bool
 stands_size sum at body =
-    stand 2 at body && (nat_le 1 (said 2 at body) && nat_le (sum + said 2 at body) MOST_REQUESTS)
+    stand 2 at body && (nat_le 1 (decoded 2 at body) && nat_le (sum + decoded 2 at body) MOST_REQUESTS)
 
 -- the size with this index
 abbrev pub size_fields : List ℕ → ℕ → List FieldThere
@@ -33,11 +33,11 @@ coded_fields code at body =
 
 -- how many bytes that has
 abbrev pub coded_len : ℕ → ℕ → List ℕ → ℕ
-coded_len code at body = if code == 1 then 0 else if code == 4 then 1 + said 1 at body else 8
+coded_len code at body = if code == 1 then 0 else if code == 4 then 1 + decoded 1 at body else 8
 
 -- the place behind the first name of the request at this place
 abbrev pub coded_place : ℕ → List ℕ → ℕ
-coded_place at body = at + 14 + said 1 (at + 13) body
+coded_place at body = at + 14 + decoded 1 (at + 13) body
 
 -- the request at this place: a client, a number, a code, a name, and what follows it
 abbrev pub request_fields : ℕ → List ℕ → List FieldThere
@@ -45,11 +45,11 @@ request_fields at body =
     field name.Client at (stand 4 at body) ∷ field name.Number (at + 4) (stand 8 (at + 4) body)
     ∷ field name.Code (at + 12) (stands_between 1 5 1 (at + 12) body)
     ∷ (named_fields name.Length name.Name (at + 13) body
-    ++ coded_fields (said 1 (at + 12) body) (coded_place at body) body)
+    ++ coded_fields (decoded 1 (at + 12) body) (coded_place at body) body)
 
 -- the place behind the request at this place
 abbrev pub request_end : ℕ → List ℕ → ℕ
-request_end at body = coded_place at body + coded_len (said 1 (at + 12) body) (coded_place at body) body
+request_end at body = coded_place at body + coded_len (decoded 1 (at + 12) body) (coded_place at body) body
 
 -- the place of the request with this index, where the first stands at the place from
 abbrev pub request_place : ℕ → List ℕ → ℕ → ℕ
@@ -68,7 +68,7 @@ grouped_fields groups body =
 abbrev pub batch_fields : ℕ → List ℕ → List FieldThere
 batch_fields due body =
     field name.Number 0 (stands_between due due 4 0 body) ∷ field name.Groups 4 (stands_between 1 65535 2 4 body)
-    ∷ grouped_fields (said 2 4 body) body
+    ∷ grouped_fields (decoded 2 4 body) body
 
 -- the place behind the last request of this many parallelBatches
 abbrev pub batch_end : ℕ → List ℕ → ℕ

@@ -33,4 +33,4 @@ IsFrameFault h p bytes (wrong.Cut k body left) =
 abbrev pub TellsFrame : List ℕ → ℕ → FrameFault → List Bool → Option RecordsBefore → Type 0
 TellsFrame bytes at found due records =
     (r : IsReached bytes at) × IsFrameFault r.head (place_at r) (drop at bytes) found
-    × (due ≡ due_kinds r.head (place_at r)) × TellsRecords r.front records
+    × (due ≡ due_kinds r.head (place_at r)) × TellsRecords r.prefix records

@@ -8,7 +8,7 @@ use Rattle.eve_accounts.specs.declared.limits.TheConstants.{MOST_NAME_BYTES}
 use Rattle.eve_grammar.specs.Limits.{is_between}
 use Rattle.eve_evidence.specs.declared.evidence.BodyField.{BodyField}
 use Rattle.eve_evidence.specs.declared.evidence.BodyField.TheVariants as name
-use Rattle.eve_evidence_form.specs.Header.{said}
+use Rattle.eve_evidence_form.specs.Header.{decoded}
 use Rattle.eve_evidence_form.specs.declared.fields.FieldThere.{FieldThere}
 
 -- ---- lists of fields
@@ -39,46 +39,47 @@ stand n at body = nat_le (at + n) (length body)
 
 -- a number of n bytes stands there, from the one to the other
 abbrev pub stands_between : ℕ → ℕ → ℕ → ℕ → List ℕ → Bool
-stands_between low high n at body = stand n at body && is_between low high (said n at body)
+stands_between low high n at body = stand n at body && is_between low high (decoded n at body)
 
 -- a number of n bytes stands there, below this one
 abbrev pub stands_below : ℕ → ℕ → ℕ → List ℕ → Bool
-stands_below limit n at body = stand n at body && nat_lt (said n at body) limit
+stands_below limit n at body = stand n at body && nat_lt (decoded n at body) limit
 
 -- a balance of eight bytes stands there
 abbrev pub stands_balance : ℕ → List ℕ → Bool
-stands_balance at body = stand 8 at body && is_balance (cast_signed w64 (said 8 at body))
+stands_balance at body = stand 8 at body && is_balance (cast_signed w64 (decoded 8 at body))
 
 -- one that savings may open with
 abbrev pub stands_saving : ℕ → List ℕ → Bool
-stands_saving at body = stand 8 at body && is_saving (cast_signed w64 (said 8 at body))
+stands_saving at body = stand 8 at body && is_saving (cast_signed w64 (decoded 8 at body))
 
 -- an amount of eight bytes stands there
 abbrev pub stands_amount : ℕ → List ℕ → Bool
-stands_amount at body = stand 8 at body && is_amount (cast_signed w64 (said 8 at body))
+stands_amount at body = stand 8 at body && is_amount (cast_signed w64 (decoded 8 at body))
 
 -- ---- parts
 
 -- how many bytes come before the first that no name has
-abbrev pub printable_front : List ℕ → ℕ
-printable_front [] = 0
-printable_front (b ∷ bs) = if is_printable b then printable_front bs + 1 else 0
+abbrev pub printable_prefix : List ℕ → ℕ
+printable_prefix [] = 0
+printable_prefix (b ∷ bs) = if is_printable b then printable_prefix bs + 1 else 0
 
 -- a name of n bytes: where they stand there, its place is that of the first byte that no name has
 abbrev pub name_field : BodyField → ℕ → ℕ → List ℕ → FieldThere
 name_field own n at body =
-    if stand n at body then field own (at + printable_front (take n (drop at body)))
-    (printable_front (take n (drop at body)) == n) else field own at false
+    if stand n at body then field own (at + printable_prefix (take n (drop at body)))
+    (printable_prefix (take n (drop at body)) == n) else field own at false
 
 -- a length, and a name of that length
 abbrev pub named_fields : BodyField → BodyField → ℕ → List ℕ → List FieldThere
 named_fields own_length own at body =
     field own_length at (stands_between 1 MOST_NAME_BYTES 1 at body)
-    ∷ name_field own (said 1 at body) (at + 1) body ∷ []
+    ∷ name_field own (decoded 1 at body) (at + 1) body ∷ []
 
 -- the code of a reply, and its value, which is 0 but for a total
 abbrev pub reply_fields : ℕ → List ℕ → List FieldThere
 reply_fields at body =
     field name.ReplyCode at (stands_between 0 5 1 at body)
-    ∷ field name.ReplyValue (at + 1) (stand 8 (at + 1) body && ((said 1 at body == 1) || (said 8 (at + 1) body == 0)))
+    ∷ field name.ReplyValue (at + 1)
+    (stand 8 (at + 1) body && ((decoded 1 at body == 1) || (decoded 8 (at + 1) body == 0)))
     ∷ []

@@ -15,15 +15,15 @@ use Rattle.eve_evidence.specs.declared.evidence.HeadField.TheVariants as field
 use Rattle.eve_evidence_form.specs.declared.head.HeadNumber.{HeadNumber}
 
 -- the number of n bytes at a place
-abbrev pub said : ℕ → ℕ → List ℕ → ℕ
-said n at bytes = big_number n (drop at bytes)
+abbrev pub decoded : ℕ → ℕ → List ℕ → ℕ
+decoded n at bytes = big_number n (drop at bytes)
 
 -- what is wrong with the length
 abbrev pub IsLengthFault : List ℕ → LengthFault → Type 0
 IsLengthFault bytes length_is.TooShort = length bytes < HEADER_LEN
 IsLengthFault bytes length_is.TooLong = MOST_BYTES < length bytes
 IsLengthFault bytes (length_is.Another total) =
-    (HEADER_LEN ≤ length bytes) × (length bytes ≤ MOST_BYTES) × (total ≡ said 8 24 bytes) × (total ≢ length bytes)
+    (HEADER_LEN ≤ length bytes) × (length bytes ≤ MOST_BYTES) × (total ≡ decoded 8 24 bytes) × (total ≢ length bytes)
 
 -- the first six bytes, if there are as many as a header has, and these aren't a trace's
 abbrev pub TellsMagic : List ℕ → Option (List ℕ) → Type 0
@@ -37,17 +37,17 @@ number name at found least most = record { field = name; at = at; found = found;
 -- the numbers of a header, in the order of their bytes
 abbrev pub head_numbers : List ℕ → List HeadNumber
 head_numbers bytes =
-    number field.Version 6 (said 2 6 bytes) 1 NEWEST_VERSION
-    ∷ number field.Replicas 8 (said 1 8 bytes) 1 MOST_REPLICAS
-    ∷ number field.Verifiers 9 (said 1 9 bytes) 1 MOST_VERIFIERS
-    ∷ number field.Quorum 10 (said 1 10 bytes) (said 1 9 bytes / 2 + 1) (said 1 9 bytes)
-    ∷ number field.Window 11 (said 1 11 bytes) 1 MOST_WINDOW
-    ∷ number field.Workers 12 (said 1 12 bytes) 1 MOST_WORKERS
-    ∷ number field.Zero 13 (said 1 13 bytes) 0 0
-    ∷ number field.Zero 14 (said 1 14 bytes) 0 0
-    ∷ number field.Zero 15 (said 1 15 bytes) 0 0
-    ∷ number field.Customers 16 (said 4 16 bytes) 1 (most_customers (said 2 6 bytes))
-    ∷ number field.Batches 20 (said 4 20 bytes) 0 MOST_BATCHES
+    number field.Version 6 (decoded 2 6 bytes) 1 NEWEST_VERSION
+    ∷ number field.Replicas 8 (decoded 1 8 bytes) 1 MOST_REPLICAS
+    ∷ number field.Verifiers 9 (decoded 1 9 bytes) 1 MOST_VERIFIERS
+    ∷ number field.Quorum 10 (decoded 1 10 bytes) (decoded 1 9 bytes / 2 + 1) (decoded 1 9 bytes)
+    ∷ number field.Window 11 (decoded 1 11 bytes) 1 MOST_WINDOW
+    ∷ number field.Workers 12 (decoded 1 12 bytes) 1 MOST_WORKERS
+    ∷ number field.Zero 13 (decoded 1 13 bytes) 0 0
+    ∷ number field.Zero 14 (decoded 1 14 bytes) 0 0
+    ∷ number field.Zero 15 (decoded 1 15 bytes) 0 0
+    ∷ number field.Customers 16 (decoded 4 16 bytes) 1 (most_customers (decoded 2 6 bytes))
+    ∷ number field.Batches 20 (decoded 4 20 bytes) 0 MOST_BATCHES
     ∷ []
 
 -- it says a number of its range

@@ -1,5 +1,4 @@
 pub mod Header
-pub mod Walk
 pub mod Records
 pub mod Due
 pub mod Fields
@@ -13,3 +12,4 @@ pub mod Form
 pub mod Names
 pub mod Requests
 pub mod Orders
+pub mod inner

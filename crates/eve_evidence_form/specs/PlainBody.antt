@@ -2,7 +2,7 @@
 use Rattle.std.specs.Prelude.{ℕ, ◌+◌, ◌==◌, ◌&&◌, ◌||◌, List, [], ◌∷◌, ◌++◌, take, drop}
 use Rattle.std.specs.List.{list_all}
 use Rattle.eve_evidence.specs.declared.evidence.BodyField.TheVariants as name
-use Rattle.eve_evidence_form.specs.Header.{said}
+use Rattle.eve_evidence_form.specs.Header.{decoded}
 use Rattle.eve_evidence_form.specs.Fields.{field, stand, stands_between, stands_below, stands_balance, stands_saving}
 use Rattle.eve_evidence_form.specs.Fields.{named_fields, reply_fields}
 use Rattle.eve_evidence_form.specs.declared.fields.FieldThere.{FieldThere}
@@ -11,8 +11,8 @@ use Rattle.eve_evidence_form.specs.declared.fields.FieldThere.{FieldThere}
 abbrev pub customer_fields : List ℕ → List FieldThere
 customer_fields body =
     named_fields name.Length name.Name 0 body
-    ++ field name.Saving (1 + said 1 0 body) (stands_saving (1 + said 1 0 body) body)
-    ∷ field name.Checking (9 + said 1 0 body) (stands_balance (9 + said 1 0 body) body) ∷ []
+    ++ field name.Saving (1 + decoded 1 0 body) (stands_saving (1 + decoded 1 0 body) body)
+    ∷ field name.Checking (9 + decoded 1 0 body) (stands_balance (9 + decoded 1 0 body) body) ∷ []
 
 -- the body that is a number
 abbrev pub number_fields : ℕ → List ℕ → List FieldThere
@@ -30,7 +30,7 @@ vote_fields batches body =
     field name.Number 0 (stands_between 1 batches 4 0 body) ∷ field name.View 4 (stand 4 4 body)
     ∷ field name.Choice 8 (stands_between 0 1 1 8 body)
     ∷ field name.Token 9
-    (stand 32 9 body && ((said 1 8 body == 1) || list_all (λ byte. byte == 0) (take 32 (drop 9 body)))) ∷ []
+    (stand 32 9 body && ((decoded 1 8 body == 1) || list_all (λ byte. byte == 0) (take 32 (drop 9 body)))) ∷ []
 
 -- a client, a number, one of this many replicas, one of this many batches, and a reply
 abbrev pub sent_fields : ℕ → ℕ → List ℕ → List FieldThere

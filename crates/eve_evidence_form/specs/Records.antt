@@ -9,20 +9,20 @@ use Rattle.eve_grammar.specs.declared.head.TheConstants.{HEADER_LEN}
 use Rattle.eve_evidence.specs.declared.evidence.RecordsBefore.{RecordsBefore}
 
 -- The frames behind a header end with this attempt and as many of its access records as were found.
-pub record EndWithRecords (front : List Frame) (r : RecordsBefore) : Type 0 where
+pub record EndWithRecords (prefix : List Frame) (r : RecordsBefore) : Type 0 where
   pub before : List Frame
   pub attempt : Attempt
   pub accesses : List Access
-  pub is : front ≡ before ++ OfAttempt attempt ∷ map OfAccess accesses
+  pub is : prefix ≡ before ++ OfAttempt attempt ∷ map OfAccess accesses
   pub attempt_is : r.attempt ≡ HEADER_LEN + length (frames_text before)
   pub due_is : r.due ≡ length attempt.certificate
   pub found_is : r.found ≡ length accesses
 
 -- they do, or end with no attempt and access records of it
 abbrev pub TellsRecords : List Frame → Option RecordsBefore → Type 0
-TellsRecords front None = (before : List Frame) (a : Attempt) (xs : List Access)
-    → front ≢ before ++ OfAttempt a ∷ map OfAccess xs
-TellsRecords front (Some r) = EndWithRecords front r
+TellsRecords prefix None = (before : List Frame) (a : Attempt) (xs : List Access)
+    → prefix ≢ before ++ OfAttempt a ∷ map OfAccess xs
+TellsRecords prefix (Some r) = EndWithRecords prefix r
 
 -- ---- a frame more
 

@@ -2,7 +2,7 @@
 use Rattle.std.specs.Prelude.{ℕ, ◌+◌, ◌-◌, ◌*◌, ◌%◌, nat_lt, ◌==◌, Bool, ◌&&◌, ◌||◌, if◌then◌else◌, List, [], ◌∷◌}
 use Rattle.eve_grammar.specs.declared.limits.TheConstants.{MOST_VERSIONS}
 use Rattle.eve_evidence.specs.declared.evidence.BodyField.TheVariants as name
-use Rattle.eve_evidence_form.specs.Header.{said}
+use Rattle.eve_evidence_form.specs.Header.{decoded}
 use Rattle.eve_evidence_form.specs.Fields.{field, fields_of, stand, stands_between, stands_below, stands_balance}
 use Rattle.eve_evidence_form.specs.Fields.{stands_saving}
 use Rattle.eve_evidence_form.specs.declared.fields.FieldThere.{FieldThere}
@@ -11,7 +11,7 @@ use Rattle.eve_evidence_form.specs.declared.fields.FieldThere.{FieldThere}
 
 -- the row of the restore with this index, at this place, is above that of the one before it, where there is one
 abbrev pub rises : ℕ → ℕ → List ℕ → Bool
-rises i at body = (i == 0) || nat_lt (said 4 (at - 20) body) (said 4 at body)
+rises i at body = (i == 0) || nat_lt (decoded 4 (at - 20) body) (decoded 4 at body)
 
 -- a restore: one of this many rows, a version, a value
 abbrev pub restore_fields : ℕ → ℕ → ℕ → List ℕ → List FieldThere
@@ -24,7 +24,7 @@ restore_fields rows i at body =
 abbrev pub rollback_fields : ℕ → List ℕ → List FieldThere
 rollback_fields rows body =
     field name.To 0 (stand 4 0 body) ∷ field name.View 4 (stand 4 4 body) ∷ field name.Count 8 (stand 4 8 body)
-    ∷ fields_of (λ i. restore_fields rows i (12 + 20 * i) body) (said 4 8 body)
+    ∷ fields_of (λ i. restore_fields rows i (12 + 20 * i) body) (decoded 4 8 body)
 
 -- ---- Transfer
 

@@ -1,13 +1,13 @@
 //! The first wrong field of an Access frame's body.
 
 ghost use Rattle.std.specs.Prelude.{◌≡◌, ◌<◌, ◌≤◌, ◌+◌, ◌*◌, ◌^◌};
-ghost use Rattle.eve_evidence_form.specs.Header.{said};
+ghost use Rattle.eve_evidence_form.specs.Header.{decoded};
 ghost use Rattle.eve_evidence_form.specs.Fields.{first_wrong_there, first_wrong_field, fields_of};
 ghost use Rattle.eve_evidence_form.specs.AccessBody.{stands_after, entry_fields, access_fields};
 
 use crate::fields::{
-    FieldThere, byte_said, first_wrong_there, number_said, stand, stands_balance, stands_below,
-    stands_between, there,
+    FieldThere, byte_decoded, first_wrong_there, number_decoded, stand, stands_balance,
+    stands_below, stands_between, there,
 };
 use eve_evidence::BodyField;
 use eve_grammar::{MOST_ENTRIES, MOST_VERSIONS};
@@ -20,7 +20,8 @@ fn stands_after(body: &[u8], at: usize) -> bool
     if !stands_balance(body, at + 21) {
         return false;
     }
-    byte_said(body, at + 4) == 1 || number_said(body, 8, at + 21) == number_said(body, 8, at + 13)
+    byte_decoded(body, at + 4) == 1
+        || number_decoded(body, 8, at + 21) == number_decoded(body, 8, at + 13)
 }
 
 /// The first wrong field of the entry at this place, if one is wrong.
@@ -56,7 +57,7 @@ fn wrong_in_entries(rows: u64, body: &[u8], count: usize) -> Option<FieldThere>
 
 /// The first wrong field of the body of an Access frame, whose entries have to be of one of this many rows.
 pub fn access_fault(rows: u64, body: &[u8]) -> FieldThere
-    ensures { result ≡ first_wrong_field (6 + 29 * said 1 5 body.now) (access_fields rows body.now) }
+    ensures { result ≡ first_wrong_field (6 + 29 * decoded 1 5 body.now) (access_fields rows body.now) }
 {
     let count_right = stands_between(body, 0, u64::from(MOST_ENTRIES), 1, 5);
     let fields = [
@@ -68,7 +69,7 @@ pub fn access_fault(rows: u64, body: &[u8]) -> FieldThere
     if let Some(wrong) = first_wrong_there(&fields) {
         return wrong;
     }
-    let count = usize::from(byte_said(body, 5));
+    let count = usize::from(byte_decoded(body, 5));
     match wrong_in_entries(rows, body, count) {
         Some(wrong) => wrong,
         None => there(BodyField::End, 6 + 29 * count, false),

@@ -1,7 +1,7 @@
 //! The first wrong field of an Attempt frame's body.
 
 ghost use Rattle.std.specs.Prelude.{◌≡◌, ◌<◌, ◌+◌, ◌*◌, ◌^◌};
-ghost use Rattle.eve_evidence_form.specs.Header.{said};
+ghost use Rattle.eve_evidence_form.specs.Header.{decoded};
 ghost use Rattle.eve_evidence_form.specs.Fields.{first_wrong_there, first_wrong_field, fields_of, reply_fields};
 ghost use Rattle.eve_evidence_form.specs.AttemptBody.{index_fields, certified_fields, attempt_fields};
 
@@ -58,7 +58,7 @@ fn certified_fault(body: &[u8], count: usize) -> FieldThere
 
 /// The first wrong field of the body of an Attempt frame.
 pub fn attempt_fault(body: &[u8]) -> FieldThere
-    ensures { result ≡ first_wrong_field (43 + 11 * said 2 9 body.now) (attempt_fields body.now) }
+    ensures { result ≡ first_wrong_field (43 + 11 * decoded 2 9 body.now) (attempt_fields body.now) }
 {
     let requests_right = stands_between(body, 1, MOST_REQUESTS as u64, 2, 9);
     let fields = [

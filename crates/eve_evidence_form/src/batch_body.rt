@@ -3,14 +3,14 @@
 ghost use Rattle.std.specs.Prelude.{◌≡◌, ◌≤◌, ◌<◌, ◌+◌, ◌*◌, ◌^◌, IfOk, IfErr, IfSome, IfNone, IsTrue, IsFalse};
 ghost use Rattle.std.specs.Prelude.{None, Some};
 ghost use Rattle.eve_grammar.specs.declared.limits.TheConstants.{MOST_REQUESTS};
-ghost use Rattle.eve_evidence_form.specs.Header.{said};
+ghost use Rattle.eve_evidence_form.specs.Header.{decoded};
 ghost use Rattle.eve_evidence_form.specs.Fields.{first_wrong_there, first_wrong_field, fields_of};
 ghost use Rattle.eve_evidence_form.specs.BatchBody.{size_sum, stands_size, size_fields, coded_fields, coded_len};
 ghost use Rattle.eve_evidence_form.specs.BatchBody.{coded_place, request_fields, request_end, request_place};
 ghost use Rattle.eve_evidence_form.specs.BatchBody.{grouped_fields, batch_fields, batch_end};
 
 use crate::fields::{
-    FieldThere, byte_said, first_wrong_there, stand, stands_amount, stands_between, there,
+    FieldThere, byte_decoded, first_wrong_there, stand, stands_amount, stands_between, there,
     wrong_in_name,
 };
 use byteorder::{BigEndian, ByteOrder};
@@ -22,7 +22,7 @@ fn sum_with_size(body: &[u8], sum: usize, at: usize) -> Option<usize>
     requires few { sum ≤ MOST_REQUESTS }
     requires near { at + 2 < 2 ^ 32 }
     ensures right { IfSome result (λ more. IsTrue (stands_size sum at body.now)
-        × (more ≡ sum + said 2 at body.now) × (more ≤ MOST_REQUESTS)) }
+        × (more ≡ sum + decoded 2 at body.now) × (more ≤ MOST_REQUESTS)) }
     ensures wrong { IfNone result (IsFalse (stands_size sum at body.now)) }
 {
     if !stand(body, 2, at) {
@@ -77,7 +77,7 @@ fn coded_len(body: &[u8], code: u8, at: usize) -> usize
     if code == 1 {
         0
     } else if code == 4 {
-        1 + usize::from(byte_said(body, at))
+        1 + usize::from(byte_decoded(body, at))
     } else {
         8
     }
@@ -89,7 +89,7 @@ fn coded_place(body: &[u8], at: usize) -> usize
     ensures place { result ≡ coded_place at body.now }
     ensures near { result ≤ at + 269 }
 {
-    at + 14 + usize::from(byte_said(body, at + 13))
+    at + 14 + usize::from(byte_decoded(body, at + 13))
 }
 
 /// The first wrong field of the request at this place, if one is wrong.
@@ -109,7 +109,7 @@ fn wrong_in_request(body: &[u8], at: usize) -> Option<FieldThere>
     if let Some(wrong) = wrong_in_name(body, BodyField::Length, BodyField::Name, at + 13) {
         return Some(wrong);
     }
-    wrong_in_coded(body, byte_said(body, at + 12), coded_place(body, at))
+    wrong_in_coded(body, byte_decoded(body, at + 12), coded_place(body, at))
 }
 
 /// The place behind the request at this place.
@@ -119,7 +119,7 @@ fn request_end(body: &[u8], at: usize) -> usize
     ensures near { result ≤ at + 525 }
 {
     let place = coded_place(body, at);
-    place + coded_len(body, byte_said(body, at + 12), place)
+    place + coded_len(body, byte_decoded(body, at + 12), place)
 }
 
 /// The place behind this many requests, the first of which stands at this place, or their first wrong field.
@@ -160,7 +160,7 @@ fn grouped_fault(body: &[u8], groups: usize) -> FieldThere
 
 /// The first wrong field of the body of a Batch frame, whose number has to be this one.
 pub fn batch_fault(due: u64, body: &[u8]) -> FieldThere
-    ensures { result ≡ first_wrong_field (batch_end (said 2 4 body.now) body.now) (batch_fields due body.now) }
+    ensures { result ≡ first_wrong_field (batch_end (decoded 2 4 body.now) body.now) (batch_fields due body.now) }
 {
     let groups_right = stands_between(body, 1, u64::from(u16::MAX), 2, 4);
     let fields = [

@@ -5,7 +5,7 @@ ghost use Rattle.byteorder.specs.Endian.{big_number};
 ghost use Rattle.eve_grammar.specs.Kinds.{kind_byte};
 ghost use Rattle.eve_grammar.specs.declared.limits.TheConstants.{MOST_BYTES, MOST_CUSTOMERS};
 ghost use Rattle.eve_views.specs.Form.{IsReached, HasWrongBody, place_at};
-ghost use Rattle.eve_evidence_form.specs.Body.{body_fault, body_in_front, TellsBody};
+ghost use Rattle.eve_evidence_form.specs.Body.{body_fault, body_in_prefix, TellsBody};
 
 use crate::access_body::access_fault;
 use crate::attempt_body::attempt_fault;
@@ -13,7 +13,7 @@ use crate::batch_body::batch_fault;
 use crate::fields::{FieldThere, sliced, there};
 use crate::plain_body::{commit_fault, customer_fault, number_fault, sent_fault, vote_fault};
 use crate::rows_body::{rollback_fault, transfer_fault};
-use crate::walk::{head_said, reached};
+use crate::walk::{head_decoded, reached};
 use byteorder::{BigEndian, ByteOrder};
 use eve_evidence::BodyField;
 use eve_grammar::{FRAME_HEAD_LEN, FrameKind, Head, Place};
@@ -74,7 +74,7 @@ fn body_len(bytes: &[u8]) -> usize
 /// The body of the frame that lies there as a whole.
 fn body_there<'a>(head: &Head, place: &Place, bytes: &'a [u8]) -> &'a [u8]
     requires { HasWrongBody head.now place.now bytes.now }
-    ensures { result.now ≡ body_in_front bytes.now }
+    ensures { result.now ≡ body_in_prefix bytes.now }
 {
     sliced(bytes, FRAME_HEAD_LEN, body_len(bytes))
 }
@@ -87,7 +87,7 @@ pub fn wrong_body_at(bytes: &[u8], at: u64) -> WrongBody
     requires short { length bytes.now ≤ MOST_BYTES }
     ensures { TellsBody bytes.now at result.frame result.field result.at }
 {
-    let head = head_said(bytes);
+    let head = head_decoded(bytes);
     let place = reached(&head, bytes, at as usize).place;
     let frame = &bytes[at as usize..];
     let kind = kind_there(&head, &place, frame);

@@ -5,10 +5,10 @@ ghost use Rattle.std.specs.Prelude.{length, take, drop};
 ghost use Rattle.std.specs.Int.{w64, cast_signed};
 ghost use Rattle.eve_accounts.specs.Money.{is_balance, is_saving, is_amount};
 ghost use Rattle.eve_accounts.specs.Names.{is_printable};
-ghost use Rattle.eve_evidence_form.specs.Header.{said};
+ghost use Rattle.eve_evidence_form.specs.Header.{decoded};
 ghost use Rattle.eve_evidence_form.specs.Fields.{field, first_wrong_there, first_wrong_field, stand, stands_between};
 ghost use Rattle.eve_evidence_form.specs.Fields.{stands_below, stands_balance, stands_saving, stands_amount};
-ghost use Rattle.eve_evidence_form.specs.Fields.{printable_front, name_field, named_fields, reply_fields};
+ghost use Rattle.eve_evidence_form.specs.Fields.{printable_prefix, name_field, named_fields, reply_fields};
 
 use byteorder::{BigEndian, ByteOrder};
 use eve_accounts::{FIRST_NAME_BYTE, LAST_NAME_BYTE, MOST_AMOUNT, MOST_BALANCE, MOST_NAME_BYTES};
@@ -72,18 +72,18 @@ pub fn stand(body: &[u8], n: usize, at: usize) -> bool
 }
 
 /// The byte at a place, or 0 where none stands.
-pub fn byte_said(body: &[u8], at: usize) -> u8
-    ensures { result ≡ said 1 at body.now }
+pub fn byte_decoded(body: &[u8], at: usize) -> u8
+    ensures { result ≡ decoded 1 at body.now }
 {
     if at < body.len() { body[at] } else { 0 }
 }
 
 /// The number of n bytes at a place.
-pub fn number_said(body: &[u8], n: usize, at: usize) -> u64
+pub fn number_decoded(body: &[u8], n: usize, at: usize) -> u64
     requires some { 1 ≤ n }
     requires few { n ≤ 8 }
     requires there { at + n ≤ length body.now }
-    ensures { result ≡ said n at body.now }
+    ensures { result ≡ decoded n at body.now }
 {
     BigEndian::read_uint(&body[at..], n)
 }
@@ -98,7 +98,7 @@ pub fn stands_between(body: &[u8], low: u64, high: u64, n: usize, at: usize) -> 
     if !stand(body, n, at) {
         return false;
     }
-    let number = number_said(body, n, at);
+    let number = number_decoded(body, n, at);
     low <= number && number <= high
 }
 
@@ -112,15 +112,15 @@ pub fn stands_below(body: &[u8], limit: u64, n: usize, at: usize) -> bool
     if !stand(body, n, at) {
         return false;
     }
-    number_said(body, n, at) < limit
+    number_decoded(body, n, at) < limit
 }
 
 /// The money at a place.
-fn money_said(body: &[u8], at: usize) -> i64
+fn money_decoded(body: &[u8], at: usize) -> i64
     requires { at + 8 ≤ length body.now }
-    ensures { result ≡ cast_signed w64 (said 8 at body.now) }
+    ensures { result ≡ cast_signed w64 (decoded 8 at body.now) }
 {
-    number_said(body, 8, at).cast_signed()
+    number_decoded(body, 8, at).cast_signed()
 }
 
 /// Whether money is a balance.
@@ -152,7 +152,7 @@ pub fn stands_balance(body: &[u8], at: usize) -> bool
     if !stand(body, 8, at) {
         return false;
     }
-    is_balance(money_said(body, at))
+    is_balance(money_decoded(body, at))
 }
 
 /// Whether a balance stands there that savings may open with.
@@ -163,7 +163,7 @@ pub fn stands_saving(body: &[u8], at: usize) -> bool
     if !stand(body, 8, at) {
         return false;
     }
-    is_saving(money_said(body, at))
+    is_saving(money_decoded(body, at))
 }
 
 /// Whether an amount stands there.
@@ -174,7 +174,7 @@ pub fn stands_amount(body: &[u8], at: usize) -> bool
     if !stand(body, 8, at) {
         return false;
     }
-    is_amount(money_said(body, at))
+    is_amount(money_decoded(body, at))
 }
 
 /// Whether a name may have the byte.
@@ -185,8 +185,8 @@ fn is_printable(byte: u8) -> bool
 }
 
 /// How many bytes come before the first that no name has.
-fn printable_front(bytes: &[u8]) -> usize
-    ensures front { result ≡ printable_front bytes.now }
+fn printable_prefix(bytes: &[u8]) -> usize
+    ensures prefix { result ≡ printable_prefix bytes.now }
     ensures within { result ≤ length bytes.now }
 {
     for i in 0..bytes.len() {
@@ -213,8 +213,8 @@ fn name_there(body: &[u8], own: BodyField, n: usize, at: usize) -> FieldThere
     if !stand(body, n, at) {
         return there(own, at, false);
     }
-    let front = printable_front(sliced(body, at, n));
-    there(own, at + front, front == n)
+    let prefix = printable_prefix(sliced(body, at, n));
+    there(own, at + prefix, prefix == n)
 }
 
 /// The first wrong field of a length and a name of that length, if one is wrong.
@@ -230,7 +230,7 @@ pub fn wrong_in_name(
     let length_right = stands_between(body, 1, MOST_NAME_BYTES as u64, 1, at);
     let fields = [
         there(own_length, at, length_right),
-        name_there(body, own, usize::from(byte_said(body, at)), at + 1),
+        name_there(body, own, usize::from(byte_decoded(body, at)), at + 1),
     ];
     first_wrong_there(&fields)
 }
@@ -238,12 +238,13 @@ pub fn wrong_in_name(
 /// Whether the value of the reply at this place stands there, and is 0 where the reply isn't a total.
 fn stands_reply_value(body: &[u8], at: usize) -> bool
     requires { at + 9 < 2 ^ 32 }
-    ensures { result ≡ (stand 8 (at + 1) body.now && ((said 1 at body.now == 1) || (said 8 (at + 1) body.now == 0))) }
+    ensures { result ≡ (stand 8 (at + 1) body.now
+        && ((decoded 1 at body.now == 1) || (decoded 8 (at + 1) body.now == 0))) }
 {
     if !stand(body, 8, at + 1) {
         return false;
     }
-    byte_said(body, at) == 1 || number_said(body, 8, at + 1) == 0
+    byte_decoded(body, at) == 1 || number_decoded(body, 8, at + 1) == 0
 }
 
 /// The first wrong field of a reply, if one is wrong.

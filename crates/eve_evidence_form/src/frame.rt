@@ -5,7 +5,7 @@ ghost use Rattle.eve_views.specs.Form.{IsReached, HasNoFrame, place_at};
 ghost use Rattle.eve_evidence_form.specs.Due.{TellsFrame};
 
 use crate::due::{due_kinds, frame_fault};
-use crate::walk::{head_said, reached};
+use crate::walk::{head_decoded, reached};
 use eve_evidence::{FRAME_KINDS, FrameFault, RecordsBefore};
 
 /// What stands where no frame can, which kinds of frames may stand there, and behind which access records.
@@ -27,7 +27,7 @@ pub fn no_frame_at(bytes: &[u8], at: u64) -> NoFrame
     ensures { TellsFrame bytes.now at result.wrong result.due result.records }
 {
     let at = at as usize;
-    let head = head_said(bytes);
+    let head = head_decoded(bytes);
     let so_far = reached(&head, bytes, at);
     let due = due_kinds(&head, &so_far.place);
     NoFrame {

@@ -4,7 +4,7 @@ ghost use Rattle.std.specs.Prelude.{◌≡◌, ◌≤◌, ◌+◌, IfSome, IfNon
 ghost use Rattle.std.specs.List.{AllByRecursion};
 ghost use Rattle.eve_grammar.specs.declared.head.Head.{Head as HeadValue};
 ghost use Rattle.eve_views.specs.Form.{is_sized, SaysHead};
-ghost use Rattle.eve_evidence_form.specs.Header.{said, number, head_numbers};
+ghost use Rattle.eve_evidence_form.specs.Header.{decoded, number, head_numbers};
 ghost use Rattle.eve_evidence_form.specs.Header.{LiesWithin, IsLengthFault, TellsMagic, IsFirstWrongNumber};
 
 use byteorder::{BigEndian, ByteOrder};
@@ -83,7 +83,7 @@ pub fn other_magic(bytes: &[u8]) -> Option<[u8; 6]>
 /// A number of the header that has one byte.
 fn byte_number(bytes: &[u8], field: HeadField, at: u64, least: u8, most: u8) -> HeadNumber
     requires { at + 1 ≤ length bytes.now }
-    ensures { result ≡ number field at (said 1 at bytes.now) least most }
+    ensures { result ≡ number field at (decoded 1 at bytes.now) least most }
 {
     HeadNumber {
         field,

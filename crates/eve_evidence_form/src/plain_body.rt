@@ -2,13 +2,13 @@
 
 ghost use Rattle.std.specs.Prelude.{◌≡◌, ◌+◌, ◌==◌, ◌&&◌, ◌||◌, take, drop};
 ghost use Rattle.std.specs.List.{list_all};
-ghost use Rattle.eve_evidence_form.specs.Header.{said};
+ghost use Rattle.eve_evidence_form.specs.Header.{decoded};
 ghost use Rattle.eve_evidence_form.specs.Fields.{first_wrong_field, stand};
 ghost use Rattle.eve_evidence_form.specs.PlainBody.{customer_fields, number_fields, commit_fields, vote_fields};
 ghost use Rattle.eve_evidence_form.specs.PlainBody.{sent_fields};
 
 use crate::fields::{
-    FieldThere, byte_said, first_wrong_field, first_wrong_there, stand, stands_balance,
+    FieldThere, byte_decoded, first_wrong_field, first_wrong_there, stand, stands_balance,
     stands_below, stands_between, stands_saving, there, wrong_in_name, wrong_in_reply,
 };
 use eve_evidence::BodyField;
@@ -16,12 +16,12 @@ use eve_grammar::is_zeros;
 
 /// The first wrong field of the body of a Customer frame.
 pub fn customer_fault(body: &[u8]) -> FieldThere
-    ensures { result ≡ first_wrong_field (17 + said 1 0 body.now) (customer_fields body.now) }
+    ensures { result ≡ first_wrong_field (17 + decoded 1 0 body.now) (customer_fields body.now) }
 {
     if let Some(wrong) = wrong_in_name(body, BodyField::Length, BodyField::Name, 0) {
         return wrong;
     }
-    let n = usize::from(byte_said(body, 0));
+    let n = usize::from(byte_decoded(body, 0));
     let fields = [
         there(BodyField::Saving, 1 + n, stands_saving(body, 1 + n)),
         there(BodyField::Checking, 9 + n, stands_balance(body, 9 + n)),
@@ -53,7 +53,7 @@ pub fn commit_fault(body: &[u8]) -> FieldThere
 /// Whether the token of a vote stands there, and is zeros where its choice isn't a commit.
 fn is_token_of_vote(body: &[u8]) -> bool
     ensures { result ≡ (stand 32 9 body.now
-        && ((said 1 8 body.now == 1) || list_all (λ byte. byte == 0) (take 32 (drop 9 body.now)))) }
+        && ((decoded 1 8 body.now == 1) || list_all (λ byte. byte == 0) (take 32 (drop 9 body.now)))) }
 {
     if !stand(body, 32, 9) {
         return false;

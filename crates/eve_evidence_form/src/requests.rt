@@ -6,7 +6,7 @@ ghost use Rattle.std.specs.List.{flat_map};
 ghost use Rattle.eve_grammar.specs.Trace.{Batch as BatchValue, RequestId as RequestIdValue};
 ghost use Rattle.eve_grammar.specs.Spelling.{batches_at};
 ghost use Rattle.eve_grammar.specs.declared.limits.TheConstants.{MOST_REQUESTS};
-ghost use Rattle.eve_frames.specs.Said.{batch_said};
+ghost use Rattle.eve_frames.specs.Decoded.{batch_decoded};
 ghost use Rattle.eve_views.specs.declared.fault.Code.TheVariants as code;
 ghost use Rattle.eve_evidence_form.specs.Requests.{requests_listed, NoneAsked, IsFirstAsked};
 ghost use Rattle.eve_evidence_form.specs.Requests.{NoneAgain, IsFirstAgain, IsRequestAgain};
@@ -47,11 +47,11 @@ fn first_in<'a>(
     client: u32,
     number: u64,
 ) -> Option<FirstAsked<'a>>
-    requires { length (batch_said batch.now).1.requests ≤ MOST_REQUESTS }
+    requires { length (batch_decoded batch.now).1.requests ≤ MOST_REQUESTS }
     ensures first { IfSome result (λ f. IsFirstAsked (client, number)
-        (take count (requests_listed (batch.now.offset, batch_said batch.now))) f.request f.at) }
+        (take count (requests_listed (batch.now.offset, batch_decoded batch.now))) f.request f.at) }
     ensures none { IfNone result (NoneAsked (client, number)
-        (take count (requests_listed (batch.now.offset, batch_said batch.now)))) }
+        (take count (requests_listed (batch.now.offset, batch_decoded batch.now)))) }
 {
     let mut index: u16 = 0;
     for asked in batch.requests() {
@@ -94,7 +94,7 @@ fn first_before<'a>(trace: &Trace<'a>, n: u32, client: u32, number: u64) -> Opti
 /// The ids of a batch's requests.
 fn ids_of(alloc: Global, batch: &BatchView<'_>) -> Result<BTreeSet<RequestId>, AllocError>
     ensures { IfOk result (λ ids. (id : RequestIdValue) → IsFalse (is_in_set ids id)
-        → NoneAsked id (requests_listed (batch.now.offset, batch_said batch.now))) }
+        → NoneAsked id (requests_listed (batch.now.offset, batch_decoded batch.now))) }
 {
     let mut ids = BTreeSet::new(alloc);
     for asked in batch.requests() {
@@ -105,7 +105,7 @@ fn ids_of(alloc: Global, batch: &BatchView<'_>) -> Result<BTreeSet<RequestId>, A
 
 /// Takes the ids of a batch's requests out of the set.
 fn take_out(ids: &mut BTreeSet<RequestId>, batch: &BatchView<'_>)
-    ensures { LeavesUnasked ids.old (requests_listed (batch.now.offset, batch_said batch.now)) ids.new }
+    ensures { LeavesUnasked ids.old (requests_listed (batch.now.offset, batch_decoded batch.now)) ids.new }
 {
     for asked in batch.requests() {
         ids.remove(&(asked.client, asked.number));
@@ -132,7 +132,7 @@ fn unasked_before(
 ) -> Result<BTreeSet<RequestId>, AllocError>
     requires { n ≤ length trace.now.batches }
     ensures { IfOk result (λ ids. HasUnasked (flat_map requests_listed (take n (batches_at trace.now)))
-        (requests_listed (batch.now.offset, batch_said batch.now)) ids) }
+        (requests_listed (batch.now.offset, batch_decoded batch.now)) ids) }
 {
     let mut ids = ids_of(alloc, batch)?;
     take_out_before(&mut ids, trace, n);
@@ -150,13 +150,13 @@ fn earliest<'a>(
     unasked: &BTreeSet<RequestId>,
 ) -> Option<FirstAsked<'a>>
     requires there { n ≤ length trace.now.batches }
-    requires few { length (batch_said batch.now).1.requests ≤ MOST_REQUESTS }
+    requires few { length (batch_decoded batch.now).1.requests ≤ MOST_REQUESTS }
     requires unasked { IsTrue (is_in_set unasked.now id)
         ↔ NoneAsked id (flat_map requests_listed (take n (batches_at trace.now))) }
     ensures first { IfSome result (λ f. IsFirstAsked id (flat_map requests_listed (take n (batches_at trace.now))
-        ++ take count (requests_listed (batch.now.offset, batch_said batch.now))) f.request f.at) }
+        ++ take count (requests_listed (batch.now.offset, batch_decoded batch.now))) f.request f.at) }
     ensures none { IfNone result (NoneAsked id (flat_map requests_listed (take n (batches_at trace.now))
-        ++ take count (requests_listed (batch.now.offset, batch_said batch.now)))) }
+        ++ take count (requests_listed (batch.now.offset, batch_decoded batch.now)))) }
 {
     let (client, number) = id;
     if unasked.contains(&id) {
@@ -174,13 +174,13 @@ fn again_in<'a>(
     unasked: &BTreeSet<RequestId>,
 ) -> Option<AskedAgain<'a>>
     requires there { n ≤ length trace.now.batches }
-    requires few { length (batch_said batch.now).1.requests ≤ MOST_REQUESTS }
+    requires few { length (batch_decoded batch.now).1.requests ≤ MOST_REQUESTS }
     requires unasked { HasUnasked (flat_map requests_listed (take n (batches_at trace.now)))
-        (requests_listed (batch.now.offset, batch_said batch.now)) unasked.now }
+        (requests_listed (batch.now.offset, batch_decoded batch.now)) unasked.now }
     ensures again { IfSome result (λ x. IsFirstAgain (flat_map requests_listed (take n (batches_at trace.now)))
-        (requests_listed (batch.now.offset, batch_said batch.now)) x.request x.first.request x.first.at) }
+        (requests_listed (batch.now.offset, batch_decoded batch.now)) x.request x.first.request x.first.at) }
     ensures none { IfNone result (NoneAgain (flat_map requests_listed (take n (batches_at trace.now)))
-        (requests_listed (batch.now.offset, batch_said batch.now))) }
+        (requests_listed (batch.now.offset, batch_decoded batch.now))) }
 {
     let mut index: u16 = 0;
     for asked in batch.requests() {

@@ -3,14 +3,14 @@
 ghost use Rattle.std.specs.Prelude.{◌≡◌, ◌<◌, ◌≤◌, ◌+◌, ◌*◌, ◌^◌, ◌%◌, ◌==◌, ◌&&◌, if◌then◌else◌, IfNone};
 ghost use Rattle.std.specs.Prelude.{length};
 ghost use Rattle.eve_grammar.specs.declared.limits.TheConstants.{MOST_BYTES, MOST_ROWS};
-ghost use Rattle.eve_evidence_form.specs.Header.{said};
+ghost use Rattle.eve_evidence_form.specs.Header.{decoded};
 ghost use Rattle.eve_evidence_form.specs.Fields.{first_wrong_there, first_wrong_field, fields_of, stands_below};
 ghost use Rattle.eve_evidence_form.specs.Fields.{stands_balance, stands_saving};
 ghost use Rattle.eve_evidence_form.specs.RowsBody.{rises, restore_fields, rollback_fields};
 ghost use Rattle.eve_evidence_form.specs.RowsBody.{state_row_fields, transfer_fields};
 
 use crate::fields::{
-    FieldThere, first_wrong_there, number_said, stand, stands_balance, stands_below,
+    FieldThere, first_wrong_there, number_decoded, stand, stands_balance, stands_below,
     stands_between, stands_saving, there,
 };
 use byteorder::{BigEndian, ByteOrder};
@@ -26,7 +26,7 @@ fn stands_row(rows: u64, body: &[u8], i: usize, at: usize) -> bool
     if !stands_below(body, rows, 4, at) {
         return false;
     }
-    i == 0 || number_said(body, 4, at - 20) < number_said(body, 4, at)
+    i == 0 || number_decoded(body, 4, at - 20) < number_decoded(body, 4, at)
 }
 
 /// The first wrong field of the restore with this index, if one is wrong.
@@ -64,7 +64,7 @@ fn wrong_in_restores(rows: u64, body: &[u8], count: usize) -> Option<FieldThere>
 /// The first wrong field of the body of a Rollback frame, whose restores have to be of one of this many rows.
 pub fn rollback_fault(rows: u64, body: &[u8]) -> FieldThere
     requires { length body.now ≤ MOST_BYTES }
-    ensures { result ≡ first_wrong_field (12 + 20 * said 4 8 body.now) (rollback_fields rows body.now) }
+    ensures { result ≡ first_wrong_field (12 + 20 * decoded 4 8 body.now) (rollback_fields rows body.now) }
 {
     let fields = [
         there(BodyField::To, 0, stand(body, 4, 0)),

@@ -7,8 +7,8 @@ ghost use Rattle.eve_grammar.specs.Limits.{FitsAt};
 ghost use Rattle.eve_grammar.specs.Spelling.{frame_text};
 ghost use Rattle.eve_grammar.specs.declared.head.Head.{Head as HeadValue};
 ghost use Rattle.eve_views.specs.Form.{IsReached, SaysHead, place_at};
-ghost use Rattle.eve_views.specs.Places.{accesses_in, place_after};
-ghost use Rattle.eve_evidence_form.specs.Walk.{BeginsWith};
+ghost use Rattle.eve_views.specs.inner.Places.{accesses_in, place_after};
+ghost use Rattle.eve_evidence_form.specs.inner.Walk.{BeginsWith};
 ghost use Rattle.eve_evidence_form.specs.Records.{TellsRecords, records_after};
 
 use byteorder::{BigEndian, ByteOrder};
@@ -25,7 +25,7 @@ pub struct PlaceReached {
 }
 
 /// The head that a header says.
-pub fn head_said(bytes: &[u8]) -> Head
+pub fn head_decoded(bytes: &[u8]) -> Head
     requires long { 24 ≤ length bytes.now }
     requires says { (h : HeadValue) × SaysHead bytes.now h }
     ensures { (h : HeadValue) → SaysHead bytes.now h → result ≡ h }
@@ -37,7 +37,7 @@ pub fn head_said(bytes: &[u8]) -> Head
 }
 
 /// The kind of the frame with which the bytes begin.
-fn kind_in_front(bytes: &[u8]) -> FrameKind
+fn kind_in_prefix(bytes: &[u8]) -> FrameKind
     requires { (f : Frame) × BeginsWith bytes.now f }
     ensures { (f : Frame) → BeginsWith bytes.now f → kind_byte result ≡ kind_of f }
 {
@@ -48,7 +48,7 @@ fn kind_in_front(bytes: &[u8]) -> FrameKind
 }
 
 /// How many bytes the frame has with which the bytes begin.
-fn len_in_front(bytes: &[u8]) -> usize
+fn len_in_prefix(bytes: &[u8]) -> usize
     requires { (f : Frame) × BeginsWith bytes.now f }
     ensures { (f : Frame) → BeginsWith bytes.now f → result ≡ length (frame_text f) }
 {
@@ -56,7 +56,7 @@ fn len_in_front(bytes: &[u8]) -> usize
 }
 
 /// How many access frames have to follow the frame of this kind with which the bytes begin.
-fn accesses_in_front(bytes: &[u8], kind: FrameKind) -> usize
+fn accesses_in_prefix(bytes: &[u8], kind: FrameKind) -> usize
     requires { (f : Frame) × BeginsWith bytes.now f × (kind_byte kind ≡ kind_of f) }
     ensures { (f : Frame) → BeginsWith bytes.now f → kind_byte kind ≡ kind_of f → result ≡ accesses_in f }
 {
@@ -136,8 +136,8 @@ fn step(head: &Head, so_far: PlaceReached, bytes: &[u8], at: usize) -> PlaceReac
     ensures records { (f : Frame) → BeginsWith bytes.now f
         → result.records ≡ records_after so_far.records (kind_of f) at (accesses_in f) }
 {
-    let kind = kind_in_front(bytes);
-    let accesses = accesses_in_front(bytes, kind);
+    let kind = kind_in_prefix(bytes);
+    let accesses = accesses_in_prefix(bytes, kind);
     PlaceReached {
         place: pass(head, so_far.place, kind, accesses),
         records: note(so_far.records, kind, at, accesses),
@@ -150,7 +150,7 @@ fn step(head: &Head, so_far: PlaceReached, bytes: &[u8], at: usize) -> PlaceReac
 pub fn reached(head: &Head, bytes: &[u8], at: usize) -> PlaceReached
     requires { (r : IsReached bytes.now at) × (r.head ≡ head.now) }
     ensures place { (r : IsReached bytes.now at) → r.head ≡ head.now → result.place ≡ place_at r }
-    ensures records { (r : IsReached bytes.now at) → r.head ≡ head.now → TellsRecords r.front result.records }
+    ensures records { (r : IsReached bytes.now at) → r.head ≡ head.now → TellsRecords r.prefix result.records }
 {
     let mut so_far = PlaceReached {
         place: Place {
@@ -168,7 +168,7 @@ pub fn reached(head: &Head, bytes: &[u8], at: usize) -> PlaceReached
     'frames: while next < at {
         let frame = &bytes[next..];
         so_far = step(head, so_far, frame, next);
-        next += len_in_front(frame);
+        next += len_in_prefix(frame);
     }
     so_far
 }

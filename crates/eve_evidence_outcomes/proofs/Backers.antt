@@ -10,7 +10,7 @@ use Rattle.eve_grammar.specs.Frames.{OfVerifier, OfVote}
 use Rattle.eve_grammar.specs.Spelling.{frame_text, verifier_start, votes_at, votes_of}
 use Rattle.eve_votes.specs.Votes.{same_choice, is_vote_on, is_only, backers}
 use Rattle.eve_votes.proofs.Places.{located_values}
-use Rattle.eve_votes.proofs.Counting.{counted}
+use Rattle.eve_votes.proofs.Backers.{counted}
 use Rattle.eve_evidence.specs.declared.evidence.VerifierVote.{VerifierVote}
 use Rattle.eve_evidence.specs.declared.evidence.VerifierVote.TheVariants.{For, Otherwise, NoVote}
 use Rattle.eve_evidence_outcomes.specs.Polls.{votes_on, vote_told, chosen, only_commit, IsSomeCount, IsMost}

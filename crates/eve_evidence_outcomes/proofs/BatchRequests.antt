@@ -12,10 +12,10 @@ use Rattle.eve_grammar.specs.Spelling.{frame_text, batches_at, sent_at, sent_sta
 use Rattle.eve_grammar.specs.Limits.{is_batch, HasLimits}
 use Rattle.eve_grammar.proofs.Lists.{all-slice_get, drop_here, same_first, same_others}
 use Rattle.eve_views.specs.Form.{SomePlace}
-use Rattle.eve_views.proofs.Locating.{located_get}
+use Rattle.eve_views.proofs.FrameOffsets.{located_get}
 use Rattle.eve_votes.proofs.Places.{get_place}
 use Rattle.eve_history.specs.Section.{batch_at}
-use Rattle.eve_history.proofs.Finding.{named_batch}
+use Rattle.eve_history.proofs.Lookups.{named_batch}
 use Rattle.eve_evidence.specs.declared.evidence.ToldRequest.{ToldRequest}
 use Rattle.eve_evidence.specs.Told.{IsToldRequest}
 use Rattle.eve_evidence.proofs.Lists.{all_more}

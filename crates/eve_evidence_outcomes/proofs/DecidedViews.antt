@@ -9,7 +9,7 @@ use Rattle.eve_grammar.specs.Frames.{batches_of}
 use Rattle.eve_grammar.specs.Spelling.{batch_text, batches_at, batches_start}
 use Rattle.eve_grammar.proofs.Numbered.{numbered_get}
 use Rattle.eve_views.specs.Form.{SomePlace}
-use Rattle.eve_views.proofs.Locating.{located_get}
+use Rattle.eve_views.proofs.FrameOffsets.{located_get}
 use Rattle.eve_votes.proofs.Places.{get_place}
 use Rattle.eve_votes.specs.Votes.{IsDecided}
 use Rattle.eve_votes.specs.Faults.{HasTwoDecisions}

@@ -7,21 +7,21 @@ use Rattle.std.proofs.lemmas.Bool.{cases_lt}
 use Rattle.std.proofs.lemmas.Option.{same_Some}
 use Rattle.eve_smallbank.specs.declared.request.Reply.{Reply}
 use Rattle.eve_grammar.specs.Trace.{Attempt, Trace}
-use Rattle.eve_frames.specs.Said.{attempt_said}
+use Rattle.eve_frames.specs.Decoded.{attempt_decoded}
 use Rattle.eve_frames.specs.declared.attempt.AttemptView.{AttemptView}
 use Rattle.eve_frames.proofs.AttemptPlaces.{attempt_few, attempt_even}
 use Rattle.eve_views.specs.declared.fault.Code.TheVariants as code
 use Rattle.eve_history.specs.Section.{Placed}
 use Rattle.eve_history.specs.SectionHistory.{committed_at}
 use Rattle.eve_chains.specs.Committed.{balances_to}
-use Rattle.eve_chains.specs.Settling.{Settling, settling}
-use Rattle.eve_chains.proofs.Linked.{none≢some}
+use Rattle.eve_chains.specs.CommittedValues.{Settling, settling}
+use Rattle.eve_chains.proofs.LinkedPaths.{none≢some}
 use Rattle.eve_agree.specs.Agreement.{first_to_commit, HaveSameOutcome, StandsInAgreement}
 use Rattle.eve_agree.proofs.ByNumber.{committed_settled}
 use Rattle.eve_evidence.specs.declared.evidence.ToldAttempt.{ToldAttempt}
 use Rattle.eve_evidence.specs.declared.evidence.OutcomeFault.{OutcomeFault}
 use Rattle.eve_evidence.specs.Told.{told_attempt}
-use Rattle.eve_evidence_outcomes.specs.Committed.{IsCommittedBy}
+use Rattle.eve_evidence_outcomes.specs.inner.Committed.{IsCommittedBy}
 use Rattle.eve_evidence_outcomes.specs.Outcome.{TellsOutcomeFault, IsOtherOutcome, HasThatOfFirst}
 use Rattle.eve_evidence_outcomes.proofs.FirstReplicas.{first_found}
 
@@ -46,7 +46,7 @@ same_next xs ys n all here i lt = elim (cases_lt i n) [
   | inr le ↦ (let same : n ≡ i = omega arith in subst (λ (k : ℕ). slice_get xs k ≡ slice_get ys k) same here)
 ]
 
-pub replies_few : (a : AttemptView) → length (attempt_said a).replies ≤ 256
+pub replies_few : (a : AttemptView) → length (attempt_decoded a).replies ≤ 256
 replies_few a =
     let even = attempt_even a.bytes.now a.whole in
     let few = attempt_few a.bytes.now a.whole in
@@ -55,8 +55,8 @@ replies_few a =
 -- ---- outcomes at their bytes
 
 replies_are : (t : Trace) (e n : ℕ) (a : AttemptView) → (own : IsCommittedBy t e n a)
-    → (attempt_said a).replies ≡ own.placed.attempt.replies
-replies_are t e n a own = ap (λ (x : Attempt). x.replies) own.said
+    → (attempt_decoded a).replies ≡ own.placed.attempt.replies
+replies_are t e n a own = ap (λ (x : Attempt). x.replies) own.decoded
 
 module _ (t : Trace) (e n place : ℕ) where
   pub none_there : committed_at t e n ≡ None → HasThatOfFirst t e place n
@@ -72,7 +72,8 @@ module _ (t : Trace) (e n place : ℕ) where
     some_first there none = first_found t n e own.placed there own.committed none
 
     module _ (f : ℕ) (b : AttemptView) (first : first_to_commit t n ≡ Some f) (its : IsCommittedBy t f n b) where
-      pub same_outcome : balances_to t e n ≡ balances_to t f n → (attempt_said a).replies ≡ (attempt_said b).replies
+      pub same_outcome : balances_to t e n ≡ balances_to t f n → (attempt_decoded a).replies
+          ≡ (attempt_decoded b).replies
           → HasThatOfFirst t e place n
       same_outcome balances replies p at offset = (
         f,
@@ -85,23 +86,24 @@ module _ (t : Trace) (e n place : ℕ) where
         },
       )
 
-      pub other_outcome : a.offset ≡ place → (attempt : ToldAttempt) → attempt ≡ told_attempt a.offset (attempt_said a)
+      pub other_outcome : a.offset ≡ place → (attempt : ToldAttempt) → attempt
+          ≡ told_attempt a.offset (attempt_decoded a)
           → (at : ℕ) → at ≡ b.offset → (wrong : OutcomeFault)
-          → TellsOutcomeFault t e f n (attempt_said a).replies (attempt_said b).replies wrong
+          → TellsOutcomeFault t e f n (attempt_decoded a).replies (attempt_decoded b).replies wrong
           → IsOtherOutcome t e place attempt f at wrong
       other_outcome here attempt is at at_is wrong tells = record {
         n = n;
         placed = own.placed;
         committed = own.committed;
         place_is = sym own.offset_is ∙ here;
-        attempt_is = is ∙ (λ i. told_attempt (own.offset_is i) (own.said i));
+        attempt_is = is ∙ (λ i. told_attempt (own.offset_is i) (own.decoded i));
         first_is = first;
         its = its.placed;
         its_committed = its.committed;
         at_is = at_is ∙ its.offset_is;
         wrong_is = subst (λ (xs : List Reply). TellsOutcomeFault t e f n xs its.placed.attempt.replies wrong)
             (replies_are t e n a own)
-            (subst (λ (xs : List Reply). TellsOutcomeFault t e f n (attempt_said a).replies xs wrong)
+            (subst (λ (xs : List Reply). TellsOutcomeFault t e f n (attempt_decoded a).replies xs wrong)
             (replies_are t f n b its) tells);
       }
 

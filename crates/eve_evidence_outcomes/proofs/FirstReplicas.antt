@@ -11,14 +11,14 @@ use Rattle.std.proofs.lemmas.Option.{same_Some, slice_get-map, slice_get_within,
 use Rattle.eve_grammar.specs.Trace.{Customer, Trace}
 use Rattle.eve_grammar.specs.Spelling.{customers_at, customer_text}
 use Rattle.eve_grammar.specs.declared.head.TheConstants.{HEADER_LEN}
-use Rattle.eve_views.proofs.Locating.{located_get}
+use Rattle.eve_views.proofs.FrameOffsets.{located_get}
 use Rattle.eve_grammar.proofs.Numbered.{numbered_at}
 use Rattle.eve_history.specs.Section.{Placed}
-use Rattle.eve_chains.proofs.Linked.{none≢some}
+use Rattle.eve_chains.proofs.LinkedPaths.{none≢some}
 use Rattle.eve_history.specs.SectionHistory.{SectionHistory, section_history, section_histories, committed_at, names_of}
-use Rattle.eve_history.proofs.Rights.{as_many_told, section_history_at}
+use Rattle.eve_history.proofs.RightSections.{as_many_told, section_history_at}
 use Rattle.eve_chains.specs.Committed.{first_rows, balances_to, values_to}
-use Rattle.eve_chains.specs.Settling.{Settling, settling, settlings}
+use Rattle.eve_chains.specs.CommittedValues.{Settling, settling, settlings}
 use Rattle.eve_agree.specs.Agreement.{first_to_commit}
 use Rattle.eve_evidence.specs.Told.{row_name}
 

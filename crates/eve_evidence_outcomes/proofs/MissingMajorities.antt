@@ -6,20 +6,20 @@ use Rattle.std.specs.Prelude.{IsTrue}
 use Rattle.std.specs.List.{AllByRecursion}
 use Rattle.std.proofs.lemmas.Bool.{and_parts, eqb-true, ltb-true}
 use Rattle.eve_grammar.specs.Trace.{Transfer, Step, Attempts, Commits, RollsBack}
-use Rattle.eve_grammar.specs.Trace.{TakesOver, Trace}
+use Rattle.eve_grammar.specs.Trace.{Transfers, Trace}
 use Rattle.eve_grammar.specs.Limits.{HasLimits}
 use Rattle.eve_grammar.specs.declared.limits.TheConstants.{MOST_BATCHES}
 use Rattle.eve_grammar.specs.Spelling.{steps_at}
 use Rattle.eve_grammar.proofs.FrameLaws.{few_batches}
 use Rattle.eve_views.specs.declared.fault.Code.{Code}
 use Rattle.eve_views.specs.declared.fault.Code.TheVariants as code
-use Rattle.eve_views.specs.declared.steps.Step as met
+use Rattle.eve_views.specs.declared.steps.Step as step_read
 use Rattle.eve_views.specs.Form.{SomePlace}
 use Rattle.eve_views.specs.StepKinds.{IsStep}
 use Rattle.eve_history.specs.Section.{SectionState, start, next, are_right, is_right}
 use Rattle.eve_history.specs.SectionHistory.{IsRightSection}
 use Rattle.eve_history.proofs.Places.{place_cases, no_place}
-use Rattle.eve_agree.specs.Unbacked.{HasRoom}
+use Rattle.eve_agree.specs.inner.Unbacked.{HasRoom}
 use Rattle.eve_agree.specs.Majority.{SomeDecided, StandsInMajorities}
 use Rattle.eve_evidence_outcomes.specs.Majority.{LacksMajority}
 
@@ -45,16 +45,16 @@ room_along t s ((at, RollsBack r) ∷ steps) few right =
           (ltb-true s.last (length t.batches) view.0) few (eqb-true r.view (s.view + 1) view.1),
       room_along t (next s (at, RollsBack r)) steps few parts.1,
     )
-room_along t s ((at, TakesOver x) ∷ steps) few right =
-    (tt, room_along t (next s (at, TakesOver x)) steps few (and_parts (is_right t s (TakesOver x)) _ right).1)
+room_along t s ((at, Transfers x) ∷ steps) few right =
+    (tt, room_along t (next s (at, Transfers x)) steps few (and_parts (is_right t s (Transfers x)) _ right).1)
 
 -- ---- one step
 
--- where some commit is decided a state taken over has its majority
+-- where some commit is decided a state transferred has its majority
 pub transfer_has : (c : Code) (t : Trace) (x : Transfer) (seq view : ℕ) → c ≡ code.TransferNoMajority → seq ≡ x.seq
-    → view ≡ x.view → SomeDecided t seq view → ¬ LacksMajority c t (TakesOver x)
+    → view ≡ x.view → SomeDecided t seq view → ¬ LacksMajority c t (Transfers x)
 transfer_has c t x seq view is one two decided lacks =
-    (subst (λ (k : Code). LacksMajority k t (TakesOver x)) is lacks)
+    (subst (λ (k : Code). LacksMajority k t (Transfers x)) is lacks)
     (subst (λ (w : ℕ). SomeDecided t x.seq w) two (subst (λ (n : ℕ). SomeDecided t n view) one decided))
 
 -- ---- along the section
@@ -63,13 +63,13 @@ abbrev pub LacksHere : Code → Trace → ℕ → ℕ × Step → Type 0
 LacksHere c t place step = (step.0 ≡ place) × LacksMajority c t step.1
 
 -- the step that was met has no such fault at this byte
-abbrev pub AtNone : Code → Trace → ℕ → met.Step → Type 0
+abbrev pub AtNone : Code → Trace → ℕ → step_read.Step → Type 0
 AtNone c t place step = (is : ℕ × Step) → IsStep step is → is.0 ≡ place → ¬ LacksMajority c t is.1
 
 -- These steps are still to come, and the fault stands at one of them.
 pub record Ahead (c : Code) (t : Trace) (e place : ℕ) (rest : List (ℕ × Step)) : Type 0 where
-  pub front : List (ℕ × Step)
-  pub split : steps_at t e ≡ front ++ rest
+  pub prefix : List (ℕ × Step)
+  pub split : steps_at t e ≡ prefix ++ rest
   pub room : AllByRecursion (λ x. HasRoom x.1) rest
   pub stands : SomePlace rest (λ _ step. LacksHere c t place step)
 
@@ -83,7 +83,7 @@ stands_lacking _ t e place stands = absurd stands
 pub all_ahead : (c : Code) (t : Trace) (e place : ℕ) → HasLimits t → IsRightSection t e → StandsInMajorities c t e place
     → Ahead c t e place (steps_at t e)
 all_ahead c t e place limits right stands = record {
-  front = [];
+  prefix = [];
   split = refl;
   room = room_along t start (steps_at t e) (few_batches t limits) right;
   stands = stands_lacking c t e place stands;
@@ -96,8 +96,8 @@ module _ (c : Code) (t : Trace) (e place : ℕ) where
   module _ (step : ℕ × Step) (rest : List (ℕ × Step)) (ahead : Ahead c t e place (step ∷ rest)) where
     pub goes_on : (step.0 ≡ place → ¬ LacksMajority c t step.1) → Ahead c t e place rest
     goes_on not_here = record {
-      front = ahead.front ++ step ∷ [];
-      split = ahead.split ∙ sym (append_assoc ahead.front (step ∷ []) rest);
+      prefix = ahead.prefix ++ step ∷ [];
+      split = ahead.split ∙ sym (append_assoc ahead.prefix (step ∷ []) rest);
       room = ahead.room.1;
       stands = elim (place_cases (λ _ x. LacksHere c t place x) step rest ahead.stands) [
         | inl here ↦ absurd (not_here here.0 here.1)

@@ -5,7 +5,7 @@ use Rattle.std.proofs.Common.{◌∙◌, arith, zero, suc, [], ◌∷◌}
 use Rattle.std.specs.List.{sum_by}
 use Rattle.std.proofs.lemmas.List.Sums.{sum_by_more}
 use Rattle.std.proofs.lemmas.Option.{slice_get_within, get_or_from_slice_get}
-use Rattle.eve_frames.specs.Said.{batch_said}
+use Rattle.eve_frames.specs.Decoded.{batch_decoded}
 use Rattle.eve_evidence_outcomes.specs.Places.{HoldsEach}
 use Rattle.eve_frames.specs.declared.batch.BatchView.{BatchView}
 use Rattle.eve_frames.proofs.BatchPlaces.{batch_few, batch_total}
@@ -20,7 +20,7 @@ pub count_more : {A : Type 0} (p : A → Bool) (xs : List A) (i : ℕ) (x : A) �
     → count_by p (take i xs) + cond (p x) 1 0 ≡ count_by p (take (i + 1) xs)
 count_more p xs i x got = sum_more (λ y. cond (p y) 1 0) xs i x got
 
-pub requests_few : (b : BatchView) → length (batch_said b).1.requests ≤ 256
+pub requests_few : (b : BatchView) → length (batch_decoded b).1.requests ≤ 256
 requests_few b =
     let few = batch_few b.bytes.now b.whole in
     let total = batch_total b.bytes.now b.whole in

@@ -1,11 +1,12 @@
 -- Balances and tokens of a replica's committed batches.
-use Rattle.std.proofs.Common.{◌≡◌, ◌≢◌, ℕ, zero, suc, ℤ, ◌+◌, ◌*◌, ◌^◌, ◌<◌, ◌≤◌, List, length, Some, sym, ap, subst, ◌∙◌, arith}
+use Rattle.std.proofs.Common.{◌≡◌, ◌≢◌, ℕ, zero, suc, ℤ, ◌+◌, ◌*◌, ◌^◌, ◌<◌, ◌≤◌, List, length, Some, sym, ap, subst}
+use Rattle.std.proofs.Common.{◌∙◌, arith}
 use Rattle.std.specs.declared.result.Result.{Result}
 use Rattle.std.specs.declared.result.Result.TheVariants.{Ok, Err}
 use Rattle.std.specs.Prelude.{IfOk}
 use Rattle.eve_smallbank.specs.Access.{balance_of_row}
 use Rattle.eve_grammar.specs.Trace.{Attempt, Trace}
-use Rattle.eve_frames.specs.Said.{attempt_said}
+use Rattle.eve_frames.specs.Decoded.{attempt_decoded}
 use Rattle.eve_frames.specs.declared.attempt.AttemptView.{AttemptView}
 use Rattle.eve_token.specs.Token.{token_of}
 use Rattle.eve_grammar.specs.Limits.{HasLimits}
@@ -13,8 +14,8 @@ use Rattle.eve_grammar.proofs.FrameLaws.{few_batches}
 use Rattle.eve_history.specs.Section.{Placed}
 use Rattle.eve_history.specs.SectionHistory.{committed_at, IsRightSection}
 use Rattle.eve_chains.specs.Committed.{first_rows, values_to, balances_to}
-use Rattle.eve_chains.specs.Settling.{Settling, settling, values_in}
-use Rattle.eve_chains.proofs.Linked.{none≢some, linked_number, committed_number}
+use Rattle.eve_chains.specs.CommittedValues.{Settling, settling, values_in}
+use Rattle.eve_chains.proofs.LinkedPaths.{none≢some, linked_number, committed_number}
 use Rattle.eve_agree.specs.DueTokens.{due_token, StandsInTokens}
 use Rattle.eve_agree.proofs.ByNumber.{committed_settled}
 use Rattle.eve_agree.proofs.TokensInOrder.{rows_are, rows_told}
@@ -22,7 +23,7 @@ use Rattle.eve_views.specs.declared.fault.Code.TheVariants as code
 use Rattle.eve_evidence.specs.declared.evidence.ToldAttempt.{ToldAttempt}
 use Rattle.eve_evidence.specs.declared.evidence.TokenMatch.{TokenMatch}
 use Rattle.eve_evidence.specs.Told.{told_attempt}
-use Rattle.eve_evidence_outcomes.specs.Committed.{IsCommittedBy}
+use Rattle.eve_evidence_outcomes.specs.inner.Committed.{IsCommittedBy}
 use Rattle.eve_evidence_outcomes.specs.Token.{IsDueAt, IsOtherToken, TellsMatch, tokens_for}
 
 -- the balances after a number, as they were read
@@ -57,28 +58,29 @@ number_few t e (suc n) p limits right at = (
 
 -- the token of an attempt that was read is another
 pub other_token : (t : Trace) (e n place : ℕ) (a : AttemptView) (own : IsCommittedBy t e n a)
-    → own.placed.attempt.seq ≡ n → own.placed.offset ≡ place → (found : List ℕ) → found ≡ (attempt_said a).token
+    → own.placed.attempt.seq ≡ n → own.placed.offset ≡ place → (found : List ℕ) → found ≡ (attempt_decoded a).token
     → (due : List ℕ)
-    → due ≡ token_of t.head.version (attempt_said a).seq (balances_to t e n) (attempt_said a).replies → found ≢ due
-    → (what : TokenMatch) → TellsMatch (tokens_for t e n (attempt_said a)) (attempt_said a).token what
-    → (attempt : ToldAttempt) → attempt ≡ told_attempt a.offset (attempt_said a)
+    → due ≡ token_of t.head.version (attempt_decoded a).seq (balances_to t e n) (attempt_decoded a).replies → found
+    ≢ due
+    → (what : TokenMatch) → TellsMatch (tokens_for t e n (attempt_decoded a)) (attempt_decoded a).token what
+    → (attempt : ToldAttempt) → attempt ≡ told_attempt a.offset (attempt_decoded a)
     → IsOtherToken t e place attempt found due what
 other_token t e n place a own number at found found_is due due_is apart what match attempt attempt_is =
-    let found_in = found_is ∙ ap (λ (x : Attempt). x.token) own.said in
+    let found_in = found_is ∙ ap (λ (x : Attempt). x.token) own.decoded in
     record {
       n = n;
       placed = own.placed;
       committed = own.committed;
       place_is = at;
-      attempt_is = attempt_is ∙ (λ i. told_attempt (own.offset_is i) (own.said i));
+      attempt_is = attempt_is ∙ (λ i. told_attempt (own.offset_is i) (own.decoded i));
       found_is = found_in;
       due_is = due_is
-          ∙ ap (λ (x : Attempt). token_of t.head.version x.seq (balances_to t e n) x.replies) own.said
+          ∙ ap (λ (x : Attempt). token_of t.head.version x.seq (balances_to t e n) x.replies) own.decoded
           ∙ ap (λ (k : ℕ). token_of t.head.version own.placed.attempt.seq (balances_to t e k)
           own.placed.attempt.replies) (sym number);
       other = apart;
       matches_is = subst (λ (x : List ℕ). TellsMatch (tokens_for t e n own.placed.attempt) x what) (sym found_in)
-          (subst (λ (x : Attempt). TellsMatch (tokens_for t e n x) x.token what) own.said match);
+          (subst (λ (x : Attempt). TellsMatch (tokens_for t e n x) x.token what) own.decoded match);
     }
 
 -- none of the replica's attempts has another token at this byte

@@ -4,7 +4,7 @@ use Rattle.eve_smallbank.specs.declared.request.Reply.{Reply}
 use Rattle.eve_smallbank.specs.declared.request.Reply.TheVariants.{Done}
 use Rattle.eve_grammar.specs.Trace.{Attempt, Batch, RequestId, Sent, Trace}
 use Rattle.eve_grammar.specs.Spelling.{batches_at}
-use Rattle.eve_frames.specs.Said.{attempt_said}
+use Rattle.eve_frames.specs.Decoded.{attempt_decoded}
 use Rattle.eve_frames.specs.declared.attempt.AttemptView.{AttemptView}
 use Rattle.eve_history.specs.Section.{batch_at}
 use Rattle.eve_history.specs.SectionHistory.{SectionHistory, section_history, committed_at}
@@ -15,7 +15,7 @@ use Rattle.eve_evidence.specs.declared.evidence.SentFault.TheVariants.{NoRequest
 use Rattle.eve_evidence.specs.declared.evidence.ToldRequest.{ToldRequest}
 use Rattle.eve_evidence.specs.declared.evidence.ToldSent.{ToldSent}
 use Rattle.eve_evidence.specs.Told.{told_sent}
-use Rattle.eve_evidence_outcomes.specs.Committed.{IsCommittedBy}
+use Rattle.eve_evidence_outcomes.specs.inner.Committed.{IsCommittedBy}
 use Rattle.eve_evidence_outcomes.specs.Given.{TellsGiven}
 use Rattle.eve_evidence_outcomes.specs.Sent.{NoneHas, HasAt, IsFoundRequest, TellsSentIn}
 use Rattle.eve_evidence_outcomes.proofs.BatchRequests.{none_there, has_there, told_there}
@@ -56,10 +56,10 @@ module _ (t : Trace) (s : Sent) (seq : ℕ) (seq_is : seq ≡ s.seq) (d : ToldSe
       committed : committed_at t s.replica s.seq ≡ Some own.placed
       committed = sym (ap (committed_at t s.replica) seq_is) ∙ own.committed
 
-      replies : (attempt_said a).replies ≡ own.placed.attempt.replies
-      replies = ap (λ (x : Attempt). x.replies) own.said
+      replies : (attempt_decoded a).replies ≡ own.placed.attempt.replies
+      replies = ap (λ (x : Attempt). x.replies) own.decoded
 
-      pub is_replied : slice_get (attempt_said a).replies r.index ≡ Some d.reply → IsReplied t s
+      pub is_replied : slice_get (attempt_decoded a).replies r.index ≡ Some d.reply → IsReplied t s
       is_replied has = record {
         placed = own.placed;
         index = r.index;
@@ -71,8 +71,8 @@ module _ (t : Trace) (s : Sent) (seq : ℕ) (seq_is : seq ≡ s.seq) (d : ToldSe
 
       pub other_reply : (h : SectionHistory) → h ≡ section_history t s.replica → (given : Option GivenBy)
           → TellsGiven h seq r.index d.reply given → (due : Reply) → r.batch ≡ seq
-          → due ≡ get_or (attempt_said a).replies r.index Done
-          → (slice_get (attempt_said a).replies r.index ≡ Some d.reply → ⊥)
+          → due ≡ get_or (attempt_decoded a).replies r.index Done
+          → (slice_get (attempt_decoded a).replies r.index ≡ Some d.reply → ⊥)
           → TellsSentIn t s (shown.Reply d (Another r due) given)
       other_reply h own_history given by due batch due_is not = (
         told,

@@ -27,7 +27,7 @@ fate_count fate h = counted (count_by (is_fate fate) h.fates)
 -- What a replica did, in numbers.
 pub record IsReplicaCounts (h : SectionHistory) (c : ReplicaCounts) : Type 0 where
   pub committed_is : c.committed ≡ fate_count Committed h
-  pub taken_over_is : c.taken_over ≡ counted (length h.transfers)
+  pub transferred_is : c.transferred ≡ counted (length h.transfers)
   pub discarded_is : c.discarded ≡ fate_count Discarded h
   pub open_is : c.open ≡ fate_count Open h
   pub rollbacks_is : c.rollbacks ≡ counted (length h.rollbacks)

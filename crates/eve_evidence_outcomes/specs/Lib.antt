@@ -3,7 +3,6 @@ pub mod Polls
 pub mod SecondVote
 pub mod Majority
 pub mod Decisions
-pub mod Committed
 pub mod Given
 pub mod Sent
 pub mod Token
@@ -11,3 +10,4 @@ pub mod Outcomes
 pub mod Outcome
 pub mod Counts
 pub mod Restore
+pub mod inner

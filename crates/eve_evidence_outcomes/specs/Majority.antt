@@ -1,4 +1,5 @@
--- What shows that a commit, a rollback or a state taken over has no majority. docs/MODEL.md, "Majority" and "Evidence".
+-- What shows that a commit, a rollback or a state transferred has no majority. docs/MODEL.md, "Majority" and
+-- "Evidence".
 use Rattle.std.specs.Prelude.{◌≡◌, ℕ, ◌+◌, ◌-◌}
 use Rattle.eve_grammar.specs.Trace.{Choice, ForCommit, ForRollback, Step, Trace}
 use Rattle.eve_grammar.specs.Spelling.{steps_at}
@@ -6,7 +7,7 @@ use Rattle.eve_views.specs.declared.fault.Code.{Code}
 use Rattle.eve_views.specs.declared.fault.Code.TheVariants as code
 use Rattle.eve_views.specs.Form.{SomePlace}
 use Rattle.eve_views.specs.StepKinds.{IsStep}
-use Rattle.eve_views.specs.declared.steps.Step as met
+use Rattle.eve_views.specs.declared.steps.Step as step_read
 use Rattle.eve_history.specs.Structure.{OfCommit, OfRollback, OfTransfer}
 use Rattle.eve_votes.specs.Votes.{IsDecided, IsRolledBack}
 use Rattle.eve_agree.specs.Majority.{SomeDecided}
@@ -49,9 +50,9 @@ TellsMajority c t e place evidence =
 -- ---- of a step that was met
 
 -- the evidence has who voted for what it does
-abbrev pub TellsVotersOf : Code → Trace → met.Step → Evidence → Type 0
+abbrev pub TellsVotersOf : Code → Trace → step_read.Step → Evidence → Type 0
 TellsVotersOf c t step evidence = (is : ℕ × Step) → IsStep step is → TellsVoters c t is.0 is.1 evidence
 
 -- it has no such fault
-abbrev pub LacksNone : Code → Trace → met.Step → Type 0
+abbrev pub LacksNone : Code → Trace → step_read.Step → Type 0
 LacksNone c t step = (is : ℕ × Step) → IsStep step is → ¬ LacksMajority c t is.1

@@ -1,8 +1,8 @@
--- What shows that a state taken over isn't the one that was committed. docs/MODEL.md, "Agreement" and "Evidence".
+-- What shows that a state transferred isn't the one that was committed. docs/MODEL.md, "Agreement" and "Evidence".
 use Rattle.std.specs.Prelude.{◌≡◌, ◌≢◌, ℕ, ℤ, List, take, slice_get, Some, None}
 use Rattle.eve_grammar.specs.Trace.{Transfer, Trace}
 use Rattle.eve_history.specs.Section.{Placed, ByTransfer}
-use Rattle.eve_history.specs.SectionHistory.{committed_at, landing_at}
+use Rattle.eve_history.specs.SectionHistory.{committed_at, how_reached_at}
 use Rattle.eve_chains.specs.Committed.{balances_to}
 use Rattle.eve_agree.specs.Agreement.{first_to_commit, HasBalancesOfFirst}
 use Rattle.eve_evidence.specs.declared.evidence.ToldRow.{ToldRow}
@@ -40,14 +40,14 @@ TellsStateIn t e n at x (shown.TransferState state wrong) = (state ≡ told_tran
 TellsStateIn t e n at x _ = ⊥
 
 -- replica e reached the number by a state whose frame stands at this byte
-pub record IsTakenAt (t : Trace) (e place n : ℕ) : Type 0 where
+pub record IsTransferredAt (t : Trace) (e place n : ℕ) : Type 0 where
   pub state : Transfer
-  pub is : landing_at t e n ≡ Some (ByTransfer place state)
+  pub is : how_reached_at t e n ≡ Some (ByTransfer place state)
 
--- The evidence shows that the state taken over at this byte isn't the one that was committed.
+-- The evidence shows that the state transferred at this byte isn't the one that was committed.
 abbrev pub TellsState : Trace → ℕ → ℕ → Evidence → Type 0
 TellsState t e place evidence =
-    (n : ℕ) × (taken : IsTakenAt t e place n) × TellsStateIn t e n place taken.state evidence
+    (n : ℕ) × (transferred : IsTransferredAt t e place n) × TellsStateIn t e n place transferred.state evidence
 
 -- a row that was found apart
 abbrev pub IsRowFoundApart : Trace → List ℤ → List ℤ → RowApart → Type 0
@@ -61,4 +61,4 @@ pub record HasThoseOfFirst (t : Trace) (e n : ℕ) : Type 0 where
 
 -- the state by which replica e reached the number, if its frame stands at this byte, is the one that was committed
 abbrev pub IsRightAt : Trace → ℕ → ℕ → ℕ → Type 0
-IsRightAt t e place n = (x : Transfer) → landing_at t e n ≡ Some (ByTransfer place x) → HasBalancesOfFirst t n x
+IsRightAt t e place n = (x : Transfer) → how_reached_at t e n ≡ Some (ByTransfer place x) → HasBalancesOfFirst t n x

@@ -11,7 +11,7 @@ use Rattle.eve_evidence.specs.declared.evidence.TransferPoll.{TransferPoll}
 use Rattle.eve_evidence.specs.declared.evidence.VerifierVote.{VerifierVote}
 use Rattle.eve_evidence.specs.declared.evidence.VerifierVote.TheVariants.{For, Otherwise, NoVote}
 use Rattle.eve_evidence.specs.declared.evidence.VerifierChoice.{VerifierChoice}
-use Rattle.eve_evidence.specs.declared.evidence.VerifierChoice.TheVariants as said
+use Rattle.eve_evidence.specs.declared.evidence.VerifierChoice.TheVariants as voted
 use Rattle.eve_evidence_outcomes.specs.Places.{HoldsEach}
 
 -- of these votes those on the batch in the view
@@ -46,9 +46,9 @@ pub record IsPoll (t : Trace) (n view : ℕ) (choice : Choice) (p : Poll) : Type
 
 -- what a verifier with these votes on a batch in a view said first
 abbrev pub TellsChoice : List (ℕ × Vote) → VerifierChoice → Type 0
-TellsChoice [] said.NoVote = ⊤
-TellsChoice (w ∷ ws) (said.Commit token at) = (w.1.choice ≡ ForCommit token.now) × (w.0 ≡ at)
-TellsChoice (w ∷ ws) (said.Rollback at) = (w.1.choice ≡ ForRollback) × (w.0 ≡ at)
+TellsChoice [] voted.NoVote = ⊤
+TellsChoice (w ∷ ws) (voted.Commit token at) = (w.1.choice ≡ ForCommit token.now) × (w.0 ≡ at)
+TellsChoice (w ∷ ws) (voted.Rollback at) = (w.1.choice ≡ ForRollback) × (w.0 ≡ at)
 TellsChoice _ _ = ⊥
 
 -- what each verifier said, in their order

@@ -6,7 +6,7 @@ use Rattle.eve_grammar.specs.Spelling.{steps_at}
 use Rattle.eve_views.specs.Form.{SomePlace}
 use Rattle.eve_history.specs.Section.{SectionState, start, state_after}
 use Rattle.eve_history.specs.Structure.{OfRollback}
-use Rattle.eve_agree.specs.Marking.{Marking}
+use Rattle.eve_agree.specs.Marks.{Marking}
 use Rattle.eve_agree.specs.Restores.{restores_by_row, due_by_row}
 use Rattle.eve_evidence.specs.declared.evidence.ToldState.{ToldState}
 use Rattle.eve_evidence.specs.declared.evidence.RestoreFault.{RestoreFault}

@@ -2,7 +2,7 @@
 
 ghost use Rattle.std.specs.Prelude.{◌≡◌, ◌≤◌, IfOk, length};
 ghost use Rattle.eve_chains.specs.Committed.{balances_to};
-ghost use Rattle.eve_agree.specs.Stretches.{AreOfSection};
+ghost use Rattle.eve_agree.specs.inner.Stretches.{AreOfSection};
 
 use eve_accounts::Balances;
 use eve_chains::Settled;

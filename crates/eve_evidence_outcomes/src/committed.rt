@@ -3,7 +3,7 @@
 ghost use Rattle.std.specs.Prelude.{◌≡◌, ℕ, IfSome, IfNone, None};
 ghost use Rattle.eve_grammar.specs.Trace.{Trace as TraceValue};
 ghost use Rattle.eve_history.specs.SectionHistory.{section_history, committed_at};
-ghost use Rattle.eve_evidence_outcomes.specs.Committed.{IsCommittedBy};
+ghost use Rattle.eve_evidence_outcomes.specs.inner.Committed.{IsCommittedBy};
 
 use eve_agree::has_committed;
 use eve_frames::AttemptView;

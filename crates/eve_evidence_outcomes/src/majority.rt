@@ -1,13 +1,13 @@
-//! The evidence of a commit, a rollback or a state taken over without a majority.
+//! The evidence of a commit, a rollback or a state transferred without a majority.
 
 ghost use Rattle.std.specs.Prelude.{◌≡◌, ◌<◌, ◌≤◌, ◌+◌, ◌-◌, ◌^◌, ℕ, IfSome, IfNone, length};
-ghost use Rattle.eve_grammar.specs.Trace.{Step as StepValue, Commits, RollsBack, TakesOver};
-ghost use Rattle.eve_frames.specs.Said.{commit_said, rollback_said, transfer_said};
+ghost use Rattle.eve_grammar.specs.Trace.{Step as StepValue, Commits, RollsBack, Transfers};
+ghost use Rattle.eve_frames.specs.Decoded.{commit_decoded, rollback_decoded, transfer_decoded};
 ghost use Rattle.eve_grammar.specs.Bodies.{borrowed_choice as choice_of};
 ghost use Rattle.eve_views.specs.StepKinds.{IsStep};
 ghost use Rattle.eve_history.specs.SectionHistory.{IsRightSection};
 ghost use Rattle.eve_votes.specs.Votes.{backers};
-ghost use Rattle.eve_agree.specs.Unbacked.{HasRoom};
+ghost use Rattle.eve_agree.specs.inner.Unbacked.{HasRoom};
 ghost use Rattle.eve_agree.specs.Majority.{StandsInMajorities, SomeDecided};
 ghost use Rattle.eve_evidence_outcomes.specs.Majority.{LacksMajority, LacksNone, TellsPoll, TellsTransferPoll};
 ghost use Rattle.eve_evidence_outcomes.specs.Majority.{TellsVoters, TellsVotersOf, TellsMajority};
@@ -69,8 +69,8 @@ fn transfer_poll<'a>(trace: &Trace<'a>, at: u64, n: u32, view: u32) -> Option<Ev
 
 /// Who voted for a commit, where that is asked for and they are no quorum.
 fn of_commit<'a>(trace: &Trace<'a>, commit: &CommitView<'a>, code: Code) -> Option<Evidence<'a>>
-    ensures told { IfSome result (TellsVoters code trace.now commit.now.offset (Commits (commit_said commit.now))) }
-    ensures none { IfNone result (¬ LacksMajority code trace.now (Commits (commit_said commit.now))) }
+    ensures told { IfSome result (TellsVoters code trace.now commit.now.offset (Commits (commit_decoded commit.now))) }
+    ensures none { IfNone result (¬ LacksMajority code trace.now (Commits (commit_decoded commit.now))) }
 {
     match code {
         Code::NoMajority => poll(
@@ -89,11 +89,11 @@ fn of_rollback<'a>(
     rollback: &RollbackView<'a>,
     code: Code,
 ) -> Option<Evidence<'a>>
-    requires { HasRoom (RollsBack (rollback_said rollback.now)) }
+    requires { HasRoom (RollsBack (rollback_decoded rollback.now)) }
     ensures told { IfSome result (TellsVoters code trace.now rollback.now.offset
-        (RollsBack (rollback_said rollback.now))) }
+        (RollsBack (rollback_decoded rollback.now))) }
     ensures none { IfNone result (¬ LacksMajority code trace.now
-        (RollsBack (rollback_said rollback.now))) }
+        (RollsBack (rollback_decoded rollback.now))) }
 {
     match code {
         Code::RollbackNoMajority => poll(
@@ -106,16 +106,16 @@ fn of_rollback<'a>(
     }
 }
 
-/// Who voted for the commit of a state that is taken over, where that is asked for and they are no quorum.
+/// Who voted for the commit of a state that is transferred, where that is asked for and they are no quorum.
 fn of_transfer<'a>(
     trace: &Trace<'a>,
     transfer: &TransferView<'a>,
     code: Code,
 ) -> Option<Evidence<'a>>
     ensures told { IfSome result (TellsVoters code trace.now transfer.now.offset
-        (TakesOver (transfer_said transfer.now))) }
+        (Transfers (transfer_decoded transfer.now))) }
     ensures none { IfNone result (¬ LacksMajority code trace.now
-        (TakesOver (transfer_said transfer.now))) }
+        (Transfers (transfer_decoded transfer.now))) }
 {
     match code {
         Code::TransferNoMajority => {
@@ -170,11 +170,11 @@ fn at_step<'a>(
     of_step(trace, step, code)
 }
 
-/// The evidence of a commit, a rollback or a state taken over without a majority, by the replica's number from 0 and
+/// The evidence of a commit, a rollback or a state transferred without a majority, by the replica's number from 0 and
 /// the byte of its frame: who voted for it, verifier by verifier, and how many count.
 ///
 /// docs/MODEL.md, "Majority" and "Evidence". One pass over the section up to that frame, and two over the votes. For a
-/// state taken over there is one more for each verifier that voted for a commit. It takes no memory.
+/// state transferred there is one more for each verifier that voted for a commit. It takes no memory.
 pub fn majority_evidence<'a>(trace: &Trace<'a>, e: u8, code: Code, place: u64) -> Evidence<'a>
     requires there { e < length trace.now.sections }
     requires right { IsRightSection trace.now e }

@@ -2,9 +2,9 @@
 
 ghost use Rattle.std.specs.Prelude.{◌≡◌, ◌≢◌, ◌<◌, ◌≤◌, ◌+◌, ◌-◌, ◌^◌, ◌⊎◌, IfOk, IsTrue, IsFalse, Some, length};
 ghost use Rattle.std.specs.Prelude.{slice_get};
-ghost use Rattle.eve_frames.specs.Said.{attempt_said};
+ghost use Rattle.eve_frames.specs.Decoded.{attempt_decoded};
 ghost use Rattle.eve_chains.specs.Committed.{balances_to};
-ghost use Rattle.eve_agree.specs.Stretches.{AreOfSection};
+ghost use Rattle.eve_agree.specs.inner.Stretches.{AreOfSection};
 ghost use Rattle.eve_evidence_outcomes.specs.Token.{made_tokens, ordered_replies, TellsMatch};
 
 use crate::balances::balances_to;
@@ -28,7 +28,7 @@ pub struct MadeToken {
 
 /// The replies of an attempt, in its certificate's order.
 fn ordered_replies(alloc: Global, attempt: &AttemptView<'_>) -> Result<Vec<Reply>, AllocError>
-    ensures { IfOk result (λ replies. replies.items ≡ ordered_replies (attempt_said attempt.now)) }
+    ensures { IfOk result (λ replies. replies.items ≡ ordered_replies (attempt_decoded attempt.now)) }
 {
     let count = attempt.len();
     let mut replies = Vec::with_capacity(alloc, count)?;
@@ -154,12 +154,12 @@ pub(crate) fn token_match(
     requires version { (after.old.version ≡ 1) ⊎ (after.old.version ≡ 2) }
     requires same { before.old.version ≡ after.old.version }
     requires rows { 0 < length after.old.balances }
-    requires replies { replies.now ≡ (attempt_said attempt.now).replies }
+    requires replies { replies.now ≡ (attempt_decoded attempt.now).replies }
     requires one { 1 ≤ n }
     requires few { n + 1 < 2 ^ 32 }
     ensures { IfOk result (TellsMatch (made_tokens after.old.version n before.old.balances after.old.balances
-        (attempt_said attempt.now).replies (ordered_replies (attempt_said attempt.now)))
-        (attempt_said attempt.now).token) }
+        (attempt_decoded attempt.now).replies (ordered_replies (attempt_decoded attempt.now)))
+        (attempt_decoded attempt.now).token) }
 {
     let ordered = ordered_replies(alloc, attempt)?;
     let tokens = made_tokens(before, after, n, replies, &ordered);

@@ -1,10 +1,10 @@
 //! The evidence of an attempt whose outcome isn't the one that was committed first.
 
 ghost use Rattle.std.specs.Prelude.{◌≡◌, ◌<◌, ◌≤◌, ◌↔◌, IsTrue, IfOk, IfSome, IfNone, length, slice_get};
-ghost use Rattle.eve_frames.specs.Said.{attempt_said};
+ghost use Rattle.eve_frames.specs.Decoded.{attempt_decoded};
 ghost use Rattle.eve_views.specs.declared.fault.Code.TheVariants as code;
 ghost use Rattle.eve_history.specs.SectionHistory.{section_histories};
-ghost use Rattle.eve_chains.specs.Settling.{settling, settlings};
+ghost use Rattle.eve_chains.specs.CommittedValues.{settling, settlings};
 ghost use Rattle.eve_chains.specs.Committed.{balances_to};
 ghost use Rattle.eve_agree.specs.Agreement.{StandsInAgreement};
 ghost use Rattle.eve_evidence_outcomes.specs.Outcome.{IsFirstApart, IsReplyFault, TellsOutcomeFault, TellsOutcome};
@@ -23,8 +23,8 @@ use std::alloc::{AllocError, Global};
 
 /// Whether two attempts have the same reply for the request of an index, or both have none.
 fn have_same_reply(own: &AttemptView<'_>, its: &AttemptView<'_>, index: u16) -> bool
-    ensures { IsTrue result ↔ (slice_get (attempt_said own.now).replies index
-        ≡ slice_get (attempt_said its.now).replies index) }
+    ensures { IsTrue result ↔ (slice_get (attempt_decoded own.now).replies index
+        ≡ slice_get (attempt_decoded its.now).replies index) }
 {
     if (index as usize) < own.len() {
         return has_reply(its, index, own.reply(index as usize));
@@ -34,8 +34,8 @@ fn have_same_reply(own: &AttemptView<'_>, its: &AttemptView<'_>, index: u16) -> 
 
 /// The first index for which two attempts have other replies, if there is one.
 fn first_reply_apart(own: &AttemptView<'_>, its: &AttemptView<'_>) -> Option<u16>
-    ensures apart { IfSome result (IsFirstApart (attempt_said own.now).replies (attempt_said its.now).replies) }
-    ensures none { IfNone result ((attempt_said own.now).replies ≡ (attempt_said its.now).replies) }
+    ensures apart { IfSome result (IsFirstApart (attempt_decoded own.now).replies (attempt_decoded its.now).replies) }
+    ensures none { IfNone result ((attempt_decoded own.now).replies ≡ (attempt_decoded its.now).replies) }
 {
     for index in 0..256 {
         if !have_same_reply(own, its, index) {
@@ -52,9 +52,9 @@ fn reply_apart<'a>(
     own: &AttemptView<'_>,
     its: &AttemptView<'_>,
 ) -> Option<OutcomeFault<'a>>
-    ensures apart { IfSome result (IsReplyFault trace.now n (attempt_said own.now).replies
-        (attempt_said its.now).replies) }
-    ensures none { IfNone result ((attempt_said own.now).replies ≡ (attempt_said its.now).replies) }
+    ensures apart { IfSome result (IsReplyFault trace.now n (attempt_decoded own.now).replies
+        (attempt_decoded its.now).replies) }
+    ensures none { IfNone result ((attempt_decoded own.now).replies ≡ (attempt_decoded its.now).replies) }
 {
     let Some(index) = first_reply_apart(own, its) else {
         return None;
@@ -84,10 +84,10 @@ fn outcome_fault<'a>(
     requires number { n ≤ length (settling trace.now e).numbers }
     requires its { f < length trace.now.sections }
     requires its_number { n ≤ length (settling trace.now f).numbers }
-    ensures told { IfOk result (λ x. IfSome x (TellsOutcomeFault trace.now e f n (attempt_said own.now).replies
-        (attempt_said its.now).replies)) }
+    ensures told { IfOk result (λ x. IfSome x (TellsOutcomeFault trace.now e f n (attempt_decoded own.now).replies
+        (attempt_decoded its.now).replies)) }
     ensures none { IfOk result (λ x. IfNone x ((balances_to trace.now e n ≡ balances_to trace.now f n)
-        × ((attempt_said own.now).replies ≡ (attempt_said its.now).replies))) }
+        × ((attempt_decoded own.now).replies ≡ (attempt_decoded its.now).replies))) }
 {
     match row_apart(alloc, trace, histories, settled, e, f, n) {
         Ok(Some(apart)) => Ok(Some(OutcomeFault::Row {

@@ -2,7 +2,7 @@
 
 ghost use Rattle.std.specs.Prelude.{◌≡◌, ◌<◌, IfOk, length};
 ghost use Rattle.eve_history.specs.SectionHistory.{section_history, section_histories};
-ghost use Rattle.eve_chains.specs.Settling.{settling, settlings};
+ghost use Rattle.eve_chains.specs.CommittedValues.{settling, settlings};
 
 use eve_chains::Settled;
 use eve_history::History;

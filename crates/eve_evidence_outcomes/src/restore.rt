@@ -4,7 +4,7 @@ ghost use Rattle.std.specs.Prelude.{◌≡◌, ◌≢◌, IfOk};
 ghost use Rattle.eve_views.specs.declared.fault.Code.TheVariants as code;
 ghost use Rattle.eve_history.specs.SectionHistory.{section_history};
 ghost use Rattle.eve_chains.specs.Faults.{HasNoFault};
-ghost use Rattle.eve_agree.specs.Marking.{Marking};
+ghost use Rattle.eve_agree.specs.Marks.{Marking};
 ghost use Rattle.eve_agree.specs.Restores.{StandsInRestores};
 ghost use Rattle.eve_evidence.specs.Told.{IsToldRow};
 ghost use Rattle.eve_evidence_outcomes.specs.Restore.{AreSameBefore, TellsRow, TellsRestore};

@@ -3,7 +3,7 @@
 ghost use Rattle.std.specs.Prelude.{◌≡◌, ◌<◌, ◌≤◌, ℕ, IfSome, IfNone, IsFalse, length, take, slice_get, Some};
 ghost use Rattle.std.specs.List.{AllByRecursion};
 ghost use Rattle.eve_grammar.specs.Trace.{Vote as VoteValue};
-ghost use Rattle.eve_frames.specs.Said.{vote_said};
+ghost use Rattle.eve_frames.specs.Decoded.{vote_decoded};
 ghost use Rattle.eve_views.specs.Form.{SomePlace};
 ghost use Rattle.eve_votes.specs.Votes.{is_vote_on};
 ghost use Rattle.eve_votes.specs.Faults.{StandsInVotes, IsFurther};
@@ -18,7 +18,7 @@ use eve_views::{Trace, Votes};
 /// The first of a verifier's first votes that is on a batch in a view, if there is one.
 fn first_on<'a>(votes: &Votes<'_, 'a>, count: usize, n: u32, view: u32) -> Option<VoteView<'a>>
     requires { count ≤ length votes.now }
-    ensures first { IfSome result (λ w. IsFirstOn (take count votes.now) n view (w.offset, vote_said w)) }
+    ensures first { IfSome result (λ w. IsFirstOn (take count votes.now) n view (w.offset, vote_decoded w)) }
     ensures none { IfNone result (AllByRecursion (λ z. IsFalse (is_vote_on n view z.1)) (take count votes.now)) }
 {
     for i in 0..count {

@@ -4,7 +4,7 @@ ghost use Rattle.std.specs.Prelude.{◌≡◌, ◌<◌, ◌≤◌, ◌↔◌, �
 ghost use Rattle.eve_grammar.specs.Limits.{is_batch};
 ghost use Rattle.eve_grammar.specs.Trace.{Sent as SentValue};
 ghost use Rattle.eve_grammar.specs.Spelling.{sent_at};
-ghost use Rattle.eve_frames.specs.Said.{attempt_said, batch_said, sent_said};
+ghost use Rattle.eve_frames.specs.Decoded.{attempt_decoded, batch_decoded, sent_decoded};
 ghost use Rattle.eve_views.specs.declared.fault.Code.TheVariants as code;
 ghost use Rattle.eve_history.specs.SectionHistory.{section_history, section_histories};
 ghost use Rattle.eve_agree.specs.SentReplies.{IsReplied, StandsInReplies};
@@ -21,7 +21,7 @@ use eve_views::Trace;
 
 /// A reply that was sent, by its own frame.
 fn told_sent(sent: &SentView<'_>) -> ToldSent
-    ensures { result ≡ told_sent (sent_said sent.now) }
+    ensures { result ≡ told_sent (sent_decoded sent.now) }
 {
     ToldSent {
         client: sent.client(),
@@ -39,10 +39,10 @@ fn request_with<'a>(
     client: u32,
     number: u64,
 ) -> Option<ToldRequest<'a>>
-    requires { IsTrue (is_batch (batch_said batch.now).1) }
-    ensures found { IfSome result (IsFoundRequest (client, number) (batch_said batch.now).1.requests) }
+    requires { IsTrue (is_batch (batch_decoded batch.now).1) }
+    ensures found { IfSome result (IsFoundRequest (client, number) (batch_decoded batch.now).1.requests) }
     ensures batch { IfSome result (λ r. r.batch ≡ seq) }
-    ensures none { IfNone result (NoneHas (client, number) (batch_said batch.now).1.requests) }
+    ensures none { IfNone result (NoneHas (client, number) (batch_decoded batch.now).1.requests) }
 {
     let mut index: u16 = 0;
     for asked in batch.requests() {
@@ -60,7 +60,7 @@ fn request_with<'a>(
 
 /// Whether an attempt has this reply for the request of an index.
 pub(crate) fn has_reply(attempt: &AttemptView<'_>, index: u16, reply: Reply) -> bool
-    ensures { IsTrue result ↔ (slice_get (attempt_said attempt.now).replies index ≡ Some reply) }
+    ensures { IsTrue result ↔ (slice_get (attempt_decoded attempt.now).replies index ≡ Some reply) }
 {
     if attempt.len() <= index as usize {
         return false;
@@ -74,11 +74,11 @@ fn wrong_with<'a>(
     history: &History<'_>,
     sent: &SentView<'_>,
 ) -> Option<Evidence<'a>>
-    requires history { history.now ≡ section_history trace.now (sent_said sent.now).replica }
-    requires one { 1 ≤ (sent_said sent.now).seq }
-    requires there { (sent_said sent.now).seq ≤ length trace.now.batches }
-    ensures told { IfSome result (TellsSentIn trace.now (sent_said sent.now)) }
-    ensures none { IfNone result (IsReplied trace.now (sent_said sent.now)) }
+    requires history { history.now ≡ section_history trace.now (sent_decoded sent.now).replica }
+    requires one { 1 ≤ (sent_decoded sent.now).seq }
+    requires there { (sent_decoded sent.now).seq ≤ length trace.now.batches }
+    ensures told { IfSome result (TellsSentIn trace.now (sent_decoded sent.now)) }
+    ensures none { IfNone result (IsReplied trace.now (sent_decoded sent.now)) }
 {
     trace.recall_limits();
     let seq = sent.seq();

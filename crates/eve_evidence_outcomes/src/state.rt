@@ -1,15 +1,15 @@
-//! The evidence of a state that was taken over and isn't the one that was committed.
+//! The evidence of a state that was transferred and isn't the one that was committed.
 
 ghost use Rattle.std.specs.Prelude.{◌≡◌, ◌<◌, ◌≤◌, IfOk, IfSome, IfNone, None, Some, length};
 ghost use Rattle.eve_grammar.specs.Trace.{Trace as TraceValue};
-ghost use Rattle.eve_frames.specs.Said.{transfer_said};
+ghost use Rattle.eve_frames.specs.Decoded.{transfer_decoded};
 ghost use Rattle.eve_views.specs.declared.fault.Code.TheVariants as code;
 ghost use Rattle.eve_history.specs.SectionHistory.{section_histories};
 ghost use Rattle.eve_chains.specs.Committed.{balances_to};
-ghost use Rattle.eve_chains.specs.Settling.{settling, settlings};
+ghost use Rattle.eve_chains.specs.CommittedValues.{settling, settlings};
 ghost use Rattle.eve_agree.specs.ByNumber.{told_state_at};
 ghost use Rattle.eve_agree.specs.Agreement.{first_to_commit, StandsInAgreement};
-ghost use Rattle.eve_evidence_outcomes.specs.Committed.{IsCommittedBy};
+ghost use Rattle.eve_evidence_outcomes.specs.inner.Committed.{IsCommittedBy};
 ghost use Rattle.eve_evidence_outcomes.specs.Outcomes.{IsRowFoundApart, TellsStateFault, TellsState, HasThoseOfFirst};
 ghost use Rattle.eve_evidence_outcomes.specs.Outcomes.{IsRightAt};
 
@@ -23,7 +23,7 @@ use eve_chains::laws::states_are_the_balances;
 use eve_evidence::{Evidence, StateFault, told_transfer};
 use eve_frames::{AttemptView, TransferView};
 use eve_history::laws::numbers_are_reached;
-use eve_history::{History, Landing};
+use eve_history::{History, HowReached};
 use eve_views::Trace;
 use std::alloc::{AllocError, Global};
 
@@ -122,22 +122,23 @@ fn state_fault<'a>(
     }
 }
 
-/// The state by which a replica reached number n, if it took one over there.
-fn taken_over<'a>(history: &History<'a>, n: u32) -> Option<TransferView<'a>>
-    ensures some { IfSome result (λ x. told_state_at history.now n ≡ Some (x.offset, transfer_said x)) }
+/// The state by which a replica reached number n, if it had one transferred there.
+fn transferred<'a>(history: &History<'a>, n: u32) -> Option<TransferView<'a>>
+    ensures some { IfSome result (λ x. told_state_at history.now n ≡ Some (x.offset, transfer_decoded x)) }
     ensures none { IfNone result (told_state_at history.now n ≡ None) }
 {
     if n == 0 || history.committed() < n {
         return None;
     }
-    match history.landing(n) {
-        Landing::Attempt(_) => None,
-        Landing::Transfer(i) => Some(history.transfer(i as usize)),
-        Landing::Skipped => None,
+    match history.how_reached(n) {
+        HowReached::Attempt(_) => None,
+        HowReached::Transfer(i) => Some(history.transfer(i as usize)),
+        HowReached::Skipped => None,
     }
 }
 
-/// What is wrong with the state of number n, if replica e took it over at this byte and it isn't the committed one.
+/// What is wrong with the state of number n, if replica e had it transferred at this byte and it isn't the committed
+/// one.
 fn at_number<'a>(
     alloc: Global,
     trace: &Trace<'a>,
@@ -160,7 +161,7 @@ fn at_number<'a>(
     trace.recall_limits();
     let history = history_at(trace, histories, e);
     history.recall_right();
-    let Some(state) = taken_over(history, n) else {
+    let Some(state) = transferred(history, n) else {
         return Ok(None);
     };
     if state.offset() != place {
@@ -176,8 +177,8 @@ fn at_number<'a>(
     }
 }
 
-/// The evidence of a state that was taken over and isn't the one that was committed, by the replica's number from 0 and
-/// the byte of its frame.
+/// The evidence of a state that was transferred and isn't the one that was committed, by the replica's number from 0
+/// and the byte of its frame.
 ///
 /// It says that no replica committed the batch by an attempt, or names the lowest-numbered that did and the first row
 /// whose balance differs.

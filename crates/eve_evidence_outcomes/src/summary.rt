@@ -2,7 +2,7 @@
 
 ghost use Rattle.std.specs.Prelude.{◌≡◌, ◌<◌, ◌≤◌, if◌then◌else◌, length};
 ghost use Rattle.std.specs.List.{sum_by};
-ghost use Rattle.eve_frames.specs.Said.{batch_said};
+ghost use Rattle.eve_frames.specs.Decoded.{batch_decoded};
 ghost use Rattle.eve_history.specs.SectionHistory.{section_history, section_histories};
 ghost use Rattle.eve_evidence_outcomes.specs.Counts.{is_fate, counted, fate_count, IsReplicaCounts, AreTraceCounts};
 ghost use Rattle.eve_evidence_outcomes.specs.Places.{HoldsEach};
@@ -22,7 +22,7 @@ fn counted(n: usize) -> u32
 
 /// How many requests a batch has.
 fn requests_in(batch: &BatchView<'_>) -> u32
-    ensures count { result ≡ length (batch_said batch.now).1.requests }
+    ensures count { result ≡ length (batch_decoded batch.now).1.requests }
     ensures few { result ≤ 256 }
 {
     counted(batch.len())
@@ -79,7 +79,7 @@ fn counts_of(history: &History<'_>) -> ReplicaCounts
 {
     ReplicaCounts {
         committed: fate_count(history, Fate::Committed),
-        taken_over: counted(history.transfers()),
+        transferred: counted(history.transfers()),
         discarded: fate_count(history, Fate::Discarded),
         open: fate_count(history, Fate::Open),
         rollbacks: counted(history.rollbacks()),
@@ -109,7 +109,7 @@ fn counts_of_all(trace: &Trace<'_>, histories: &[History<'_>]) -> [ReplicaCounts
 }
 
 /// How many requests all batches have, and what each replica did, in their order: numbers committed by an attempt,
-/// states taken over, attempts discarded and open at the end, and rollbacks.
+/// states transferred, attempts discarded and open at the end, and rollbacks.
 ///
 /// docs/MODEL.md, "Section state, fate" and "Evidence". The histories are those of all replicas, in their order. One
 /// pass over the batches, and three over what became of the attempts. It takes no memory.

@@ -1,12 +1,12 @@
 //! The evidence of a token that isn't due.
 
 ghost use Rattle.std.specs.Prelude.{◌≡◌, ◌≤◌, IfOk, IfSome, IfNone, length};
-ghost use Rattle.eve_frames.specs.Said.{attempt_said};
+ghost use Rattle.eve_frames.specs.Decoded.{attempt_decoded};
 ghost use Rattle.eve_views.specs.declared.fault.Code.TheVariants as code;
 ghost use Rattle.eve_history.specs.SectionHistory.{section_history};
-ghost use Rattle.eve_chains.specs.Settling.{settling};
+ghost use Rattle.eve_chains.specs.CommittedValues.{settling};
 ghost use Rattle.eve_agree.specs.DueTokens.{StandsInTokens};
-ghost use Rattle.eve_agree.specs.Stretches.{AreOfSection};
+ghost use Rattle.eve_agree.specs.inner.Stretches.{AreOfSection};
 ghost use Rattle.eve_evidence_outcomes.specs.Token.{TellsToken, IsDueAt};
 
 use crate::committed::committed_attempt;
@@ -22,7 +22,7 @@ use std::alloc::{AllocError, Global};
 
 /// The replies of an attempt, by request index.
 fn replies_of(alloc: Global, attempt: &AttemptView<'_>) -> Result<Vec<Reply>, AllocError>
-    ensures { IfOk result (λ replies. replies.items ≡ (attempt_said attempt.now).replies) }
+    ensures { IfOk result (λ replies. replies.items ≡ (attempt_decoded attempt.now).replies) }
 {
     let count = attempt.len();
     let mut replies = Vec::with_capacity(alloc, count)?;

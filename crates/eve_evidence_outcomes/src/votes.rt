@@ -5,7 +5,7 @@ ghost use Rattle.std.specs.Prelude.{drop, slice_get, Some};
 ghost use Rattle.std.specs.Option.{option_map};
 ghost use Rattle.eve_grammar.specs.Bodies.{borrowed_choice as choice_of};
 ghost use Rattle.eve_grammar.specs.Trace.{Vote as VoteValue};
-ghost use Rattle.eve_frames.specs.Said.{vote_said};
+ghost use Rattle.eve_frames.specs.Decoded.{vote_decoded};
 ghost use Rattle.eve_votes.specs.Votes.{same_choice, is_vote_on};
 ghost use Rattle.eve_evidence_outcomes.specs.Polls.{votes_on, vote_told, only_commit, TellsChoice};
 
@@ -16,7 +16,7 @@ use eve_views::Votes;
 
 /// Whether a vote is on the batch in the view.
 pub(crate) fn is_on(vote: &VoteView<'_>, n: u32, view: u32) -> bool
-    ensures { result ≡ is_vote_on n view (vote_said vote.now) }
+    ensures { result ≡ is_vote_on n view (vote_decoded vote.now) }
 {
     vote.seq() == n && vote.view() == view
 }

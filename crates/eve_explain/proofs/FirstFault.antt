@@ -7,7 +7,7 @@ use Rattle.std.proofs.lemmas.Option.{same_Some}
 use Rattle.eve_grammar.specs.Frames.{OfReplica}
 use Rattle.eve_grammar.specs.Trace.{Step, Trace}
 use Rattle.eve_grammar.specs.Spelling.{frame_text, located, section_start, step_text, steps_at, steps_of}
-use Rattle.eve_grammar.specs.Following.{Spells}
+use Rattle.eve_grammar.specs.FrameOrder.{Spells}
 use Rattle.eve_views.specs.Code.{code_number, phase_of}
 use Rattle.eve_views.specs.declared.fault.Code.{Code}
 use Rattle.eve_views.specs.declared.fault.Code.TheVariants as code
@@ -18,7 +18,7 @@ use Rattle.eve_history.specs.Order.{StandsInOrders}
 use Rattle.eve_history.specs.Structure.{StandsInStructure}
 use Rattle.eve_history.proofs.Places.{no_place}
 use Rattle.eve_chains.specs.Faults.{StandsInRecords, StandsInChains, HasNoFault}
-use Rattle.eve_agree.proofs.ByNumber.{landing_there, replica_there}
+use Rattle.eve_agree.proofs.ByNumber.{how_reached_there, replica_there}
 use Rattle.eve_agree.specs.Restores.{StandsInRestores}
 use Rattle.eve_agree.specs.DueTokens.{StandsInTokens}
 use Rattle.eve_agree.specs.Majority.{StandsInMajorities}
@@ -26,10 +26,10 @@ use Rattle.eve_agree.specs.Agreement.{StandsInAgreement}
 use Rattle.eve_agree.specs.SentReplies.{StandsInReplies}
 use Rattle.eve_votes.specs.Faults.{StandsInVotes}
 use Rattle.eve_audit.specs.Verdict.{IsOwnFault, of_structure, of_records, of_chains, of_restores, of_tokens}
-use Rattle.eve_audit.specs.Verdict.{IsTraceFault, in_section, Stands, in_form, in_trace, Hinders, IsJudged, IsFirst}
+use Rattle.eve_audit.specs.Verdict.{IsTraceFault, in_section, Stands, in_form, in_trace, Masks, IsJudged, IsFirst}
 use Rattle.eve_audit.proofs.Phases.{form_phase, structure_phase, record_phase, chain_phase, restore_phase, token_phase}
 use Rattle.eve_evidence.specs.Section.{StandsAlong}
-use Rattle.eve_explain.specs.Behind.{IsFirstInTrace, IsBehindSection}
+use Rattle.eve_explain.specs.inner.Behind.{IsFirstInTrace, IsBehindSection}
 use Rattle.eve_explain.specs.Explained.{is_of_majority, is_of_orders, is_told_along}
 use Rattle.eve_explain.proofs.Phases.{orders_phase, along_phase, majority_code_phase, some_phase, orders_in, own_in}
 use Rattle.eve_explain.proofs.Phases.{restores_in, tokens_in, votes_in, majorities_in, agreement_in, replies_in}
@@ -71,7 +71,7 @@ majority_section t e at c stands = absurd stands
 agreement_section : (t : Trace) (e at : ℕ) (c : Code) → StandsInAgreement c t e at → e < length t.sections
 agreement_section t e at code.Outcome stands = replica_there t e stands.n stands.item stands.is
 agreement_section t e at code.TransferBalances stands =
-    landing_there t e stands.n (ByTransfer at stands.state) stands.is
+    how_reached_there t e stands.n (ByTransfer at stands.state) stands.is
 agreement_section t e at c stands = absurd stands
 
 -- ---- where it stands
@@ -146,14 +146,14 @@ module _ (one : OneTrace) (t : Trace) (f : Fault) (first : IsFirstInTrace t f) w
   pub no_structure : (e : ℕ) → IsBehindSection f e → e < length t.sections
       → HasNone (IsFaultIn StandsInStructure t e)
   no_structure e behind there g is =
-      first.2.judged.alone g (in_trace t first.1 (in_section (e, there, of_structure is))) (hinders behind)
+      first.2.judged.alone g (in_trace t first.1 (in_section (e, there, of_structure is))) (masks behind)
     where
       three : phase_of g.code ≡ 3
       three = structure_phase t e g is
 
-      hinders : IsBehindSection f e → Hinders g f
-      hinders (inl far) = (omega (arith, three, far), λ low high. absurd (omega (arith, far, high)))
-      hinders (inr later) = (omega (arith, three, later.0), λ low high. is.inside ∙ sym later.1)
+      masks : IsBehindSection f e → Masks g f
+      masks (inl far) = (omega (arith, three, far), λ low high. absurd (omega (arith, far, high)))
+      masks (inr later) = (omega (arith, three, later.0), λ low high. is.inside ∙ sym later.1)
 
   -- a fault of restores has none of records or chains before it in its section
   pub none_before_restores : phase_of f.code ≡ 6 → (e : ℕ) → f.replica ≡ Some e → e < length t.sections
@@ -165,7 +165,7 @@ module _ (one : OneTrace) (t : Trace) (f : Fault) (first : IsFirstInTrace t f) w
         (earlier g (omega (arith, chain_phase t e g is)) is.inside);
   }
     where
-      earlier : (g : Fault) → phase_of g.code < 6 → g.replica ≡ Some e → Hinders g f
+      earlier : (g : Fault) → phase_of g.code < 6 → g.replica ≡ Some e → Masks g f
       earlier g lt inside = (omega (arith, six, lt), λ low high. inside ∙ sym named)
 
   -- of a replica's certificate it has none of the same attempt beside it
@@ -179,17 +179,17 @@ module _ (one : OneTrace) (t : Trace) (f : Fault) (first : IsFirstInTrace t f) w
       three : phase_of f.code ≡ 3
       three = ap phase_of is
 
-      moved : (h : Fault) → Hinders h g → Hinders h f
-      moved h hinders = (
-        subst (λ (n : ℕ). phase_of h.code < n) (sym three) hinders.0,
-        λ low high. hinders.1 low (omega arith) ∙ sym named,
+      moved : (h : Fault) → Masks h g → Masks h f
+      moved h masks = (
+        subst (λ (n : ℕ). phase_of h.code < n) (sym three) masks.0,
+        λ low high. masks.1 low (omega arith) ∙ sym named,
       )
 
       judged : IsJudged first.0 g
       judged = record {
         stands = in_trace t first.1
             (in_section (e, there, of_structure (record { stands = attempt; inside = refl })));
-        alone = λ h stands hinders. first.2.judged.alone h stands (moved h hinders);
+        alone = λ h stands masks. first.2.judged.alone h stands (moved h masks);
       }
 
       number : code_number f.code ≡ 21
@@ -236,8 +236,8 @@ first_of_form bytes f none first = record { is = is; least = least }
     least : (g : Fault) → IsFaultOutside StandsInForm bytes g → IsUpTo f g
     least g other = after (first.first g (record {
       stands = in_form other;
-      alone = λ h stands hinders.
-          absurd (omega (arith, hinders.0, form_phase bytes g other, some_phase h.code));
+      alone = λ h stands masks.
+          absurd (omega (arith, masks.0, form_phase bytes g other, some_phase h.code));
     }))
       where
         after : Precedes f g → IsUpTo f g

@@ -18,7 +18,7 @@ use Rattle.eve_votes.specs.Faults.{StandsInVotes}
 use Rattle.eve_audit.specs.Verdict.{IsOwnFault, of_structure, of_records, of_chains, of_restores, of_tokens}
 use Rattle.eve_audit.specs.Verdict.{IsCommonFault, of_votes, of_majorities, of_agreement, of_replies}
 use Rattle.eve_audit.specs.Verdict.{IsTraceFault, in_orders, in_section, in_common}
-use Rattle.eve_audit.proofs.Firsts.{own_phase, common_phase}
+use Rattle.eve_audit.proofs.FirstFaults.{own_phase, common_phase}
 use Rattle.eve_audit.proofs.Phases.{order_phase, structure_phase, record_phase, chain_phase, restore_phase, token_phase}
 use Rattle.eve_audit.proofs.Phases.{vote_phase, majority_phase, outcome_phase, reply_phase}
 use Rattle.eve_explain.specs.Explained.{is_of_majority, is_of_orders, is_told_along}

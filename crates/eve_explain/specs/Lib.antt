@@ -1,2 +1,2 @@
-pub mod Behind
 pub mod Explained
+pub mod inner

@@ -2,7 +2,7 @@
 
 ghost use Rattle.std.specs.Prelude.{◌≡◌, ◌≢◌, ◌≤◌, ℕ, List, IfOk, length};
 ghost use Rattle.eve_views.specs.declared.fault.Code.TheVariants as code;
-ghost use Rattle.eve_grammar.specs.Following.{Spells};
+ghost use Rattle.eve_grammar.specs.FrameOrder.{Spells};
 ghost use Rattle.eve_views.specs.declared.fault.Fault.{Fault as FaultValue};
 ghost use Rattle.eve_audit.specs.declared.verdict.Summary.{Summary as SummaryValue};
 ghost use Rattle.eve_audit.specs.declared.verdict.Verdict.TheVariants.{Yes, No};
@@ -12,7 +12,7 @@ ghost use Rattle.eve_grammar.specs.Trace.{Trace as TraceValue};
 ghost use Rattle.eve_history.specs.SectionHistory.{names_of, section_histories};
 ghost use Rattle.std.specs.Prelude.{Some, IsTrue};
 ghost use Rattle.eve_evidence.specs.Section.{TellsAlong};
-ghost use Rattle.eve_explain.specs.Behind.{IsFirstInTrace};
+ghost use Rattle.eve_explain.specs.inner.Behind.{IsFirstInTrace};
 ghost use Rattle.eve_explain.specs.Explained.{is_told_along, verdict_in};
 ghost use Rattle.eve_explain.specs.Explained.{IsEvidence, IsEvidenceOf, IsExplained};
 

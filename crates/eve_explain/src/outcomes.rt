@@ -8,7 +8,7 @@ ghost use Rattle.eve_evidence_outcomes.specs.Outcomes.{TellsState};
 ghost use Rattle.eve_evidence_outcomes.specs.Restore.{TellsRestore};
 ghost use Rattle.eve_evidence_outcomes.specs.Sent.{TellsReply};
 ghost use Rattle.eve_evidence_outcomes.specs.Token.{TellsToken};
-ghost use Rattle.eve_explain.specs.Behind.{IsFirstInTrace};
+ghost use Rattle.eve_explain.specs.inner.Behind.{IsFirstInTrace};
 ghost use Rattle.eve_explain.specs.Explained.{is_of_majority};
 
 use crate::replicas::{histories_of, history_of};
@@ -112,7 +112,7 @@ pub(crate) fn evidence_of_outcome<'a>(
     outcome_evidence(alloc, trace, &histories, &settled, e, fault.offset)
 }
 
-/// The evidence of a state that was taken over and isn't the one that was committed.
+/// The evidence of a state that was transferred and isn't the one that was committed.
 pub(crate) fn evidence_of_state<'a>(
     alloc: Global,
     trace: &Trace<'a>,

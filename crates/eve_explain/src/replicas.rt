@@ -3,7 +3,7 @@
 ghost use Rattle.std.specs.Prelude.{◌≡◌, ◌<◌, IfOk, length};
 ghost use Rattle.eve_views.specs.Code.{phase_of};
 ghost use Rattle.eve_history.specs.SectionHistory.{section_history, section_histories};
-ghost use Rattle.eve_explain.specs.Behind.{IsFirstInTrace, IsBehindSection};
+ghost use Rattle.eve_explain.specs.inner.Behind.{IsFirstInTrace, IsBehindSection};
 
 use eve_grammar::laws::bytes_spell_one_trace;
 use eve_history::History;

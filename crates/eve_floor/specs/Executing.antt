@@ -4,8 +4,8 @@ use Rattle.std.specs.Prelude.{Result, Ok, Err}
 use Rattle.eve_smallbank.specs.SmallBank.{Request}
 use Rattle.eve_smallbank.specs.Access.{Fits}
 use Rattle.eve_stamps.specs.Applied.{Applied, executed_as}
-use Rattle.eve_recorder.specs.Drawing.{TicketSource, Drawer}
-use Rattle.eve_recorder.specs.Seen.{Desk, Noter, WasFull}
+use Rattle.eve_recorder.specs.TicketViews.{TicketSource, Drawer}
+use Rattle.eve_recorder.specs.RecorderViews.{Desk, Noter, WasFull}
 use Rattle.eve_floor.specs.declared.fault.ExecFault.{ExecFault}
 use Rattle.eve_floor.specs.declared.fault.ExecFault.TheVariants as fault
 

@@ -6,7 +6,7 @@ use Rattle.eve_write.specs.Data.{batch as plain}
 use Rattle.eve_stamps.specs.declared.fault.StampFault.{StampFault}
 use Rattle.eve_stamps.specs.declared.fault.StampFault.TheVariants as stamp
 use Rattle.eve_stamps.specs.Applied.{Applied}
-use Rattle.eve_recorder.specs.Drawing.{Drawer}
+use Rattle.eve_recorder.specs.TicketViews.{Drawer}
 use Rattle.eve_floor.specs.declared.task.Task.{Task}
 use Rattle.eve_floor.specs.declared.fault.ExecFault.{ExecFault}
 use Rattle.eve_floor.specs.declared.fault.ExecFault.TheVariants as fault

@@ -7,8 +7,8 @@ use Rattle.std.proofs.lemmas.List.{length-drop}
 use Rattle.byteorder.specs.Endian.{big_number}
 use Rattle.eve_grammar.specs.Trace.{Access}
 use Rattle.eve_grammar.specs.Limits.{is_entry}
-use Rattle.eve_grammar.specs.Reading.{number_at, signed_at, both, made, made_if, only, many_at, kind_from, entry_from}
-use Rattle.eve_grammar.specs.Reading.{entry_fields_at, entry_at, access_from, entries_at, access_of}
+use Rattle.eve_grammar.specs.Readers.{number_at, signed_at, both, made, made_if, only, many_at, kind_from, entry_from}
+use Rattle.eve_grammar.specs.Readers.{entry_fields_at, entry_at, access_from, entries_at, access_of}
 use Rattle.eve_grammar.proofs.Scans.{many_length}
 use Rattle.eve_grammar.specs.declared.limits.TheConstants.{MOST_ROWS}
 use Rattle.eve_frames.specs.Views.{has_access_body, access_in}

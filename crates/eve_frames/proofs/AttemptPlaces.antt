@@ -9,8 +9,8 @@ use Rattle.std.proofs.lemmas.List.{length-drop, drop-drop}
 use Rattle.byteorder.specs.Endian.{big_number}
 use Rattle.eve_grammar.specs.Trace.{Attempt}
 use Rattle.eve_grammar.specs.Limits.{is_between}
-use Rattle.eve_grammar.specs.Reading.{number_at, both, made, made_if, only, many_at, reply_at, serial_from}
-use Rattle.eve_grammar.specs.Reading.{attempt_from, certified_at, token_at, attempt_of}
+use Rattle.eve_grammar.specs.Readers.{number_at, both, made, made_if, only, many_at, reply_at, serial_from}
+use Rattle.eve_grammar.specs.Readers.{attempt_from, certified_at, token_at, attempt_of}
 use Rattle.eve_smallbank.specs.Spelling.{reply_text}
 use Rattle.eve_grammar.specs.Limits.{is_reply}
 use Rattle.eve_grammar.proofs.Codec.{IsBytes, IsBytes-drop, Codec-many}

@@ -9,8 +9,8 @@ use Rattle.std.proofs.lemmas.Bool.{leb-true, and_parts}
 use Rattle.std.proofs.lemmas.List.{length-drop, drop-drop}
 use Rattle.byteorder.specs.Endian.{big_number}
 use Rattle.eve_grammar.specs.Trace.{Batch}
-use Rattle.eve_grammar.specs.Reading.{number_at, both, both_by, led_by, made, only, many_at, asked_at, are_sizes}
-use Rattle.eve_grammar.specs.Reading.{sizes_at, batch_from, batch_of}
+use Rattle.eve_grammar.specs.Readers.{number_at, both, both_by, led_by, made, only, many_at, asked_at, are_sizes}
+use Rattle.eve_grammar.specs.Readers.{sizes_at, batch_from, batch_of}
 use Rattle.eve_grammar.proofs.Scans.{many_length}
 use Rattle.eve_frames.specs.Views.{has_batch_body, batch_in}
 use Rattle.eve_frames.proofs.Places.{found, number_from, number_some, made_some, only_some, whole_some, both_some}

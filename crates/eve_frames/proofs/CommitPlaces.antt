@@ -4,7 +4,7 @@ use Rattle.std.specs.Prelude.{IsTrue}
 use Rattle.std.proofs.lemmas.List.{length-drop}
 use Rattle.byteorder.specs.Endian.{big_number}
 use Rattle.eve_grammar.specs.Trace.{Commit}
-use Rattle.eve_grammar.specs.Reading.{number_at, both, made, commit_from, token_at, commit_of}
+use Rattle.eve_grammar.specs.Readers.{number_at, both, made, commit_from, token_at, commit_of}
 use Rattle.eve_frames.specs.Views.{has_commit_body, commit_in}
 use Rattle.eve_frames.proofs.Places.{found, number_some, bytes_some, made_some, whole_some, both_some, Takes-number}
 

@@ -10,8 +10,8 @@ use Rattle.byteorder.specs.Endian.{big_number}
 use Rattle.eve_accounts.specs.Money.{is_balance, is_saving}
 use Rattle.eve_accounts.specs.Names.{is_name, is_printable}
 use Rattle.eve_grammar.specs.Trace.{Customer}
-use Rattle.eve_grammar.specs.Reading.{number_at, bytes_at, signed_at, both, led_by, made, only, name_at, saving_at}
-use Rattle.eve_grammar.specs.Reading.{balance_at, customer_from, customer_of}
+use Rattle.eve_grammar.specs.Readers.{number_at, bytes_at, signed_at, both, led_by, made, only, name_at, saving_at}
+use Rattle.eve_grammar.specs.Readers.{balance_at, customer_from, customer_of}
 use Rattle.eve_frames.specs.Views.{has_customer_body, customer_in}
 use Rattle.eve_frames.proofs.Places.{found, number_some, bytes_some, made_some, only_some, whole_some, both_some}
 use Rattle.eve_frames.proofs.Places.{both_any, led_some, Takes-number, Takes-signed, Takes-only, byte_at}

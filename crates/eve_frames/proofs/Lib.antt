@@ -11,4 +11,4 @@ mod RollbackPlaces
 mod TransferPlaces
 mod VotePlaces
 pub mod Rereading
-pub mod Fitting
+pub mod FrameLimits

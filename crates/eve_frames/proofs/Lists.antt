@@ -7,9 +7,9 @@ use Rattle.std.proofs.Math.Nat.{mul-suc}
 use Rattle.std.proofs.lemmas.Option.{slice_get_read}
 use Rattle.std.proofs.lemmas.List.{take_rest, length-drop, drop-drop}
 use Rattle.byteorder.specs.Endian.{big_number}
-use Rattle.eve_grammar.specs.Reading.{◌>>=◌, Reader, number_at, many_at}
+use Rattle.eve_grammar.specs.Readers.{◌>>=◌, Reader, number_at, many_at}
 use Rattle.eve_grammar.specs.Bodies.{values, list_in}
-use Rattle.eve_frames.specs.Items.{are_there}
+use Rattle.eve_frames.specs.inner.Items.{are_there}
 use Rattle.eve_frames.proofs.Places.{Takes, number_some}
 use Rattle.eve_grammar.proofs.Codec.{bind_some, some_is}
 

@@ -6,8 +6,8 @@ use Rattle.std.specs.Int.{w64, cast_signed}
 use Rattle.std.proofs.lemmas.Bool.{ltb-false, eqb-true}
 use Rattle.std.proofs.lemmas.List.{take_rest, length-drop, drop-drop, get_or-drop}
 use Rattle.byteorder.specs.Endian.{big_number}
-use Rattle.eve_grammar.specs.Reading.{◌>>=◌, Reader, number_at, bytes_at, signed_at, both, both_by, led_by, made}
-use Rattle.eve_grammar.specs.Reading.{made_if, only, whole}
+use Rattle.eve_grammar.specs.Readers.{◌>>=◌, Reader, number_at, bytes_at, signed_at, both, both_by, led_by, made}
+use Rattle.eve_grammar.specs.Readers.{made_if, only, whole}
 use Rattle.eve_grammar.proofs.Codec.{bind_some, guard_none, guard_some, some_is}
 
 -- what was found, and not the value for what wasn't

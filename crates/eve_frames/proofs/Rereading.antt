@@ -11,8 +11,8 @@ use Rattle.eve_grammar.specs.Limits.{is_number, is_between, is_customer, is_batc
 use Rattle.eve_grammar.specs.Limits.{is_commit, is_restore, is_rising, is_rollback, is_choice, is_vote, is_reply}
 use Rattle.eve_grammar.specs.Limits.{is_versioned, are_no_debts, is_transfer, is_sent}
 use Rattle.eve_grammar.specs.Spelling.{body_text, frame_text, versioned_text, transfer_text}
-use Rattle.eve_grammar.specs.Reading.{customer_of, batch_of, attempt_of, access_of, commit_of, rollback_of, vote_of}
-use Rattle.eve_grammar.specs.Reading.{transfer_of, sent_of}
+use Rattle.eve_grammar.specs.Readers.{customer_of, batch_of, attempt_of, access_of, commit_of, rollback_of, vote_of}
+use Rattle.eve_grammar.specs.Readers.{transfer_of, sent_of}
 use Rattle.eve_grammar.proofs.BodyCodecs.{Exact-customer, Exact-batch, Exact-attempt, Exact-access, Exact-commit}
 use Rattle.eve_grammar.proofs.BodyCodecs.{Exact-rollback, Exact-transfer, Exact-vote, Exact-sent}
 use Rattle.eve_grammar.proofs.PartCodecs.{versioned_length}
@@ -130,8 +130,9 @@ rollback_again rows r fits le = says (rollback_of MOST_ROWS) _ r (OfRollback r)
     ((Exact-rollback MOST_ROWS (omega arith)).again r (rollback_more rows MOST_ROWS le r fits))
 
 -- the rows of a Transfer are told by its length
-taken_count : (rows : ℕ) (x : Transfer) → IsTrue (is_transfer rows x) → state_rows_in (frame_text (OfTransfer x)) ≡ rows
-taken_count rows x fits =
+transferred_count : (rows : ℕ) (x : Transfer) → IsTrue (is_transfer rows x) → state_rows_in (frame_text (OfTransfer x))
+    ≡ rows
+transferred_count rows x fits =
     let a = and_parts (is_number 4 x.seq) _ fits in
     let b = and_parts (is_number 4 x.view) _ a.1 in
     let c = and_parts (are_no_debts 0 x.rows) (eqb (length x.rows) rows && list_all is_versioned x.rows) b.1 in
@@ -144,7 +145,7 @@ pub transfer_again : (rows : ℕ) (x : Transfer) → IsTrue (is_transfer rows x)
 unfolding transfer_in
 transfer_again rows x fits =
     let read : transfer_of (state_rows_in (frame_text (OfTransfer x))) (transfer_text x) ≡ Some x =
-    subst (λ (n : ℕ). transfer_of n (transfer_text x) ≡ Some x) (sym (taken_count rows x fits))
+    subst (λ (n : ℕ). transfer_of n (transfer_text x) ≡ Some x) (sym (transferred_count rows x fits))
     ((Exact-transfer rows).again x fits) in
     (ap is_some read, ap (λ (o : Option Transfer). unwrap_or o (record { seq = 0; view = 0; rows = [] })) read)
 

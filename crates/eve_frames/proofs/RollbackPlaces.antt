@@ -5,8 +5,8 @@ use Rattle.std.proofs.lemmas.List.{length-drop}
 use Rattle.byteorder.specs.Endian.{big_number}
 use Rattle.eve_grammar.specs.Trace.{Rollback}
 use Rattle.eve_grammar.specs.Limits.{is_restore, is_rising}
-use Rattle.eve_grammar.specs.Reading.{number_at, signed_at, both, led_by, made, only, many_at, restore_from}
-use Rattle.eve_grammar.specs.Reading.{restore_fields_at, restore_at, restores_at, rollback_from, rollback_of}
+use Rattle.eve_grammar.specs.Readers.{number_at, signed_at, both, led_by, made, only, many_at, restore_from}
+use Rattle.eve_grammar.specs.Readers.{restore_fields_at, restore_at, restores_at, rollback_from, rollback_of}
 use Rattle.eve_grammar.proofs.Scans.{many_length}
 use Rattle.eve_grammar.specs.declared.limits.TheConstants.{MOST_ROWS}
 use Rattle.eve_frames.specs.Views.{has_rollback_body, rollback_in}

@@ -6,7 +6,7 @@ use Rattle.byteorder.specs.Endian.{big_number}
 use Rattle.eve_smallbank.specs.declared.request.Reply.{Reply}
 use Rattle.eve_grammar.specs.Trace.{Sent}
 use Rattle.eve_grammar.specs.Limits.{is_between}
-use Rattle.eve_grammar.specs.Reading.{number_at, signed_at, both, made, only, reply_from, reply_at, sent_from, sent_of}
+use Rattle.eve_grammar.specs.Readers.{number_at, signed_at, both, made, only, reply_from, reply_at, sent_from, sent_of}
 use Rattle.eve_grammar.specs.declared.limits.TheConstants.{MOST_REPLICAS, MOST_BATCHES}
 use Rattle.eve_frames.specs.Views.{has_sent_body, sent_in}
 use Rattle.eve_frames.proofs.Places.{Takes, found, number_some, made_some, only_some, whole_some, both_some}

@@ -6,8 +6,8 @@ use Rattle.std.proofs.lemmas.List.{length-drop}
 use Rattle.byteorder.specs.Endian.{big_number}
 use Rattle.eve_grammar.specs.Trace.{Transfer}
 use Rattle.eve_grammar.specs.Limits.{is_versioned, are_no_debts}
-use Rattle.eve_grammar.specs.Reading.{number_at, signed_at, both, made, only, many_at, versioned_from}
-use Rattle.eve_grammar.specs.Reading.{versioned_fields_at, versioned_at, state_rows_at, transfer_from, transfer_of}
+use Rattle.eve_grammar.specs.Readers.{number_at, signed_at, both, made, only, many_at, versioned_from}
+use Rattle.eve_grammar.specs.Readers.{versioned_fields_at, versioned_at, state_rows_at, transfer_from, transfer_of}
 use Rattle.eve_grammar.proofs.Scans.{many_length}
 use Rattle.eve_frames.specs.Views.{has_transfer_body, state_rows_in, transfer_in}
 use Rattle.eve_frames.proofs.Places.{Takes, found, number_from, number_some, made_some, only_some, whole_some}
@@ -77,16 +77,17 @@ unfolding transfer_in
 transfer_read bytes there = found (transfer_of (state_rows_in bytes) (drop 5 bytes)) _ there
 
 -- how many rows
-abbrev pub taken_of : List ℕ → ℕ
-taken_of bytes = length (transfer_in bytes).rows
+abbrev pub transferred_rows : List ℕ → ℕ
+transferred_rows bytes = length (transfer_in bytes).rows
 
 pub transfer_placed : (bytes : List ℕ) → IsTrue (has_transfer_body bytes)
-    → TransferAt bytes (taken_of bytes) (transfer_in bytes)
+    → TransferAt bytes (transferred_rows bytes) (transfer_in bytes)
 transfer_placed bytes there =
     let p = transfer_at bytes (state_rows_in bytes) (transfer_in bytes) (transfer_read bytes there) in
     subst (λ (n : ℕ). TransferAt bytes n (transfer_in bytes)) (sym p.rows.count) p
 
-pub transfer_long : (bytes : List ℕ) → IsTrue (has_transfer_body bytes) → length bytes ≡ 13 + 16 * taken_of bytes
+pub transfer_long : (bytes : List ℕ) → IsTrue (has_transfer_body bytes) → length bytes ≡ 13
+    + 16 * transferred_rows bytes
 transfer_long bytes there = (transfer_placed bytes there).long
 
 pub transfer_seq : (bytes : List ℕ) → IsTrue (has_transfer_body bytes) → (transfer_in bytes).seq

@@ -8,7 +8,7 @@ use Rattle.std.proofs.lemmas.List.{length-drop}
 use Rattle.byteorder.specs.Endian.{big_number}
 use Rattle.eve_grammar.specs.Trace.{Choice, ForRollback, ForCommit, Vote}
 use Rattle.eve_grammar.specs.Limits.{is_between}
-use Rattle.eve_grammar.specs.Reading.{number_at, both, made, made_if, only, choice_from, vote_from, token_at, vote_of}
+use Rattle.eve_grammar.specs.Readers.{number_at, both, made, made_if, only, choice_from, vote_from, token_at, vote_of}
 use Rattle.eve_grammar.specs.declared.limits.TheConstants.{MOST_BATCHES}
 use Rattle.eve_frames.specs.Views.{has_vote_body, vote_in}
 use Rattle.eve_frames.proofs.Places.{found, number_some, bytes_some, made_some, made_if_some, only_some}

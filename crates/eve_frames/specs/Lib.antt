@@ -1,4 +1,4 @@
-pub mod Items
+pub mod Decoded
 pub mod Kinds
-pub mod Said
 pub mod Views
+pub mod inner

@@ -5,8 +5,8 @@ use Rattle.eve_smallbank.specs.declared.request.Reply.TheVariants.{Done}
 use Rattle.eve_grammar.specs.Trace.{Customer, Batch, Attempt, Access, Commit, Rollback, Transfer, ForRollback}
 use Rattle.eve_grammar.specs.Trace.{Vote, Sent}
 use Rattle.eve_grammar.specs.declared.limits.TheConstants.{MOST_ROWS, MOST_REPLICAS, MOST_BATCHES}
-use Rattle.eve_grammar.specs.Reading.{customer_of, batch_of, attempt_of, access_of, commit_of, rollback_of, vote_of}
-use Rattle.eve_grammar.specs.Reading.{transfer_of, sent_of}
+use Rattle.eve_grammar.specs.Readers.{customer_of, batch_of, attempt_of, access_of, commit_of, rollback_of, vote_of}
+use Rattle.eve_grammar.specs.Readers.{transfer_of, sent_of}
 use Rattle.eve_grammar.specs.declared.frame_kind.TheConstants.{FRAME_HEAD_LEN}
 
 -- after a frame's kind and length
@@ -84,7 +84,7 @@ commit_in bytes = unwrap_or (commit_of (body_in bytes)) (record { seq = 0; view 
 unfoldable pub rollback_in : List ℕ → Rollback
 rollback_in bytes = unwrap_or (rollback_of MOST_ROWS (body_in bytes)) (record { to = 0; view = 0; restores = [] })
 
--- a state taken over
+-- a state transferred
 unfoldable pub transfer_in : List ℕ → Transfer
 transfer_in bytes =
     unwrap_or (transfer_of (state_rows_in bytes) (body_in bytes)) (record { seq = 0; view = 0; rows = [] })

@@ -1,7 +1,7 @@
 //! A view of an Access frame.
 
 ghost use Rattle.std.specs.Prelude.{◌≡◌, ◌<◌, ◌≤◌, IsTrue, Some, length, slice_get};
-ghost use Rattle.eve_grammar.specs.Reading.{access_of};
+ghost use Rattle.eve_grammar.specs.Readers.{access_of};
 ghost use Rattle.eve_grammar.specs.declared.limits.TheConstants.{MOST_ROWS, MOST_ENTRIES};
 ghost use Rattle.eve_frames.specs.Views.{body_in, has_access_body, access_in};
 

@@ -2,7 +2,7 @@
 
 ghost use Rattle.std.specs.Prelude.{◌≡◌, IsTrue, Some, is_some};
 ghost use Rattle.eve_smallbank.specs.SmallBank.{plain};
-ghost use Rattle.eve_grammar.specs.Reading.{name_at, move_at, coded_at, asked_at};
+ghost use Rattle.eve_grammar.specs.Readers.{name_at, move_at, coded_at, asked_at};
 ghost use Rattle.eve_grammar.specs.Bodies.{borrowed_asked};
 
 use byteorder::{BigEndian, ByteOrder};
@@ -12,7 +12,7 @@ use eve_smallbank::Request;
 
 /// The name that stands in front, and the bytes after it.
 #[inline(always)]
-#[tactic(auto, unfolding(eve_grammar::specs::Reading::name_at))]
+#[tactic(auto, unfolding(eve_grammar::specs::Readers::name_at))]
 fn name_again(bytes: &[u8]) -> (&[u8], &[u8])
     requires { IsTrue (is_some (name_at bytes.now)) }
     ensures { name_at bytes.now ≡ Some (result.0.now, result.1.now) }
@@ -25,7 +25,7 @@ fn name_again(bytes: &[u8]) -> (&[u8], &[u8])
 
 /// The name and the amount that stand in front, and the bytes after them.
 #[inline(always)]
-#[tactic(auto, unfolding(eve_grammar::specs::Reading::move_at, eve_grammar::specs::Reading::amount_at))]
+#[tactic(auto, unfolding(eve_grammar::specs::Readers::move_at, eve_grammar::specs::Readers::amount_at))]
 fn move_again(bytes: &[u8]) -> ((&[u8], Amount), &[u8])
     requires { IsTrue (is_some (move_at bytes.now)) }
     ensures { move_at bytes.now ≡ Some ((result.0.0.now, result.0.1), result.1.now) }
@@ -37,7 +37,7 @@ fn move_again(bytes: &[u8]) -> ((&[u8], Amount), &[u8])
 
 /// What stands after the code of a request.
 #[inline(always)]
-#[tactic(auto, unfolding(eve_grammar::specs::Reading::coded_at))]
+#[tactic(auto, unfolding(eve_grammar::specs::Readers::coded_at))]
 fn coded_again(code: u8, bytes: &[u8]) -> (Request<'_>, &[u8])
     requires { IsTrue (is_some (coded_at code bytes.now)) }
     ensures { coded_at code bytes.now ≡ Some (plain result.0, result.1.now) }
@@ -70,7 +70,7 @@ fn coded_again(code: u8, bytes: &[u8]) -> (Request<'_>, &[u8])
 
 /// The request that stands in front, with who sent it, and the bytes after it.
 #[inline(always)]
-#[tactic(auto, unfolding(eve_grammar::specs::Reading::asked_at, eve_grammar::specs::Reading::request_at))]
+#[tactic(auto, unfolding(eve_grammar::specs::Readers::asked_at, eve_grammar::specs::Readers::request_at))]
 pub(crate) fn asked_again(bytes: &[u8]) -> (Asked<'_>, &[u8])
     requires { IsTrue (is_some (asked_at bytes.now)) }
     ensures { asked_at bytes.now ≡ Some (borrowed_asked result.0, result.1.now) }

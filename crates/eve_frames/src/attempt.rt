@@ -3,7 +3,7 @@
 ghost use Rattle.std.specs.Prelude.{◌≡◌, ◌<◌, IsTrue, Some, length, slice_get};
 ghost use Rattle.std.specs.List.{flat_map};
 ghost use Rattle.eve_smallbank.specs.Spelling.{reply_text};
-ghost use Rattle.eve_grammar.specs.Reading.{attempt_of};
+ghost use Rattle.eve_grammar.specs.Readers.{attempt_of};
 ghost use Rattle.eve_frames.specs.Views.{body_in, has_attempt_body, attempt_in};
 
 use crate::certificate::Certificate;

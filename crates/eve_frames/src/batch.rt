@@ -3,7 +3,7 @@
 ghost use Rattle.std.specs.Prelude.{◌≡◌, ◌<◌, IsTrue, Some, length, slice_get};
 ghost use Rattle.std.specs.Option.{option_map};
 ghost use Rattle.eve_smallbank.specs.SmallBank.{plain};
-ghost use Rattle.eve_grammar.specs.Reading.{batch_of};
+ghost use Rattle.eve_grammar.specs.Readers.{batch_of};
 ghost use Rattle.eve_frames.specs.Views.{body_in, has_batch_body, batch_in};
 
 use crate::requests::Requests;

@@ -2,9 +2,9 @@
 
 ghost use Rattle.std.specs.Prelude.{◌≡◌, ℕ, IsTrue, List};
 ghost use Rattle.std.specs.Iterator.{YieldsFirst, item_count};
-ghost use Rattle.eve_grammar.specs.Reading.{number_at};
+ghost use Rattle.eve_grammar.specs.Readers.{number_at};
 ghost use Rattle.eve_grammar.specs.Bodies.{list_in};
-ghost use Rattle.eve_frames.specs.Items.{are_there};
+ghost use Rattle.eve_frames.specs.inner.Items.{are_there};
 
 use eve_grammar::u16_at;
 use std::marker::Model;

@@ -1,7 +1,7 @@
 //! A view of a Commit frame.
 
 ghost use Rattle.std.specs.Prelude.{◌≡◌, IsTrue, Some};
-ghost use Rattle.eve_grammar.specs.Reading.{commit_of};
+ghost use Rattle.eve_grammar.specs.Readers.{commit_of};
 ghost use Rattle.eve_frames.specs.Views.{body_in, has_commit_body, commit_in};
 
 use byteorder::{BigEndian, ByteOrder};

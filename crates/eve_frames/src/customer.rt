@@ -4,7 +4,7 @@ ghost use Rattle.std.specs.Prelude.{◌≡◌, ◌+◌, ◌≤◌, IsTrue, Some,
 ghost use Rattle.std.specs.Int.{w64, cast_signed};
 ghost use Rattle.byteorder.specs.Endian.{big_number};
 ghost use Rattle.eve_accounts.specs.Money.{is_balance};
-ghost use Rattle.eve_grammar.specs.Reading.{customer_of};
+ghost use Rattle.eve_grammar.specs.Readers.{customer_of};
 ghost use Rattle.eve_frames.specs.Views.{body_in, has_customer_body, customer_in};
 
 use byteorder::{BigEndian, ByteOrder};

@@ -3,9 +3,9 @@
 ghost use Rattle.std.specs.Prelude.{◌≡◌, IsTrue, List};
 ghost use Rattle.std.specs.Iterator.{YieldsFirst, item_count};
 ghost use Rattle.eve_smallbank.specs.declared.entry.Entry.{Entry};
-ghost use Rattle.eve_grammar.specs.Reading.{entry_at};
+ghost use Rattle.eve_grammar.specs.Readers.{entry_at};
 ghost use Rattle.eve_grammar.specs.Bodies.{list_in};
-ghost use Rattle.eve_frames.specs.Items.{are_there};
+ghost use Rattle.eve_frames.specs.inner.Items.{are_there};
 ghost use Rattle.eve_grammar.specs.declared.limits.TheConstants.{MOST_ROWS};
 
 use eve_grammar::entry_again;

@@ -10,7 +10,7 @@ ghost use Rattle.eve_grammar.specs.Frames.{OfCustomer, OfBatch, OfAttempt, OfAcc
 ghost use Rattle.eve_grammar.specs.Frames.{OfTransfer, OfSent, without_accesses};
 ghost use Rattle.eve_grammar.specs.Limits.{is_number, is_customer, is_batch, is_attempt, is_access, is_commit};
 ghost use Rattle.eve_grammar.specs.Limits.{is_rollback, is_transfer, is_vote, is_sent};
-ghost use Rattle.eve_grammar.specs.Reading.{transfer_of};
+ghost use Rattle.eve_grammar.specs.Readers.{transfer_of};
 ghost use Rattle.eve_grammar.specs.Spelling.{frame_text};
 ghost use Rattle.eve_grammar.specs.Places.{IsBytes};
 ghost use Rattle.eve_grammar.specs.declared.limits.TheConstants.{MOST_ROWS, MOST_REPLICAS, MOST_BATCHES};

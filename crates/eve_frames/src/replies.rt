@@ -3,9 +3,9 @@
 ghost use Rattle.std.specs.Prelude.{◌≡◌, IsTrue, List};
 ghost use Rattle.std.specs.Iterator.{YieldsFirst, item_count};
 ghost use Rattle.eve_smallbank.specs.declared.request.Reply.{Reply};
-ghost use Rattle.eve_grammar.specs.Reading.{reply_at};
+ghost use Rattle.eve_grammar.specs.Readers.{reply_at};
 ghost use Rattle.eve_grammar.specs.Bodies.{list_in};
-ghost use Rattle.eve_frames.specs.Items.{are_there};
+ghost use Rattle.eve_frames.specs.inner.Items.{are_there};
 
 use eve_grammar::reply_at;
 use eve_smallbank::Reply;

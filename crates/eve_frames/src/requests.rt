@@ -3,9 +3,9 @@
 ghost use Rattle.std.specs.Prelude.{◌≡◌, IsTrue, List};
 ghost use Rattle.std.specs.Iterator.{YieldsFirstBy, item_count};
 ghost use Rattle.eve_grammar.specs.Trace.{Asked};
-ghost use Rattle.eve_grammar.specs.Reading.{asked_at};
+ghost use Rattle.eve_grammar.specs.Readers.{asked_at};
 ghost use Rattle.eve_grammar.specs.Bodies.{list_in, borrowed_asked};
-ghost use Rattle.eve_frames.specs.Items.{are_there};
+ghost use Rattle.eve_frames.specs.inner.Items.{are_there};
 
 use crate::again::asked_again;
 use eve_grammar::Asked;

@@ -3,10 +3,10 @@
 ghost use Rattle.std.specs.Prelude.{◌≡◌, IsTrue, List};
 ghost use Rattle.std.specs.Iterator.{YieldsFirstBy, item_count};
 ghost use Rattle.eve_grammar.specs.declared.limits.TheConstants.{MOST_ROWS};
-ghost use Rattle.eve_grammar.specs.Reading.{restore_at};
+ghost use Rattle.eve_grammar.specs.Readers.{restore_at};
 ghost use Rattle.eve_grammar.specs.Bodies.{list_in};
 ghost use Rattle.eve_grammar.specs.declared.restore.Restore.{Restore};
-ghost use Rattle.eve_frames.specs.Items.{are_there};
+ghost use Rattle.eve_frames.specs.inner.Items.{are_there};
 
 use eve_grammar::{MOST_ROWS, Restore, restore_at};
 use std::marker::Model;

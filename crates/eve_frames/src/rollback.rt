@@ -1,7 +1,7 @@
 //! A view of a Rollback frame.
 
 ghost use Rattle.std.specs.Prelude.{◌≡◌, ◌<◌, IsTrue, Some, length, slice_get};
-ghost use Rattle.eve_grammar.specs.Reading.{rollback_of};
+ghost use Rattle.eve_grammar.specs.Readers.{rollback_of};
 ghost use Rattle.eve_frames.specs.Views.{body_in, has_rollback_body, rollback_in};
 
 use crate::restores::Restores;

@@ -1,11 +1,11 @@
-//! Going through the rows of a state that was taken over.
+//! Going through the rows of a state that was transferred.
 
 ghost use Rattle.std.specs.Prelude.{◌≡◌, IsTrue, List};
 ghost use Rattle.std.specs.Iterator.{YieldsFirstBy, item_count};
 ghost use Rattle.eve_smallbank.specs.declared.versioned.Versioned.{Versioned};
-ghost use Rattle.eve_grammar.specs.Reading.{versioned_at};
+ghost use Rattle.eve_grammar.specs.Readers.{versioned_at};
 ghost use Rattle.eve_grammar.specs.Bodies.{list_in};
-ghost use Rattle.eve_frames.specs.Items.{are_there};
+ghost use Rattle.eve_frames.specs.inner.Items.{are_there};
 
 use eve_grammar::versioned_at;
 use eve_smallbank::Versioned;

@@ -1,7 +1,7 @@
 //! A view of a Sent frame.
 
 ghost use Rattle.std.specs.Prelude.{◌≡◌, IsTrue, Some};
-ghost use Rattle.eve_grammar.specs.Reading.{sent_of};
+ghost use Rattle.eve_grammar.specs.Readers.{sent_of};
 ghost use Rattle.eve_grammar.specs.declared.limits.TheConstants.{MOST_REPLICAS, MOST_BATCHES};
 ghost use Rattle.eve_frames.specs.Views.{body_in, has_sent_body, sent_in};
 

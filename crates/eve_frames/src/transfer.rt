@@ -1,7 +1,7 @@
 //! A view of a Transfer frame.
 
 ghost use Rattle.std.specs.Prelude.{◌≡◌, ◌<◌, IsTrue, Some, length, slice_get};
-ghost use Rattle.eve_grammar.specs.Reading.{transfer_of};
+ghost use Rattle.eve_grammar.specs.Readers.{transfer_of};
 ghost use Rattle.eve_frames.specs.Views.{body_in, has_transfer_body, state_rows_in, transfer_in};
 
 use crate::rows::Rows;
@@ -49,7 +49,7 @@ impl<'a> TransferView<'a> {
         frame
     }
 
-    /// The number of the batch whose state is taken over.
+    /// The number of the batch whose state is transferred.
     #[tactic(auto, using(crate::proofs::TransferPlaces::transfer_laws))]
     pub fn seq(&self) -> u32
         ensures { result ≡ (transfer_in self.now.bytes.now).seq }

@@ -1,7 +1,7 @@
 //! A view of a Vote frame.
 
 ghost use Rattle.std.specs.Prelude.{◌≡◌, IsTrue, Some};
-ghost use Rattle.eve_grammar.specs.Reading.{vote_of};
+ghost use Rattle.eve_grammar.specs.Readers.{vote_of};
 ghost use Rattle.eve_grammar.specs.Bodies.{borrowed_choice};
 ghost use Rattle.eve_grammar.specs.declared.limits.TheConstants.{MOST_BATCHES};
 ghost use Rattle.eve_frames.specs.Views.{body_in, has_vote_body, vote_in};

@@ -21,13 +21,13 @@ use Rattle.eve_grammar.specs.Limits.{is_entry, is_access, is_attempt, is_commit,
 use Rattle.eve_grammar.specs.Limits.{is_versioned, are_no_debts, is_transfer, is_choice, is_vote, is_sent}
 use Rattle.eve_grammar.specs.Spelling.{name_text, asked_text, entry_text, restore_text, choice_text, body_text}
 use Rattle.eve_grammar.specs.Spelling.{versioned_text, transfer_text}
-use Rattle.eve_grammar.specs.Reading.{Reader, number_at, both, both_by, led_by, made, made_if, only, many_at, name_at}
-use Rattle.eve_grammar.specs.Reading.{balance_at, saving_at, token_at, asked_at, reply_at, entry_at, restore_at}
-use Rattle.eve_grammar.specs.Reading.{customer_from, customer_of, are_sizes, sizes_at, batch_from, batch_of, number_of}
-use Rattle.eve_grammar.specs.Reading.{serial_from, certified_at, attempt_from, attempt_of, access_from, entries_at}
-use Rattle.eve_grammar.specs.Reading.{access_of, commit_from, commit_of, restores_at, rollback_from, rollback_of}
-use Rattle.eve_grammar.specs.Reading.{versioned_at, state_rows_at, transfer_from, transfer_of}
-use Rattle.eve_grammar.specs.Reading.{choice_from, vote_from, vote_of, sent_from, sent_of}
+use Rattle.eve_grammar.specs.Readers.{Reader, number_at, both, both_by, led_by, made, made_if, only, many_at, name_at}
+use Rattle.eve_grammar.specs.Readers.{balance_at, saving_at, token_at, asked_at, reply_at, entry_at, restore_at}
+use Rattle.eve_grammar.specs.Readers.{customer_from, customer_of, are_sizes, sizes_at, batch_from, batch_of, number_of}
+use Rattle.eve_grammar.specs.Readers.{serial_from, certified_at, attempt_from, attempt_of, access_from, entries_at}
+use Rattle.eve_grammar.specs.Readers.{access_of, commit_from, commit_of, restores_at, rollback_from, rollback_of}
+use Rattle.eve_grammar.specs.Readers.{versioned_at, state_rows_at, transfer_from, transfer_of}
+use Rattle.eve_grammar.specs.Readers.{choice_from, vote_from, vote_of, sent_from, sent_of}
 use Rattle.eve_grammar.proofs.Codec.{IsBytes, guard_some, Codec, Codec-as, Codec-made, Codec-made_if}
 use Rattle.eve_grammar.proofs.Codec.{Codec-led_by, Codec-both, Codec-both_by, Codec-only, Codec-many, Codec-counted}
 use Rattle.eve_grammar.proofs.Codec.{are_many, are_many_of, whole_takes, whole_again}

@@ -7,15 +7,15 @@ use Rattle.std.specs.List.{flat_map, list_all}
 use Rattle.std.proofs.lemmas.Bool.{cases_lt, eqb-true, eq-eqb, and_parts, and_from}
 use Rattle.std.proofs.lemmas.List.{length-take, get_or-drop, get_or-take, get_or_past, append-nil, nil_from_length}
 use Rattle.std.proofs.lemmas.Option.{same_Some}
-use Rattle.eve_grammar.specs.Reading.{Reader, ◌>>=◌, both_by, led_by, made_if, only, whole, many_at}
+use Rattle.eve_grammar.specs.Readers.{Reader, ◌>>=◌, both_by, led_by, made_if, only, whole, many_at}
 pub use Rattle.eve_grammar.specs.Places.{IsBytes}
 pub use Rattle.std.proofs.lemmas.Option.{same_Some as some_is}
 
--- what stands behind a front of bytes is bytes
+-- what stands behind a prefix of bytes is bytes
 pub IsBytes-drop : (n : ℕ) (bytes : List ℕ) → IsBytes bytes → IsBytes (drop n bytes)
 IsBytes-drop n bytes h i = rw get_or-drop (h (n + i))
 
--- a front of bytes is bytes
+-- a prefix of bytes is bytes
 pub IsBytes-take : (n : ℕ) (bytes : List ℕ) → IsBytes bytes → IsBytes (take n bytes)
 IsBytes-take n bytes h i =
     elim (cases_lt i n) [
@@ -39,7 +39,7 @@ pub guard_none : {A : Type 0} (b : Bool) (o : Option A) (y : A) → cond b None 
 guard_none true o y e = absurd cc
 guard_none false o y e = (refl, e)
 
--- what a reader took from the front
+-- what a reader took from the beginning
 pub record Takes (bytes text rest : List ℕ) : Type 0 where
   pub parts : bytes ≡ text ++ rest
   pub rest_fits : IsBytes rest

@@ -19,8 +19,8 @@ use Rattle.eve_accounts.specs.Names.{is_printable, is_name}
 use Rattle.eve_smallbank.specs.Spelling.{money_text}
 use Rattle.eve_grammar.specs.Limits.{is_number}
 use Rattle.eve_grammar.specs.Spelling.{name_text}
-use Rattle.eve_grammar.specs.Reading.{Reader, number_at, bytes_at, signed_at, led_by, behind, only, balance_at}
-use Rattle.eve_grammar.specs.Reading.{saving_at, amount_at, name_at, move_at, token_at}
+use Rattle.eve_grammar.specs.Readers.{Reader, number_at, bytes_at, signed_at, led_by, behind, only, balance_at}
+use Rattle.eve_grammar.specs.Readers.{saving_at, amount_at, name_at, move_at, token_at}
 use Rattle.eve_grammar.proofs.Codec.{IsBytes, IsBytes-drop, IsBytes-take, bind_some, guard_some, guard_none}
 use Rattle.eve_grammar.proofs.Codec.{Takes, Takes-then, Codec, Codec-as, Codec-made, Codec-led_by, Codec-both}
 use Rattle.eve_grammar.proofs.Codec.{Codec-only}
@@ -73,10 +73,10 @@ Codec-wide n wide = record {
       let long : n ≤ length bytes = ltb-false _ _ g.0 in
       let there : ℕ × List ℕ = (big_number n bytes, drop n bytes) in
       let same : big_number n (take n bytes) ≡ big_number n bytes = big_from-take 0 n n bytes (omega arith) in
-      let front : big_bytes n (big_number n bytes) ≡ take n bytes = ap (big_bytes n) (sym same)
+      let prefix : big_bytes n (big_number n bytes) ≡ take n bytes = ap (big_bytes n) (sym same)
       ∙ wide.back (take n bytes) (omega (arith, length-take n bytes)) (IsBytes-take n bytes fits) in
       subst (λ (y : ℕ × List ℕ). Takes bytes (big_bytes n y.0) y.1 × IsTrue (is_number n y.0)) (same_Some there x g.1) (
-        record { parts = rw front (sym (take-append-drop n bytes)); rest_fits = IsBytes-drop n bytes fits },
+        record { parts = rw prefix (sym (take-append-drop n bytes)); rest_fits = IsBytes-drop n bytes fits },
         lt-ltb _ _ (big_from-lt 0 n bytes fits),
       );
   again = λ x rest fits.

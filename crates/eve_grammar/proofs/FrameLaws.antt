@@ -12,9 +12,9 @@ use Rattle.eve_grammar.specs.Frames.{Frame, OfCustomer, OfBatch, OfReplica, OfAt
 use Rattle.eve_grammar.specs.Frames.{OfTransfer, OfVerifier, OfVote, OfSent, End, kind_of, is_allowed}
 use Rattle.eve_grammar.specs.Limits.{is_number, is_batch, is_head, row_count, is_body, FitsAt, HasLimits}
 use Rattle.eve_grammar.specs.Spelling.{body_text, head_text}
-use Rattle.eve_grammar.specs.Reading.{number_at, both, made, only, behind, customer_of, batch_of, number_of, attempt_of}
-use Rattle.eve_grammar.specs.Reading.{access_of, commit_of, rollback_of, transfer_of, vote_of, sent_of, body_of}
-use Rattle.eve_grammar.specs.Reading.{head_from, header_of}
+use Rattle.eve_grammar.specs.Readers.{number_at, both, made, only, behind, customer_of, batch_of, number_of, attempt_of}
+use Rattle.eve_grammar.specs.Readers.{access_of, commit_of, rollback_of, transfer_of, vote_of, sent_of, body_of}
+use Rattle.eve_grammar.specs.Readers.{head_from, header_of}
 use Rattle.eve_grammar.proofs.Codec.{IsBytes, bind_some, guard_some, Codec, Codec-as, Codec-made, Codec-both}
 use Rattle.eve_grammar.proofs.Codec.{Codec-only, whole_takes, whole_again}
 use Rattle.eve_grammar.proofs.FieldCodecs.{Codec-number1, Codec-number2, Codec-number3, Codec-number4, Codec-behind}

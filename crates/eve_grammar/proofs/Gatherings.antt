@@ -1,12 +1,12 @@
 -- Public: other crates cite these lemmas. What is gathered of the frames of a trace is the trace.
 use Rattle.std.proofs.Common.{◌≡◌, ℕ, ◌+◌, List, [], ◌∷◌, ◌++◌, map, refl, sym, ap, ◌∙◌, append_assoc, append-nil}
 use Rattle.std.specs.List.{flat_map, enumerate_from}
-use Rattle.eve_grammar.specs.Trace.{Customer, Batch, Access, Attempt, Step, Attempts, Commits, RollsBack, TakesOver}
+use Rattle.eve_grammar.specs.Trace.{Customer, Batch, Access, Attempt, Step, Attempts, Commits, RollsBack, Transfers}
 use Rattle.eve_grammar.specs.Trace.{Vote, Sent, Trace}
 use Rattle.eve_grammar.specs.Frames.{Frame, OfCustomer, OfBatch, OfReplica, OfAttempt, OfAccess, OfCommit, OfRollback}
 use Rattle.eve_grammar.specs.Frames.{OfTransfer, OfVerifier, OfVote, OfSent, End, without_accesses, step_frames}
 use Rattle.eve_grammar.specs.Frames.{section_frames, verifier_frames, frames_of}
-use Rattle.eve_grammar.specs.Gathering.{Gathered, gather, gathered, headed, trace_of, IsMadeOf}
+use Rattle.eve_grammar.specs.GatheredTraces.{Gathered, gather, gathered, headed, trace_of, IsMadeOf}
 use Rattle.eve_grammar.specs.declared.head.Head.{Head}
 
 -- whole parts alone
@@ -77,7 +77,7 @@ gathered-step : (s : Step) (ss : List Step) (rest : List Frame) (g : Gathered) �
 gathered-step (Attempts a) ss rest g e = gathered-attempt a ss rest g e
 gathered-step (Commits c) ss rest g e = ap (gather (OfCommit c)) e
 gathered-step (RollsBack r) ss rest g e = ap (gather (OfRollback r)) e
-gathered-step (TakesOver x) ss rest g e = ap (gather (OfTransfer x)) e
+gathered-step (Transfers x) ss rest g e = ap (gather (OfTransfer x)) e
 
 pub gathered-steps : (ss : List Step) (rest : List Frame) (g : Gathered) → gathered rest ≡ with_steps g []
     → gathered (flat_map step_frames ss ++ rest) ≡ with_steps g ss

@@ -4,7 +4,7 @@ use Rattle.std.proofs.lemmas.List.{length-append}
 use Rattle.eve_grammar.specs.Trace.{Trace}
 use Rattle.eve_grammar.specs.Frames.{frames_of}
 use Rattle.eve_grammar.specs.Spelling.{frames_text, head_text, length_of, spelling}
-use Rattle.eve_grammar.specs.Following.{Spells}
+use Rattle.eve_grammar.specs.FrameOrder.{Spells}
 use Rattle.eve_grammar.proofs.HeaderParts.{length-head_text}
 
 pub long_as_trace : (bytes : List ℕ) (t : Trace) → Spells bytes t → length bytes ≡ length_of t

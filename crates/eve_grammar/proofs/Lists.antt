@@ -14,7 +14,7 @@ item_within [] i lt = absurd (omega arith)
 item_within (x ∷ xs) zero lt = (x, refl)
 item_within (x ∷ xs) (suc i) lt = item_within xs i (omega arith)
 
--- the front with one more item is the front, and then the item at that place
+-- the prefix with one more item is the prefix, and then the item at that place
 pub take_one_more : {A : Type 0} (xs : List A) (i : ℕ) (x : A) → slice_get xs i ≡ Some x → take (i + 1) xs
     ≡ take i xs ++ x ∷ []
 take_one_more {A} xs i x at =
@@ -27,15 +27,15 @@ drop_here xs i x at = drop_more xs i x (slice_get_within xs i x at)
     ∙ ap (λ (y : _). y ∷ drop (i + 1) xs) (get_or_from_slice_get xs i x x at)
 
 -- of two lists, one after the other, a place within the first has the first's item
-pub slice_get-front : {A : Type 0} (xs ys : List A) (i : ℕ) → i < length xs → slice_get (xs ++ ys) i ≡ slice_get xs i
-slice_get-front [] ys i lt = absurd (omega arith)
-slice_get-front (x ∷ xs) ys zero lt = refl
-slice_get-front (x ∷ xs) ys (suc i) lt = slice_get-front xs ys i (omega arith)
+pub slice_get-prefix : {A : Type 0} (xs ys : List A) (i : ℕ) → i < length xs → slice_get (xs ++ ys) i ≡ slice_get xs i
+slice_get-prefix [] ys i lt = absurd (omega arith)
+slice_get-prefix (x ∷ xs) ys zero lt = refl
+slice_get-prefix (x ∷ xs) ys (suc i) lt = slice_get-prefix xs ys i (omega arith)
 
 -- an item of the first of two lists is one of both, at the same place
-pub get_in_front : {A : Type 0} (xs ys : List A) (i : ℕ) (x : A) → slice_get xs i ≡ Some x
+pub get_in_prefix : {A : Type 0} (xs ys : List A) (i : ℕ) (x : A) → slice_get xs i ≡ Some x
     → slice_get (xs ++ ys) i ≡ Some x
-get_in_front xs ys i x at = slice_get-front xs ys i (slice_get_within xs i x at) ∙ at
+get_in_prefix xs ys i x at = slice_get-prefix xs ys i (slice_get_within xs i x at) ∙ at
 
 -- behind the first of two lists stand the items of the second
 pub slice_get-behind : {A : Type 0} (xs ys : List A) (i : ℕ) → slice_get (xs ++ ys) (length xs + i) ≡ slice_get ys i

@@ -2,8 +2,8 @@
 use Rattle.std.proofs.Common.{◌≡◌, ℕ, suc, ◌-◌, ◌+◌, ◌≤◌, ◌<◌, true, false, leb, List, Option, Some, None, refl, sym}
 use Rattle.std.proofs.Common.{ap, ◌∙◌, arith}
 use Rattle.std.proofs.lemmas.Bool.{le-leb}
-use Rattle.eve_grammar.specs.Reading.{◌>>=◌, Reader, number_at, restore_at, versioned_at}
-use Rattle.eve_grammar.specs.Scanning.{total_at, rest_at, rising_at, saved_at}
+use Rattle.eve_grammar.specs.Readers.{◌>>=◌, Reader, number_at, restore_at, versioned_at}
+use Rattle.eve_grammar.specs.inner.Scans.{total_at, rest_at, rising_at, saved_at}
 use Rattle.eve_grammar.specs.Limits.{is_no_debt}
 use Rattle.eve_grammar.specs.declared.restore.Restore.{Restore}
 use Rattle.eve_smallbank.specs.declared.versioned.Versioned.{Versioned}

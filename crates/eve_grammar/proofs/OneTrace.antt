@@ -10,13 +10,13 @@ use Rattle.eve_grammar.specs.Trace.{Trace}
 use Rattle.eve_grammar.specs.Frames.{Frame, kind_of, start_place, next_place, frames_of}
 use Rattle.eve_grammar.specs.Spelling.{body_text, frame_text, frames_text, length_of, spelling}
 use Rattle.eve_grammar.specs.Limits.{is_head, FitsAt}
-use Rattle.eve_grammar.specs.Following.{Follow, after, Spells}
-use Rattle.eve_grammar.specs.Reading.{number_at, body_of, header_of}
-use Rattle.eve_grammar.specs.Gathering.{trace_of}
+use Rattle.eve_grammar.specs.FrameOrder.{Follow, after, Spells}
+use Rattle.eve_grammar.specs.Readers.{number_at, body_of, header_of}
+use Rattle.eve_grammar.specs.GatheredTraces.{trace_of}
 use Rattle.eve_grammar.proofs.FieldCodecs.{Codec-number4}
 use Rattle.eve_grammar.proofs.FrameLaws.{limits_text, Exact-header, body_of-again}
 use Rattle.eve_grammar.proofs.HeaderParts.{in_parts, header_parts, length-limits_text, behind_magic, behind_total}
-use Rattle.eve_grammar.proofs.Standing.{not_ended}
+use Rattle.eve_grammar.proofs.FramePlaces.{not_ended}
 use Rattle.eve_grammar.proofs.Gatherings.{trace_of-frames_of}
 use Rattle.eve_grammar.specs.declared.head.Head.{Head}
 use Rattle.eve_grammar.proofs.Spelled.{frames_end}
@@ -24,7 +24,7 @@ use Rattle.eve_grammar.specs.declared.place.Place.{Place}
 
 -- ---- one frame
 
--- two fields of a length and so many bytes, at the front of the same bytes
+-- two fields of a length and so many bytes, at the beginning of the same bytes
 pub record SamePart (a x b y : List ℕ) : Type 0 where
   pub part : a ≡ b
   pub rest : x ≡ y
@@ -46,19 +46,20 @@ same_part a x b y a_short b_short e =
       rest = sym (drop_at a x (length a) refl) ∙ ap (drop (length a)) text ∙ drop_at b y (length a) (sym long);
     }
 
-front : (f : Frame) (rest : List ℕ) → frame_text f ++ rest
+prefix : (f : Frame) (rest : List ℕ) → frame_text f ++ rest
     ≡ kind_of f ∷ (big_bytes 4 (length (body_text f)) ++ (body_text f ++ rest))
-front f rest = ap (λ (r : List ℕ). kind_of f ∷ r) (append_assoc (big_bytes 4 (length (body_text f))) (body_text f) rest)
+prefix f rest = ap (λ (r : List ℕ). kind_of f ∷ r)
+    (append_assoc (big_bytes 4 (length (body_text f))) (body_text f) rest)
 
 pub record SameFrame (f g : Frame) (rest more : List ℕ) : Type 0 where
   pub frame : f ≡ g
   pub behind : rest ≡ more
 
--- two frames that fit at one place, at the front of the same bytes
+-- two frames that fit at one place, at the beginning of the same bytes
 same_frame : (h : Head) (p : Place) (f g : Frame) (rest more : List ℕ) → IsTrue (is_head h) → FitsAt h p f
     → FitsAt h p g → frame_text f ++ rest ≡ frame_text g ++ more → SameFrame f g rest more
 same_frame h p f g rest more right f_fits g_fits e =
-    let both = sym (front f rest) ∙ e ∙ front g more in
+    let both = sym (prefix f rest) ∙ e ∙ prefix g more in
     let kind : kind_of f ≡ kind_of g = ap (λ (r : List ℕ). slice_index r 0) both in
     let tail = same_part (body_text f) rest (body_text g) more f_fits.short g_fits.short (ap (drop 1) both) in
     let one : body_of h p (kind_of f) (body_text f) ≡ Some f = body_of-again h p f right f_fits in

@@ -23,10 +23,10 @@ use Rattle.eve_grammar.specs.Trace.{Asked}
 use Rattle.eve_grammar.specs.declared.limits.TheConstants.{MOST_VERSIONS}
 use Rattle.eve_grammar.specs.Limits.{is_number, is_request, is_asked, is_reply, is_entry, is_restore, is_versioned}
 use Rattle.eve_grammar.specs.Spelling.{name_text, request_text, asked_text, entry_text, restore_text, versioned_text}
-use Rattle.eve_grammar.specs.Reading.{Reader, number_at, signed_at, both, made, made_if, only, name_at, move_at}
-use Rattle.eve_grammar.specs.Reading.{coded_at, request_at, asked_from, asked_at, plain_reply, reply_from, reply_at}
-use Rattle.eve_grammar.specs.Reading.{kind_from, entry_from, entry_fields_at, entry_at, restore_from, restore_fields_at}
-use Rattle.eve_grammar.specs.Reading.{restore_at, versioned_from, versioned_fields_at, versioned_at}
+use Rattle.eve_grammar.specs.Readers.{Reader, number_at, signed_at, both, made, made_if, only, name_at, move_at}
+use Rattle.eve_grammar.specs.Readers.{coded_at, request_at, asked_from, asked_at, plain_reply, reply_from, reply_at}
+use Rattle.eve_grammar.specs.Readers.{kind_from, entry_from, entry_fields_at, entry_at, restore_from, restore_fields_at}
+use Rattle.eve_grammar.specs.Readers.{restore_at, versioned_from, versioned_fields_at, versioned_at}
 use Rattle.eve_grammar.proofs.Codec.{IsBytes, bind_some, guard_some, Takes, Codec, Codec-as, Codec-made}
 use Rattle.eve_grammar.proofs.Codec.{Codec-made_if, Codec-led_by, Codec-both, Codec-only}
 use Rattle.eve_grammar.proofs.FieldCodecs.{Codec-number1, Codec-number4, Codec-number8, is_signed, Codec-signed}

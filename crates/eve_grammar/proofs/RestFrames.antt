@@ -5,14 +5,14 @@ use Rattle.std.specs.Prelude.{IsTrue, ◌==◌}
 use Rattle.std.specs.List.{flat_map, enumerate_from}
 use Rattle.std.proofs.lemmas.Bool.{both_ways, and_parts}
 use Rattle.std.proofs.lemmas.List.{nil_from_length}
-use Rattle.eve_grammar.specs.Trace.{Batch, Access, Attempt, Step, Commits, RollsBack, TakesOver, Vote, Sent}
+use Rattle.eve_grammar.specs.Trace.{Batch, Access, Attempt, Step, Commits, RollsBack, Transfers, Vote, Sent}
 use Rattle.eve_grammar.specs.Frames.{Frame, OfCustomer, OfBatch, OfReplica, OfAttempt, OfAccess, OfCommit, OfRollback}
 use Rattle.eve_grammar.specs.Frames.{OfTransfer, OfVerifier, OfVote, OfSent, End, without_accesses, step_frames}
 use Rattle.eve_grammar.specs.Frames.{section_frames, verifier_frames, kind_of, next_place, is_allowed}
 use Rattle.eve_grammar.specs.Limits.{is_batch, is_attempt, is_body}
-use Rattle.eve_grammar.specs.Gathering.{Gathered, gather}
-use Rattle.eve_grammar.proofs.Standing.{of_batch, of_access, of_replica, of_attempt, of_commit, of_rollback}
-use Rattle.eve_grammar.proofs.Standing.{of_transfer, of_verifier, of_vote, of_sent, IsBehind, IsSettled}
+use Rattle.eve_grammar.specs.GatheredTraces.{Gathered, gather}
+use Rattle.eve_grammar.proofs.FramePlaces.{of_batch, of_access, of_replica, of_attempt, of_commit, of_rollback}
+use Rattle.eve_grammar.proofs.FramePlaces.{of_transfer, of_verifier, of_vote, of_sent, IsBehind, IsSettled}
 use Rattle.eve_grammar.proofs.RestParts.{IsCounted, HasAllReplicas, all_replicas, IsOwned}
 use Rattle.eve_grammar.specs.declared.head.Head.{Head}
 use Rattle.eve_grammar.specs.declared.place.Place.{Place}
@@ -151,7 +151,7 @@ frames_more (OfRollback r) h p g fs some t b on all n o e =
     (nil_from_length g.accesses (omega arith)) e
 frames_more (OfTransfer x) h p g fs some t b on all n o e =
     let at = (of_transfer h p t).0 in
-    frames_of_step (TakesOver x) (OfTransfer x) p g fs refl (late h p g at.settled.behind n.0 n.1)
+    frames_of_step (Transfers x) (OfTransfer x) p g fs refl (late h p g at.settled.behind n.0 n.1)
     (nil_from_length g.accesses (omega arith)) e
 frames_more (OfVerifier number) h p g fs some t b on all n o e =
     let at = of_verifier h p some t in

@@ -4,14 +4,15 @@ use Rattle.std.proofs.Common.{◌≡◌, ℕ, zero, suc, ◌+◌, ◌-◌, ◌<�
 use Rattle.std.specs.Prelude.{IsTrue, ◌==◌}
 use Rattle.std.specs.List.{list_all}
 use Rattle.std.proofs.lemmas.Bool.{both_ways, and_parts, and_from}
-use Rattle.eve_grammar.specs.Trace.{Access, Attempt, Step, Attempts, Commits, RollsBack, TakesOver}
+use Rattle.eve_grammar.specs.Trace.{Access, Attempt, Step, Attempts, Commits, RollsBack, Transfers}
 use Rattle.eve_grammar.specs.Frames.{Frame, OfCustomer, OfBatch, OfReplica, OfAttempt, OfAccess, OfCommit, OfRollback}
 use Rattle.eve_grammar.specs.Frames.{OfTransfer, OfVerifier, OfVote, OfSent, End, kind_of, next_place, is_allowed}
 use Rattle.eve_grammar.specs.Limits.{is_customer, is_batch, is_access, is_attempt, is_step, is_vote, is_sent, row_count}
 use Rattle.eve_grammar.specs.Limits.{is_of_version, is_body}
-use Rattle.eve_grammar.specs.Gathering.{Gathered, gather}
-use Rattle.eve_grammar.proofs.Standing.{InSection, of_customer, of_batch, of_replica, of_attempt, of_access, of_commit}
-use Rattle.eve_grammar.proofs.Standing.{of_rollback, of_transfer, of_verifier, of_vote}
+use Rattle.eve_grammar.specs.GatheredTraces.{Gathered, gather}
+use Rattle.eve_grammar.proofs.FramePlaces.{InSection, of_customer, of_batch, of_replica, of_attempt, of_access}
+use Rattle.eve_grammar.proofs.FramePlaces.{of_commit}
+use Rattle.eve_grammar.proofs.FramePlaces.{of_rollback, of_transfer, of_verifier, of_vote}
 use Rattle.eve_grammar.specs.declared.head.Head.{Head}
 use Rattle.eve_grammar.specs.declared.place.Place.{Place}
 
@@ -128,7 +129,7 @@ within_more (OfCommit c) h p g b n w =
 within_more (OfRollback r) h p g b n w =
     (w.0, w.1, w.2, and_from (is_step (row_count h) (RollsBack r)) _ b w.3, w.4, w.5, w.6, w.7)
 within_more (OfTransfer x) h p g b n w =
-    (w.0, w.1, w.2, and_from (is_step (row_count h) (TakesOver x)) _ b w.3, w.4, w.5, w.6, w.7)
+    (w.0, w.1, w.2, and_from (is_step (row_count h) (Transfers x)) _ b w.3, w.4, w.5, w.6, w.7)
 within_more (OfVerifier number) h p g b n w =
     (w.0, w.1, w.2, w.3, w.4, refl, and_from (list_all (is_vote h.batches) g.votes) _ w.5 w.6, w.7)
 within_more (OfVote v) h p g b n w = (w.0, w.1, w.2, w.3, w.4, and_from (is_vote h.batches v) _ b w.5, w.6, w.7)
@@ -149,5 +150,5 @@ pub of_version_more : (f : Frame) (h : Head) (p : Place) (g : Gathered) → IsTr
 of_version_more (OfReplica number) h p g t v =
     (refl, and_from (list_all (is_of_version h.version) g.steps) _ v.0 v.1)
 of_version_more (OfTransfer x) h p g t v =
-    (and_from (is_of_version h.version (TakesOver x)) _ (of_transfer h p t).1 v.0, v.1)
+    (and_from (is_of_version h.version (Transfers x)) _ (of_transfer h p t).1 v.0, v.1)
 of_version_more _ h p g t v = v

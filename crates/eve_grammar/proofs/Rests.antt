@@ -7,9 +7,9 @@ use Rattle.std.proofs.lemmas.List.{nil_from_length}
 use Rattle.eve_grammar.specs.Trace.{head_of}
 use Rattle.eve_grammar.specs.Frames.{Frame, End, frames_of, kind_of, start_place, next_place, is_allowed}
 use Rattle.eve_grammar.specs.Limits.{is_head, is_step, is_vote, is_sent, row_count, HasLimits, FitsAt}
-use Rattle.eve_grammar.specs.Following.{Follow, after, AreAllFrames}
-use Rattle.eve_grammar.specs.Gathering.{Gathered, gather, gathered, trace_of}
-use Rattle.eve_grammar.proofs.Standing.{of_end, not_ended}
+use Rattle.eve_grammar.specs.FrameOrder.{Follow, after, AreAllFrames}
+use Rattle.eve_grammar.specs.GatheredTraces.{Gathered, gather, gathered, trace_of}
+use Rattle.eve_grammar.proofs.FramePlaces.{of_end, not_ended}
 use Rattle.eve_grammar.proofs.Runs.{some_verifier}
 use Rattle.eve_grammar.proofs.RestParts.{IsCounted, counted_more, HasAllReplicas, all_replicas_more, IsOwned}
 use Rattle.eve_grammar.proofs.RestParts.{owned_more, IsWithin, within_more, AreOfVersion, of_version_more}

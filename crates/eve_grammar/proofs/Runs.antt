@@ -5,7 +5,7 @@ use Rattle.std.proofs.Common.{eqb-true, ne_eqb, length-append}
 use Rattle.std.specs.Prelude.{IsTrue, nat_lt, ◌==◌}
 use Rattle.std.specs.List.{flat_map, enumerate_from, list_all}
 use Rattle.std.proofs.lemmas.Bool.{and_parts, and_from, or_left, or_right}
-use Rattle.eve_grammar.specs.Trace.{Customer, Batch, Access, Attempt, Step, Attempts, Commits, RollsBack, TakesOver}
+use Rattle.eve_grammar.specs.Trace.{Customer, Batch, Access, Attempt, Step, Attempts, Commits, RollsBack, Transfers}
 use Rattle.eve_grammar.specs.Trace.{Vote, Sent, Trace, head_of}
 use Rattle.eve_grammar.specs.Frames.{Frame, OfCustomer, OfBatch, OfAccess, OfVote, OfSent, End, step_frames}
 use Rattle.eve_grammar.specs.Frames.{section_frames, verifier_frames, frames_of, kind_of, start_place}
@@ -14,7 +14,7 @@ use Rattle.eve_grammar.specs.Frames.{is_allowed_in_sections, is_allowed_behind_s
 use Rattle.eve_grammar.specs.Spelling.{frame_text, frames_text, length_of}
 use Rattle.eve_grammar.specs.Limits.{is_head, is_customer, is_batch, is_access, is_attempt, is_step, is_of_version}
 use Rattle.eve_grammar.specs.Limits.{is_vote, is_sent, row_count, HasLimits, is_body}
-use Rattle.eve_grammar.specs.Following.{Follow, after, AreAllFrames}
+use Rattle.eve_grammar.specs.FrameOrder.{Follow, after, AreAllFrames}
 use Rattle.eve_grammar.specs.declared.head.Head.{Head}
 use Rattle.eve_grammar.specs.declared.place.Place.{Place}
 use Rattle.eve_grammar.proofs.HeadLimits.{head_has_limits}
@@ -164,7 +164,7 @@ run_step (Commits c) r h rest some limits kind run =
     (allowed_in_section h r 19 (allowed_step h r 19 some refl), limits, run)
 run_step (RollsBack b) r h rest some limits kind run =
     (allowed_in_section h r 20 (allowed_step h r 20 some refl), limits, run)
-run_step (TakesOver x) r h rest some limits kind run =
+run_step (Transfers x) r h rest some limits kind run =
     (allowed_in_section h r 21 (allowed_step h r 21 some kind), limits, run)
 
 run_steps : (ss : List Step) (r : ℕ) (h : Head) (rest : List Frame) → 0 < r

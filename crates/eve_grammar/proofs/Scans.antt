@@ -9,8 +9,8 @@ use Rattle.std.proofs.lemmas.List.Sums.{sum_by-cons}
 use Rattle.std.proofs.lemmas.Option.{same_Some}
 use Rattle.byteorder.specs.Endian.{big_number}
 use Rattle.eve_grammar.specs.Limits.{is_rising, is_no_debt, are_no_debts}
-use Rattle.eve_grammar.specs.Reading.{◌>>=◌, Reader, number_at, many_at, restore_at, versioned_at}
-use Rattle.eve_grammar.specs.Scanning.{total_at, rest_at, rising_at, saved_at}
+use Rattle.eve_grammar.specs.Readers.{◌>>=◌, Reader, number_at, many_at, restore_at, versioned_at}
+use Rattle.eve_grammar.specs.inner.Scans.{total_at, rest_at, rising_at, saved_at}
 use Rattle.eve_grammar.proofs.Codec.{bind_some}
 use Rattle.eve_grammar.specs.declared.restore.Restore.{Restore}
 use Rattle.eve_smallbank.specs.declared.versioned.Versioned.{Versioned}

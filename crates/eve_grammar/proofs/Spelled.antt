@@ -8,7 +8,7 @@ use Rattle.eve_grammar.specs.Frames.{Frame, OfCustomer, OfBatch, OfSent, End, st
 use Rattle.eve_grammar.specs.Frames.{batches_of, sections_of, verifiers_of, section_frames, verifier_frames}
 use Rattle.eve_grammar.specs.Spelling.{length_of, spelling}
 use Rattle.eve_grammar.specs.Limits.{HasLimits, is_head}
-use Rattle.eve_grammar.specs.Following.{after, Spells, Follow}
+use Rattle.eve_grammar.specs.FrameOrder.{after, Spells, Follow}
 use Rattle.eve_grammar.proofs.Gatherings.{trace_of-frames_of}
 use Rattle.eve_grammar.proofs.Rests.{limits_of-trace_of}
 use Rattle.eve_grammar.proofs.Runs.{run_of_trace}

@@ -6,7 +6,7 @@ use Rattle.eve_grammar.specs.declared.vote.Choice as chosen
 use Rattle.eve_grammar.specs.declared.vote.Choice.TheVariants as of
 use Rattle.eve_grammar.specs.declared.transfer.TransferData.{TransferData}
 use Rattle.eve_grammar.specs.Trace.{Asked, Transfer, Choice, ForRollback, ForCommit}
-use Rattle.eve_grammar.specs.Reading.{Reader, many_at}
+use Rattle.eve_grammar.specs.Readers.{Reader, many_at}
 
 -- the values of a reading, none where it failed
 abbrev pub values : {A : Type 0} → Option (List A × List ℕ) → List A
@@ -26,6 +26,6 @@ abbrev pub borrowed_choice : chosen.Choice → Choice
 borrowed_choice of.ForRollback = ForRollback
 borrowed_choice (of.ForCommit token) = ForCommit token.now
 
--- a state taken over
+-- a state transferred
 abbrev pub transfer : TransferData → Transfer
 transfer x = record { seq = x.seq; view = x.view; rows = x.rows.items }

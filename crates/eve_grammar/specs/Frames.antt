@@ -3,7 +3,7 @@ use Rattle.std.specs.Prelude.{ℕ, ◌+◌, ◌-◌, nat_lt, ◌==◌, Bool, tru
 use Rattle.std.specs.Prelude.{◌∷◌, ◌++◌, map, length}
 use Rattle.std.specs.List.{flat_map, enumerate_from}
 use Rattle.eve_grammar.specs.Trace.{Customer, Batch, Access, Attempt, Commit, Rollback, Step, Attempts, Commits}
-use Rattle.eve_grammar.specs.Trace.{RollsBack, Transfer, TakesOver, Vote, Sent, Trace}
+use Rattle.eve_grammar.specs.Trace.{RollsBack, Transfer, Transfers, Vote, Sent, Trace}
 use Rattle.eve_grammar.specs.declared.head.Head.{Head}
 use Rattle.eve_grammar.specs.declared.frame_kind.TheConstants.{CUSTOMER_FRAME, BATCH_FRAME, REPLICA_FRAME}
 use Rattle.eve_grammar.specs.declared.frame_kind.TheConstants.{ATTEMPT_FRAME, ACCESS_FRAME, COMMIT_FRAME}
@@ -40,7 +40,7 @@ abbrev pub step_frames : Step → List Frame
 step_frames (Attempts a) = attempt_frames a
 step_frames (Commits c) = OfCommit c ∷ []
 step_frames (RollsBack r) = OfRollback r ∷ []
-step_frames (TakesOver x) = OfTransfer x ∷ []
+step_frames (Transfers x) = OfTransfer x ∷ []
 
 -- a replica's frame and those of its steps
 abbrev pub section_frames : ℕ × List Step → List Frame

@@ -3,13 +3,11 @@ pub mod Frames
 pub mod Kinds
 pub mod Spelling
 pub mod Limits
-pub mod Following
+pub mod FrameOrder
 pub mod Places
-pub mod Reading
-pub mod Scanning
+pub mod Readers
 pub mod Bodies
-pub mod Cases
-pub mod Gathering
+pub mod GatheredTraces
 pub mod Certificate
 pub mod Accesses
-pub mod Groups
+pub mod inner

@@ -17,7 +17,7 @@ use Rattle.eve_grammar.specs.declared.limits.TheConstants.{MOST_REPLICAS, MOST_V
 use Rattle.eve_grammar.specs.declared.limits.TheConstants.{MOST_CUSTOMERS, MOST_BATCHES, MOST_REQUESTS, MOST_ENTRIES}
 use Rattle.eve_grammar.specs.declared.limits.TheConstants.{MOST_VERSIONS, MOST_CUSTOMERS_OF_VERSION_1, NEWEST_VERSION}
 use Rattle.eve_grammar.specs.Trace.{Customer, Asked, Batch, Access, Attempt, Commit, Rollback, Step, Attempts}
-use Rattle.eve_grammar.specs.Trace.{Commits, RollsBack, Transfer, TakesOver, Choice, ForRollback, ForCommit, Vote}
+use Rattle.eve_grammar.specs.Trace.{Commits, RollsBack, Transfer, Transfers, Choice, ForRollback, ForCommit, Vote}
 use Rattle.eve_grammar.specs.Trace.{Sent, Trace, head_of}
 use Rattle.eve_grammar.specs.Frames.{Frame, OfCustomer, OfBatch, OfReplica, OfAttempt, OfAccess, OfCommit, OfRollback}
 use Rattle.eve_grammar.specs.Frames.{OfTransfer, OfVerifier, OfVote, OfSent, End, kind_of, has_transfers, is_allowed}
@@ -135,14 +135,14 @@ abbrev pub is_step : ℕ → Step → Bool
 is_step rows (Attempts a) = is_whole_attempt rows a
 is_step rows (Commits c) = is_commit c
 is_step rows (RollsBack r) = is_rollback rows r
-is_step rows (TakesOver x) = is_transfer rows x
+is_step rows (Transfers x) = is_transfer rows x
 
 -- a transfer stands only in a version that has them
 abbrev pub is_of_version : ℕ → Step → Bool
 is_of_version version (Attempts a) = true
 is_of_version version (Commits c) = true
 is_of_version version (RollsBack r) = true
-is_of_version version (TakesOver x) = has_transfers version
+is_of_version version (Transfers x) = has_transfers version
 
 -- a token where there is one
 abbrev pub is_choice : Choice → Bool

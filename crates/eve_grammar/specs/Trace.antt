@@ -74,7 +74,7 @@ pub record Rollback : Type 0 where
   pub view : ℕ
   pub restores : List Restore
 
--- a state that the replica took over, row by row: what this batch left, as it was committed in this view
+-- a state that was transferred to the replica, row by row: what this batch left, as it was committed in this view
 pub record Transfer : Type 0 where
   pub seq : ℕ
   pub view : ℕ
@@ -85,7 +85,7 @@ pub data Step : Type 0 where
   Attempts : Attempt → Step
   Commits : Commit → Step
   RollsBack : Rollback → Step
-  TakesOver : Transfer → Step
+  Transfers : Transfer → Step
 
 -- what a vote is for
 pub data Choice : Type 0 where

@@ -2,9 +2,9 @@
 
 ghost use Rattle.std.specs.Prelude.{◌≡◌, length, is_some};
 ghost use Rattle.std.specs.Option.{option_map};
-ghost use Rattle.eve_grammar.specs.Reading.{both, whole, many_at, reply_at, token_at, serial_from, certified_at};
-ghost use Rattle.eve_grammar.specs.Reading.{attempt_of};
-ghost use Rattle.eve_grammar.specs.Scanning.{Passes, Measures};
+ghost use Rattle.eve_grammar.specs.Readers.{both, whole, many_at, reply_at, token_at, serial_from, certified_at};
+ghost use Rattle.eve_grammar.specs.Readers.{attempt_of};
+ghost use Rattle.eve_grammar.specs.inner.Scans.{Passes, Measures};
 
 use crate::fields::{token_at, u8_at, u16_at, u32_at};
 use crate::limits::MOST_REQUESTS;
@@ -19,7 +19,7 @@ fn is_mode(mode: u8) -> bool
 }
 
 /// What stands after this many replies.
-#[tactic(auto, unfolding(crate::specs::Scanning::rest_at))]
+#[tactic(auto, unfolding(crate::specs::inner::Scans::rest_at))]
 fn pass_replies(count: u16, bytes: &[u8]) -> Option<&[u8]>
     ensures { Passes (λ x. x.now) result (many_at reply_at count bytes.now) }
 {
@@ -34,7 +34,7 @@ fn pass_replies(count: u16, bytes: &[u8]) -> Option<&[u8]>
 }
 
 /// A count of 1 to `MOST_REQUESTS`, and what stands after a certificate of as many indexes and as many replies.
-#[tactic(auto, unfolding(crate::specs::Reading::certified_at))]
+#[tactic(auto, unfolding(crate::specs::Readers::certified_at))]
 fn pass_certified(bytes: &[u8]) -> Option<(u16, &[u8])>
     ensures { Measures (λ x. (x.0, x.1.now)) (λ c. length c.0) result (certified_at bytes.now) }
 {
@@ -67,7 +67,7 @@ fn certified_len(bytes: &[u8]) -> Option<u16>
 /// where they are no such body.
 ///
 /// docs/TRACE.md, "Frames". As many Access frames follow: 1 to `MOST_REQUESTS`.
-#[tactic(auto, unfolding(crate::specs::Reading::attempt_of))]
+#[tactic(auto, unfolding(crate::specs::Readers::attempt_of))]
 pub fn certificate_len(body: &[u8]) -> Option<u16>
     ensures { result ≡ option_map (λ a. length a.certificate) (attempt_of body.now) }
 {

@@ -2,15 +2,15 @@
 
 ghost use Rattle.std.specs.Prelude.{◌≡◌, sum};
 ghost use Rattle.std.specs.Option.{option_map};
-ghost use Rattle.eve_grammar.specs.Reading.{Gives, many_at, asked_at, sizes_at, batch_of};
-ghost use Rattle.eve_grammar.specs.Scanning.{total_at, Passes, Measures};
+ghost use Rattle.eve_grammar.specs.Readers.{Gives, many_at, asked_at, sizes_at, batch_of};
+ghost use Rattle.eve_grammar.specs.inner.Scans.{total_at, Passes, Measures};
 
 use crate::fields::{u16_at, u32_at};
 use crate::limits::MOST_REQUESTS;
 use crate::request::asked_at;
 
 /// The sum of sizes, if none is 0, and what stands after them.
-#[tactic(auto, unfolding(crate::specs::Scanning::total_at))]
+#[tactic(auto, unfolding(crate::specs::inner::Scans::total_at))]
 fn total_at(count: u16, bytes: &[u8]) -> Option<(u32, &[u8])>
     ensures { Gives (λ x. (x.0, x.1.now)) result (total_at count bytes.now) }
 {
@@ -30,7 +30,7 @@ fn total_at(count: u16, bytes: &[u8]) -> Option<(u32, &[u8])>
 }
 
 /// What stands after this many requests.
-#[tactic(auto, unfolding(crate::specs::Scanning::rest_at))]
+#[tactic(auto, unfolding(crate::specs::inner::Scans::rest_at))]
 fn pass_requests(count: u32, bytes: &[u8]) -> Option<&[u8]>
     ensures { Passes (λ x. x.now) result (many_at asked_at count bytes.now) }
 {
@@ -45,7 +45,7 @@ fn pass_requests(count: u32, bytes: &[u8]) -> Option<&[u8]>
 }
 
 /// The sum, `MOST_REQUESTS` at most, and what stands after a count and as many sizes, none 0.
-#[tactic(auto, unfolding(crate::specs::Reading::sizes_at))]
+#[tactic(auto, unfolding(crate::specs::Readers::sizes_at))]
 fn pass_sizes(bytes: &[u8]) -> Option<(u32, &[u8])>
     ensures { Measures (λ x. (x.0, x.1.now)) sum result (sizes_at bytes.now) }
 {
@@ -65,7 +65,7 @@ fn pass_sizes(bytes: &[u8]) -> Option<(u32, &[u8])>
 /// body.
 ///
 /// docs/TRACE.md, "Frames". The number is read as it stands, whether or not it is the next.
-#[tactic(auto, unfolding(crate::specs::Reading::batch_of))]
+#[tactic(auto, unfolding(crate::specs::Readers::batch_of))]
 pub fn batch_number(body: &[u8]) -> Option<u32>
     ensures { result ≡ option_map (λ b. b.0) (batch_of body.now) }
 {

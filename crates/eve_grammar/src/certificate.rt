@@ -3,7 +3,7 @@
 ghost use Rattle.std.specs.Prelude.{◌≡◌, ◌≤◌, ◌<◌, ℕ, List, length, slice_index};
 ghost use Rattle.std.specs.List.{AllByRecursion};
 ghost use Rattle.eve_grammar.specs.Certificate.{is_permutation, group_of, is_grouped, counts_from, is_certificate};
-ghost use Rattle.eve_grammar.specs.Groups.{AreGroupNumbers};
+ghost use Rattle.eve_grammar.specs.inner.Groups.{AreGroupNumbers};
 
 use crate::limits::MOST_REQUESTS;
 

@@ -1,14 +1,14 @@
 //! The body of a Customer frame.
 
 ghost use Rattle.std.specs.Prelude.{◌≡◌, is_some};
-ghost use Rattle.eve_grammar.specs.Reading.{customer_of};
+ghost use Rattle.eve_grammar.specs.Readers.{customer_of};
 
 use crate::fields::{balance_at, name_at, saving_at};
 
 /// Whether these bytes are the body of a Customer frame, and no more.
 ///
 /// docs/TRACE.md, "Frames".
-#[tactic(auto, unfolding(crate::specs::Reading::customer_of))]
+#[tactic(auto, unfolding(crate::specs::Readers::customer_of))]
 pub fn is_customer_body(body: &[u8]) -> bool
     ensures { result ≡ is_some (customer_of body.now) }
 {

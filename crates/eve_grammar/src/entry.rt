@@ -5,7 +5,7 @@ ghost use Rattle.std.specs.Ordering.{int_eq};
 ghost use Rattle.eve_accounts.specs.Money.{is_balance};
 ghost use Rattle.eve_smallbank.specs.Access.{is_write};
 ghost use Rattle.eve_grammar.specs.Places.{signed_in};
-ghost use Rattle.eve_grammar.specs.Reading.{Gives, kind_from, entry_at};
+ghost use Rattle.eve_grammar.specs.Readers.{Gives, kind_from, entry_at};
 
 use crate::limits::{MOST_ROWS, MOST_VERSIONS};
 use crate::places::{bytes_from, i64_in, u32_in, u64_in};

@@ -1,9 +1,9 @@
-//! Numbers, names, money and tokens at the front of a slice.
+//! Numbers, names, money and tokens at the beginning of a slice.
 //!
 //! Each reader gives the value and the bytes after it, or `None` where no such value stands in front.
 
-ghost use Rattle.eve_grammar.specs.Reading.{Gives, number_at, name_at, balance_at, saving_at, amount_at, move_at};
-ghost use Rattle.eve_grammar.specs.Reading.{token_at, number_of};
+ghost use Rattle.eve_grammar.specs.Readers.{Gives, number_at, name_at, balance_at, saving_at, amount_at, move_at};
+ghost use Rattle.eve_grammar.specs.Readers.{token_at, number_of};
 
 use byteorder::{BigEndian, ByteOrder};
 use eve_accounts::{Amount, Cents, is_name};
@@ -51,7 +51,7 @@ pub fn u64_at(bytes: &[u8]) -> Option<(u64, &[u8])>
 /// The number that the body of one byte is, as a Replica or a Verifier frame has it.
 ///
 /// docs/TRACE.md, "Frames". `None` for a body of another length.
-#[tactic(auto, unfolding(crate::specs::Reading::number_of))]
+#[tactic(auto, unfolding(crate::specs::Readers::number_of))]
 pub fn number_of(body: &[u8]) -> Option<u8>
     ensures { Gives (λ x. x) result (number_of body.now) }
 {
@@ -62,7 +62,7 @@ pub fn number_of(body: &[u8]) -> Option<u8>
 }
 
 /// A length of one byte and a name of 1 to 24 bytes, each in 0x21..=0x7E.
-#[tactic(auto, unfolding(crate::specs::Reading::name_at))]
+#[tactic(auto, unfolding(crate::specs::Readers::name_at))]
 pub fn name_at(bytes: &[u8]) -> Option<(&[u8], &[u8])>
     ensures { Gives (λ x. (x.0.now, x.1.now)) result (name_at bytes.now) }
 {
@@ -82,7 +82,7 @@ pub fn name_at(bytes: &[u8]) -> Option<(&[u8], &[u8])>
 }
 
 /// A balance in cents, within 10^15 of zero, in eight bytes.
-#[tactic(auto, unfolding(crate::specs::Reading::balance_at))]
+#[tactic(auto, unfolding(crate::specs::Readers::balance_at))]
 pub fn balance_at(bytes: &[u8]) -> Option<(Cents, &[u8])>
     ensures { Gives (λ x. (x.0, x.1.now)) result (balance_at bytes.now) }
 {
@@ -96,7 +96,7 @@ pub fn balance_at(bytes: &[u8]) -> Option<(Cents, &[u8])>
 }
 
 /// A balance in cents that isn't below 0, in eight bytes.
-#[tactic(auto, unfolding(crate::specs::Reading::saving_at, crate::specs::Reading::balance_at))]
+#[tactic(auto, unfolding(crate::specs::Readers::saving_at, crate::specs::Readers::balance_at))]
 pub fn saving_at(bytes: &[u8]) -> Option<(Cents, &[u8])>
     ensures { Gives (λ x. (x.0, x.1.now)) result (saving_at bytes.now) }
 {
@@ -111,7 +111,7 @@ pub fn saving_at(bytes: &[u8]) -> Option<(Cents, &[u8])>
 }
 
 /// An amount in cents, within 10^12 of zero, in eight bytes.
-#[tactic(auto, unfolding(crate::specs::Reading::amount_at))]
+#[tactic(auto, unfolding(crate::specs::Readers::amount_at))]
 pub fn amount_at(bytes: &[u8]) -> Option<(Amount, &[u8])>
     ensures { Gives (λ x. (x.0, x.1.now)) result (amount_at bytes.now) }
 {
@@ -125,7 +125,7 @@ pub fn amount_at(bytes: &[u8]) -> Option<(Amount, &[u8])>
 }
 
 /// A name and an amount.
-#[tactic(auto, unfolding(crate::specs::Reading::move_at))]
+#[tactic(auto, unfolding(crate::specs::Readers::move_at))]
 pub fn move_at(bytes: &[u8]) -> Option<((&[u8], Amount), &[u8])>
     ensures { Gives (λ x. ((x.0.0.now, x.0.1), x.1.now)) result (move_at bytes.now) }
 {
@@ -139,7 +139,7 @@ pub fn move_at(bytes: &[u8]) -> Option<((&[u8], Amount), &[u8])>
 }
 
 /// The 32 bytes of a token.
-#[tactic(auto, unfolding(crate::specs::Reading::token_at))]
+#[tactic(auto, unfolding(crate::specs::Readers::token_at))]
 pub fn token_at(bytes: &[u8]) -> Option<(&[u8], &[u8])>
     ensures { Gives (λ x. (x.0.now, x.1.now)) result (token_at bytes.now) }
 {

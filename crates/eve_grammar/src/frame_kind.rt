@@ -60,7 +60,7 @@ pub enum FrameKind {
     Commit = COMMIT_FRAME as isize,
     /// The open attempts are discarded.
     Rollback = ROLLBACK_FRAME as isize,
-    /// A state that the replica took over.
+    /// A state that was transferred to the replica.
     Transfer = TRANSFER_FRAME as isize,
     /// The first of a verifier's part.
     Verifier = VERIFIER_FRAME as isize,

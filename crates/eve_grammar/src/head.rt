@@ -2,7 +2,7 @@
 
 ghost use Rattle.std.specs.Prelude.{◌≡◌};
 ghost use Rattle.eve_grammar.specs.Limits.{is_head};
-ghost use Rattle.eve_grammar.specs.Reading.{Gives, header_of};
+ghost use Rattle.eve_grammar.specs.Readers.{Gives, header_of};
 
 use crate::limits::{
     MOST_BATCHES, MOST_REPLICAS, MOST_VERIFIERS, MOST_WINDOW, MOST_WORKERS, NEWEST_VERSION,

@@ -6,10 +6,10 @@ ghost use Rattle.eve_grammar.specs.Frames.{Frame, frames_of};
 ghost use Rattle.eve_grammar.specs.Spelling.{length_of, spelling, transfer_text};
 ghost use Rattle.eve_grammar.specs.Limits.{HasHeadLimits, HasLimits, is_head, is_transfer};
 ghost use Rattle.eve_grammar.specs.Places.{IsBytes};
-ghost use Rattle.eve_grammar.specs.Reading.{transfer_of};
-ghost use Rattle.eve_grammar.specs.Following.{AreAllFrames, Spells};
-ghost use Rattle.eve_grammar.specs.Gathering.{trace_of, IsMadeOf};
-ghost use Rattle.eve_grammar.specs.Cases.{empty_run, empty_run_bytes, deposit_committed, deposit_committed_bytes};
+ghost use Rattle.eve_grammar.specs.Readers.{transfer_of};
+ghost use Rattle.eve_grammar.specs.FrameOrder.{AreAllFrames, Spells};
+ghost use Rattle.eve_grammar.specs.GatheredTraces.{trace_of, IsMadeOf};
+ghost use Rattle.eve_grammar.specs.inner.Cases.{empty_run, empty_run_bytes, deposit_committed, deposit_committed_bytes};
 ghost use Rattle.eve_grammar.specs.declared.head.Head.{Head};
 
 use crate::limits::MOST_BYTES;

@@ -1,7 +1,7 @@
 //! Replies.
 
 ghost use Rattle.std.specs.Prelude.{◌≡◌, is_some};
-ghost use Rattle.eve_grammar.specs.Reading.{Gives, reply_from, reply_at};
+ghost use Rattle.eve_grammar.specs.Readers.{Gives, reply_from, reply_at};
 
 use crate::places::{bytes_from, i64_in};
 use eve_smallbank::{Abort, Reply};

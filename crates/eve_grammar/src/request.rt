@@ -2,7 +2,7 @@
 
 ghost use Rattle.std.specs.Prelude.{◌≡◌, ◌==◌, if◌then◌else◌};
 ghost use Rattle.eve_smallbank.specs.SmallBank.{plain, DepositChecking, TransactSaving, WriteCheck};
-ghost use Rattle.eve_grammar.specs.Reading.{Gives, both, name_at, coded_at, asked_at};
+ghost use Rattle.eve_grammar.specs.Readers.{Gives, both, name_at, coded_at, asked_at};
 ghost use Rattle.eve_grammar.specs.Bodies.{borrowed_asked};
 
 use crate::fields::{move_at, name_at, u8_at, u32_at, u64_at};
@@ -48,7 +48,7 @@ fn names_at(bytes: &[u8]) -> Option<((&[u8], &[u8]), &[u8])>
 }
 
 /// What stands after the code of a request.
-#[tactic(auto, unfolding(crate::specs::Reading::coded_at))]
+#[tactic(auto, unfolding(crate::specs::Readers::coded_at))]
 fn coded_at(code: u8, bytes: &[u8]) -> Option<(Request<'_>, &[u8])>
     ensures { Gives (λ x. (plain x.0, x.1.now)) result (coded_at code bytes.now) }
 {
@@ -76,7 +76,7 @@ fn coded_at(code: u8, bytes: &[u8]) -> Option<(Request<'_>, &[u8])>
 }
 
 /// A client, its number for the request, and the request.
-#[tactic(auto, unfolding(crate::specs::Reading::asked_at, crate::specs::Reading::request_at))]
+#[tactic(auto, unfolding(crate::specs::Readers::asked_at, crate::specs::Readers::request_at))]
 pub(crate) fn asked_at(bytes: &[u8]) -> Option<(Asked<'_>, &[u8])>
     ensures { Gives (λ x. (borrowed_asked x.0, x.1.now)) result (asked_at bytes.now) }
 {

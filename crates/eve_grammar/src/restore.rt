@@ -1,7 +1,7 @@
 //! Restores of rollback frames.
 
 ghost use Rattle.std.specs.Prelude.{◌≤◌};
-ghost use Rattle.eve_grammar.specs.Reading.{Gives, restore_at};
+ghost use Rattle.eve_grammar.specs.Readers.{Gives, restore_at};
 
 use crate::entry::row_of;
 use crate::limits::{MOST_ROWS, MOST_VERSIONS};

@@ -1,15 +1,15 @@
 //! The body of a Rollback frame.
 
 ghost use Rattle.std.specs.Prelude.{◌≡◌, ◌≤◌, is_some};
-ghost use Rattle.eve_grammar.specs.Reading.{Gives, restores_at, rollback_of};
-ghost use Rattle.eve_grammar.specs.Scanning.{rising_at, Passes};
+ghost use Rattle.eve_grammar.specs.Readers.{Gives, restores_at, rollback_of};
+ghost use Rattle.eve_grammar.specs.inner.Scans.{rising_at, Passes};
 
 use crate::fields::u32_at;
 use crate::limits::MOST_ROWS;
 use crate::restore::restore_at;
 
 /// What stands after this many restores of rising rows.
-#[tactic(auto, unfolding(crate::specs::Scanning::rising_at))]
+#[tactic(auto, unfolding(crate::specs::inner::Scans::rising_at))]
 fn pass_rising(rows: u32, count: u32, bytes: &[u8]) -> Option<&[u8]>
     requires { rows ≤ MOST_ROWS }
     ensures { Gives (λ x. x.now) result (rising_at rows 0 count bytes.now) }
@@ -31,7 +31,7 @@ fn pass_rising(rows: u32, count: u32, bytes: &[u8]) -> Option<&[u8]>
 }
 
 /// What stands after a count and as many restores of rising rows.
-#[tactic(auto, unfolding(crate::specs::Reading::restores_at))]
+#[tactic(auto, unfolding(crate::specs::Readers::restores_at))]
 fn pass_restores(rows: u32, bytes: &[u8]) -> Option<&[u8]>
     requires { rows ≤ MOST_ROWS }
     ensures { Passes (λ x. x.now) result (restores_at rows bytes.now) }
@@ -45,7 +45,7 @@ fn pass_restores(rows: u32, bytes: &[u8]) -> Option<&[u8]>
 /// Whether these bytes are the body of a Rollback frame, and no more. There are this many rows.
 ///
 /// docs/TRACE.md, "Frames".
-#[tactic(auto, unfolding(crate::specs::Reading::rollback_of))]
+#[tactic(auto, unfolding(crate::specs::Readers::rollback_of))]
 pub fn is_rollback_body(rows: u32, body: &[u8]) -> bool
     requires { rows ≤ MOST_ROWS }
     ensures { result ≡ is_some (rollback_of rows body.now) }

@@ -1,7 +1,7 @@
 //! The body of a Sent frame.
 
 ghost use Rattle.std.specs.Prelude.{◌≡◌, is_some};
-ghost use Rattle.eve_grammar.specs.Reading.{sent_of};
+ghost use Rattle.eve_grammar.specs.Readers.{sent_of};
 
 use crate::places::{i64_in, u32_in};
 use crate::reply::is_reply;

@@ -1,15 +1,16 @@
-//! States that replicas take over, and the body of a Transfer frame.
+//! States that replicas get by a transfer, and the body of a Transfer frame.
 
 ghost use Rattle.std.specs.Prelude.{◌≡◌, is_some};
 ghost use Rattle.eve_grammar.specs.Limits.{is_no_debt};
-ghost use Rattle.eve_grammar.specs.Reading.{state_rows_at, transfer_of};
-ghost use Rattle.eve_grammar.specs.Scanning.{Passes};
+ghost use Rattle.eve_grammar.specs.Readers.{state_rows_at, transfer_of};
+ghost use Rattle.eve_grammar.specs.inner.Scans.{Passes};
 
 use crate::fields::u32_at;
 use crate::versioned::versioned_at;
 use eve_smallbank::Versioned;
 
-/// A state that a replica takes over from another: the rows as a batch left them. Contracts see it by `transfer`.
+/// A state that is transferred to a replica from another: the rows as a batch left them. Contracts see it by
+/// `transfer`.
 ///
 /// docs/TRACE.md, "Version 2".
 #[derive(Drop)]
@@ -49,7 +50,7 @@ fn pass_rows(rows: u32, bytes: &[u8]) -> Option<&[u8]>
 /// Whether these bytes are the body of a Transfer frame, and no more. There are this many rows.
 ///
 /// docs/TRACE.md, "Version 2".
-#[tactic(auto, unfolding(crate::specs::Reading::transfer_of))]
+#[tactic(auto, unfolding(crate::specs::Readers::transfer_of))]
 pub fn is_transfer_body(rows: u32, body: &[u8]) -> bool
     ensures { result ≡ is_some (transfer_of rows body.now) }
 {

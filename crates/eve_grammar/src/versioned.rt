@@ -1,6 +1,6 @@
 //! Versions and values of rows.
 
-ghost use Rattle.eve_grammar.specs.Reading.{Gives, versioned_at};
+ghost use Rattle.eve_grammar.specs.Readers.{Gives, versioned_at};
 
 use crate::limits::MOST_VERSIONS;
 use crate::places::{bytes_from, i64_in, u64_in};

@@ -2,7 +2,7 @@
 
 ghost use Rattle.std.specs.Prelude.{◌≡◌, ◌==◌, is_some};
 ghost use Rattle.std.specs.List.{list_all};
-ghost use Rattle.eve_grammar.specs.Reading.{choice_from, vote_of};
+ghost use Rattle.eve_grammar.specs.Readers.{choice_from, vote_of};
 
 use crate::fields::{token_at, u8_at, u32_at};
 
@@ -36,7 +36,7 @@ fn is_choice(code: u8, token: &[u8]) -> bool
 /// Whether these bytes are the body of a Vote frame, and no more. There are this many batches.
 ///
 /// docs/TRACE.md, "Frames".
-#[tactic(auto, unfolding(crate::specs::Reading::vote_of))]
+#[tactic(auto, unfolding(crate::specs::Readers::vote_of))]
 pub fn is_vote_body(batches: u32, body: &[u8]) -> bool
     ensures { result ≡ is_some (vote_of batches body.now) }
 {

@@ -5,45 +5,46 @@ use Rattle.std.specs.Prelude.{IsFalse}
 use Rattle.std.specs.List.{AllByRecursion, flat_map, list_all}
 use Rattle.std.proofs.lemmas.Bool.{and_parts, false≢true}
 use Rattle.std.proofs.lemmas.Option.{same_Some}
-use Rattle.eve_grammar.specs.Trace.{Step, Attempts, Commits, RollsBack, TakesOver, Trace}
+use Rattle.eve_grammar.specs.Trace.{Step, Attempts, Commits, RollsBack, Transfers, Trace}
 use Rattle.eve_grammar.specs.Frames.{has_transfers}
 use Rattle.eve_grammar.specs.Limits.{is_of_version, HasLimits}
 use Rattle.eve_grammar.proofs.Lists.{all-slice_get}
 use Rattle.eve_grammar.specs.Spelling.{steps_at}
-use Rattle.eve_history.specs.Section.{Came, Ran, Placed, Landing, ByAttempt, ByTransfer, Skipped, came_by, attempts_by}
+use Rattle.eve_history.specs.Section.{Came, Ran, Placed, HowReached, ByAttempt, ByTransfer, Skipped, came_by}
+use Rattle.eve_history.specs.Section.{attempts_by}
 use Rattle.eve_history.specs.Section.{IsByAttempt, SectionState, start, committing, next, state_after}
 use Rattle.eve_history.specs.SectionHistory.{history, ByAttemptsTo}
-use Rattle.eve_history.proofs.Coming.{steps_all}
+use Rattle.eve_history.proofs.SectionSteps.{steps_all}
 
-one_more_attempt : (ls : List Landing) (p : Placed) → AllByRecursion IsByAttempt ls
+one_more_attempt : (ls : List HowReached) (p : Placed) → AllByRecursion IsByAttempt ls
     → AllByRecursion IsByAttempt (ls ++ ByAttempt p ∷ [])
 one_more_attempt [] p by = (tt, tt)
 one_more_attempt (l ∷ ls) p by = (by.0, one_more_attempt ls p by.1)
 
-attempts_commit : (s : SectionState) (pending : List Placed) → AllByRecursion IsByAttempt s.landings
-    → AllByRecursion IsByAttempt (committing s pending).landings
+attempts_commit : (s : SectionState) (pending : List Placed) → AllByRecursion IsByAttempt s.each_reached
+    → AllByRecursion IsByAttempt (committing s pending).each_reached
 attempts_commit s [] by = by
-attempts_commit s (p ∷ ps) by = one_more_attempt s.landings p by
+attempts_commit s (p ∷ ps) by = one_more_attempt s.each_reached p by
 
 -- in a version without transfers
 attempts_next : (version : ℕ) (s : SectionState) (step : ℕ × Step) → has_transfers version ≡ false
-    → is_of_version version step.1 ≡ true → AllByRecursion IsByAttempt s.landings
-    → AllByRecursion IsByAttempt (next s step).landings
+    → is_of_version version step.1 ≡ true → AllByRecursion IsByAttempt s.each_reached
+    → AllByRecursion IsByAttempt (next s step).each_reached
 attempts_next version s (at, Attempts a) none kind by = by
 attempts_next version s (at, Commits c) none kind by = attempts_commit s s.pending by
 attempts_next version s (at, RollsBack r) none kind by = by
-attempts_next version s (at, TakesOver x) none kind by = absurd (false≢true (sym none ∙ kind))
+attempts_next version s (at, Transfers x) none kind by = absurd (false≢true (sym none ∙ kind))
 
 attempts_after : (version : ℕ) (s : SectionState) (steps : List (ℕ × Step)) → has_transfers version ≡ false
-    → list_all (λ x. is_of_version version x.1) steps ≡ true → AllByRecursion IsByAttempt s.landings
-    → AllByRecursion IsByAttempt (state_after s steps).landings
+    → list_all (λ x. is_of_version version x.1) steps ≡ true → AllByRecursion IsByAttempt s.each_reached
+    → AllByRecursion IsByAttempt (state_after s steps).each_reached
 attempts_after version s [] none kinds by = by
 attempts_after version s (step ∷ steps) none kinds by =
     let parts = and_parts (is_of_version version step.1) (list_all (λ x. is_of_version version x.1) steps) kinds in
     attempts_after version (next s step) steps none parts.1 (attempts_next version s step none parts.0 by)
 
 pub all_by_attempts : (t : Trace) (e : ℕ) → HasLimits t → IsFalse (has_transfers t.head.version)
-    → AllByRecursion IsByAttempt (history t e).landings
+    → AllByRecursion IsByAttempt (history t e).each_reached
 unfolding history
 all_by_attempts t e limits none = attempts_after t.head.version start (steps_at t e) none
     (steps_all (is_of_version t.head.version) t e limits.kinds) tt
@@ -54,9 +55,10 @@ by_attempts_to t e n limits none = each
   where
     each : ByAttemptsTo t e n
     each zero l few e = absurd (cc)
-    each (suc m) l few got = all-slice_get IsByAttempt (history t e).landings m l (all_by_attempts t e limits none) got
+    each (suc m) l few got = all-slice_get IsByAttempt (history t e).each_reached m l (all_by_attempts t e limits none)
+        got
 
-pub attempt_at : (ls : List Landing) (n : ℕ) → AllByRecursion IsByAttempt ls → n < length ls
+pub attempt_at : (ls : List HowReached) (n : ℕ) → AllByRecursion IsByAttempt ls → n < length ls
     → (p : Placed) × (slice_get ls n ≡ Some (ByAttempt p))
 attempt_at [] n by lt = absurd (omega (arith, lt))
 attempt_at (ByAttempt p ∷ ls) zero by lt = (p, refl)
@@ -67,35 +69,35 @@ attempt_at (l ∷ ls) (suc n) by lt = attempt_at ls n by.1 (omega (arith, lt))
 -- ---- and its attempts alone
 
 -- what happened to the rows is the attempts
-pub came_alone : (ls : List Landing) → AllByRecursion IsByAttempt ls → flat_map came_by ls
+pub came_alone : (ls : List HowReached) → AllByRecursion IsByAttempt ls → flat_map came_by ls
     ≡ map (λ p. Ran p.attempt) (attempts_by ls)
 came_alone [] by = refl
 came_alone (ByAttempt p ∷ ls) by = ap (λ (cs : List Came). Ran p.attempt ∷ cs) (came_alone ls by.1)
 came_alone (ByTransfer at x ∷ ls) by = absurd by.0
 came_alone (Skipped ∷ ls) by = absurd by.0
 
-pub as_many_alone : (ls : List Landing) → AllByRecursion IsByAttempt ls → length (attempts_by ls) ≡ length ls
+pub as_many_alone : (ls : List HowReached) → AllByRecursion IsByAttempt ls → length (attempts_by ls) ≡ length ls
 as_many_alone [] by = refl
 as_many_alone (ByAttempt p ∷ ls) by = ap suc (as_many_alone ls by.1)
 as_many_alone (ByTransfer at x ∷ ls) by = absurd by.0
 as_many_alone (Skipped ∷ ls) by = absurd by.0
 
--- the attempt at a place is the landing there
-pub landing_alone : (ls : List Landing) (n : ℕ) (p : Placed) → AllByRecursion IsByAttempt ls
+-- the number at a place was reached by the attempt there
+pub how_reached_alone : (ls : List HowReached) (n : ℕ) (p : Placed) → AllByRecursion IsByAttempt ls
     → slice_get (attempts_by ls) n ≡ Some p → slice_get ls n ≡ Some (ByAttempt p)
-landing_alone [] n p by e = absurd (cc)
-landing_alone (ByAttempt q ∷ ls) zero p by e = ap (λ (x : Placed). Some (ByAttempt x)) (same_Some q p e)
-landing_alone (ByAttempt q ∷ ls) (suc n) p by e = landing_alone ls n p by.1 e
-landing_alone (ByTransfer at x ∷ ls) n p by e = absurd by.0
-landing_alone (Skipped ∷ ls) n p by e = absurd by.0
+how_reached_alone [] n p by e = absurd (cc)
+how_reached_alone (ByAttempt q ∷ ls) zero p by e = ap (λ (x : Placed). Some (ByAttempt x)) (same_Some q p e)
+how_reached_alone (ByAttempt q ∷ ls) (suc n) p by e = how_reached_alone ls n p by.1 e
+how_reached_alone (ByTransfer at x ∷ ls) n p by e = absurd by.0
+how_reached_alone (Skipped ∷ ls) n p by e = absurd by.0
 
-same_landing : (p q : Placed) → ◌≡◌ {A = Option Landing} (Some (ByAttempt p)) (Some (ByAttempt q)) → p ≡ q
-same_landing p q e = cc
+same_how_reached : (p q : Placed) → ◌≡◌ {A = Option HowReached} (Some (ByAttempt p)) (Some (ByAttempt q)) → p ≡ q
+same_how_reached p q e = cc
 
-pub attempt_alone : (ls : List Landing) (n : ℕ) (p : Placed) → AllByRecursion IsByAttempt ls
+pub attempt_alone : (ls : List HowReached) (n : ℕ) (p : Placed) → AllByRecursion IsByAttempt ls
     → slice_get ls n ≡ Some (ByAttempt p) → slice_get (attempts_by ls) n ≡ Some p
 attempt_alone [] n p by e = absurd (cc)
-attempt_alone (ByAttempt q ∷ ls) zero p by e = ap (λ (x : Placed). Some x) (same_landing q p e)
+attempt_alone (ByAttempt q ∷ ls) zero p by e = ap (λ (x : Placed). Some x) (same_how_reached q p e)
 attempt_alone (ByAttempt q ∷ ls) (suc n) p by e = attempt_alone ls n p by.1 e
 attempt_alone (ByTransfer at x ∷ ls) n p by e = absurd by.0
 attempt_alone (Skipped ∷ ls) n p by e = absurd by.0

@@ -3,16 +3,17 @@
 use Rattle.std.proofs.Common.{◌≡◌, ℕ, zero, suc, ◌+◌, ◌-◌, Bool, true, false, cond, List, [], ◌∷◌, ◌++◌, map, length}
 use Rattle.std.proofs.Common.{replicate, refl, sym, ap, ◌∙◌, append_assoc, add-one, arith}
 use Rattle.std.proofs.lemmas.List.{append-nil, map-append, length-append}
-use Rattle.eve_grammar.specs.Trace.{Attempt, Commit, Transfer, Step, Attempts, Commits, RollsBack, TakesOver, Trace}
+use Rattle.eve_grammar.specs.Trace.{Attempt, Commit, Transfer, Step, Attempts, Commits, RollsBack, Transfers, Trace}
 use Rattle.eve_grammar.specs.Spelling.{steps_at}
 use Rattle.eve_history.specs.declared.fate.Fate.{Fate}
 use Rattle.eve_history.specs.declared.fate.Fate.TheVariants.{Committed, Discarded, Open}
-use Rattle.eve_history.specs.Section.{Placed, Landing, ByAttempt, ByTransfer, Skipped, attempts_by, SectionState}
-use Rattle.eve_history.specs.Section.{start, next, committing, taking_over, path_of, state_after}
+use Rattle.eve_history.specs.Section.{Placed, HowReached, ByAttempt, ByTransfer, Skipped, attempts_by, SectionState}
+use Rattle.eve_history.specs.Section.{start, next, committing, after_transfer, path_of, state_after}
 use Rattle.eve_history.specs.Fates.{fate_in, fates_from}
 use Rattle.eve_history.specs.SectionHistory.{attempts_among, history, placed_at, picked, is_committed, is_discarded}
-use Rattle.eve_history.specs.Coming.{open_fates}
-use Rattle.eve_history.proofs.Coming.{open_attempt, open_push, open_commit, open_rollback, open_transfer, open_end}
+use Rattle.eve_history.specs.KeptSections.{open_fates}
+use Rattle.eve_history.proofs.SectionSteps.{open_attempt, open_push, open_commit, open_rollback, open_transfer}
+use Rattle.eve_history.proofs.SectionSteps.{open_end}
 use Rattle.eve_history.proofs.Transfers.{over}
 
 -- those that are open, and then those of the steps, with what becomes of each
@@ -74,14 +75,14 @@ at_commit test at c rest p ps =
     (open_commit at c rest 0 (length ps) i ++ fates_from (less i) rest) in
     ap (λ (xs : List (ℕ × Attempt)). cond (test Committed) (placed_at p ∷ xs) xs) same
 
-pub attempts_by_push : (ls : List Landing) (p : Placed) → attempts_by (ls ++ ByAttempt p ∷ [])
+pub attempts_by_push : (ls : List HowReached) (p : Placed) → attempts_by (ls ++ ByAttempt p ∷ [])
     ≡ attempts_by ls ++ p ∷ []
 attempts_by_push [] p = refl
 attempts_by_push (ByAttempt q ∷ ls) p = ap (λ (ps : List Placed). q ∷ ps) (attempts_by_push ls p)
 attempts_by_push (ByTransfer at x ∷ ls) p = attempts_by_push ls p
 attempts_by_push (Skipped ∷ ls) p = attempts_by_push ls p
 
-attempts_by_over : (skipped at : ℕ) (x : Transfer) (ls : List Landing) → attempts_by (ls ++ over skipped at x)
+attempts_by_over : (skipped at : ℕ) (x : Transfer) (ls : List HowReached) → attempts_by (ls ++ over skipped at x)
     ≡ attempts_by ls
 attempts_by_over zero at x [] = refl
 attempts_by_over (suc skipped) at x [] = attempts_by_over skipped at x []
@@ -90,44 +91,49 @@ attempts_by_over skipped at x (ByAttempt p ∷ ls) =
 attempts_by_over skipped at x (ByTransfer o y ∷ ls) = attempts_by_over skipped at x ls
 attempts_by_over skipped at x (Skipped ∷ ls) = attempts_by_over skipped at x ls
 
-pub attempts_by_taking : (s : SectionState) (at : ℕ) (x : Transfer) → attempts_by (taking_over s at x).landings
-    ≡ attempts_by s.landings
-attempts_by_taking s at x = attempts_by_over (x.seq - (s.last + 1)) at x s.landings
+pub attempts_by_transferring : (s : SectionState) (at : ℕ) (x : Transfer)
+    → attempts_by (after_transfer s at x).each_reached
+    ≡ attempts_by s.each_reached
+attempts_by_transferring s at x = attempts_by_over (x.seq - (s.last + 1)) at x s.each_reached
 
 committed_after : (s : SectionState) (steps : List (ℕ × Step))
-    → map placed_at (attempts_by (state_after s steps).landings)
-    ≡ map placed_at (attempts_by s.landings) ++ picked_from is_committed s.pending steps
+    → map placed_at (attempts_by (state_after s steps).each_reached)
+    ≡ map placed_at (attempts_by s.each_reached) ++ picked_from is_committed s.pending steps
 committed_after s [] = sym
-    (ap (λ (xs : List (ℕ × Attempt)). map placed_at (attempts_by s.landings) ++ xs) (at_end is_committed s.pending refl)
-    ∙ append-nil (map placed_at (attempts_by s.landings)))
+    (ap (λ (xs : List (ℕ × Attempt)). map placed_at (attempts_by s.each_reached) ++ xs)
+    (at_end is_committed s.pending refl)
+    ∙ append-nil (map placed_at (attempts_by s.each_reached)))
 committed_after s ((at, Attempts a) ∷ rest) =
     committed_after (next s (at, Attempts a)) rest
-    ∙ ap (λ (xs : List (ℕ × Attempt)). map placed_at (attempts_by s.landings) ++ xs)
+    ∙ ap (λ (xs : List (ℕ × Attempt)). map placed_at (attempts_by s.each_reached) ++ xs)
     (sym (at_attempt is_committed at a rest s.pending (record { offset = at; attempt = a; path = path_of s }) refl))
 committed_after s ((at, Commits c) ∷ rest) = committed_after (committing s s.pending) rest ∙ by s.pending refl
   where
     by : (pending : List Placed) → s.pending ≡ pending
-        → map placed_at (attempts_by (committing s pending).landings) ++
+        → map placed_at (attempts_by (committing s pending).each_reached) ++
         picked_from is_committed (committing s pending).pending rest
-        ≡ map placed_at (attempts_by s.landings) ++ picked_from is_committed pending ((at, Commits c) ∷ rest)
-    by [] is = ap (λ (ps : List Placed). map placed_at (attempts_by s.landings) ++ picked_from is_committed ps rest) is
+        ≡ map placed_at (attempts_by s.each_reached) ++ picked_from is_committed pending ((at, Commits c) ∷ rest)
+    by [] is = ap (λ (ps : List Placed). map placed_at (attempts_by s.each_reached) ++ picked_from is_committed ps rest)
+        is
     by (p ∷ ps) is =
-        ap (λ (ls : List Placed). map placed_at ls ++ picked_from is_committed ps rest) (attempts_by_push s.landings p)
+        ap (λ (ls : List Placed). map placed_at ls ++ picked_from is_committed ps rest)
+        (attempts_by_push s.each_reached p)
         ∙ ap (λ (xs : List (ℕ × Attempt)). xs ++ picked_from is_committed ps rest)
-        (map-append placed_at (attempts_by s.landings) (p ∷ []))
-        ∙ append_assoc (map placed_at (attempts_by s.landings)) (placed_at p ∷ []) (picked_from is_committed ps rest)
-        ∙ ap (λ (xs : List (ℕ × Attempt)). map placed_at (attempts_by s.landings) ++ xs)
+        (map-append placed_at (attempts_by s.each_reached) (p ∷ []))
+        ∙ append_assoc (map placed_at (attempts_by s.each_reached)) (placed_at p ∷ [])
+        (picked_from is_committed ps rest)
+        ∙ ap (λ (xs : List (ℕ × Attempt)). map placed_at (attempts_by s.each_reached) ++ xs)
         (sym (at_commit is_committed at c rest p ps))
 committed_after s ((at, RollsBack r) ∷ rest) =
     committed_after (next s (at, RollsBack r)) rest
-    ∙ ap (λ (xs : List (ℕ × Attempt)). map placed_at (attempts_by s.landings) ++ xs)
+    ∙ ap (λ (xs : List (ℕ × Attempt)). map placed_at (attempts_by s.each_reached) ++ xs)
     (sym (ap (λ (fs : List Fate). picked is_committed (map placed_at s.pending ++ attempts_among rest)
     (fs ++ fates_from 0 rest)) (open_rollback at r rest 0 (length s.pending))
     ∙ picked-same is_committed Discarded s.pending (attempts_among rest) (fates_from 0 rest) refl))
-committed_after s ((at, TakesOver x) ∷ rest) =
-    committed_after (next s (at, TakesOver x)) rest
-    ∙ ap (λ (ps : List Placed). map placed_at ps ++ picked_from is_committed [] rest) (attempts_by_taking s at x)
-    ∙ ap (λ (xs : List (ℕ × Attempt)). map placed_at (attempts_by s.landings) ++ xs)
+committed_after s ((at, Transfers x) ∷ rest) =
+    committed_after (next s (at, Transfers x)) rest
+    ∙ ap (λ (ps : List Placed). map placed_at ps ++ picked_from is_committed [] rest) (attempts_by_transferring s at x)
+    ∙ ap (λ (xs : List (ℕ × Attempt)). map placed_at (attempts_by s.each_reached) ++ xs)
     (sym (ap (λ (fs : List Fate). picked is_committed (map placed_at s.pending ++ attempts_among rest)
     (fs ++ fates_from 0 rest)) (open_transfer at x rest 0 (length s.pending))
     ∙ picked-same is_committed Discarded s.pending (attempts_among rest) (fates_from 0 rest) refl))
@@ -159,8 +165,8 @@ discarded_after s ((at, RollsBack r) ∷ rest) =
     (sym (ap (λ (fs : List Fate). picked is_discarded (map placed_at s.pending ++ attempts_among rest)
     (fs ++ fates_from 0 rest)) (open_rollback at r rest 0 (length s.pending))
     ∙ picked-all is_discarded Discarded s.pending (attempts_among rest) (fates_from 0 rest) refl))
-discarded_after s ((at, TakesOver x) ∷ rest) =
-    discarded_after (next s (at, TakesOver x)) rest
+discarded_after s ((at, Transfers x) ∷ rest) =
+    discarded_after (next s (at, Transfers x)) rest
     ∙ ap (λ (xs : List (ℕ × Attempt)). xs ++ picked is_discarded (attempts_among rest) (fates_from 0 rest))
     (map-append placed_at s.discarded s.pending)
     ∙ append_assoc (map placed_at s.discarded) (map placed_at s.pending)
@@ -170,7 +176,7 @@ discarded_after s ((at, TakesOver x) ∷ rest) =
     (fs ++ fates_from 0 rest)) (open_transfer at x rest 0 (length s.pending))
     ∙ picked-all is_discarded Discarded s.pending (attempts_among rest) (fates_from 0 rest) refl))
 
-pub committed_are_picked : (t : Trace) (e : ℕ) → map placed_at (attempts_by (history t e).landings)
+pub committed_are_picked : (t : Trace) (e : ℕ) → map placed_at (attempts_by (history t e).each_reached)
     ≡ picked is_committed (attempts_among (steps_at t e)) (fates_from 0 (steps_at t e))
 unfolding history
 committed_are_picked t e = committed_after start (steps_at t e)

@@ -5,7 +5,7 @@ use Rattle.eve_grammar.specs.Trace.{Trace}
 use Rattle.eve_grammar.specs.Spelling.{steps_at}
 use Rattle.eve_views.specs.Form.{HasNone, IsFaultIn}
 use Rattle.eve_history.specs.declared.wrong.Wrong.{Wrong}
-use Rattle.eve_history.specs.FirstWrong.{first_wrong, fault_of}
+use Rattle.eve_history.specs.inner.FirstWrong.{first_wrong, fault_of}
 use Rattle.eve_history.specs.Section.{start}
 use Rattle.eve_history.specs.SectionHistory.{IsRightSection}
 use Rattle.eve_history.specs.Structure.{StandsInStructure}

@@ -1,25 +1,25 @@
 pub mod Places
 pub mod OrderLaws
-pub mod Marking
-pub mod Finding
-pub mod Coming
-pub mod LandingLaws
+pub mod MarkedRecords
+pub mod Lookups
+pub mod SectionSteps
+pub mod ReachedNumbers
 mod AttemptsAlone
-pub mod Landed
+pub mod ToldReached
 mod WorkedStates
 pub mod Records
-pub mod Taking
+pub mod StepHandlers
 pub mod Transfers
 pub mod FateLaws
 pub mod Positions
 pub mod StructureLaws
 pub mod RequestIds
-pub mod Rising
-pub mod Counted
-pub mod Sorting
-pub mod Arriving
-pub mod Standing
-pub mod Lent
-pub mod Rights
-mod AmongSteps
+pub mod GreatestNumbers
+pub mod Counts
+pub mod SortedRequests
+pub mod AllRequests
+pub mod FrameOffsets
+pub mod LentFrames
+pub mod RightSections
+mod SettledSteps
 mod Faultless

@@ -20,10 +20,10 @@ use Rattle.eve_history.specs.SectionHistory.{names_of}
 use Rattle.eve_history.specs.Order.{name_in, request_ids_at, IsAskedAgain, StandsInOrders}
 use Rattle.eve_grammar.specs.Trace.{RequestId}
 use Rattle.eve_history.specs.Order.{IsRepeated, HasDistinctNames, HasDistinctRequests}
-use Rattle.eve_grammar.proofs.Grouping.{all_at}
+use Rattle.eve_grammar.proofs.GroupOrder.{all_at}
 use Rattle.eve_grammar.proofs.Lists.{take_one_more}
 use Rattle.eve_views.proofs.Lists.{cut_at}
-use Rattle.eve_views.proofs.Locating.{length-located, located_get}
+use Rattle.eve_views.proofs.FrameOffsets.{length-located, located_get}
 use Rattle.eve_history.proofs.RequestIds.{AreNewAndNoted}
 use Rattle.eve_history.proofs.Places.{no_place, place_push, Rising, located_rising, first_place, from_low}
 use Rattle.eve_history.proofs.Places.{located_within, weaker_place}
@@ -61,7 +61,7 @@ naming_more t i names after c naming at new added =
       limit = ap (λ (n : NameList). n.limit) added ∙ naming.limit;
       apart = λ again. elim (place_push IsNamedAgain (take i (customers_at t)) c
           (subst (λ xs. SomePlace xs IsNamedAgain) more again)) [
-            | inl front ↦ naming.apart front
+            | inl prefix ↦ naming.apart prefix
             | inr here ↦ new (subst (λ (ns : List (List ℕ)). Contains ns (name_in c)) (sym naming.items) here)
           ];
     }
@@ -173,7 +173,7 @@ asking_more t i noted after b asking at more =
           ∙ ap (flat_map request_ids_at) (sym one);
       apart = λ again. elim (place_push IsAskedAgain (take i (batches_at t)) b
           (subst (λ xs. SomePlace xs IsAskedAgain) one again)) [
-            | inl front ↦ asking.apart front
+            | inl prefix ↦ asking.apart prefix
             | inr here ↦ more.new (subst (λ (ts : List RequestId). IsRepeated ts (request_ids_at b))
                 (sym asking.items) here)
           ];

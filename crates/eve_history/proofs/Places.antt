@@ -50,14 +50,14 @@ place_cases {A = A} P x xs place = by place.before place.is place.holds
           holds = subst (λ (w : A). P (w ∷ b) place.item) (sym (first x z xs (b ++ place.item ∷ place.rest) e)) h;
         })
 
--- in the front, or after it
+-- in the prefix, or after it
 pub place_split : {A : Type 0} (P : List A → A → Type 0) (xs ys : List A) → SomePlace (xs ++ ys) P → SomePlace xs P
     ⊎ SomePlace ys (λ b y. P (xs ++ b) y)
 place_split P [] ys place = inr place
 place_split P (x ∷ xs) ys place = elim (place_cases P x (xs ++ ys) place) [
   | inl here ↦ inl (place_here P x xs here)
   | inr there ↦ elim (place_split (λ b y. P (x ∷ b) y) xs ys there) [
-    | inl front ↦ inl (place_later P x xs front)
+    | inl prefix ↦ inl (place_later P x xs prefix)
     | inr back ↦ inr back
   ]
 ]
@@ -65,7 +65,7 @@ place_split P (x ∷ xs) ys place = elim (place_cases P x (xs ++ ys) place) [
 pub place_push : {A : Type 0} (P : List A → A → Type 0) (xs : List A) (x : A) → SomePlace (xs ++ x ∷ []) P
     → SomePlace xs P ⊎ P xs x
 place_push {A = A} P xs x place = elim (place_split P xs (x ∷ []) place) [
-  | inl front ↦ inl front
+  | inl prefix ↦ inl prefix
   | inr back ↦ elim (place_cases (λ b y. P (xs ++ b) y) x [] back) [
     | inl here ↦ inr (subst (λ (b : List A). P b x) (append-nil xs) here)
     | inr there ↦ absurd (no_place _ there)
@@ -120,13 +120,13 @@ from_low Q low at (x ∷ xs) rises place = elim (place_cases (At at Q) x xs plac
 ]
 
 -- where it holds nowhere before, it holds first there
-pub first_place : {A : Type 0} (Q : List (ℕ × A) → ℕ × A → Type 0) (low at : ℕ) (front : List (ℕ × A)) (x : ℕ × A)
-    (back : List (ℕ × A)) → Rising low (front ++ x ∷ back)
-    → (SomePlace front Q → ⊥) → SomePlace (front ++ x ∷ back) (At at Q) → x.0 ≤ at
-first_place Q low at front x back rises none place = elim (place_split (At at Q) front (x ∷ back) place) [
-  | inl before ↦ absurd (none (weaker_place (At at Q) Q front (λ b y h. h.1) before))
-  | inr behind ↦ from_low (λ b y. Q (front ++ b) y) x.0 at (x ∷ back)
-      (omega arith, (rising_behind low front (x ∷ back) rises).1) behind
+pub first_place : {A : Type 0} (Q : List (ℕ × A) → ℕ × A → Type 0) (low at : ℕ) (prefix : List (ℕ × A)) (x : ℕ × A)
+    (back : List (ℕ × A)) → Rising low (prefix ++ x ∷ back)
+    → (SomePlace prefix Q → ⊥) → SomePlace (prefix ++ x ∷ back) (At at Q) → x.0 ≤ at
+first_place Q low at prefix x back rises none place = elim (place_split (At at Q) prefix (x ∷ back) place) [
+  | inl before ↦ absurd (none (weaker_place (At at Q) Q prefix (λ b y h. h.1) before))
+  | inr behind ↦ from_low (λ b y. Q (prefix ++ b) y) x.0 at (x ∷ back)
+      (omega arith, (rising_behind low prefix (x ∷ back) rises).1) behind
 ]
 
 -- nothing located lies past the end

@@ -7,7 +7,7 @@ use Rattle.std.proofs.lemmas.Bool.{cases_lt}
 use Rattle.std.proofs.lemmas.List.{length-append, get_or_past}
 use Rattle.std.proofs.lemmas.List.Concat.{flat_map-append}
 use Rattle.std.proofs.lemmas.List.Folds.{flat_map-map}
-use Rattle.eve_grammar.specs.Trace.{Batch, Access, Attempt, Step, Attempts, Commits, RollsBack, TakesOver, Trace}
+use Rattle.eve_grammar.specs.Trace.{Batch, Access, Attempt, Step, Attempts, Commits, RollsBack, Transfers, Trace}
 use Rattle.eve_grammar.specs.Frames.{Frame, OfCustomer, OfBatch, OfReplica, OfAttempt as AttemptFrame, OfAccess}
 use Rattle.eve_grammar.specs.Frames.{batches_of, sections_of, verifiers_of, section_frames}
 use Rattle.eve_grammar.specs.Frames.{verifier_frames, OfSent, End, frames_of}
@@ -22,7 +22,7 @@ use Rattle.eve_history.specs.Section.{SectionState, start, state_after, is_right
 use Rattle.eve_history.specs.Section.{is_right_access, is_right_commit, is_right_rollback, are_right_accesses}
 use Rattle.eve_history.specs.Section.{is_right_transfer, are_right}
 use Rattle.eve_views.specs.Form.{SomePlace, IsFaultOutside, IsFaultIn}
-use Rattle.eve_views.proofs.Locating.{section_is}
+use Rattle.eve_views.proofs.FrameOffsets.{section_is}
 use Rattle.eve_history.specs.Structure.{accesses_of, OfAttempt, OfCommit, OfRollback, OfTransfer, AtStep, AtAccess}
 use Rattle.eve_history.specs.Structure.{StandsInStructure}
 use Rattle.eve_history.specs.Order.{IsAskedAgain, StandsInOrders}
@@ -150,9 +150,9 @@ module _ (t : Trace) (e : ℕ) where
       sections_are (x ∷ xs) = flat_map-append frame_text (section_frames x) (flat_map section_frames xs)
           ∙ ap (λ (b : List ℕ). section_text x ++ b) (sections_are xs)
 
-      longer : (a b s whole behind more last front own steps : ℕ) → whole ≡ a + behind → behind ≡ b + more
-          → more ≡ s + last → front + (own + steps) ≤ s → 32 + a + b + front + own + steps ≤ 32 + whole
-      longer a b s whole behind more last front own steps p q r le = omega arith
+      longer : (a b s whole behind more last prefix own steps : ℕ) → whole ≡ a + behind → behind ≡ b + more
+          → more ≡ s + last → prefix + (own + steps) ≤ s → 32 + a + b + prefix + own + steps ≤ 32 + whole
+      longer a b s whole behind more last prefix own steps p q r le = omega arith
 
   step_within : (P : List (ℕ × Step) → ℕ × Step → Type 0) → (place : SomePlace (steps_at t e) P)
       → place.item.0 + length (step_text place.item.1) ≤ length_of t
@@ -219,7 +219,7 @@ module _ (t : Trace) (e : ℕ) where
           (accesses_at place.item.0 a) (λ b x k. k.1) h.2))
       by (Commits c) is h = absurd h
       by (RollsBack r) is h = absurd h
-      by (TakesOver x) is h = absurd h
+      by (Transfers x) is h = absurd h
 
 pub structure_fault_within : (t : Trace) (e : ℕ) (f : Fault) → IsFaultIn StandsInStructure t e f
     → f.offset ≤ length_of t

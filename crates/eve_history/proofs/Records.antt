@@ -12,8 +12,8 @@ use Rattle.eve_grammar.specs.Certificate.{occurrences, all_below, is_permutation
 use Rattle.eve_grammar.specs.Accesses.{is_new_access, is_right_place}
 use Rattle.eve_history.specs.Section.{SectionState, batch_at, is_due, request_count, worker_count, is_right_attempt}
 use Rattle.eve_history.specs.Section.{is_right_certificate, are_right_accesses}
-use Rattle.eve_history.specs.FirstWrong.{wrong_step}
-use Rattle.eve_grammar.proofs.Counting.{occurrences-append, permutes, all_below_at}
+use Rattle.eve_history.specs.inner.FirstWrong.{wrong_step}
+use Rattle.eve_grammar.proofs.Orders.{occurrences-append, permutes, all_below_at}
 use Rattle.eve_history.proofs.StructureLaws.{right_step}
 
 abbrev index_of : Access → ℕ

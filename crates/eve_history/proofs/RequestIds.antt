@@ -13,15 +13,15 @@ pub record AreNewAndNoted (before own after : List RequestId) : Type 0 where
 
 -- some of a batch's requests were noted, and all of them were new
 pub record Noting (before own rest now : List RequestId) : Type 0 where
-  pub front : List RequestId
-  pub split : own ≡ front ++ rest
-  pub noted : now ≡ before ++ front
-  pub new : ¬ IsRepeated before front
+  pub prefix : List RequestId
+  pub split : own ≡ prefix ++ rest
+  pub noted : now ≡ before ++ prefix
+  pub new : ¬ IsRepeated before prefix
 
 pub noting_start : (before own : List RequestId) → Noting before own own before
 noting_start before own =
     record {
-      front = [];
+      prefix = [];
       split = refl;
       noted = sym (append-nil before);
       new = no_place (λ earlier t. Contains (before ++ earlier) t);
@@ -30,18 +30,18 @@ noting_start before own =
 pub noting_more : (before own rest now after : List RequestId) (t : RequestId) → Noting before own (t ∷ rest) now
     → (¬ Contains now t) × (after ≡ now ++ t ∷ []) → Noting before own rest after
 noting_more before own rest now after t noting new = record {
-  front = noting.front ++ t ∷ [];
-  split = noting.split ∙ sym (append_assoc noting.front (t ∷ []) rest);
-  noted = new.1 ∙ ap (λ (ts : List RequestId). ts ++ t ∷ []) noting.noted ∙ append_assoc before noting.front (t ∷ []);
-  new = λ repeated. elim (place_push (λ earlier t. Contains (before ++ earlier) t) noting.front t repeated) [
-    | inl front ↦ noting.new front
+  prefix = noting.prefix ++ t ∷ [];
+  split = noting.split ∙ sym (append_assoc noting.prefix (t ∷ []) rest);
+  noted = new.1 ∙ ap (λ (ts : List RequestId). ts ++ t ∷ []) noting.noted ∙ append_assoc before noting.prefix (t ∷ []);
+  new = λ repeated. elim (place_push (λ earlier t. Contains (before ++ earlier) t) noting.prefix t repeated) [
+    | inl prefix ↦ noting.new prefix
     | inr here ↦ new.0 (subst (λ (ts : List RequestId). Contains ts t) (sym noting.noted) here)
   ];
 }
 
 pub noting_end : (before own now : List RequestId) → Noting before own [] now → AreNewAndNoted before own now
 noting_end before own now noting =
-    let whole : own ≡ noting.front = noting.split ∙ append-nil noting.front in
+    let whole : own ≡ noting.prefix = noting.split ∙ append-nil noting.prefix in
     record {
       new = λ repeated. noting.new (subst (IsRepeated before) whole repeated);
       noted = noting.noted

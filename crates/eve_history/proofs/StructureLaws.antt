@@ -5,7 +5,7 @@ use Rattle.std.proofs.Common.{Some, None, refl, sym, ap, subst, ◌∙◌, appen
 use Rattle.std.specs.Prelude.{IsFalse}
 use Rattle.std.proofs.lemmas.Bool.{cases_Bool, and_parts, and_from}
 use Rattle.std.proofs.lemmas.List.{append-nil}
-use Rattle.eve_grammar.specs.Trace.{Access, Attempt, Step, Attempts, Commits, RollsBack, TakesOver, Trace}
+use Rattle.eve_grammar.specs.Trace.{Access, Attempt, Step, Attempts, Commits, RollsBack, Transfers, Trace}
 use Rattle.eve_grammar.specs.Frames.{OfAttempt as OfAttemptFrame, OfAccess}
 use Rattle.eve_grammar.specs.Spelling.{frame_text, located, steps_at, accesses_at}
 use Rattle.eve_views.specs.declared.fault.Code.{Code}
@@ -19,9 +19,9 @@ use Rattle.eve_history.specs.Section.{request_count, worker_count, is_right_tran
 use Rattle.eve_views.specs.Form.{SomePlace, IsLeast, IsFaultIn}
 use Rattle.eve_history.specs.Structure.{OfAttempt, OfCommit, OfRollback, OfTransfer, accesses_of, StandsInStructure}
 use Rattle.eve_history.specs.declared.wrong.Wrong.{Wrong}
-use Rattle.eve_history.specs.FirstWrong.{found_or, first_wrong_of, wrong_access, wrong_records, wrong_attempt}
-use Rattle.eve_history.specs.FirstWrong.{wrong_commit, wrong_rollback, wrong_transfer, wrong_step, first_wrong}
-use Rattle.eve_history.specs.FirstWrong.{fault_of}
+use Rattle.eve_history.specs.inner.FirstWrong.{found_or, first_wrong_of, wrong_access, wrong_records, wrong_attempt}
+use Rattle.eve_history.specs.inner.FirstWrong.{wrong_commit, wrong_rollback, wrong_transfer, wrong_step, first_wrong}
+use Rattle.eve_history.specs.inner.FirstWrong.{fault_of}
 
 pub no_wrong : {A : Type 0} (w : Wrong) → ◌≡◌ {A = Option Wrong} None (Some w) → A
 no_wrong w e = absurd (cc)
@@ -134,7 +134,7 @@ right_step t s (at, Commits c) e = none_or (is_right_commit s c) code.Commit
     (found_or-none at (wrong_commit s c) None e).0
 right_step t s (at, RollsBack r) e = none_or (is_right_rollback t s r) code.Rollback
     (found_or-none at (wrong_rollback t s r) None e).0
-right_step t s (at, TakesOver x) e = none_or (is_right_transfer t s x) code.Transfer
+right_step t s (at, Transfers x) e = none_or (is_right_transfer t s x) code.Transfer
     (found_or-none at (wrong_transfer t s x) None e).0
 
 pub nothing_wrong : (t : Trace) (s : SectionState) (step : ℕ × Step) → is_right t s step.1 ≡ true → wrong_step t s step
@@ -149,7 +149,7 @@ nothing_wrong t s (at, Attempts a) right =
     rw (one.0, two.0) none
 nothing_wrong t s (at, Commits c) right = rw right refl
 nothing_wrong t s (at, RollsBack r) right = rw right refl
-nothing_wrong t s (at, TakesOver x) right = rw right refl
+nothing_wrong t s (at, Transfers x) right = rw right refl
 
 -- steps that are right, and then the rest
 pub steps_on : (t : Trace) (s : SectionState) (xs ys : List (ℕ × Step)) → are_right t s xs ≡ true
@@ -221,7 +221,7 @@ found_attempt : (t : Trace) (at : ℕ)
 found_attempt t at offset s (Attempts a) h = found_here code.Attempt (rw h.1 refl) h.0
 found_attempt t at offset s (Commits c) h = absurd h.1
 found_attempt t at offset s (RollsBack r) h = absurd h.1
-found_attempt t at offset s (TakesOver x) h = absurd h.1
+found_attempt t at offset s (Transfers x) h = absurd h.1
 
 found_certificate : (t : Trace) (at : ℕ)
     → FoundAt t (λ offset s step. (offset ≡ at) × OfAttempt step (λ a. IsFalse (is_right_certificate t a)))
@@ -238,14 +238,14 @@ found_certificate t at offset s (Attempts a) h =
     ]
 found_certificate t at offset s (Commits c) h = absurd h.1
 found_certificate t at offset s (RollsBack r) h = absurd h.1
-found_certificate t at offset s (TakesOver x) h = absurd h.1
+found_certificate t at offset s (Transfers x) h = absurd h.1
 
 found_commit : (t : Trace) (at : ℕ)
     → FoundAt t (λ offset s step. (offset ≡ at) × OfCommit step (λ c. IsFalse (is_right_commit s c))) code.Commit at
 found_commit t at offset s (Commits c) h = found_here code.Commit (rw h.1 refl) h.0
 found_commit t at offset s (Attempts a) h = absurd h.1
 found_commit t at offset s (RollsBack r) h = absurd h.1
-found_commit t at offset s (TakesOver x) h = absurd h.1
+found_commit t at offset s (Transfers x) h = absurd h.1
 
 found_rollback : (t : Trace) (at : ℕ)
     → FoundAt t (λ offset s step. (offset ≡ at) × OfRollback step (λ r. IsFalse (is_right_rollback t s r)))
@@ -253,12 +253,12 @@ found_rollback : (t : Trace) (at : ℕ)
 found_rollback t at offset s (RollsBack r) h = found_here code.Rollback (rw h.1 refl) h.0
 found_rollback t at offset s (Attempts a) h = absurd h.1
 found_rollback t at offset s (Commits c) h = absurd h.1
-found_rollback t at offset s (TakesOver x) h = absurd h.1
+found_rollback t at offset s (Transfers x) h = absurd h.1
 
 found_transfer : (t : Trace) (at : ℕ)
     → FoundAt t (λ offset s step. (offset ≡ at) × OfTransfer step (λ x. IsFalse (is_right_transfer t s x)))
     code.Transfer at
-found_transfer t at offset s (TakesOver x) h = found_here code.Transfer (rw h.1 refl) h.0
+found_transfer t at offset s (Transfers x) h = found_here code.Transfer (rw h.1 refl) h.0
 found_transfer t at offset s (Attempts a) h = absurd h.1
 found_transfer t at offset s (Commits c) h = absurd h.1
 found_transfer t at offset s (RollsBack r) h = absurd h.1
@@ -315,7 +315,7 @@ found_at_access t e c at P here place = found_at_step t e c at _ by place
     by offset s (Attempts a) h = found_in_attempt t s offset at a c (λ from before x. P from a before x) (here a) h
     by offset s (Commits c) h = absurd h
     by offset s (RollsBack r) h = absurd h
-    by offset s (TakesOver x) h = absurd h
+    by offset s (Transfers x) h = absurd h
 
 found_of_fault : (t : Trace) (e : ℕ) (c : Code) (at : ℕ) → StandsInStructure c t e at
     → IsFound (first_wrong t start (steps_at t e)) c at
@@ -335,92 +335,92 @@ stands_in_records : (t : Trace) (e : ℕ) (s : SectionState) (offset : ℕ) (a :
     → SomePlace (accesses_at offset a) (λ before x. IsTrue (are_right_accesses t a [] (accesses_of before))
     × P x.0 a (accesses_of before) x.1)
     → OfSomeAccess t e P)
-    → (front back : List (ℕ × Access)) → accesses_at offset a ≡ front ++ back
-    → are_right_accesses t a [] (accesses_of front) ≡ true
-    → wrong_records t a (accesses_of front) back ≡ Some w → StandsInStructure w.code t e w.offset
-stands_in_records t e s offset a w lift front [] is rights h = no_wrong w h
-stands_in_records t e s offset a w lift front (x ∷ back) is rights h =
-    by (is_right_access t a (accesses_of front) x.1) (is_right_place (accesses_of front) x.1) refl refl
-    (λ rights g. stands_in_records t e s offset a w lift (front ++ x ∷ []) back
-    (is ∙ sym (append_assoc front (x ∷ []) back)) rights g) h
+    → (prefix back : List (ℕ × Access)) → accesses_at offset a ≡ prefix ++ back
+    → are_right_accesses t a [] (accesses_of prefix) ≡ true
+    → wrong_records t a (accesses_of prefix) back ≡ Some w → StandsInStructure w.code t e w.offset
+stands_in_records t e s offset a w lift prefix [] is rights h = no_wrong w h
+stands_in_records t e s offset a w lift prefix (x ∷ back) is rights h =
+    by (is_right_access t a (accesses_of prefix) x.1) (is_right_place (accesses_of prefix) x.1) refl refl
+    (λ rights g. stands_in_records t e s offset a w lift (prefix ++ x ∷ []) back
+    (is ∙ sym (append_assoc prefix (x ∷ []) back)) rights g) h
   where
-    found : (c : Code) → found_or x.0 (Some c) (wrong_records t a (accesses_of front ++ x.1 ∷ []) back) ≡ Some w
+    found : (c : Code) → found_or x.0 (Some c) (wrong_records t a (accesses_of prefix ++ x.1 ∷ []) back) ≡ Some w
         → StandsInStructure c t e x.0 → StandsInStructure w.code t e w.offset
     found c g stands = subst (λ (v : Wrong). StandsInStructure v.code t e v.offset)
         (same_wrong (record { offset = x.0; code = c }) w g) stands
 
-    more : is_right_access t a (accesses_of front) x.1 ≡ true → is_right_place (accesses_of front) x.1 ≡ true
-        → are_right_accesses t a [] (accesses_of (front ++ x ∷ [])) ≡ true
+    more : is_right_access t a (accesses_of prefix) x.1 ≡ true → is_right_place (accesses_of prefix) x.1 ≡ true
+        → are_right_accesses t a [] (accesses_of (prefix ++ x ∷ [])) ≡ true
     more p q =
-        ap (are_right_accesses t a []) (accesses_of-append front (x ∷ []))
-        ∙ are_right_accesses-push t a [] (accesses_of front) x.1 rights p q
+        ap (are_right_accesses t a []) (accesses_of-append prefix (x ∷ []))
+        ∙ are_right_accesses-push t a [] (accesses_of prefix) x.1 rights p q
 
-    by : (b d : Bool) → is_right_access t a (accesses_of front) x.1 ≡ b → is_right_place (accesses_of front) x.1 ≡ d
-        → (are_right_accesses t a [] (accesses_of (front ++ x ∷ [])) ≡ true
-        → wrong_records t a (accesses_of (front ++ x ∷ [])) back ≡ Some w → StandsInStructure w.code t e w.offset)
+    by : (b d : Bool) → is_right_access t a (accesses_of prefix) x.1 ≡ b → is_right_place (accesses_of prefix) x.1 ≡ d
+        → (are_right_accesses t a [] (accesses_of (prefix ++ x ∷ [])) ≡ true
+        → wrong_records t a (accesses_of (prefix ++ x ∷ [])) back ≡ Some w → StandsInStructure w.code t e w.offset)
         → found_or x.0 (cond b (cond d None (Some code.WorkerOrder)) (Some code.Access))
-        (wrong_records t a (accesses_of front ++ x.1 ∷ []) back) ≡ Some w → StandsInStructure w.code t e w.offset
+        (wrong_records t a (accesses_of prefix ++ x.1 ∷ []) back) ≡ Some w → StandsInStructure w.code t e w.offset
     by false d p q go g = found code.Access g
         (lift (λ from a before y. (from ≡ x.0) × IsFalse (is_right_access t a before y))
-        (record { before = front; item = x; rest = back; is = is; holds = (rights, (refl, p)) }))
+        (record { before = prefix; item = x; rest = back; is = is; holds = (rights, (refl, p)) }))
     by true false p q go g =
         found code.WorkerOrder g
         (lift (λ from a before y. (from ≡ x.0) × IsFalse (is_right_place before y))
-        (record { before = front; item = x; rest = back; is = is; holds = (rights, (refl, q)) }))
+        (record { before = prefix; item = x; rest = back; is = is; holds = (rights, (refl, q)) }))
     by true true p q go g = go (more p q)
-        (ap (λ (b : List Access). wrong_records t a b back) (accesses_of-append front (x ∷ [])) ∙ g)
+        (ap (λ (b : List Access). wrong_records t a b back) (accesses_of-append prefix (x ∷ [])) ∙ g)
 
-stands_at_step : (t : Trace) (e : ℕ) (front : List (ℕ × Step)) (step : ℕ × Step) (back : List (ℕ × Step)) (w : Wrong)
-    → steps_at t e ≡ front ++ step ∷ back → are_right t start front ≡ true
-    → wrong_step t (state_after start front) step ≡ Some w → StandsInStructure w.code t e w.offset
-stands_at_step t e front (at, Commits c) back w is rights h = by (is_right_commit (state_after start front) c) refl h
+stands_at_step : (t : Trace) (e : ℕ) (prefix : List (ℕ × Step)) (step : ℕ × Step) (back : List (ℕ × Step)) (w : Wrong)
+    → steps_at t e ≡ prefix ++ step ∷ back → are_right t start prefix ≡ true
+    → wrong_step t (state_after start prefix) step ≡ Some w → StandsInStructure w.code t e w.offset
+stands_at_step t e prefix (at, Commits c) back w is rights h = by (is_right_commit (state_after start prefix) c) refl h
   where
-    by : (b : Bool) → is_right_commit (state_after start front) c ≡ b
+    by : (b : Bool) → is_right_commit (state_after start prefix) c ≡ b
         → found_or at (cond b None (Some code.Commit)) None ≡ Some w → StandsInStructure w.code t e w.offset
     by true p g = no_wrong w g
     by false p g =
         subst (λ (v : Wrong). StandsInStructure v.code t e v.offset)
         (same_wrong (record { offset = at; code = code.Commit }) w g)
-        (record { before = front; item = (at, Commits c); rest = back; is = is; holds = (rights, (refl, p)) })
-stands_at_step t e front (at, RollsBack r) back w is rights h =
-    by (is_right_rollback t (state_after start front) r) refl h
+        (record { before = prefix; item = (at, Commits c); rest = back; is = is; holds = (rights, (refl, p)) })
+stands_at_step t e prefix (at, RollsBack r) back w is rights h =
+    by (is_right_rollback t (state_after start prefix) r) refl h
   where
-    by : (b : Bool) → is_right_rollback t (state_after start front) r ≡ b
+    by : (b : Bool) → is_right_rollback t (state_after start prefix) r ≡ b
         → found_or at (cond b None (Some code.Rollback)) None ≡ Some w → StandsInStructure w.code t e w.offset
     by true p g = no_wrong w g
     by false p g =
         subst (λ (v : Wrong). StandsInStructure v.code t e v.offset)
         (same_wrong (record { offset = at; code = code.Rollback }) w g)
-        (record { before = front; item = (at, RollsBack r); rest = back; is = is; holds = (rights, (refl, p)) })
-stands_at_step t e front (at, TakesOver x) back w is rights h =
-    by (is_right_transfer t (state_after start front) x) refl h
+        (record { before = prefix; item = (at, RollsBack r); rest = back; is = is; holds = (rights, (refl, p)) })
+stands_at_step t e prefix (at, Transfers x) back w is rights h =
+    by (is_right_transfer t (state_after start prefix) x) refl h
   where
-    by : (b : Bool) → is_right_transfer t (state_after start front) x ≡ b
+    by : (b : Bool) → is_right_transfer t (state_after start prefix) x ≡ b
         → found_or at (cond b None (Some code.Transfer)) None ≡ Some w → StandsInStructure w.code t e w.offset
     by true p g = no_wrong w g
     by false p g =
         subst (λ (v : Wrong). StandsInStructure v.code t e v.offset)
         (same_wrong (record { offset = at; code = code.Transfer }) w g)
-        (record { before = front; item = (at, TakesOver x); rest = back; is = is; holds = (rights, (refl, p)) })
-stands_at_step t e front (at, Attempts a) back w is rights h =
-    by (is_right_attempt t (state_after start front) a) (is_right_certificate t a) refl refl h
+        (record { before = prefix; item = (at, Transfers x); rest = back; is = is; holds = (rights, (refl, p)) })
+stands_at_step t e prefix (at, Attempts a) back w is rights h =
+    by (is_right_attempt t (state_after start prefix) a) (is_right_certificate t a) refl refl h
   where
     found : (c : Code) → found_or at (Some c) (wrong_records t a [] (accesses_at at a)) ≡ Some w
         → StandsInStructure c t e at → StandsInStructure w.code t e w.offset
     found c g stands = subst (λ (v : Wrong). StandsInStructure v.code t e v.offset)
         (same_wrong (record { offset = at; code = c }) w g) stands
 
-    by : (b d : Bool) → is_right_attempt t (state_after start front) a ≡ b → is_right_certificate t a ≡ d
+    by : (b d : Bool) → is_right_attempt t (state_after start prefix) a ≡ b → is_right_certificate t a ≡ d
         → found_or at (cond b (cond d None (Some code.Certificate)) (Some code.Attempt))
         (wrong_records t a [] (accesses_at at a)) ≡ Some w → StandsInStructure w.code t e w.offset
     by false d p q g = found code.Attempt g
-        (record { before = front; item = (at, Attempts a); rest = back; is = is; holds = (rights, (refl, p)) })
+        (record { before = prefix; item = (at, Attempts a); rest = back; is = is; holds = (rights, (refl, p)) })
     by true false p q g = found code.Certificate g
-        (record { before = front; item = (at, Attempts a); rest = back; is = is; holds = (rights, (refl, q)) })
+        (record { before = prefix; item = (at, Attempts a); rest = back; is = is; holds = (rights, (refl, q)) })
     by true true p q g =
-        stands_in_records t e (state_after start front) at a w
+        stands_in_records t e (state_after start prefix) at a w
         (λ P place. record {
-          before = front;
+          before = prefix;
           item = (at, Attempts a);
           rest = back;
           is = is;
@@ -428,25 +428,25 @@ stands_at_step t e front (at, Attempts a) back w is rights h =
         })
         [] (accesses_at at a) refl refl g
 
-stands_behind : (t : Trace) (e : ℕ) (front back : List (ℕ × Step)) (w : Wrong) → steps_at t e ≡ front ++ back
-    → are_right t start front ≡ true
-    → first_wrong t (state_after start front) back ≡ Some w → StandsInStructure w.code t e w.offset
-stands_behind t e front [] w is rights h = no_wrong w h
-stands_behind t e front (step ∷ back) w is rights h =
-    by (wrong_step t (state_after start front) step) refl
-    (λ right. stands_behind t e (front ++ step ∷ []) back w (is ∙ sym (append_assoc front (step ∷ []) back))
-    (are_right-push t start front step rights right)) h
+stands_behind : (t : Trace) (e : ℕ) (prefix back : List (ℕ × Step)) (w : Wrong) → steps_at t e ≡ prefix ++ back
+    → are_right t start prefix ≡ true
+    → first_wrong t (state_after start prefix) back ≡ Some w → StandsInStructure w.code t e w.offset
+stands_behind t e prefix [] w is rights h = no_wrong w h
+stands_behind t e prefix (step ∷ back) w is rights h =
+    by (wrong_step t (state_after start prefix) step) refl
+    (λ right. stands_behind t e (prefix ++ step ∷ []) back w (is ∙ sym (append_assoc prefix (step ∷ []) back))
+    (are_right-push t start prefix step rights right)) h
   where
-    by : (o : Option Wrong) → wrong_step t (state_after start front) step ≡ o
-        → (is_right t (state_after start front) step.1 ≡ true
-        → first_wrong t (state_after start (front ++ step ∷ [])) back ≡ Some w
+    by : (o : Option Wrong) → wrong_step t (state_after start prefix) step ≡ o
+        → (is_right t (state_after start prefix) step.1 ≡ true
+        → first_wrong t (state_after start (prefix ++ step ∷ [])) back ≡ Some w
         → StandsInStructure w.code t e w.offset)
-        → first_wrong_of o (first_wrong t (next (state_after start front) step) back) ≡ Some w
+        → first_wrong_of o (first_wrong t (next (state_after start prefix) step) back) ≡ Some w
         → StandsInStructure w.code t e w.offset
-    by (Some v) p go g = stands_at_step t e front step back w is rights (p ∙ g)
+    by (Some v) p go g = stands_at_step t e prefix step back w is rights (p ∙ g)
     by None p go g =
-        go (right_step t (state_after start front) step p)
-        (ap (λ (s : SectionState). first_wrong t s back) (state_after-append start front (step ∷ [])) ∙ g)
+        go (right_step t (state_after start prefix) step p)
+        (ap (λ (s : SectionState). first_wrong t s back) (state_after-append start prefix (step ∷ [])) ∙ g)
 
 -- ---- the first fault
 

@@ -1,16 +1,16 @@
--- A section step by step: two attempts open, a state that is taken over, an attempt and its commit behind it, and a
+-- A section step by step: two attempts open, a state that is transferred, an attempt and its commit behind it, and a
 -- rollback behind that. Each line computes.
 use Rattle.std.proofs.Common.{◌≡◌, ℕ, pos, true, false, List, [], ◌∷◌, ◌++◌, map, replicate, slice_get, codes, refl}
 use Rattle.eve_smallbank.specs.SmallBank.{DepositChecking}
 use Rattle.eve_smallbank.specs.declared.request.Reply.TheVariants.{Done}
 use Rattle.eve_smallbank.specs.declared.versioned.Versioned.{Versioned}
 use Rattle.eve_grammar.specs.Trace.{Attempt, Commit, Transfer, Step, Attempts, Commits}
-use Rattle.eve_grammar.specs.Trace.{RollsBack, TakesOver, Trace}
+use Rattle.eve_grammar.specs.Trace.{RollsBack, Transfers, Trace}
 use Rattle.eve_history.specs.declared.fate.Fate.TheVariants.{Committed, Discarded, Open}
-use Rattle.eve_history.specs.Section.{Ran, TookOver, Placed, ByAttempt, ByTransfer, Skipped, SectionState, start}
+use Rattle.eve_history.specs.Section.{Ran, Transferred, Placed, ByAttempt, ByTransfer, Skipped, SectionState, start}
 use Rattle.eve_history.specs.Section.{path_of, state_after, settled, are_right}
 use Rattle.eve_history.specs.Fates.{fates_from}
-use Rattle.eve_history.specs.SectionHistory.{landed_from, is_by_attempt, is_landing, taken_from}
+use Rattle.eve_history.specs.SectionHistory.{told_reached_from, is_by_attempt, is_how_reached, transferred_from}
 
 -- five batches of a deposit each, and a window of two
 five_batches : Trace
@@ -68,28 +68,28 @@ both_are_on_the_path : path_of opened ≡ Ran (attempt_of_batch 1) ∷ Ran (atte
 unfolding opened two_attempts
 both_are_on_the_path = refl
 
--- ---- the state of batch 3 is taken over
+-- ---- the state of batch 3 is transferred
 
 abbrev state_of_three : Transfer
 state_of_three = record { seq = 3; view = 0; rows = rows_of_three }
 
 the_state : List (ℕ × Step)
-the_state = (60, TakesOver state_of_three) ∷ []
+the_state = (60, Transfers state_of_three) ∷ []
 
-it_may_be_taken_over : are_right five_batches opened the_state ≡ true
+it_may_be_transferred : are_right five_batches opened the_state ≡ true
 unfolding five_batches opened two_attempts the_state
-it_may_be_taken_over = refl
+it_may_be_transferred = refl
 
 behind_the_state : SectionState
 behind_the_state = state_after opened the_state
 
 -- and not once more: its number is the last then
-it_was_taken_over : are_right five_batches behind_the_state the_state ≡ false
+it_was_transferred : are_right five_batches behind_the_state the_state ≡ false
 unfolding five_batches behind_the_state opened two_attempts the_state
-it_was_taken_over = refl
+it_was_transferred = refl
 
 -- it alone is on the path, and the open attempts are discarded
-the_state_is_the_path : path_of behind_the_state ≡ TookOver rows_of_three ∷ []
+the_state_is_the_path : path_of behind_the_state ≡ Transferred rows_of_three ∷ []
 unfolding behind_the_state opened two_attempts the_state
 the_state_is_the_path = refl
 
@@ -111,19 +111,19 @@ these_are_right = refl
 
 -- the attempt's path begins with the state
 fourth : Placed
-fourth = record { offset = 70; attempt = attempt_of_batch 4; path = TookOver rows_of_three ∷ [] }
+fourth = record { offset = 70; attempt = attempt_of_batch 4; path = Transferred rows_of_three ∷ [] }
 
-the_numbers : ended.landings
+the_numbers : ended.each_reached
     ≡ Skipped ∷ Skipped ∷ ByTransfer 60 state_of_three ∷ ByAttempt fourth ∷ []
 unfolding ended steps_behind behind_the_state opened two_attempts fourth the_state
 the_numbers = refl
 
-reached : map (λ n. is_landing (slice_get ended.landings n)) (0 ∷ 1 ∷ 2 ∷ 3 ∷ 4 ∷ [])
+reached : map (λ n. is_how_reached (slice_get ended.each_reached n)) (0 ∷ 1 ∷ 2 ∷ 3 ∷ 4 ∷ [])
     ≡ false ∷ false ∷ true ∷ true ∷ false ∷ []
 unfolding ended steps_behind behind_the_state opened two_attempts the_state
 reached = refl
 
-by_attempts : map is_by_attempt (landed_from 0 ended.landings) ≡ false ∷ false ∷ false ∷ true ∷ []
+by_attempts : map is_by_attempt (told_reached_from 0 ended.each_reached) ≡ false ∷ false ∷ false ∷ true ∷ []
 unfolding ended steps_behind behind_the_state opened two_attempts the_state
 by_attempts = refl
 
@@ -142,7 +142,7 @@ it_is_right = refl
 rolled_back : SectionState
 rolled_back = state_after ended last_step
 
-nothing_is_lost : path_of rolled_back ≡ TookOver rows_of_three ∷ Ran (attempt_of_batch 4) ∷ []
+nothing_is_lost : path_of rolled_back ≡ Transferred rows_of_three ∷ Ran (attempt_of_batch 4) ∷ []
 unfolding rolled_back last_step ended steps_behind behind_the_state opened two_attempts the_state
 nothing_is_lost = refl
 
@@ -159,7 +159,7 @@ fates : fates_from 0 (
     ) ≡ Committed ∷ Discarded ∷ Open ∷ []
 fates = refl
 
--- and a state that is taken over discards those that are open
+-- and a state that is transferred discards those that are open
 all_steps : List (ℕ × Step)
 all_steps = two_attempts ++ (the_state ++ steps_behind)
 
@@ -167,7 +167,7 @@ fates_with_a_state : fates_from 0 all_steps ≡ Discarded ∷ Discarded ∷ Comm
 unfolding all_steps two_attempts the_state steps_behind
 fates_with_a_state = refl
 
--- one state was taken over before the last attempt
-taken_before_each : taken_from 0 all_steps ≡ 0 ∷ 0 ∷ 1 ∷ []
+-- one state was transferred before the last attempt
+transferred_before_each : transferred_from 0 all_steps ≡ 0 ∷ 0 ∷ 1 ∷ []
 unfolding all_steps two_attempts the_state steps_behind
-taken_before_each = refl
+transferred_before_each = refl

@@ -1,6 +1,6 @@
 -- What becomes of a section's attempts. docs/MODEL.md, "Section state, fate".
 use Rattle.std.specs.Prelude.{ℕ, zero, suc, ◌-◌, List, [], ◌∷◌}
-use Rattle.eve_grammar.specs.Trace.{Step, Attempts, Commits, RollsBack, TakesOver}
+use Rattle.eve_grammar.specs.Trace.{Step, Attempts, Commits, RollsBack, Transfers}
 use Rattle.eve_history.specs.declared.fate.Fate.{Fate}
 use Rattle.eve_history.specs.declared.fate.Fate.TheVariants.{Committed, Discarded, Open}
 
@@ -12,7 +12,7 @@ fate_in ((at, Attempts a) ∷ steps) before = fate_in steps before
 fate_in ((at, Commits c) ∷ steps) zero = Committed
 fate_in ((at, Commits c) ∷ steps) (suc before) = fate_in steps before
 fate_in ((at, RollsBack r) ∷ steps) before = Discarded
-fate_in ((at, TakesOver x) ∷ steps) before = Discarded
+fate_in ((at, Transfers x) ∷ steps) before = Discarded
 
 -- what becomes of each attempt of these steps, where that many are open before the first
 abbrev pub fates_from : ℕ → List (ℕ × Step) → List Fate
@@ -20,4 +20,4 @@ fates_from count [] = []
 fates_from count ((at, Attempts a) ∷ steps) = fate_in steps count ∷ fates_from (suc count) steps
 fates_from count ((at, Commits c) ∷ steps) = fates_from (count - 1) steps
 fates_from count ((at, RollsBack r) ∷ steps) = fates_from 0 steps
-fates_from count ((at, TakesOver x) ∷ steps) = fates_from 0 steps
+fates_from count ((at, Transfers x) ∷ steps) = fates_from 0 steps

@@ -3,10 +3,6 @@ pub mod Fates
 pub mod SectionHistory
 pub mod Order
 pub mod Structure
-pub mod FirstWrong
-pub mod Marking
-pub mod Standing
-pub mod Coming
-pub mod Rising
-pub mod Repeats
-pub mod AmongSteps
+pub mod FrameOffsets
+pub mod KeptSections
+pub mod inner

@@ -16,11 +16,13 @@ abbrev pub request_ids_at : ℕ × (ℕ × Batch) → List RequestId
 request_ids_at b = map request_id b.1.1.requests
 
 -- one of the batch's requests occurs earlier, in the batch or before it
+-- F11 SameRequest.
 abbrev pub IsAskedAgain : List (ℕ × (ℕ × Batch)) → ℕ × (ℕ × Batch) → Type 0
 IsAskedAgain before b = SomePlace (request_ids_at b)
     (λ earlier own. Contains (flat_map request_ids_at before ++ earlier) own)
 
 -- a fault of orders stands at this offset
+-- F10 SameName.
 abbrev pub StandsInOrders : Code → Trace → ℕ → Type 0
 StandsInOrders code.SameName t at =
     SomePlace (customers_at t) (λ before c. (c.0 ≡ at) × Contains (map (λ d. d.1.name) before) c.1.name)
@@ -38,8 +40,8 @@ HasDistinctRequests t = (at : ℕ) → ¬ StandsInOrders code.SameRequest t at
 -- ---- one request after another
 
 -- the requests that a batch's frame says
-abbrev pub requests_said : List ℕ → List Asked
-requests_said bytes = (batch_in bytes).1.requests
+abbrev pub requests_decoded : List ℕ → List Asked
+requests_decoded bytes = (batch_in bytes).1.requests
 
 -- one of these occurs earlier, among them or among what was noted
 abbrev pub IsRepeated : List RequestId → List RequestId → Type 0

@@ -7,14 +7,14 @@ use Rattle.std.specs.Cmp.Lexicographic.{pointwise}
 use Rattle.std.specs.List.{list_any, flat_map}
 use Rattle.eve_smallbank.specs.declared.versioned.Versioned.{Versioned}
 use Rattle.eve_grammar.specs.Trace.{Batch, Access, Attempt, Commit, Rollback, Transfer}
-use Rattle.eve_grammar.specs.Trace.{Step, Attempts, Commits, RollsBack, TakesOver, Trace}
+use Rattle.eve_grammar.specs.Trace.{Step, Attempts, Commits, RollsBack, Transfers, Trace}
 use Rattle.eve_grammar.specs.Certificate.{is_certificate}
 use Rattle.eve_grammar.specs.Accesses.{is_right_place}
 
--- what happened to the rows: an attempt ran, or a state was taken over, row by row
+-- what happened to the rows: an attempt ran, or a state was transferred, row by row
 pub data Came : Type 0 where
   Ran : Attempt → Came
-  TookOver : List Versioned → Came
+  Transferred : List Versioned → Came
 
 -- an attempt with its frame's offset, and with its path: what happened to the rows before it, but for the attempts
 -- that were discarded before it
@@ -24,69 +24,69 @@ pub record Placed : Type 0 where
   pub path : List Came
 
 -- how a number was reached
-pub data Landing : Type 0 where
-  ByAttempt : Placed → Landing  -- the attempt was committed
-  ByTransfer : ℕ → Transfer → Landing  -- a state of this number was taken over; with its frame's offset
-  Skipped : Landing  -- not at all: a state of a later number was taken over
+pub data HowReached : Type 0 where
+  ByAttempt : Placed → HowReached  -- the attempt was committed
+  ByTransfer : ℕ → Transfer → HowReached  -- a state of this number was transferred; with its frame's offset
+  Skipped : HowReached  -- not at all: a state of a later number was transferred
 
 -- Where a section has come to. Open and discarded attempts stand in the order of their frames.
 pub record SectionState : Type 0 where
   pub view : ℕ
   pub last : ℕ  -- the last number reached
-  pub landings : List Landing  -- how each number was reached, from 1 to the last
+  pub each_reached : List HowReached  -- how each number was reached, from 1 to the last
   pub pending : List Placed  -- the open attempts
   pub discarded : List Placed
   pub rolled_back : Bool  -- no attempt came since a rollback
 
 abbrev pub start : SectionState
-start = record { view = 0; last = 0; landings = []; pending = []; discarded = []; rolled_back = false }
+start = record { view = 0; last = 0; each_reached = []; pending = []; discarded = []; rolled_back = false }
 
--- ---- what landings tell
+-- ---- what it tells how numbers were reached
 
 -- the number was reached by an attempt
-abbrev pub IsByAttempt : Landing → Type 0
+abbrev pub IsByAttempt : HowReached → Type 0
 IsByAttempt (ByAttempt p) = ⊤
 IsByAttempt (ByTransfer at x) = ⊥
 IsByAttempt Skipped = ⊥
 
 -- what happened to the rows where a number was reached so
-abbrev pub came_by : Landing → List Came
+abbrev pub came_by : HowReached → List Came
 came_by (ByAttempt p) = Ran p.attempt ∷ []
-came_by (ByTransfer at x) = TookOver x.rows ∷ []
+came_by (ByTransfer at x) = Transferred x.rows ∷ []
 came_by Skipped = []
 
 -- the attempts by which numbers were reached, in order
-abbrev pub attempts_by : List Landing → List Placed
+abbrev pub attempts_by : List HowReached → List Placed
 attempts_by [] = []
-attempts_by (ByAttempt p ∷ landings) = p ∷ attempts_by landings
-attempts_by (ByTransfer at x ∷ landings) = attempts_by landings
-attempts_by (Skipped ∷ landings) = attempts_by landings
+attempts_by (ByAttempt p ∷ each_reached) = p ∷ attempts_by each_reached
+attempts_by (ByTransfer at x ∷ each_reached) = attempts_by each_reached
+attempts_by (Skipped ∷ each_reached) = attempts_by each_reached
 
--- the states that were taken over, with the offsets of their frames, in order
-abbrev pub transfers_by : List Landing → List (ℕ × Transfer)
+-- the states that were transferred, with the offsets of their frames, in order
+abbrev pub transfers_by : List HowReached → List (ℕ × Transfer)
 transfers_by [] = []
-transfers_by (ByAttempt p ∷ landings) = transfers_by landings
-transfers_by (ByTransfer at x ∷ landings) = (at, x) ∷ transfers_by landings
-transfers_by (Skipped ∷ landings) = transfers_by landings
+transfers_by (ByAttempt p ∷ each_reached) = transfers_by each_reached
+transfers_by (ByTransfer at x ∷ each_reached) = (at, x) ∷ transfers_by each_reached
+transfers_by (Skipped ∷ each_reached) = transfers_by each_reached
 
 -- ---- the next state
 
 -- what happened to the rows, but for the attempts that were discarded
 abbrev pub path_of : SectionState → List Came
-path_of s = flat_map came_by s.landings ++ map (λ p. Ran p.attempt) s.pending
+path_of s = flat_map came_by s.each_reached ++ map (λ p. Ran p.attempt) s.pending
 
 -- the first open attempt is committed
 abbrev pub committing : SectionState → List Placed → SectionState
 committing s [] = s
 committing s (p ∷ pending) =
-    record s { last = s.last + 1; landings = s.landings ++ ByAttempt p ∷ []; pending = pending }
+    record s { last = s.last + 1; each_reached = s.each_reached ++ ByAttempt p ∷ []; pending = pending }
 
--- A state is taken over: the numbers before its own are skipped, and all open attempts are discarded.
-abbrev pub taking_over : SectionState → ℕ → Transfer → SectionState
-taking_over s at x = record s {
+-- A state is transferred: the numbers before its own are skipped, and all open attempts are discarded.
+abbrev pub after_transfer : SectionState → ℕ → Transfer → SectionState
+after_transfer s at x = record s {
   view = x.view;
   last = x.seq;
-  landings = s.landings ++ (replicate (x.seq - (s.last + 1)) Skipped ++ ByTransfer at x ∷ []);
+  each_reached = s.each_reached ++ (replicate (x.seq - (s.last + 1)) Skipped ++ ByTransfer at x ∷ []);
   pending = [];
   discarded = s.discarded ++ s.pending;
   rolled_back = false;
@@ -99,14 +99,14 @@ next s (at, Attempts a) =
 next s (at, Commits c) = committing s s.pending
 next s (at, RollsBack r) =
     record s { view = r.view; pending = []; discarded = s.discarded ++ s.pending; rolled_back = true }
-next s (at, TakesOver x) = taking_over s at x
+next s (at, Transfers x) = after_transfer s at x
 
 abbrev pub state_after : SectionState → List (ℕ × Step) → SectionState
 state_after s steps = fold next s steps
 
 -- committed or discarded
 abbrev pub settled : SectionState → List Placed
-settled s = attempts_by s.landings ++ s.discarded
+settled s = attempts_by s.each_reached ++ s.discarded
 
 -- ---- which steps are right
 
@@ -122,12 +122,14 @@ abbrev pub request_count : Trace → Attempt → ℕ
 request_count t a = length (batch_at t a.seq).requests
 
 -- its number, view and mode are those that are due
+-- F20 Attempt.
 abbrev pub is_due : Trace → SectionState → Attempt → Bool
 is_due t s a =
     (a.seq == s.last + 1 + length s.pending) && (nat_le a.seq (length t.batches)
     && (nat_le a.seq (s.last + t.head.window) && ((a.view == s.view) && beq a.serial s.rolled_back)))
 
 -- and it has as many indexes as its batch has requests
+-- F20 Attempt.
 abbrev pub is_right_attempt : Trace → SectionState → Attempt → Bool
 is_right_attempt t s a = is_due t s a && (length a.certificate == request_count t a)
 
@@ -140,6 +142,7 @@ abbrev pub worker_count : Trace → Attempt → ℕ
 worker_count t a = if a.serial then 1 else t.head.workers
 
 -- the worker is there, and the index is one of the batch that no access before it has
+-- F22 Access.
 abbrev pub is_right_access : Trace → Attempt → List Access → Access → Bool
 is_right_access t a before x =
     nat_lt x.worker (worker_count t a) && (nat_lt x.index (request_count t a)
@@ -151,14 +154,17 @@ commits_first [] c = false
 commits_first (p ∷ ps) c = (p.attempt.view == c.view) && pointwise ◌==◌ p.attempt.token c.token
 
 -- the commit is of the next number, and of the first open attempt
+-- F24 Commit.
 abbrev pub is_right_commit : SectionState → Commit → Bool
 is_right_commit s c = (c.seq == s.last + 1) && commits_first s.pending c
 
 -- the rollback goes back to the last commit, some batch is left, and the next view begins
+-- F25 Rollback.
 abbrev pub is_right_rollback : Trace → SectionState → Rollback → Bool
 is_right_rollback t s r = (r.to == s.last) && (nat_lt s.last (length t.batches) && (r.view == s.view + 1))
 
 -- the state is of a later number, which is one of a batch, and its view is no lower
+-- F26 Transfer.
 abbrev pub is_right_transfer : Trace → SectionState → Transfer → Bool
 is_right_transfer t s x = nat_lt s.last x.seq && (nat_le x.seq (length t.batches) && nat_le s.view x.view)
 
@@ -174,7 +180,7 @@ is_right t s (Attempts a) =
     is_right_attempt t s a && (is_right_certificate t a && are_right_accesses t a [] a.accesses)
 is_right t s (Commits c) = is_right_commit s c
 is_right t s (RollsBack r) = is_right_rollback t s r
-is_right t s (TakesOver x) = is_right_transfer t s x
+is_right t s (Transfers x) = is_right_transfer t s x
 
 -- each step is right after those before it
 abbrev pub are_right : Trace → SectionState → List (ℕ × Step) → Bool

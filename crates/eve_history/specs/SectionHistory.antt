@@ -3,14 +3,14 @@
 use Rattle.std.specs.Prelude.{◌≡◌, ℕ, zero, suc, ◌-◌, ◌<◌, ◌≤◌, ◌==◌, IsTrue, if◌then◌else◌, List, [], ◌∷◌, map}
 use Rattle.std.specs.Prelude.{Option, None, Some, length, slice_get, slice_index_or, Bool, true, false}
 use Rattle.eve_grammar.specs.Trace.{Asked, Access, Attempt, Rollback, Transfer, Step, Attempts, Commits, RollsBack}
-use Rattle.eve_grammar.specs.Trace.{TakesOver, Trace, no_request}
+use Rattle.eve_grammar.specs.Trace.{Transfers, Trace, no_request}
 use Rattle.eve_grammar.specs.Frames.{without_accesses, sections_of}
 use Rattle.eve_grammar.specs.Spelling.{accesses_at, steps_at}
 use Rattle.eve_history.specs.declared.fate.Fate.{Fate}
 use Rattle.eve_history.specs.declared.fate.Fate.TheVariants.{Committed, Discarded, Open}
-use Rattle.eve_history.specs.declared.landing.Landing as told
-use Rattle.eve_history.specs.declared.landing.Landing.TheVariants as landing
-use Rattle.eve_history.specs.Section.{Placed, Landing, ByAttempt, ByTransfer, Skipped, SectionState, start}
+use Rattle.eve_history.specs.declared.how_reached.HowReached as told
+use Rattle.eve_history.specs.declared.how_reached.HowReached.TheVariants as how_reached
+use Rattle.eve_history.specs.Section.{Placed, HowReached, ByAttempt, ByTransfer, Skipped, SectionState, start}
 use Rattle.eve_history.specs.Section.{state_after, batch_at, are_right, transfers_by, IsByAttempt}
 use Rattle.eve_history.specs.Fates.{fates_from}
 
@@ -20,15 +20,15 @@ attempts_among [] = []
 attempts_among ((at, Attempts a) ∷ steps) = (at, a) ∷ attempts_among steps
 attempts_among ((at, Commits c) ∷ steps) = attempts_among steps
 attempts_among ((at, RollsBack r) ∷ steps) = attempts_among steps
-attempts_among ((at, TakesOver x) ∷ steps) = attempts_among steps
+attempts_among ((at, Transfers x) ∷ steps) = attempts_among steps
 
--- for each of them, how many states were taken over before it, where this many were before the first step
-abbrev pub taken_from : ℕ → List (ℕ × Step) → List ℕ
-taken_from taken [] = []
-taken_from taken ((at, Attempts a) ∷ steps) = taken ∷ taken_from taken steps
-taken_from taken ((at, Commits c) ∷ steps) = taken_from taken steps
-taken_from taken ((at, RollsBack r) ∷ steps) = taken_from taken steps
-taken_from taken ((at, TakesOver x) ∷ steps) = taken_from (suc taken) steps
+-- for each of them, how many states were transferred before it, where this many were before the first step
+abbrev pub transferred_from : ℕ → List (ℕ × Step) → List ℕ
+transferred_from transferred [] = []
+transferred_from transferred ((at, Attempts a) ∷ steps) = transferred ∷ transferred_from transferred steps
+transferred_from transferred ((at, Commits c) ∷ steps) = transferred_from transferred steps
+transferred_from transferred ((at, RollsBack r) ∷ steps) = transferred_from transferred steps
+transferred_from transferred ((at, Transfers x) ∷ steps) = transferred_from (suc transferred) steps
 
 -- the rollbacks among the steps
 abbrev pub rollbacks_among : List (ℕ × Step) → List (ℕ × Rollback)
@@ -36,7 +36,7 @@ rollbacks_among [] = []
 rollbacks_among ((at, Attempts a) ∷ steps) = rollbacks_among steps
 rollbacks_among ((at, Commits c) ∷ steps) = rollbacks_among steps
 rollbacks_among ((at, RollsBack r) ∷ steps) = (at, r) ∷ rollbacks_among steps
-rollbacks_among ((at, TakesOver x) ∷ steps) = rollbacks_among steps
+rollbacks_among ((at, Transfers x) ∷ steps) = rollbacks_among steps
 
 abbrev pub no_access : ℕ × Access
 no_access = (0, record { worker = 0; place = 0; index = 0; entries = [] })
@@ -64,47 +64,49 @@ abbrev pub placed_at : Placed → ℕ × Attempt
 placed_at p = (p.offset, p.attempt)
 
 -- how a number was reached, as a section tells it
-pub data Landed : Type 0 where
-  LandedBy : ExecutedAttempt → Landed  -- by an attempt
-  LandedFrom : ℕ → Landed  -- by a state that was taken over: its place among those, from 0
-  NotLanded : Landed  -- it was skipped
+pub data ToldReached : Type 0 where
+  ReachedBy : ExecutedAttempt → ToldReached  -- by an attempt
+  ReachedFrom : ℕ → ToldReached  -- by a state that was transferred: its place among those, from 0
+  NotReached : ToldReached  -- it was skipped
 
--- the same of each number, where this many states were taken over before
-abbrev pub landed_from : ℕ → List Landing → List Landed
-landed_from taken [] = []
-landed_from taken (ByAttempt p ∷ landings) = LandedBy (executed_attempt (placed_at p)) ∷ landed_from taken landings
-landed_from taken (ByTransfer at x ∷ landings) = LandedFrom taken ∷ landed_from (suc taken) landings
-landed_from taken (Skipped ∷ landings) = NotLanded ∷ landed_from taken landings
+-- the same of each number, where this many states were transferred before
+abbrev pub told_reached_from : ℕ → List HowReached → List ToldReached
+told_reached_from transferred [] = []
+told_reached_from transferred (ByAttempt p ∷ each_reached) = ReachedBy (executed_attempt (placed_at p))
+    ∷ told_reached_from transferred each_reached
+told_reached_from transferred (ByTransfer at x ∷ each_reached) = ReachedFrom transferred
+    ∷ told_reached_from (suc transferred) each_reached
+told_reached_from transferred (Skipped ∷ each_reached) = NotReached ∷ told_reached_from transferred each_reached
 
-abbrev pub is_by_attempt : Landed → Bool
-is_by_attempt (LandedBy r) = true
-is_by_attempt (LandedFrom i) = false
-is_by_attempt NotLanded = false
+abbrev pub is_by_attempt : ToldReached → Bool
+is_by_attempt (ReachedBy r) = true
+is_by_attempt (ReachedFrom i) = false
+is_by_attempt NotReached = false
 
 -- Whose section it is, and whether each of its steps is right; the last number reached. Its attempts in the order of
--- their frames, what became of each, and how many states were taken over before it. How each number from 1 on was
--- reached. Its rollbacks, and the states that were taken over, with the offsets of their frames.
+-- their frames, what became of each, and how many states were transferred before it. How each number from 1 on was
+-- reached. Its rollbacks, and the states that were transferred, with the offsets of their frames.
 pub record SectionHistory : Type 0 where
   pub replica : ℕ
   pub right : Bool
   pub committed : ℕ
   pub attempts : List ExecutedAttempt
   pub fates : List Fate
-  pub taken : List ℕ
-  pub landings : List Landed
+  pub transferred : List ℕ
+  pub each_reached : List ToldReached
   pub rollbacks : List (ℕ × Rollback)
   pub transfers : List (ℕ × Transfer)
 
 -- how the section reached number n, of the numbers from 1 on
-abbrev pub landed_at : SectionHistory → ℕ → Landed
-landed_at h n = slice_index_or h.landings (n - 1) NotLanded
+abbrev pub told_reached_at : SectionHistory → ℕ → ToldReached
+told_reached_at h n = slice_index_or h.each_reached (n - 1) NotReached
 
 -- what a call says of a number is what is told of it: the attempt or the state at this place, or that it was skipped
-abbrev pub IsToldOf : SectionHistory → told.Landing → Landed → Type 0
-IsToldOf h (landing.Attempt i) landed =
-    (r : ExecutedAttempt) × (landed ≡ LandedBy r) × (slice_get h.attempts i ≡ Some r)
-IsToldOf h (landing.Transfer i) landed = (landed ≡ LandedFrom i) × (i < length h.transfers)
-IsToldOf h landing.Skipped landed = landed ≡ NotLanded
+abbrev pub IsToldOf : SectionHistory → told.HowReached → ToldReached → Type 0
+IsToldOf h (how_reached.Attempt i) told_reached =
+    (r : ExecutedAttempt) × (told_reached ≡ ReachedBy r) × (slice_get h.attempts i ≡ Some r)
+IsToldOf h (how_reached.Transfer i) told_reached = (told_reached ≡ ReachedFrom i) × (i < length h.transfers)
+IsToldOf h how_reached.Skipped told_reached = told_reached ≡ NotReached
 
 abbrev pub section_history_by : Trace → ℕ → List (ℕ × Step) → SectionHistory
 section_history_by t e steps = record {
@@ -113,10 +115,10 @@ section_history_by t e steps = record {
   committed = (state_after start steps).last;
   attempts = map executed_attempt (attempts_among steps);
   fates = fates_from 0 steps;
-  taken = taken_from 0 steps;
-  landings = landed_from 0 (state_after start steps).landings;
+  transferred = transferred_from 0 steps;
+  each_reached = told_reached_from 0 (state_after start steps).each_reached;
   rollbacks = rollbacks_among steps;
-  transfers = transfers_by (state_after start steps).landings;
+  transfers = transfers_by (state_after start steps).each_reached;
 }
 
 -- what replica e's section tells
@@ -142,11 +144,11 @@ abbrev pub IsRightSection : Trace → ℕ → Type 0
 IsRightSection t e = IsTrue (are_right t start (steps_at t e))
 
 -- how replica e reached number n, of the numbers from 1 on
-abbrev pub landing_at : Trace → ℕ → ℕ → Option Landing
-landing_at t e zero = None
-landing_at t e (suc n) = slice_get (history t e).landings n
+abbrev pub how_reached_at : Trace → ℕ → ℕ → Option HowReached
+how_reached_at t e zero = None
+how_reached_at t e (suc n) = slice_get (history t e).each_reached n
 
-abbrev pub attempt_by : Option Landing → Option Placed
+abbrev pub attempt_by : Option HowReached → Option Placed
 attempt_by (Some (ByAttempt p)) = Some p
 attempt_by (Some (ByTransfer at x)) = None
 attempt_by (Some Skipped) = None
@@ -154,22 +156,22 @@ attempt_by None = None
 
 -- the attempt by which replica e committed batch n, where it reached the number by one
 abbrev pub committed_at : Trace → ℕ → ℕ → Option Placed
-committed_at t e n = attempt_by (landing_at t e n)
+committed_at t e n = attempt_by (how_reached_at t e n)
 
-abbrev pub is_landing : Option Landing → Bool
-is_landing (Some (ByAttempt p)) = true
-is_landing (Some (ByTransfer at x)) = true
-is_landing (Some Skipped) = false
-is_landing None = false
+abbrev pub is_how_reached : Option HowReached → Bool
+is_how_reached (Some (ByAttempt p)) = true
+is_how_reached (Some (ByTransfer at x)) = true
+is_how_reached (Some Skipped) = false
+is_how_reached None = false
 
 -- number n is 0, or replica e reached it and didn't skip it
 abbrev pub is_reached : Trace → ℕ → ℕ → Bool
 is_reached t e zero = true
-is_reached t e (suc n) = is_landing (landing_at t e (suc n))
+is_reached t e (suc n) = is_how_reached (how_reached_at t e (suc n))
 
--- of the numbers up to n replica e skipped none, and reached none by a state that it took over
+-- of the numbers up to n replica e skipped none, and reached none by a state that was transferred to it
 abbrev pub ByAttemptsTo : Trace → ℕ → ℕ → Type 0
-ByAttemptsTo t e n = (m : ℕ) (l : Landing) → m ≤ n → landing_at t e m ≡ Some l → IsByAttempt l
+ByAttemptsTo t e n = (m : ℕ) (l : HowReached) → m ≤ n → how_reached_at t e m ≡ Some l → IsByAttempt l
 
 -- the request with this index of the attempt's batch
 abbrev pub asked_in : Trace → Attempt → ℕ → Asked

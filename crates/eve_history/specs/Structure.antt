@@ -1,7 +1,7 @@
 -- The faults of structure, and where they stand. docs/MODEL.md, "Faults".
 use Rattle.std.specs.Prelude.{◌≡◌, ℕ, IsTrue, IsFalse, List, [], map}
 use Rattle.eve_grammar.specs.Trace.{Access, Attempt, Commit, Rollback, Transfer, Step, Attempts, Commits, RollsBack}
-use Rattle.eve_grammar.specs.Trace.{TakesOver, Trace}
+use Rattle.eve_grammar.specs.Trace.{Transfers, Trace}
 use Rattle.eve_grammar.specs.Spelling.{steps_at, accesses_at}
 use Rattle.eve_grammar.specs.Accesses.{is_right_place}
 use Rattle.eve_views.specs.declared.fault.Code.{Code}
@@ -24,7 +24,7 @@ OfRollback (RollsBack r) P = P r
 OfRollback _ P = ⊥
 
 abbrev pub OfTransfer : Step → (Transfer → Type 0) → Type 0
-OfTransfer (TakesOver x) P = P x
+OfTransfer (Transfers x) P = P x
 OfTransfer _ P = ⊥
 
 -- of a step of replica e at this offset, before which all steps are right: where the section has come to, and the step

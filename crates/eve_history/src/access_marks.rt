@@ -3,8 +3,8 @@
 ghost use Rattle.std.specs.Prelude.{◌≡◌, ◌≤◌, ◌<◌, ◌^◌, [], ℕ, List, length, slice_index};
 ghost use Rattle.std.specs.List.{AllByRecursion};
 ghost use Rattle.eve_grammar.specs.Trace.{Access};
-ghost use Rattle.eve_frames.specs.Said.{access_said};
-ghost use Rattle.eve_history.specs.Marking.{AreMarked, IsMarkedIfRight, AreMarkedIfRight};
+ghost use Rattle.eve_frames.specs.Decoded.{access_decoded};
+ghost use Rattle.eve_history.specs.inner.MarkedRecords.{AreMarked, IsMarkedIfRight, AreMarkedIfRight};
 
 use crate::wrong::Wrong;
 use eve_frames::AccessView;
@@ -45,13 +45,14 @@ impl AccessMarks {
     /// Marks the next record, or says what is wrong with it.
     ///
     /// docs/MODEL.md, "Section state, fate". There are `workers` workers and `count` indexes.
+    /// F22 Access and F23 WorkerOrder.
     fn mark(&mut self, workers: u8, count: usize, access: &AccessView<'_>) -> Option<Code>
         requires workers { workers ≤ MOST_WORKERS }
         requires count { count ≤ MOST_REQUESTS }
         requires small { access.now.offset < 2 ^ 32 }
         requires marked { (before : List (ℕ × Access)) × AreMarked before self.old × (length before < MOST_REQUESTS) }
         ensures { (before : List (ℕ × Access)) → AreMarked before self.old
-            → IsMarkedIfRight workers count before (access.now.offset, access_said access.now) result self.new }
+            → IsMarkedIfRight workers count before (access.now.offset, access_decoded access.now) result self.new }
     {
         let worker = access.worker();
         let index = access.index() as usize;

@@ -1,7 +1,8 @@
 //! Frames by the bytes at which they begin.
 
 ghost use Rattle.std.specs.Prelude.{◌≡◌};
-ghost use Rattle.eve_history.specs.Standing.{IsFramed, IsAttemptAt, IsAccessAt, IsRollbackAt, IsTransferAt, frame_in};
+ghost use Rattle.eve_history.specs.FrameOffsets.{IsFramed, IsAttemptAt, IsAccessAt, IsRollbackAt, IsTransferAt};
+ghost use Rattle.eve_history.specs.FrameOffsets.{frame_in};
 
 use byteorder::{BigEndian, ByteOrder};
 use eve_frames::{AccessView, AttemptView, RollbackView, TransferView};
@@ -43,7 +44,7 @@ pub fn rollback_at(bytes: &[u8], at: u32) -> RollbackView<'_>
     RollbackView::new(at as u64, frame_at(bytes, at))
 }
 
-/// The state taken over whose frame begins at this byte.
+/// The state transferred whose frame begins at this byte.
 pub fn transfer_at(bytes: &[u8], at: u32) -> TransferView<'_>
     requires { IsTransferAt bytes.now at }
     ensures offset { result.offset ≡ at }

@@ -1,7 +1,7 @@
 //! The greatest number of each client so far.
 
 ghost use Rattle.std.specs.Prelude.{◌≡◌, ◌==◌, ℕ, None, Some, OnOk, IfOk, if◌then◌else◌};
-ghost use Rattle.eve_history.specs.Rising.{greatest_of};
+ghost use Rattle.eve_history.specs.inner.GreatestNumbers.{greatest_of};
 
 use eve_accounts::KeyedHash;
 use indexmap::IndexMap;

@@ -4,17 +4,17 @@ ghost use Rattle.std.specs.Prelude.{◌≡◌, ◌≤◌, ◌<◌, ◌-◌, ℕ,
 ghost use Rattle.eve_grammar.specs.Trace.{Trace as TraceValue};
 ghost use Rattle.eve_grammar.specs.Frames.{OfAttempt, OfAccess, OfRollback, OfTransfer};
 ghost use Rattle.eve_grammar.specs.Spelling.{frame_text, steps_at};
-ghost use Rattle.eve_frames.specs.Said.{access_said, attempt_said, rollback_said, transfer_said};
+ghost use Rattle.eve_frames.specs.Decoded.{access_decoded, attempt_decoded, rollback_decoded, transfer_decoded};
 ghost use Rattle.eve_views.specs.Form.{IfFound, IsLeast, HasNone, IsFaultIn};
 ghost use Rattle.eve_views.specs.Lent.{HasBytesAt};
 ghost use Rattle.eve_history.specs.SectionHistory.{ExecutedAttempt, section_history, section_histories, IsRightSection};
-ghost use Rattle.eve_history.specs.SectionHistory.{attempts_among, LandedBy, is_by_attempt, landed_at, IsToldOf};
-ghost use Rattle.eve_history.specs.Coming.{kept_section, section_history_of, IsWholeSection};
+ghost use Rattle.eve_history.specs.SectionHistory.{attempts_among, ReachedBy, is_by_attempt, told_reached_at, IsToldOf};
+ghost use Rattle.eve_history.specs.KeptSections.{kept_section, section_history_of, IsWholeSection};
 ghost use Rattle.eve_history.specs.Structure.{StandsInStructure};
 
 use crate::fate::Fate;
 use crate::frame::{access_at, attempt_at, rollback_at, transfer_at};
-use crate::landing::Landing;
+use crate::how_reached::HowReached;
 use crate::structure::{Notes, take};
 use eve_frames::{AccessView, AttemptView, RollbackView, TransferView};
 use eve_views::{CheckFault, Trace};
@@ -22,7 +22,8 @@ use std::alloc::Global;
 use std::marker::Model;
 
 /// What a replica did, as its section tells it: its attempts, what became of each and in which order each ran, its
-/// rollbacks, and the states that it took over. Each of the three is numbered from 0, in the order of the frames.
+/// rollbacks, and the states that were transferred to it. Each of the three is numbered from 0, in the order of the
+/// frames.
 ///
 /// docs/MODEL.md, "Section state, fate".
 #[derive(Drop)]
@@ -37,7 +38,7 @@ impl<'a> Model for History<'a> {
 
     ghost Value = { SectionHistory };
 
-    ghost use Rattle.eve_history.specs.Coming.{kept_section, section_history_of, IsWholeSection};
+    ghost use Rattle.eve_history.specs.KeptSections.{kept_section, section_history_of, IsWholeSection};
 
     ghost view = { λ h. section_history_of h.replica (kept_section h.notes) };
 
@@ -114,44 +115,44 @@ impl<'a> History<'a> {
     /// The last number that the replica reached; 0 where it reached none.
     pub fn committed(&self) -> u32
         ensures number { result ≡ self.now.committed }
-        ensures count { result ≡ length self.now.landings }
+        ensures count { result ≡ length self.now.each_reached }
     {
         self.notes().last
     }
 
     /// How the replica reached number n, of the numbers from 1 on.
-    pub fn landing(&self, n: u32) -> Landing
+    pub fn how_reached(&self, n: u32) -> HowReached
         requires one { 1 ≤ n }
-        requires there { n ≤ length self.now.landings }
-        ensures { IsToldOf self.now result (landed_at self.now n) }
+        requires there { n ≤ length self.now.each_reached }
+        ensures { IsToldOf self.now result (told_reached_at self.now n) }
     {
-        self.notes().landings[n as usize - 1]
+        self.notes().each_reached[n as usize - 1]
     }
 
     /// Whether the replica reached number n, of the numbers from 1 on, by an attempt.
     pub fn by_attempt(&self, n: u32) -> bool
         requires one { 1 ≤ n }
-        requires there { n ≤ length self.now.landings }
-        ensures { result ≡ is_by_attempt (landed_at self.now n) }
+        requires there { n ≤ length self.now.each_reached }
+        ensures { result ≡ is_by_attempt (told_reached_at self.now n) }
     {
-        match self.landing(n) {
-            Landing::Attempt(_) => true,
-            Landing::Transfer(_) => false,
-            Landing::Skipped => false,
+        match self.how_reached(n) {
+            HowReached::Attempt(_) => true,
+            HowReached::Transfer(_) => false,
+            HowReached::Skipped => false,
         }
     }
 
     /// The attempt by which the replica committed batch n, of the batches from 1 on: its number among the attempts.
     pub fn committed_attempt(&self, n: u32) -> usize
         requires one { 1 ≤ n }
-        requires by_attempt { IsTrue (is_by_attempt (landed_at self.now n)) }
-        ensures { (r : ExecutedAttempt) × (slice_get self.now.landings (n - 1) ≡ Some (LandedBy r))
+        requires by_attempt { IsTrue (is_by_attempt (told_reached_at self.now n)) }
+        ensures { (r : ExecutedAttempt) × (slice_get self.now.each_reached (n - 1) ≡ Some (ReachedBy r))
             × (slice_get self.now.attempts result ≡ Some r) }
     {
-        match self.landing(n) {
-            Landing::Attempt(i) => i as usize,
-            Landing::Transfer(_) => unreachable!(),
-            Landing::Skipped => unreachable!(),
+        match self.how_reached(n) {
+            HowReached::Attempt(i) => i as usize,
+            HowReached::Transfer(_) => unreachable!(),
+            HowReached::Skipped => unreachable!(),
         }
     }
 
@@ -167,8 +168,8 @@ impl<'a> History<'a> {
     pub fn attempt(&self, i: usize) -> AttemptView<'a>
         requires { i < length self.now.attempts }
         ensures says { (r : ExecutedAttempt) × (slice_get self.now.attempts i ≡ Some r) × (result.offset ≡ r.offset)
-            × (attempt_said result ≡ r.attempt) × (length r.ordered ≡ length r.attempt.certificate) }
-        ensures text { result.bytes.now ≡ frame_text (OfAttempt (attempt_said result)) }
+            × (attempt_decoded result ≡ r.attempt) × (length r.ordered ≡ length r.attempt.certificate) }
+        ensures text { result.bytes.now ≡ frame_text (OfAttempt (attempt_decoded result)) }
         ensures stands { (t : TraceValue) (e : ℕ) → self.now ≡ section_history t e
             → HasBytesAt t result.offset result.bytes.now }
     {
@@ -189,12 +190,12 @@ impl<'a> History<'a> {
         }
     }
 
-    /// How many states the replica took over before an attempt.
-    pub fn taken_before(&self, i: usize) -> u32
+    /// How many states the replica got by a transfer before an attempt.
+    pub fn transferred_before(&self, i: usize) -> u32
         requires { i < length self.now.attempts }
-        ensures { slice_get self.now.taken i ≡ Some result }
+        ensures { slice_get self.now.transferred i ≡ Some result }
     {
-        self.notes().attempts[i].taken
+        self.notes().attempts[i].transferred
     }
 
     /// The access record that an attempt's certificate lists at a place, from 0.
@@ -202,8 +203,8 @@ impl<'a> History<'a> {
         requires attempt { i < length self.now.attempts }
         requires place { (r : ExecutedAttempt) → slice_get self.now.attempts i ≡ Some r → place < length r.ordered }
         ensures says { (r : ExecutedAttempt) × (slice_get self.now.attempts i ≡ Some r)
-            × (slice_get r.ordered place ≡ Some (result.offset, access_said result)) }
-        ensures text { result.bytes.now ≡ frame_text (OfAccess (access_said result)) }
+            × (slice_get r.ordered place ≡ Some (result.offset, access_decoded result)) }
+        ensures text { result.bytes.now ≡ frame_text (OfAccess (access_decoded result)) }
         ensures not_first { 0 < result.offset }
         ensures stands { (t : TraceValue) (e : ℕ) → self.now ≡ section_history t e
             → HasBytesAt t result.offset result.bytes.now }
@@ -224,8 +225,8 @@ impl<'a> History<'a> {
     /// A rollback.
     pub fn rollback(&self, i: usize) -> RollbackView<'a>
         requires { i < length self.now.rollbacks }
-        ensures says { slice_get self.now.rollbacks i ≡ Some (result.offset, rollback_said result) }
-        ensures text { result.bytes.now ≡ frame_text (OfRollback (rollback_said result)) }
+        ensures says { slice_get self.now.rollbacks i ≡ Some (result.offset, rollback_decoded result) }
+        ensures text { result.bytes.now ≡ frame_text (OfRollback (rollback_decoded result)) }
         ensures stands { (t : TraceValue) (e : ℕ) → self.now ≡ section_history t e
             → HasBytesAt t result.offset result.bytes.now }
     {
@@ -233,18 +234,18 @@ impl<'a> History<'a> {
         rollback_at(notes.bytes, notes.rollbacks[i])
     }
 
-    /// How many states the replica took over.
+    /// How many states the replica got by a transfer.
     pub fn transfers(&self) -> usize
         ensures { result ≡ length self.now.transfers }
     {
         self.notes().transfers.len()
     }
 
-    /// A state that the replica took over.
+    /// A state that was transferred to the replica.
     pub fn transfer(&self, i: usize) -> TransferView<'a>
         requires { i < length self.now.transfers }
-        ensures says { slice_get self.now.transfers i ≡ Some (result.offset, transfer_said result) }
-        ensures text { result.bytes.now ≡ frame_text (OfTransfer (transfer_said result)) }
+        ensures says { slice_get self.now.transfers i ≡ Some (result.offset, transfer_decoded result) }
+        ensures text { result.bytes.now ≡ frame_text (OfTransfer (transfer_decoded result)) }
         ensures stands { (t : TraceValue) (e : ℕ) → self.now ≡ section_history t e
             → HasBytesAt t result.offset result.bytes.now }
     {

@@ -8,7 +8,7 @@ mod fate;
 mod frame;
 mod greatest;
 mod history;
-mod landing;
+mod how_reached;
 pub mod laws;
 mod order;
 mod repeats;
@@ -17,5 +17,5 @@ mod wrong;
 
 pub use fate::Fate;
 pub use history::{History, recall_all_right};
-pub use landing::Landing;
+pub use how_reached::HowReached;
 pub use order::orders;

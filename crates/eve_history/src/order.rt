@@ -6,8 +6,8 @@ ghost use Rattle.eve_views.specs.declared.fault.Fault.{Fault};
 ghost use Rattle.eve_views.specs.declared.fault.CheckFault.TheVariants.{Found, Memory};
 ghost use Rattle.eve_history.specs.SectionHistory.{names_of};
 ghost use Rattle.eve_grammar.specs.Trace.{RequestId, request_id};
-ghost use Rattle.eve_history.specs.Rising.{greatest_of, AreReached, HaveRisen};
-ghost use Rattle.eve_history.specs.Order.{requests_said, HasDistinctNames, HasDistinctRequests, StandsInOrders};
+ghost use Rattle.eve_history.specs.inner.GreatestNumbers.{greatest_of, AreReached, HaveRisen};
+ghost use Rattle.eve_history.specs.Order.{requests_decoded, HasDistinctNames, HasDistinctRequests, StandsInOrders};
 
 use crate::greatest::Greatest;
 use crate::repeats::first_repeat;
@@ -29,6 +29,7 @@ fn outside(code: Code, offset: u64) -> CheckFault
 }
 
 /// The customers' names, in order, or the first customer whose name an earlier one has.
+/// F10 SameName.
 fn names_in_order<'a>(
     alloc: Global,
     trace: &Trace<'a>,
@@ -57,6 +58,7 @@ fn names_in_order<'a>(
 }
 
 /// Notes a request's number as the greatest of its client: whether it is above all numbers that the client had.
+/// F11 SameRequest.
 fn is_above(greatest: &mut Greatest, client: u32, number: u64) -> Result<bool, CheckFault>
     ensures above { IfOk result (λ above. IsTrue above → (noted : List RequestId)
         → AreReached (greatest_of greatest.old) noted
@@ -75,7 +77,7 @@ fn is_above(greatest: &mut Greatest, client: u32, number: u64) -> Result<bool, C
 fn are_above(greatest: &mut Greatest, batch: &BatchView<'_>) -> Result<bool, CheckFault>
     ensures above { IfOk result (λ above. IsTrue above → (noted : List RequestId)
         → AreReached (greatest_of greatest.old) noted
-        → HaveRisen noted (map request_id (requests_said batch.now.bytes.now))
+        → HaveRisen noted (map request_id (requests_decoded batch.now.bytes.now))
         (AreReached (greatest_of greatest.new))) }
     ensures memory { IfErr result (λ e. e ≡ Memory) }
 {
@@ -106,6 +108,7 @@ fn numbers_rise(alloc: Global, trace: &Trace<'_>, random: RandomState) -> Result
 }
 
 /// Whether all requests differ in client or number, or the first batch with one that an earlier request has.
+/// F11 SameRequest.
 fn requests_apart(alloc: Global, trace: &Trace<'_>, random: RandomState) -> Result<(), CheckFault>
     requires { HasDistinctNames trace.now }
     ensures apart { IfOk result (λ _. HasDistinctRequests trace.now) }

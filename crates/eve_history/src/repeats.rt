@@ -1,11 +1,11 @@
 //! The first batch with a request that occurs earlier, found by sorting.
 
 ghost use Rattle.std.specs.Prelude.{◌≡◌, ◌++◌, length, IfOk, OnOk, IfSome, IfNone};
-ghost use Rattle.eve_frames.specs.Said.{batch_said};
+ghost use Rattle.eve_frames.specs.Decoded.{batch_decoded};
 ghost use Rattle.eve_history.specs.Order.{HasDistinctRequests};
 ghost use Rattle.eve_views.specs.Order.{AreInOrder};
-ghost use Rattle.eve_history.specs.Repeats.{arrivals_at, arrivals_of, is_same};
-ghost use Rattle.eve_history.specs.Repeats.{IsNoLaterArrival, NoneOccursTwice, IsFirstTwice, IsFirstRepeat};
+ghost use Rattle.eve_history.specs.inner.Repeats.{arrivals_at, arrivals_of, is_same};
+ghost use Rattle.eve_history.specs.inner.Repeats.{IsNoLaterArrival, NoneOccursTwice, IsFirstTwice, IsFirstRepeat};
 
 use eve_frames::BatchView;
 use eve_views::{Trace, lower};
@@ -36,7 +36,7 @@ fn request_count(trace: &Trace<'_>) -> usize
 /// Notes the requests of a batch, in their order.
 fn note(arrivals: &mut Vec<Arrival>, batch: &BatchView<'_>) -> Result<(), AllocError>
     ensures { OnOk result (arrivals.new.items
-        ≡ arrivals.old.items ++ arrivals_at (batch.now.offset, batch_said batch.now)) }
+        ≡ arrivals.old.items ++ arrivals_at (batch.now.offset, batch_decoded batch.now)) }
 {
     let batch_number = batch.seq();
     for asked in batch.requests() {

@@ -5,40 +5,40 @@ ghost use Rattle.std.specs.Prelude.{◌==◌, ◌&&◌, ◌+◌, false, map, len
 ghost use Rattle.std.specs.List.{AllByRecursion};
 ghost use Rattle.std.specs.Cmp.Lexicographic.{pointwise};
 ghost use Rattle.eve_grammar.specs.Trace.{Trace as TraceValue, Attempt, Step as StepValue, Attempts, Commits};
-ghost use Rattle.eve_grammar.specs.Trace.{RollsBack, TakesOver, head_of};
+ghost use Rattle.eve_grammar.specs.Trace.{RollsBack, Transfers, head_of};
 ghost use Rattle.eve_grammar.specs.Frames.{without_accesses};
 ghost use Rattle.eve_grammar.specs.Spelling.{accesses_at};
-ghost use Rattle.eve_frames.specs.Said.{attempt_said, commit_said, rollback_said, transfer_said};
+ghost use Rattle.eve_frames.specs.Decoded.{attempt_decoded, commit_decoded, rollback_decoded, transfer_decoded};
 ghost use Rattle.eve_views.specs.Form.{IfFound, IsLeast, IsFaultIn};
 ghost use Rattle.eve_views.specs.declared.fault.CheckFault.TheVariants.{Found};
 ghost use Rattle.eve_views.specs.StepKinds.{IsStep};
 ghost use Rattle.eve_history.specs.Section.{SectionState, is_due, is_right_commit, is_right_rollback};
 ghost use Rattle.eve_history.specs.Section.{worker_count, is_right_transfer};
-ghost use Rattle.eve_history.specs.FirstWrong.{wrong_attempt, wrong_step, fault_of};
-ghost use Rattle.eve_history.specs.Marking.{AreMarked};
-ghost use Rattle.eve_history.specs.Coming.{kept_section, StandsAt, HasCome, ComesNext, AreFramed, AreNotesOf};
-ghost use Rattle.eve_history.specs.Coming.{kept_at_first, seen};
+ghost use Rattle.eve_history.specs.inner.FirstWrong.{wrong_attempt, wrong_step, fault_of};
+ghost use Rattle.eve_history.specs.inner.MarkedRecords.{AreMarked};
+ghost use Rattle.eve_history.specs.KeptSections.{kept_section, StandsAt, HasCome, ComesNext, AreFramed, AreNotesOf};
+ghost use Rattle.eve_history.specs.KeptSections.{kept_at_first, seen};
 ghost use Rattle.eve_history.specs.Structure.{StandsInStructure};
 
 use crate::access_marks::AccessMarks;
 use crate::certificate::{has_every_index, is_right_certificate, read_order};
 use crate::fate::Fate;
 use crate::frame::attempt_at;
-use crate::landing::Landing;
+use crate::how_reached::HowReached;
 use crate::wrong::Wrong;
 use eve_frames::{AttemptView, CommitView, RollbackView, TransferView};
 use eve_grammar::{Head, MOST_REQUESTS, MOST_WORKERS};
 use eve_views::{Accesses, CheckFault, Code, Fault, Step, Trace};
 use std::alloc::{AllocError, Global};
 
-/// An attempt, how many states were taken over before it, and where its access records begin among those of the
+/// An attempt, how many states were transferred before it, and where its access records begin among those of the
 /// section.
 #[derive(Clone, Copy)]
 pub struct Attempted {
     /// The byte at which its frame begins.
     pub at: u32,
-    /// How many states were taken over before it.
-    pub taken: u32,
+    /// How many states were transferred before it.
+    pub transferred: u32,
     /// The place of the record that stands first in its certificate's order.
     pub from: usize,
 }
@@ -59,12 +59,12 @@ pub struct Notes<'a> {
     /// What became of those that are settled, which are the first of them.
     pub fates: Vec<Fate>,
     /// How each number was reached, from 1 to the last.
-    pub landings: Vec<Landing>,
+    pub each_reached: Vec<HowReached>,
     /// The access records of one attempt after another, each attempt's in its certificate's order.
     pub records: Vec<u32>,
     /// The rollbacks, in the order of their frames.
     pub rollbacks: Vec<u32>,
-    /// The states that were taken over, in the order of their frames.
+    /// The states that were transferred, in the order of their frames.
     pub transfers: Vec<u32>,
 }
 
@@ -81,8 +81,8 @@ fn fault_in(e: u8, wrong: Wrong) -> CheckFault
 
 /// Whether the commit has the attempt's view and token.
 fn is_of(commit: &CommitView<'_>, attempt: &AttemptView<'_>) -> bool
-    ensures { result ≡ (((attempt_said attempt.now).view == (commit_said commit.now).view) && pointwise ◌==◌
-        (attempt_said attempt.now).token (commit_said commit.now).token) }
+    ensures { result ≡ (((attempt_decoded attempt.now).view == (commit_decoded commit.now).view) && pointwise ◌==◌
+        (attempt_decoded attempt.now).token (commit_decoded commit.now).token) }
 {
     attempt.view() == commit.view() && attempt.token() == commit.token()
 }
@@ -105,7 +105,7 @@ fn keep_records(
 
 /// How many workers an attempt may have.
 fn workers_of(trace: &Trace<'_>, attempt: &AttemptView<'_>) -> u8
-    ensures workers { result ≡ worker_count trace.now (attempt_said attempt.now) }
+    ensures workers { result ≡ worker_count trace.now (attempt_decoded attempt.now) }
     ensures most { result ≤ MOST_WORKERS }
 {
     trace.recall_limits();
@@ -133,7 +133,7 @@ impl<'a> Notes<'a> {
             rolled_back: false,
             attempts: Vec::new(alloc),
             fates: Vec::new(alloc),
-            landings: Vec::new(alloc),
+            each_reached: Vec::new(alloc),
             records: Vec::new(alloc),
             rollbacks: Vec::new(alloc),
             transfers: Vec::new(alloc),
@@ -141,13 +141,14 @@ impl<'a> Notes<'a> {
     }
 
     /// Whether an attempt's number, view and mode are those that are due.
+    /// F20 Attempt.
     fn is_due(&self, head: &Head, attempt: &AttemptView<'_>) -> bool
         requires { length (kept_section self.now).fates ≤ length (kept_section self.now).attempts }
         ensures due { (t : TraceValue) (s : SectionState) → StandsAt s (kept_section self.now)
             → head.now ≡ head_of t
-            → result ≡ is_due t s (attempt_said attempt.now) }
-        ensures from_one { IsTrue result → 1 ≤ (attempt_said attempt.now).seq }
-        ensures there { IsTrue result → (attempt_said attempt.now).seq ≤ head.now.batches }
+            → result ≡ is_due t s (attempt_decoded attempt.now) }
+        ensures from_one { IsTrue result → 1 ≤ (attempt_decoded attempt.now).seq }
+        ensures there { IsTrue result → (attempt_decoded attempt.now).seq ≤ head.now.batches }
     {
         let seq = attempt.seq();
         let open = self.attempts.len() - self.fates.len();
@@ -161,6 +162,7 @@ impl<'a> Notes<'a> {
     }
 
     /// What is wrong with an attempt but for its access records.
+    /// F20 Attempt.
     fn wrong_attempt(
         &self,
         trace: &Trace<'_>,
@@ -168,9 +170,9 @@ impl<'a> Notes<'a> {
         order: &[u16],
     ) -> Option<Code>
         requires fewer { length (kept_section self.now).fates ≤ length (kept_section self.now).attempts }
-        requires order { order.now ≡ (attempt_said attempt.now).certificate }
+        requires order { order.now ≡ (attempt_decoded attempt.now).certificate }
         ensures { (s : SectionState) → StandsAt s (kept_section self.now)
-            → result ≡ wrong_attempt trace.now s (attempt_said attempt.now) }
+            → result ≡ wrong_attempt trace.now s (attempt_decoded attempt.now) }
     {
         if !self.is_due(&trace.head(), attempt) || !has_every_index(trace, attempt) {
             return Some(Code::Attempt);
@@ -182,10 +184,11 @@ impl<'a> Notes<'a> {
     }
 
     /// Whether the commit is of the first open attempt.
+    /// F24 Commit.
     fn is_right_commit(&self, commit: &CommitView<'_>) -> bool
         requires { AreFramed self.now }
         ensures { (s : SectionState) → StandsAt s (kept_section self.now)
-            → result ≡ is_right_commit s (commit_said commit.now) }
+            → result ≡ is_right_commit s (commit_decoded commit.now) }
     {
         let settled = self.fates.len();
         if settled >= self.attempts.len() {
@@ -198,9 +201,10 @@ impl<'a> Notes<'a> {
     }
 
     /// Whether the rollback is to the last committed number, of a batch that is still to come, and in the next view.
+    /// F25 Rollback.
     fn rolls_back(&self, head: &Head, rollback: &RollbackView<'_>) -> bool
         ensures { (t : TraceValue) (s : SectionState) → StandsAt s (kept_section self.now) → head.now ≡ head_of t
-            → result ≡ is_right_rollback t s (rollback_said rollback.now) }
+            → result ≡ is_right_rollback t s (rollback_decoded rollback.now) }
     {
         rollback.to() == self.last
             && self.last < head.batches
@@ -208,9 +212,10 @@ impl<'a> Notes<'a> {
     }
 
     /// Whether the state is of a later number, which is one of a batch, and its view is no lower.
-    fn takes_over(&self, head: &Head, transfer: &TransferView<'_>) -> bool
+    /// F26 Transfer.
+    fn may_transfer(&self, head: &Head, transfer: &TransferView<'_>) -> bool
         ensures { (t : TraceValue) (s : SectionState) → StandsAt s (kept_section self.now) → head.now ≡ head_of t
-            → result ≡ is_right_transfer t s (transfer_said transfer.now) }
+            → result ≡ is_right_transfer t s (transfer_decoded transfer.now) }
     {
         self.last < transfer.seq() && transfer.seq() <= head.batches && self.view <= transfer.view()
     }
@@ -225,12 +230,13 @@ impl<'a> Notes<'a> {
         marks: &mut AccessMarks,
     ) -> Option<Wrong>
         requires fewer { length (kept_section self.now).fates ≤ length (kept_section self.now).attempts }
-        requires order { order.now ≡ (attempt_said attempt.now).certificate }
+        requires order { order.now ≡ (attempt_decoded attempt.now).certificate }
         requires few { length order.now ≤ MOST_REQUESTS }
         requires many { length accesses.now ≡ length order.now }
         requires small { AllByRecursion (λ x. x.0 < 2 ^ 32) accesses.now }
         requires none { AreMarked [] marks.old }
-        ensures wrong { (s : SectionState) (b : Attempt) → StandsAt s (kept_section self.now) → attempt_said attempt.now
+        ensures wrong { (s : SectionState) (b : Attempt) → StandsAt s (kept_section self.now)
+            → attempt_decoded attempt.now
             ≡ without_accesses b → accesses.now ≡ accesses_at attempt.now.offset b
             → result ≡ wrong_step trace.now s (attempt.now.offset, Attempts b) }
         ensures marked { IfNone result (AreMarked accesses.now marks.new) }
@@ -255,16 +261,16 @@ impl<'a> Notes<'a> {
     ) -> Result<(), CheckFault>
         requires noted { AreNotesOf trace.now self.old }
         requires comes { (rest : List (ℕ × StepValue)) × (b : Attempt)
-            × ComesNext trace.now e rest b (kept_section self.old) attempt.now.offset (attempt_said attempt.now)
+            × ComesNext trace.now e rest b (kept_section self.old) attempt.now.offset (attempt_decoded attempt.now)
             accesses.now }
-        ensures taken { OnOk result ((rest : List (ℕ × StepValue)) (b : Attempt)
-            → ComesNext trace.now e rest b (kept_section self.old) attempt.now.offset (attempt_said attempt.now)
+        ensures handled { OnOk result ((rest : List (ℕ × StepValue)) (b : Attempt)
+            → ComesNext trace.now e rest b (kept_section self.old) attempt.now.offset (attempt_decoded attempt.now)
             accesses.now
             → HasCome trace.now e rest (kept_section self.new)) }
         ensures noted { OnOk result (AreNotesOf trace.now self.new) }
         ensures wrong { IfErr result
             (λ x. IfFound x (λ f. (rest : List (ℕ × StepValue)) (b : Attempt)
-            → ComesNext trace.now e rest b (kept_section self.old) attempt.now.offset (attempt_said attempt.now)
+            → ComesNext trace.now e rest b (kept_section self.old) attempt.now.offset (attempt_decoded attempt.now)
             accesses.now
             → IsLeast (IsFaultIn StandsInStructure trace.now e) f)) }
     {
@@ -276,11 +282,11 @@ impl<'a> Notes<'a> {
             return Err(fault_in(e, wrong));
         }
         let from = self.records.len();
-        let taken = self.transfers.len() as u32;
+        let transferred = self.transfers.len() as u32;
         keep_records(&mut self.records, order, &marks)?;
         self.attempts.push(Attempted {
             at: attempt.offset() as u32,
-            taken,
+            transferred,
             from,
         })?;
         self.rolled_back = false;
@@ -291,14 +297,14 @@ impl<'a> Notes<'a> {
     pub fn take_commit(&mut self, e: u8, commit: &CommitView<'_>) -> Result<(), CheckFault>
         requires framed { AreFramed self.old }
         requires comes { (t : TraceValue) × (rest : List (ℕ × StepValue)) × AreNotesOf t self.old
-            × HasCome t e ((commit.now.offset, Commits (commit_said commit.now)) ∷ rest) (kept_section self.old) }
-        ensures taken { OnOk result ((t : TraceValue) (rest : List (ℕ × StepValue))
-            → HasCome t e ((commit.now.offset, Commits (commit_said commit.now)) ∷ rest) (kept_section self.old)
+            × HasCome t e ((commit.now.offset, Commits (commit_decoded commit.now)) ∷ rest) (kept_section self.old) }
+        ensures handled { OnOk result ((t : TraceValue) (rest : List (ℕ × StepValue))
+            → HasCome t e ((commit.now.offset, Commits (commit_decoded commit.now)) ∷ rest) (kept_section self.old)
             → HasCome t e rest (kept_section self.new)) }
         ensures noted { OnOk result ((t : TraceValue) → AreNotesOf t self.old → AreNotesOf t self.new) }
         ensures wrong { IfErr result
             (λ x. IfFound x (λ f. (t : TraceValue) (rest : List (ℕ × StepValue))
-            → HasCome t e ((commit.now.offset, Commits (commit_said commit.now)) ∷ rest) (kept_section self.old)
+            → HasCome t e ((commit.now.offset, Commits (commit_decoded commit.now)) ∷ rest) (kept_section self.old)
             → IsLeast (IsFaultIn StandsInStructure t e) f)) }
     {
         if !self.is_right_commit(commit) {
@@ -311,9 +317,10 @@ impl<'a> Notes<'a> {
             ));
         }
         let place = self.fates.len();
-        self.landings.reserve(1)?;
+        self.each_reached.reserve(1)?;
         self.fates.push(Fate::Committed)?;
-        self.landings.push_reserved(Landing::Attempt(place as u32));
+        self.each_reached
+            .push_reserved(HowReached::Attempt(place as u32));
         self.last = commit.seq();
         Ok(())
     }
@@ -327,17 +334,17 @@ impl<'a> Notes<'a> {
     ) -> Result<(), CheckFault>
         requires noted { AreNotesOf trace.now self.old }
         requires comes { (rest : List (ℕ × StepValue))
-            × HasCome trace.now e ((rollback.now.offset, RollsBack (rollback_said rollback.now)) ∷ rest)
+            × HasCome trace.now e ((rollback.now.offset, RollsBack (rollback_decoded rollback.now)) ∷ rest)
             (kept_section self.old) }
-        ensures taken { OnOk result
+        ensures handled { OnOk result
             ((rest : List (ℕ × StepValue))
-            → HasCome trace.now e ((rollback.now.offset, RollsBack (rollback_said rollback.now)) ∷ rest)
+            → HasCome trace.now e ((rollback.now.offset, RollsBack (rollback_decoded rollback.now)) ∷ rest)
             (kept_section self.old)
             → HasCome trace.now e rest (kept_section self.new)) }
         ensures noted { OnOk result (AreNotesOf trace.now self.new) }
         ensures wrong { IfErr result
             (λ x. IfFound x (λ f. (rest : List (ℕ × StepValue))
-            → HasCome trace.now e ((rollback.now.offset, RollsBack (rollback_said rollback.now)) ∷ rest)
+            → HasCome trace.now e ((rollback.now.offset, RollsBack (rollback_decoded rollback.now)) ∷ rest)
             (kept_section self.old)
             → IsLeast (IsFaultIn StandsInStructure trace.now e) f)) }
     {
@@ -367,21 +374,21 @@ impl<'a> Notes<'a> {
     ) -> Result<(), CheckFault>
         requires noted { AreNotesOf trace.now self.old }
         requires comes { (rest : List (ℕ × StepValue))
-            × HasCome trace.now e ((transfer.now.offset, TakesOver (transfer_said transfer.now)) ∷ rest)
+            × HasCome trace.now e ((transfer.now.offset, Transfers (transfer_decoded transfer.now)) ∷ rest)
             (kept_section self.old) }
-        ensures taken { OnOk result
+        ensures handled { OnOk result
             ((rest : List (ℕ × StepValue))
-            → HasCome trace.now e ((transfer.now.offset, TakesOver (transfer_said transfer.now)) ∷ rest)
+            → HasCome trace.now e ((transfer.now.offset, Transfers (transfer_decoded transfer.now)) ∷ rest)
             (kept_section self.old)
             → HasCome trace.now e rest (kept_section self.new)) }
         ensures noted { OnOk result (AreNotesOf trace.now self.new) }
         ensures wrong { IfErr result
             (λ x. IfFound x (λ f. (rest : List (ℕ × StepValue))
-            → HasCome trace.now e ((transfer.now.offset, TakesOver (transfer_said transfer.now)) ∷ rest)
+            → HasCome trace.now e ((transfer.now.offset, Transfers (transfer_decoded transfer.now)) ∷ rest)
             (kept_section self.old)
             → IsLeast (IsFaultIn StandsInStructure trace.now e) f)) }
     {
-        if !self.takes_over(&trace.head(), transfer) {
+        if !self.may_transfer(&trace.head(), transfer) {
             return Err(fault_in(
                 e,
                 Wrong {
@@ -395,8 +402,9 @@ impl<'a> Notes<'a> {
         let all = self.attempts.len();
         self.fates.resize(all, Fate::Discarded)?;
         let seq = transfer.seq();
-        self.landings.resize(seq as usize - 1, Landing::Skipped)?;
-        self.landings.push(Landing::Transfer(place))?;
+        self.each_reached
+            .resize(seq as usize - 1, HowReached::Skipped)?;
+        self.each_reached.push(HowReached::Transfer(place))?;
         self.last = seq;
         self.view = transfer.view();
         self.rolled_back = false;
@@ -414,7 +422,7 @@ pub fn take<'a>(
     requires noted { AreNotesOf trace.now notes.old }
     requires comes { (rest : List (ℕ × StepValue)) × (next : ℕ × StepValue)
         × HasCome trace.now e (next ∷ rest) (kept_section notes.old) × IsStep step next }
-    ensures taken { OnOk result ((rest : List (ℕ × StepValue)) (next : ℕ × StepValue)
+    ensures handled { OnOk result ((rest : List (ℕ × StepValue)) (next : ℕ × StepValue)
         → HasCome trace.now e (next ∷ rest) (kept_section notes.old) → IsStep step.entry next
         → HasCome trace.now e rest (kept_section notes.new)) }
     ensures noted { OnOk result (AreNotesOf trace.now notes.new) }

@@ -1,4 +1,4 @@
-mod Appending
+mod AppendedParts
 pub mod Digits
 mod KindNames
-mod Saying
+mod WordsOfFrames

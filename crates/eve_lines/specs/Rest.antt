@@ -1,8 +1,9 @@
 -- What frames say by their bytes, and what is still to come of it while a line is put part by part.
-use Rattle.std.specs.Prelude.{◌≡◌, ℕ, ◌-◌, ◌/◌, ◌<◌, ◌==◌, nat_le, nat_lt, Bool, ◌&&◌, is_some, true, false, if◌then◌else◌, List, [], ◌++◌, map, length}
+use Rattle.std.specs.Prelude.{◌≡◌, ℕ, ◌-◌, ◌/◌, ◌<◌, ◌==◌, nat_le, nat_lt, Bool, ◌&&◌, is_some, true, false}
+use Rattle.std.specs.Prelude.{if◌then◌else◌, List, [], ◌++◌, map, length}
 use Rattle.std.specs.Prelude.{drop, codes, decimal, slice_index, slice_get, Option, Some, None}
 use Rattle.std.specs.List.{flat_map, enumerate_from}
-use Rattle.eve_grammar.specs.Reading.{number_of, transfer_of}
+use Rattle.eve_grammar.specs.Readers.{number_of, transfer_of}
 use Rattle.eve_grammar.specs.declared.limits.TheConstants.{MOST_ROWS}
 use Rattle.eve_grammar.specs.declared.frame_kind.TheConstants.{CUSTOMER_FRAME, BATCH_FRAME, REPLICA_FRAME}
 use Rattle.eve_grammar.specs.declared.frame_kind.TheConstants.{ATTEMPT_FRAME, ACCESS_FRAME, COMMIT_FRAME}
@@ -43,7 +44,7 @@ attempt_left r =
 unfoldable pub rollback_left : RollbackRest → List ℕ
 rollback_left r = list_words r.has_begun (map restore_words r.restores)
 
--- of a state taken over: the rows from one on
+-- of a state transferred: the rows from one on
 unfoldable pub transfer_left : TransferRest → List ℕ
 transfer_left r =
     list_words (nat_lt 0 r.came)

@@ -2,7 +2,7 @@
 
 ghost use Rattle.std.specs.Prelude.{◌≡◌, ◌+◌, ◌≤◌, ◌++◌, codes, length};
 ghost use Rattle.arrayvec.specs.ArrayVec.{array_vec_len};
-ghost use Rattle.eve_grammar.specs.Reading.{number_of};
+ghost use Rattle.eve_grammar.specs.Readers.{number_of};
 ghost use Rattle.eve_grammar.specs.Bodies.{borrowed_choice};
 ghost use Rattle.eve_grammar.specs.declared.frame_kind.TheConstants.{FRAME_HEAD_LEN};
 ghost use Rattle.eve_frames.specs.Views.{body_in, has_customer_body, has_commit_body, has_vote_body, has_sent_body};

@@ -15,7 +15,7 @@ use crate::short::put_batch_and_view;
 use eve_frames::TransferView;
 use eve_grammar::{FRAME_HEAD_LEN, MOST_ROWS, is_transfer_body};
 
-/// The words of a state taken over that are still to come, behind ` batch 1 view 0`.
+/// The words of a state transferred that are still to come, behind ` batch 1 view 0`.
 #[derive(Clone, Copy)]
 pub(crate) struct TransferRest<'a> {
     transfer: TransferView<'a>,

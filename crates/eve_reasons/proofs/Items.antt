@@ -12,15 +12,15 @@ and_items f i xs k = and_lines (map f (enumerate_from i (drop i xs))) k
 -- with the line of the next item
 pub says_next : {A : Type 0} (f : ℕ × A → List ℕ) (k next : Kept) (xs : List A) (i : ℕ) (x : A)
     → slice_get xs i ≡ Some x → next ≡ and_line (f (i, x)) k → and_items f (i + 1) xs next ≡ and_items f i xs k
-says_next f k next xs i x at said =
-    ap (λ l. and_items f (i + 1) xs l) said
+says_next f k next xs i x at decoded =
+    ap (λ l. and_items f (i + 1) xs l) decoded
     ∙ ap (λ l. and_lines (map f (enumerate_from i l)) k) (sym (drop_here xs i x at))
 
 -- with those of the first items, all of which have been said
-pub said_all : {A : Type 0} (f : ℕ × A → List ℕ) (xs : List A) (few many i : ℕ) (k start : Kept)
+pub decoded_all : {A : Type 0} (f : ℕ × A → List ℕ) (xs : List A) (few many i : ℕ) (k start : Kept)
     → few ≡ many → length (take few xs) ≤ i → and_items f i (take few xs) k ≡ and_items f 0 (take few xs) start
     → k ≡ and_lines (map f (enumerate_from 0 (take many xs))) start
-said_all f xs few many i k start is past same =
+decoded_all f xs few many i k start is past same =
     let none : drop i (take few xs) ≡ [] = drop_of_length-le (take few xs) past in
     sym (ap (λ l. and_lines (map f (enumerate_from i l)) k) none) ∙ same
     ∙ ap (λ n. and_lines (map f (enumerate_from 0 (take n xs))) start) is

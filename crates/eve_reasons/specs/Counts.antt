@@ -9,7 +9,7 @@ use Rattle.eve_evidence.specs.declared.evidence.ReplicaCounts.{ReplicaCounts}
 abbrev pub replica_line : ℕ × ReplicaCounts → List ℕ
 replica_line (replica, did) =
     codes "replica " ++ (decimal replica ++ (codes ": " ++ (decimal did.committed ++ (codes " committed, "
-    ++ (decimal did.taken_over ++ (codes " taken over, " ++ (decimal did.discarded ++ (codes " discarded, "
+    ++ (decimal did.transferred ++ (codes " taken over, " ++ (decimal did.discarded ++ (codes " discarded, "
     ++ (decimal did.open ++ (codes " open, " ++ (decimal did.rollbacks ++ codes " rollbacks")))))))))))
 
 -- the requests, and then what each replica did

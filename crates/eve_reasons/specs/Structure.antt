@@ -1,4 +1,4 @@
--- What is wrong with a commit, a rollback or a state that was taken over. docs/USING.md, "What `explain` prints".
+-- What is wrong with a commit, a rollback or a state that was transferred. docs/USING.md, "What `explain` prints".
 use Rattle.std.specs.Prelude.{ℕ, List, [], ◌∷◌, ◌++◌, codes}
 use Rattle.eve_lines.specs.Words.{token_words}
 use Rattle.eve_evidence.specs.declared.evidence.CommitFault.{CommitFault}

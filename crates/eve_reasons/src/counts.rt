@@ -20,7 +20,7 @@ fn say_replica(lines: &mut Lines, replica: usize, did: &ReplicaCounts)
         Text(": "),
         Number(did.committed as u64),
         Text(" committed, "),
-        Number(did.taken_over as u64),
+        Number(did.transferred as u64),
         Text(" taken over, "),
         Number(did.discarded as u64),
         Text(" discarded, "),

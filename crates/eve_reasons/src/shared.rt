@@ -23,7 +23,7 @@ pub(crate) fn say_attempt(lines: &mut Lines, attempt: &ToldAttempt)
     ]);
 }
 
-/// Says a state that was taken over: `transfer: batch 2, view 1, Transfer at byte 1235`.
+/// Says a state that was transferred: `transfer: batch 2, view 1, Transfer at byte 1235`.
 pub(crate) fn say_transfer(lines: &mut Lines, state: &ToldTransfer)
     ensures { lines.new ≡ and_line (transfer_line state.now) lines.old }
 {

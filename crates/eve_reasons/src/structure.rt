@@ -1,4 +1,4 @@
-//! What is wrong with a commit, a rollback or a state that was taken over.
+//! What is wrong with a commit, a rollback or a state that was transferred.
 
 ghost use Rattle.std.specs.Prelude.{◌≡◌};
 ghost use Rattle.eve_reasons.specs.Lines.{and_lines};
@@ -39,7 +39,7 @@ pub(crate) fn say_rollback(lines: &mut Lines, wrong: &RollbackFault)
     }
 }
 
-/// Says what is wrong with the number or the view of a state that was taken over.
+/// Says what is wrong with the number or the view of a state that was transferred.
 fn say_transfer_numbers(lines: &mut Lines, wrong: &TransferFault)
     ensures { lines.new ≡ and_lines (transfer_fault_lines wrong.now) lines.old }
 {
@@ -50,7 +50,7 @@ fn say_transfer_numbers(lines: &mut Lines, wrong: &TransferFault)
     }
 }
 
-/// Says what is wrong with a state that was taken over.
+/// Says what is wrong with a state that was transferred.
 pub(crate) fn say_transfer_fault(lines: &mut Lines, state: &ToldTransfer, wrong: &TransferFault)
     ensures { lines.new ≡ and_lines (transfer_lines state.now wrong.now) lines.old }
 {

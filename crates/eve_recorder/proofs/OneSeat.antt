@@ -10,10 +10,11 @@ use Rattle.crossbeam_queue.specs.Fifo.{Pops, Learns, Held}
 use Rattle.eve_recorder.specs.declared.passes.Knowledge.{Knowledge}
 use Rattle.eve_stamps.specs.Applied.{Applied}
 use Rattle.eve_recorder.specs.Noted.{of_worker, AllOf, IsOrderly, ComeFrom}
-use Rattle.eve_recorder.specs.Kept.{knowledge, FitsPasses, IsWorkers, noting, taking, TakesFront, SeesSome, StandsFor}
-use Rattle.eve_recorder.specs.Kept.{SeesAll, KnowsOf}
-use Rattle.eve_recorder.specs.Seen.{RecorderId, recorder_id, Desk, Noter, Taker, NotedAndTaken, WasFull}
-use Rattle.eve_recorder.proofs.Keeps.{whose_is, come_rest, takes, learns_all}
+use Rattle.eve_recorder.specs.QueueRule.{knowledge, FitsPasses, IsWorkers, noting, taking, TakesPrefix, SeesSome}
+use Rattle.eve_recorder.specs.QueueRule.{StandsFor}
+use Rattle.eve_recorder.specs.QueueRule.{SeesAll, KnowsOf}
+use Rattle.eve_recorder.specs.RecorderViews.{RecorderId, recorder_id, Desk, Noter, Taker, NotedAndTaken, WasFull}
+use Rattle.eve_recorder.proofs.QueueSteps.{whose_is, come_rest, takes, learns_all}
 
 pub all_of-of_worker : (w : ℕ) (xs : List Applied) → AllOf w xs → of_worker w xs ≡ xs
 all_of-of_worker w [] h = refl
@@ -86,7 +87,7 @@ full_alone desk seat full lt one =
     omega (arith, mine, whole, full.2, length-append full.0 full.1)
 
 pub take_step : (port : ℕ) (v : Knowledge) → v.takes ≡ true
-    → Pops FitsPasses port v (λ x u. (u ≡ taking v x) × IsOrderly u.taken × TakesFront u × (x.worker < v.workers))
+    → Pops FitsPasses port v (λ x u. (u ≡ taking v x) × IsOrderly u.taken × TakesPrefix u × (x.worker < v.workers))
     × Learns FitsPasses port v (SeesAll v)
 take_step port v may = (takes port v may, learns_all port v may)
 

@@ -1,6 +1,6 @@
 pub mod Noted
-pub mod Kept
-pub mod Seen
-pub mod Dealt
-pub mod Drawing
+pub mod QueueRule
+pub mod RecorderViews
+pub mod CounterRule
+pub mod TicketViews
 pub mod SeatTables

@@ -16,7 +16,7 @@ pub struct EachNumberOnce;
 
 impl TableRule<u8, Drawn, ()> for EachNumberOnce {
     ghost use Rattle.std.specs.Prelude.{[]};
-    ghost use Rattle.eve_recorder.specs.Dealt.{IsDealt, all_parts, drawn};
+    ghost use Rattle.eve_recorder.specs.CounterRule.{IsDealt, all_parts, drawn};
 
     ghost holds = { λ _ s. IsDealt s };
 
@@ -27,7 +27,7 @@ impl TableRule<u8, Drawn, ()> for EachNumberOnce {
 pub struct Draw;
 
 impl Play<u8, Drawn> for Draw {
-    ghost use Rattle.eve_recorder.specs.Dealt.{Draws};
+    ghost use Rattle.eve_recorder.specs.CounterRule.{Draws};
 
     ghost then = { Draws };
 }
@@ -36,7 +36,7 @@ impl Play<u8, Drawn> for Draw {
 pub struct OnePart;
 
 impl Split<Drawn> for OnePart {
-    ghost use Rattle.eve_recorder.specs.Dealt.{fewer, one_part};
+    ghost use Rattle.eve_recorder.specs.CounterRule.{fewer, one_part};
 
     ghost left = { fewer };
 
@@ -44,7 +44,7 @@ impl Split<Drawn> for OnePart {
 }
 
 impl Join<Drawn> for OnePart {
-    ghost use Rattle.eve_recorder.specs.Dealt.{drawn_by_both, spent};
+    ghost use Rattle.eve_recorder.specs.CounterRule.{drawn_by_both, spent};
 
     ghost both = { drawn_by_both };
 

@@ -20,7 +20,7 @@ pub struct Knowledge {
 pub struct EachOnce;
 
 impl Protocol<AccessRecord, Knowledge> for EachOnce {
-    ghost use Rattle.eve_recorder.specs.Kept.{FitsPasses, newcomer};
+    ghost use Rattle.eve_recorder.specs.QueueRule.{FitsPasses, newcomer};
 
     ghost holds = { FitsPasses };
 
@@ -37,7 +37,7 @@ pub type QueuePass = Pass<AccessRecord, Knowledge>;
 pub struct AbsentCut;
 
 impl Split<Knowledge> for AbsentCut {
-    ghost use Rattle.eve_recorder.specs.Kept.{one_less, nobody};
+    ghost use Rattle.eve_recorder.specs.QueueRule.{one_less, nobody};
 
     ghost left = { one_less };
 
@@ -48,7 +48,7 @@ impl Split<Knowledge> for AbsentCut {
 pub struct WorkerCut;
 
 impl Split<Knowledge> for WorkerCut {
-    ghost use Rattle.eve_recorder.specs.Kept.{rest_of, last_pass};
+    ghost use Rattle.eve_recorder.specs.QueueRule.{rest_of, last_pass};
 
     ghost left = { rest_of };
 
@@ -56,7 +56,7 @@ impl Split<Knowledge> for WorkerCut {
 }
 
 impl Join<Knowledge> for WorkerCut {
-    ghost use Rattle.eve_recorder.specs.Kept.{with_last, nobody};
+    ghost use Rattle.eve_recorder.specs.QueueRule.{with_last, nobody};
 
     ghost both = { with_last };
 
@@ -67,7 +67,7 @@ impl Join<Knowledge> for WorkerCut {
 pub struct TakerCut;
 
 impl Split<Knowledge> for TakerCut {
-    ghost use Rattle.eve_recorder.specs.Kept.{no_taker, taker_of};
+    ghost use Rattle.eve_recorder.specs.QueueRule.{no_taker, taker_of};
 
     ghost left = { no_taker };
 
@@ -75,7 +75,7 @@ impl Split<Knowledge> for TakerCut {
 }
 
 impl Join<Knowledge> for TakerCut {
-    ghost use Rattle.eve_recorder.specs.Kept.{with_taker, nobody};
+    ghost use Rattle.eve_recorder.specs.QueueRule.{with_taker, nobody};
 
     ghost both = { with_taker };
 
@@ -87,13 +87,13 @@ pub struct Notes;
 
 impl Outcome<AccessRecord, Knowledge> for Notes {
     ghost use Rattle.std.specs.Prelude.{◌≡◌};
-    ghost use Rattle.eve_recorder.specs.Kept.{noting};
+    ghost use Rattle.eve_recorder.specs.QueueRule.{noting};
 
     ghost then = { λ v x w. w ≡ noting v x };
 }
 
 impl Lesson<AccessRecord, Knowledge> for Notes {
-    ghost use Rattle.eve_recorder.specs.Kept.{SeesSome};
+    ghost use Rattle.eve_recorder.specs.QueueRule.{SeesSome};
 
     ghost fact = { SeesSome };
 }
@@ -103,14 +103,14 @@ pub struct Takes;
 
 impl Outcome<AccessRecord, Knowledge> for Takes {
     ghost use Rattle.std.specs.Prelude.{◌≡◌, ◌<◌};
-    ghost use Rattle.eve_recorder.specs.Kept.{taking, TakesFront};
+    ghost use Rattle.eve_recorder.specs.QueueRule.{taking, TakesPrefix};
     ghost use Rattle.eve_recorder.specs.Noted.{IsOrderly};
 
-    ghost then = { λ v x w. (w ≡ taking v x) × IsOrderly w.taken × TakesFront w × (x.worker < v.workers) };
+    ghost then = { λ v x w. (w ≡ taking v x) × IsOrderly w.taken × TakesPrefix w × (x.worker < v.workers) };
 }
 
 impl Lesson<AccessRecord, Knowledge> for Takes {
-    ghost use Rattle.eve_recorder.specs.Kept.{SeesAll};
+    ghost use Rattle.eve_recorder.specs.QueueRule.{SeesAll};
 
     ghost fact = { SeesAll };
 }

@@ -5,10 +5,10 @@ ghost use Rattle.std.specs.Prelude.{IfErr, IfSome, IsSome, IfNone, Some, slice_g
 ghost use Rattle.crossbeam_queue.specs.Passes.{view, IsPassOf, IsSamePass, ruled_capacity};
 ghost use Rattle.crossbeam_queue.specs.Fifo.{Held};
 ghost use Rattle.eve_recorder.specs.Noted.{of_worker, IsOrderly};
-ghost use Rattle.eve_recorder.specs.Kept.{knowledge, noting, StandsFor, SeesSome};
-ghost use Rattle.eve_recorder.specs.Seen.{Desk, Noter, recorder_id, fresh_noter};
-ghost use Rattle.eve_recorder.specs.Seen.{fresh_places};
-ghost use Rattle.eve_recorder.specs.Seen.{noted_on, IsNoterOf, HasAllSeats, WasFull, WasEmpty};
+ghost use Rattle.eve_recorder.specs.QueueRule.{knowledge, noting, StandsFor, SeesSome};
+ghost use Rattle.eve_recorder.specs.RecorderViews.{Desk, Noter, recorder_id, fresh_noter};
+ghost use Rattle.eve_recorder.specs.RecorderViews.{fresh_places};
+ghost use Rattle.eve_recorder.specs.RecorderViews.{noted_on, IsNoterOf, HasAllSeats, WasFull, WasEmpty};
 
 use crate::limits::{MOST_QUEUED, MOST_SEATS};
 use crate::passes::{AbsentCut, Notes, Queue, QueuePass, TakerCut, Takes, WorkerCut};
@@ -41,7 +41,7 @@ pub struct Recorder {
 
 impl Model for Recorder {
     ghost use Rattle.crossbeam_queue.specs.Passes.{ruled_capacity};
-    ghost use Rattle.eve_recorder.specs.Seen.{Desk, recorder_id};
+    ghost use Rattle.eve_recorder.specs.RecorderViews.{Desk, recorder_id};
 
     ghost Value = { Desk };
 

@@ -1,7 +1,7 @@
 //! The seats that are not given out.
 
 ghost use Rattle.std.specs.Prelude.{◌≡◌, ◌<◌, IfSome, IsTrue, ◌↔◌, None, Some, slice_set, slice_index_or};
-ghost use Rattle.eve_recorder.specs.Seen.{Places, HasAllSeats};
+ghost use Rattle.eve_recorder.specs.RecorderViews.{Places, HasAllSeats};
 
 use crate::passes::QueuePass;
 use crate::seat_table::SeatTable;
@@ -23,9 +23,9 @@ pub struct Seats {
 impl Model for Seats {
     ghost use Rattle.std.specs.Prelude.{◌≡◌, ◌≤◌, false, []};
     ghost use Rattle.crossbeam_queue.specs.Passes.{view as view_of};
-    ghost use Rattle.eve_recorder.specs.Seen.{Places, recorder_id, AreNotersSeated, IsTakerAt};
+    ghost use Rattle.eve_recorder.specs.RecorderViews.{Places, recorder_id, AreNotersSeated, IsTakerAt};
     ghost use Rattle.eve_recorder.specs.SeatTables.{seats_in_table};
-    ghost use Rattle.eve_recorder.specs.Kept.{knowledge};
+    ghost use Rattle.eve_recorder.specs.QueueRule.{knowledge};
     ghost use Rattle.eve_recorder.specs.declared.limits.TheConstants.{MOST_SEATS};
 
     ghost Value = { Places };

@@ -2,7 +2,7 @@
 
 ghost use Rattle.std.specs.Prelude.{◌≡◌, [], ◌++◌, ◌∷◌, ℕ, IfSome, IfNone};
 ghost use mathlib.Core.List.{IsPrefix};
-ghost use Rattle.eve_recorder.specs.Seen.{NotedAndTaken};
+ghost use Rattle.eve_recorder.specs.RecorderViews.{NotedAndTaken};
 ghost use Rattle.eve_recorder.specs.Noted.{of_worker, IsOrderly};
 
 use crate::passes::{Queue, QueuePass, Takes};
@@ -22,9 +22,9 @@ pub struct Taken {
 impl Model for Taken {
     ghost use Rattle.std.specs.Prelude.{◌≡◌, true};
     ghost use Rattle.crossbeam_queue.specs.Passes.{view as view_of, IsPassOf};
-    ghost use Rattle.eve_recorder.specs.Seen.{NotedAndTaken};
+    ghost use Rattle.eve_recorder.specs.RecorderViews.{NotedAndTaken};
     ghost use Rattle.eve_recorder.specs.Noted.{IsOrderly};
-    ghost use Rattle.eve_recorder.specs.Kept.{knowledge};
+    ghost use Rattle.eve_recorder.specs.QueueRule.{knowledge};
 
     ghost Value = { NotedAndTaken };
 
@@ -41,7 +41,7 @@ impl Taken {
         ensures some { IfSome result (λ x. self.new ≡ record self.old { taken = self.old.taken ++ x ∷ [] }) }
         ensures none { IfNone result (self.new ≡ self.old) }
         ensures all { IfNone result ((w : ℕ) → of_worker w self.old.noted ≡ of_worker w self.old.taken) }
-        ensures front { IfSome result (λ _.
+        ensures prefix { IfSome result (λ _.
             (w : ℕ) → IsPrefix (of_worker w self.new.taken) (of_worker w self.new.noted)) }
         ensures orderly { IsOrderly self.new.taken }
     {

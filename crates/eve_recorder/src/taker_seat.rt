@@ -14,9 +14,9 @@ pub struct TakerSeat {
 impl Model for TakerSeat {
     ghost use Rattle.std.specs.Prelude.{◌≡◌, true, []};
     ghost use Rattle.crossbeam_queue.specs.Passes.{view as view_of};
-    ghost use Rattle.eve_recorder.specs.Seen.{Taker, recorder_id};
+    ghost use Rattle.eve_recorder.specs.RecorderViews.{Taker, recorder_id};
     ghost use Rattle.eve_recorder.specs.Noted.{IsOrderly};
-    ghost use Rattle.eve_recorder.specs.Kept.{knowledge};
+    ghost use Rattle.eve_recorder.specs.QueueRule.{knowledge};
 
     ghost Value = { Taker };
 

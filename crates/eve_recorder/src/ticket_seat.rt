@@ -19,7 +19,7 @@ pub struct TicketSeat {
 
 impl Model for TicketSeat {
     ghost use Rattle.std.specs.Prelude.{◌≡◌, ◌+◌, ◌<◌, ◌≤◌, [], length};
-    ghost use Rattle.eve_recorder.specs.Drawing.{Drawer, ticket_source};
+    ghost use Rattle.eve_recorder.specs.TicketViews.{Drawer, ticket_source};
     ghost use Rattle.eve_recorder.specs.declared.limits.TheConstants.{MOST_DRAWN, MOST_SEATS};
 
     ghost Value = { Drawer };

@@ -1,7 +1,7 @@
 //! The seats that are not given out.
 
 ghost use Rattle.std.specs.Prelude.{◌≡◌, ◌↔◌, IfSome, IsTrue, None, Some, slice_set, slice_index_or};
-ghost use Rattle.eve_recorder.specs.Drawing.{Drawers, HasAllDrawers};
+ghost use Rattle.eve_recorder.specs.TicketViews.{Drawers, HasAllDrawers};
 
 use crate::drawn::CounterSeat;
 use crate::seat_table::SeatTable;
@@ -23,9 +23,9 @@ pub struct TicketSeats {
 
 impl Model for TicketSeats {
     ghost use Rattle.std.specs.Prelude.{◌≡◌, ◌-◌, ◌≤◌, []};
-    ghost use Rattle.eve_recorder.specs.Dealt.{drawn, all_parts};
+    ghost use Rattle.eve_recorder.specs.CounterRule.{drawn, all_parts};
     ghost use Rattle.eve_recorder.specs.SeatTables.{seats_in_table};
-    ghost use Rattle.eve_recorder.specs.Drawing.{Drawers, AreDrawersSeated, ticket_source};
+    ghost use Rattle.eve_recorder.specs.TicketViews.{Drawers, AreDrawersSeated, ticket_source};
     ghost use Rattle.eve_recorder.specs.declared.limits.TheConstants.{MOST_DRAWN, MOST_SEATS};
 
     ghost Value = { Drawers };

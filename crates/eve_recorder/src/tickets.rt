@@ -3,9 +3,9 @@
 ghost use Rattle.std.specs.Prelude.{◌≡◌, ◌+◌, ◌-◌, ◌<◌, ◌≤◌, ◌↔◌, [], ◌∷◌, ◌++◌, length, min, All, IfNone, IfOk};
 ghost use Rattle.std.specs.Prelude.{IfSome, IsNone, IsPermutation, IsSome};
 ghost use Rattle.std.specs.List.{range_with_len};
-ghost use Rattle.eve_recorder.specs.Dealt.{drawn, all_parts};
-ghost use Rattle.eve_recorder.specs.Drawing.{TicketSource, all_drawn, drawn_on, fresh_seat, fresh_seats};
-ghost use Rattle.eve_recorder.specs.Drawing.{HasAllDrawers};
+ghost use Rattle.eve_recorder.specs.CounterRule.{drawn, all_parts};
+ghost use Rattle.eve_recorder.specs.TicketViews.{TicketSource, all_drawn, drawn_on, fresh_seat, fresh_seats};
+ghost use Rattle.eve_recorder.specs.TicketViews.{HasAllDrawers};
 
 use crate::drawn::{Counter, CounterSeat, Draw, OnePart};
 use crate::limits::{MOST_DRAWN, MOST_SEATS};
@@ -28,7 +28,7 @@ pub struct Tickets {
 
 impl Model for Tickets {
     ghost use Rattle.std.specs.Prelude.{◌≡◌, ◌≤◌};
-    ghost use Rattle.eve_recorder.specs.Drawing.{TicketSource, ticket_source};
+    ghost use Rattle.eve_recorder.specs.TicketViews.{TicketSource, ticket_source};
     ghost use Rattle.eve_recorder.specs.declared.limits.TheConstants.{MOST_DRAWN, MOST_SEATS};
 
     ghost Value = { TicketSource };

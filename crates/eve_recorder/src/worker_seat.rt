@@ -19,8 +19,8 @@ pub struct WorkerSeat {
 impl Model for WorkerSeat {
     ghost use Rattle.std.specs.Prelude.{◌≡◌, []};
     ghost use Rattle.crossbeam_queue.specs.Passes.{view as view_of};
-    ghost use Rattle.eve_recorder.specs.Seen.{Noter, recorder_id};
-    ghost use Rattle.eve_recorder.specs.Kept.{IsWorkers};
+    ghost use Rattle.eve_recorder.specs.RecorderViews.{Noter, recorder_id};
+    ghost use Rattle.eve_recorder.specs.QueueRule.{IsWorkers};
 
     ghost Value = { Noter };
 

@@ -1,23 +1,23 @@
-pub mod Counting
-mod Each
-mod ByMost
-mod Taking
-mod Committing
-mod UnderWay
-mod GivenUp
-mod Undecided
+pub mod TokenCounts
+mod ReplicaLists
+mod MostReplicas
+mod TransferredStates
+mod CommonCommits
+mod RunsUnderWay
+mod GivenUpTokens
+mod UndecidedBatches
 mod States
-mod CameSoFar
-mod Going
-mod Through
+mod RunProgress
+mod Moves
+mod SectionSteps
 mod Windows
-pub mod OneStep
-mod Beginning
-mod Sectioned
-mod Answering
-mod WhereWell
+pub mod Steps
+mod FirstStates
+mod RunSections
+mod SentReplies
+mod Endings
 mod Noted
 mod Mismatches
-mod Parts
-mod StatesTaken
-mod Together
+mod RunLimits
+mod StateLimits
+mod CommonMoves

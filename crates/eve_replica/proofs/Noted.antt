@@ -10,7 +10,7 @@ use Rattle.eve_workload.specs.declared.mixer.MixedBatch.{MixedBatch}
 use Rattle.eve_replica_crew.specs.declared.assignment.Assignment.{Assignment}
 use Rattle.eve_replica_crew.specs.Recording.{AreNotedOf, IsNotedFor}
 use Rattle.eve_replica.specs.declared.fault.AttemptFault.{AttemptFault}
-use Rattle.eve_replica.specs.Serving.{IsNotedAs}
+use Rattle.eve_replica.specs.inner.RunInvariant.{IsNotedAs}
 
 -- of one of them
 pub noted_at : (names : List (List ℕ)) (window : List MixedBatch) (noted : List (Vec Applied Global)) (k : ℕ)
@@ -35,7 +35,8 @@ noted_as names (a ∷ given) [] noted same all = absurd cc
 noted_as names (a ∷ given) (m ∷ window) [] same all = absurd all
 noted_as names (a ∷ given) (m ∷ window) (r ∷ noted) same all =
     let head : plain a.batch.now ≡ plain m.batch = cc in
-    let rest : map (λ (x : Assignment). plain x.batch.now) given ≡ map (λ (x : MixedBatch). plain x.batch) window = cc in (
+    let rest : map (λ (x : Assignment). plain x.batch.now) given ≡ map (λ (x : MixedBatch). plain x.batch) window = cc
+    in (
       subst (λ (b : Batch). AreNotedOf names b r.items) head all.0,
       noted_as names given window noted rest all.1,
     )

@@ -1,5 +1,6 @@
--- How many states replicas take over.
-use Rattle.std.proofs.Common.{◌≡◌, ◌≢◌, ℕ, suc, ◌+◌, ◌-◌, ◌*◌, ◌≤◌, Bool, true, false, cond, List, [], ◌∷◌, ◌++◌, length}
+-- How many states replicas get by a transfer.
+use Rattle.std.proofs.Common.{◌≡◌, ◌≢◌, ℕ, suc, ◌+◌, ◌-◌, ◌*◌, ◌≤◌, Bool, true, false, cond, List, [], ◌∷◌, ◌++◌}
+use Rattle.std.proofs.Common.{length}
 use Rattle.std.proofs.Common.{All, get_or, refl, sym, ap, ◌∙◌, arith}
 use Rattle.std.proofs.Math.Nat.{add-mul, mul-le-mul_right}
 use Rattle.std.proofs.lemmas.List.Sums.{sum_by-cons}
@@ -7,22 +8,24 @@ use Rattle.std.specs.List.{AllZip, flat_map}
 use Rattle.eve_grammar.proofs.Scans.{text_length}
 use Rattle.eve_grammar.specs.Frames.{OfTransfer}
 use Rattle.eve_grammar.specs.Spelling.{frame_text, versioned_text}
-use Rattle.eve_grammar.specs.Trace.{Transfer, Step, Attempts, Commits, RollsBack, TakesOver}
+use Rattle.eve_grammar.specs.Trace.{Transfer, Step, Attempts, Commits, RollsBack, Transfers}
 use Rattle.eve_write.specs.Data.{section}
 use Rattle.eve_replica.specs.declared.server.Server.{Server}
-use Rattle.eve_replica.specs.Deciding.{is_some_of}
-use Rattle.eve_replica.specs.Handing.{CommitsOrWaits, TakesOverOrStays}
-use Rattle.eve_replica.specs.Serving.{Move, GoesOn, commit_move, count_with, next_token, sections_in, states_len}
-use Rattle.eve_replica.specs.Taken.{states_along, states_in}
-use Rattle.eve_replica.proofs.Committing.{IsReady, went_on, waits_behind}
-use Rattle.eve_replica.proofs.Each.{AreAllOn, pairs_of}
+use Rattle.eve_replica.specs.Decisions.{is_some_of}
+use Rattle.eve_replica.specs.inner.Commits.{CommitsOrWaits, TransfersOrStays}
+use Rattle.eve_replica.specs.inner.RunInvariant.{Move, GoesOn, commit_move, count_with, next_token, sections_in}
+use Rattle.eve_replica.specs.inner.RunInvariant.{states_len}
+use Rattle.eve_replica.specs.Transfers.{states_along, states_in}
+use Rattle.eve_replica.proofs.CommonCommits.{IsReady, went_on, waits_behind}
+use Rattle.eve_replica.proofs.ReplicaLists.{AreAllOn, pairs_of}
 
 -- ---- the bytes of their frames
 
 pub state_frame_len : (x : Transfer) → length (frame_text (OfTransfer x)) ≡ 13 + 16 * length x.rows
 state_frame_len x =
     let whole : length (frame_text (OfTransfer x))
-    ≡ suc (suc (suc (suc (suc (suc (suc (suc (suc (suc (suc (suc (suc (length (flat_map versioned_text x.rows)))))))))))))) =
+    ≡ suc (suc
+    (suc (suc (suc (suc (suc (suc (suc (suc (suc (suc (suc (length (flat_map versioned_text x.rows)))))))))))))) =
     refl in
     omega (arith, whole, text_length 16 versioned_text (λ v. refl) x.rows)
 
@@ -44,7 +47,7 @@ states_append [] more = omega arith
 states_append (Attempts a ∷ steps) more = states_append steps more
 states_append (Commits c ∷ steps) more = states_append steps more
 states_append (RollsBack r ∷ steps) more = states_append steps more
-states_append (TakesOver x ∷ steps) more = let rest = states_append steps more in omega arith
+states_append (Transfers x ∷ steps) more = let rest = states_append steps more in omega arith
 
 -- a replica that goes on keeps its states
 kept : (m : Move) (old new : Server) → GoesOn m old new
@@ -72,7 +75,7 @@ states_on m was servers on = by was servers (pairs_of (GoesOn m) was servers on)
         let right = sum_by-cons states_along (section s.steps) (sections_in servers) in
         omega arith
 
--- One with the token keeps its states, and each other takes one over.
+-- One with the token keeps its states, and each other has one transferred.
 abbrev pub AddsState : List ℕ → Server → Server → Type 0
 AddsState token old new =
     states_along (section old.steps) + cond (is_some_of token (next_token old)) 0 1 ≤ states_along (section new.steps)
@@ -123,9 +126,9 @@ all_committed_add token seq old mid is waits reached = by (is_some_of token (nex
         omega (arith, one, none)
     by false lacks = absurd (waits_behind seq old mid is (waits.waits lacks) reached)
 
--- where some take over
+-- where some get by a transfer
 pub settled_add : (token : List ℕ) (seq : ℕ) (x : Transfer) (old mid new : Server) → IsReady seq old → x.seq ≡ seq
-    → CommitsOrWaits token old mid → TakesOverOrStays token x mid new → AddsState token old new
+    → CommitsOrWaits token old mid → TransfersOrStays token x mid new → AddsState token old new
 settled_add token seq x old mid new is number waits takes = by (is_some_of token (next_token old)) refl
   where
     by : (b : Bool) → is_some_of token (next_token old) ≡ b → AddsState token old new
@@ -140,8 +143,8 @@ settled_add token seq x old mid new is number waits takes = by (is_some_of token
         let same = waits.waits lacks in
         let behind = waits_behind seq old mid is same in
         let apart : mid.replica.ledger.committed ≢ x.seq = λ reached. behind (reached ∙ number) in
-        let added = ap states_along (takes.taken apart) in
-        let parts = states_append (section mid.steps) (TakesOver x ∷ []) in
+        let added = ap states_along (takes.transferred apart) in
+        let parts = states_append (section mid.steps) (Transfers x ∷ []) in
         let before = ap (λ (s : Server). states_along (section s.steps)) same in
         let added_one = adds_one (is_some_of token (next_token old)) lacks in
         omega (arith, added, parts, before, added_one)
@@ -158,7 +161,7 @@ all_add token seq was mids are waits reached = record {
 }
 
 pub some_add : (token : List ℕ) (seq : ℕ) (x : Transfer) (was mids servers : List Server) → All (IsReady seq) was
-    → x.seq ≡ seq → AreAllOn (CommitsOrWaits token) was mids → AreAllOn (TakesOverOrStays token x) mids servers
+    → x.seq ≡ seq → AreAllOn (CommitsOrWaits token) was mids → AreAllOn (TransfersOrStays token x) mids servers
     → AreAllOn (AddsState token) was servers
 some_add token seq x was mids servers are number waits takes = record {
   many = takes.many ∙ waits.many;

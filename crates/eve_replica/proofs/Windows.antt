@@ -6,8 +6,9 @@ use Rattle.eve_grammar.specs.Trace.{Batch, Step}
 use Rattle.eve_replica.specs.declared.standing.Standing.{Standing}
 use Rattle.eve_replica.specs.Sections.{RunPlan}
 use Rattle.eve_replica.specs.Windows.{ComesTo, WindowState, GoByWindows, window_with}
-use Rattle.eve_replica.specs.Serving.{AreWholeWindow, window_at, after_attempts, after_commit, after_rollback}
-use Rattle.eve_replica.specs.Serving.{attempt_move, commit_move, rollback_move}
+use Rattle.eve_replica.specs.inner.RunInvariant.{AreWholeWindow, window_at, after_attempts, after_commit}
+use Rattle.eve_replica.specs.inner.RunInvariant.{after_rollback}
+use Rattle.eve_replica.specs.inner.RunInvariant.{attempt_move, commit_move, rollback_move}
 
 -- states that are equal in their numbers
 pub same_state : (left : ℕ) {due due' opened opened' : ℕ} → due ≡ due' → opened ≡ opened' → Path WindowState

@@ -1,11 +1,10 @@
 pub mod Sections
 pub mod Windows
-pub mod Deciding
-pub mod Taken
-pub mod Sending
+pub mod Decisions
+pub mod Transfers
+pub mod SentReplies
 pub mod Run
-pub mod SoFar
+pub mod RunProgress
 pub mod RunFaults
 pub mod Replicas
-pub mod Serving
-pub mod Handing
+pub mod inner

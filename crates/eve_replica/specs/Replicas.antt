@@ -5,10 +5,10 @@ use Rattle.eve_grammar.specs.declared.limits.TheConstants.{MOST_BATCHES}
 use Rattle.eve_grammar.specs.Limits.{is_batch}
 use Rattle.eve_stamps.specs.Applied.{Applied}
 use Rattle.eve_grammar.specs.Trace.{Batch, Attempt, Commit, Transfer}
-use Rattle.eve_attempts.specs.declared.front.AttemptFront.{AttemptFront}
+use Rattle.eve_attempts.specs.declared.prefix.AttemptPrefix.{AttemptPrefix}
 use Rattle.eve_attempts.specs.Ledgers.{Ledger}
-use Rattle.eve_attempts.specs.Closing.{touched_in_batch, AreMismatched, Closes}
-use Rattle.eve_attempts.specs.Discarding.{Commits}
+use Rattle.eve_attempts.specs.ClosedAttempts.{touched_in_batch, AreMismatched, Closes}
+use Rattle.eve_attempts.specs.CommitsAndRollbacks.{Commits}
 use Rattle.eve_replica_crew.specs.Recording.{AreNotedOf}
 use Rattle.eve_replica.specs.declared.fault.AttemptFault.{AttemptFault}
 use Rattle.eve_replica.specs.declared.fault.AttemptFault.TheVariants as attempt_fault
@@ -20,36 +20,37 @@ pub record Replica : Type 0 where
   pub is_broken : Bool
 
 -- These records were closed to the attempt, and nothing but the account has changed.
-pub record ClosesThese (front : AttemptFront) (old new : Replica) (b : Batch) (records : List Applied) (a : Attempt)
+pub record ClosesThese (prefix : AttemptPrefix) (old new : Replica) (b : Batch) (records : List Applied) (a : Attempt)
     : Type 0 where
-  pub closed : Closes front old.ledger new.ledger b (touched_in_batch old.names b) records a
+  pub closed : Closes prefix old.ledger new.ledger b (touched_in_batch old.names b) records a
   pub rest : new ≡ record old { ledger = new.ledger }
 
 -- And they are what the replica's workers noted of the batch.
-pub record ClosesNoted (front : AttemptFront) (old new : Replica) (b : Batch) (records : List Applied) (a : Attempt)
+pub record ClosesNoted (prefix : AttemptPrefix) (old new : Replica) (b : Batch) (records : List Applied) (a : Attempt)
     : Type 0 where
   pub noted : AreNotedOf old.names b records
-  pub closed : Closes front old.ledger new.ledger b (touched_in_batch old.names b) records a
+  pub closed : Closes prefix old.ledger new.ledger b (touched_in_batch old.names b) records a
   pub rest : new ≡ record old { ledger = new.ledger }
 
 -- Some records were that its workers noted.
-abbrev pub ClosesSome : AttemptFront → Replica → Replica → Batch → Attempt → Type 0
-ClosesSome front old new b a = (records : List Applied) × ClosesNoted front old new b records a
+abbrev pub ClosesSome : AttemptPrefix → Replica → Replica → Batch → Attempt → Type 0
+ClosesSome prefix old new b a = (records : List Applied) × ClosesNoted prefix old new b records a
 
 -- Some records that its workers noted of the batch make no attempt of it with this number, view and mode.
-pub record MismatchesNoted (front : AttemptFront) (r : Replica) (b : Batch) : Type 0 where
+pub record MismatchesNoted (prefix : AttemptPrefix) (r : Replica) (b : Batch) : Type 0 where
   pub records : List Applied
   pub noted : AreNotedOf r.names b records
-  pub mismatched : AreMismatched front r.ledger b (touched_in_batch r.names b) records
+  pub mismatched : AreMismatched prefix r.ledger b (touched_in_batch r.names b) records
 
 -- number, view and mode of an attempt of the batch that is due, in this view and this mode
-abbrev pub front_of : Ledger → ℕ → Bool → AttemptFront
-front_of s view serial = record { seq = s.committed + 1 + length s.opened; view = view; serial = serial }
+abbrev pub attempt_prefix_of : Ledger → ℕ → Bool → AttemptPrefix
+attempt_prefix_of s view serial = record { seq = s.committed + 1 + length s.opened; view = view; serial = serial }
 
 -- The replica wasn't broken, and records that its workers noted were closed to the attempt: all that holds of an
 -- attempt that is closed holds of it, however its threads ran.
 abbrev pub Attempts : ℕ → Bool → Replica → Replica → Batch → Attempt → Type 0
-Attempts view serial old new b a = (old.is_broken ≡ false) × ClosesSome (front_of old.ledger view serial) old new b a
+Attempts view serial old new b a = (old.is_broken ≡ false)
+    × ClosesSome (attempt_prefix_of old.ledger view serial) old new b a
 
 -- The same, in the view and in the mode that are due.
 abbrev pub AttemptsDue : Replica → Replica → Batch → Attempt → Type 0
@@ -57,7 +58,7 @@ AttemptsDue old new b a = Attempts old.ledger.view old.ledger.is_next_serial old
 
 -- Such records make no attempt of the batch that is due, in the view and in the mode that are due.
 abbrev pub MismatchesDue : Replica → Batch → Type 0
-MismatchesDue r b = MismatchesNoted (front_of r.ledger r.ledger.view r.ledger.is_next_serial) r b
+MismatchesDue r b = MismatchesNoted (attempt_prefix_of r.ledger r.ledger.view r.ledger.is_next_serial) r b
 
 -- a fault that is Mismatch only where this holds
 abbrev pub IsMismatchOnly : Type 0 → AttemptFault → Type 0
@@ -112,8 +113,8 @@ pub record BreaksBy (why : AttemptFault) (old new : Replica) : Type 0 where
   pub broken : new ≡ record old { is_broken = true }
 
 -- The replica wasn't broken, and these records were closed.
-abbrev pub ClosesOwn : AttemptFront → Replica → Replica → Batch → List Applied → Attempt → Type 0
-ClosesOwn front old new b records a = (old.is_broken ≡ false) × ClosesThese front old new b records a
+abbrev pub ClosesOwn : AttemptPrefix → Replica → Replica → Batch → List Applied → Attempt → Type 0
+ClosesOwn prefix old new b records a = (old.is_broken ≡ false) × ClosesThese prefix old new b records a
 
 -- an attempt is open, and the first one that is has this number
 abbrev pub IsFirstOpen : Ledger → ℕ → Type 0

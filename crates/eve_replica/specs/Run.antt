@@ -6,14 +6,14 @@ use Rattle.eve_write.specs.declared.parts.Parts.{Parts}
 use Rattle.eve_write.specs.Data.{trace}
 use Rattle.eve_write.specs.Writable.{HasSpelling}
 use Rattle.eve_workload.specs.declared.mixer.Mixer.{Mixer}
-use Rattle.eve_workload.specs.Mixing.{cut, batch_with}
+use Rattle.eve_workload.specs.Mixers.{cut, batch_with}
 use Rattle.eve_workload.specs.Workload.{Workload, customer_names}
 use Rattle.eve_workload.specs.Workload.{head_asked}
 use Rattle.eve_attempts.specs.Ledgers.{Ledger, opening}
-use Rattle.eve_replica.specs.Deciding.{AreUndecided, StopsBefore}
-use Rattle.eve_replica.specs.Sending.{sent_from_on}
+use Rattle.eve_replica.specs.Decisions.{AreUndecided, StopsBefore}
+use Rattle.eve_replica.specs.SentReplies.{sent_from_on}
 use Rattle.eve_replica.specs.Sections.{RunPlan, GoesThrough, AreVotesOf, reached_in}
-use Rattle.eve_replica.specs.Taken.{AreTakenIn, AreCommittedByMost}
+use Rattle.eve_replica.specs.Transfers.{AreTransferredIn, AreCommittedByMost}
 use Rattle.eve_replica.specs.Windows.{GoByWindows, window_with}
 
 -- each batch of the workload, cut into parallelBatches
@@ -52,9 +52,9 @@ pub record IsDecidedBy (batches : ℕ) (steps : List Step) (votes : List Vote) :
 
 -- A trace of a run of the workload. Numbers and customers are the workload's. The batches are, in order, the cut of
 -- each of its batches. Each section is that of a replica that served them. More than half of the replicas reached all
--- batches, and in format 2 all of them did. Each batch was committed by more than half of all replicas. What was taken
--- over is what the lowest-numbered of these had committed. What was rolled back wasn't decided. Each verifier gave the
--- votes on which the replicas took their steps, and each replica sent the replies of what it committed.
+-- batches, and in format 2 all of them did. Each batch was committed by more than half of all replicas. What was
+-- transferred is what the lowest-numbered of these had committed. What was rolled back wasn't decided. Each verifier
+-- gave the votes on which the replicas took their steps, and each replica sent the replies of what it committed.
 pub record IsTraceOf (w : Workload) (mixer : Mixer) (t : Trace) : Type 0 where
   pub head : t.head ≡ head_asked w
   pub customers : t.customers ≡ w.customers
@@ -63,7 +63,7 @@ pub record IsTraceOf (w : Workload) (mixer : Mixer) (t : Trace) : Type 0 where
   pub reached : length t.sections < 2 * count_by (has_reached (length w.batches)) t.sections
   pub all_reached : w.format ≡ 2 → All (λ steps. reached_in steps ≡ length w.batches) t.sections
   pub committed : AreCommittedByMost (length w.batches) t.sections
-  pub taken : AreTakenIn (run_plan w mixer) t.sections
+  pub transferred : AreTransferredIn (run_plan w mixer) t.sections
   pub undecided : AreUndecided t.sections
   pub sent : t.sent ≡ sent_from_on (batches_cut w mixer) 0 t.sections
   pub voted : All (λ votes. All (λ steps. IsDecidedBy (length w.batches) steps votes) t.sections) t.verifiers

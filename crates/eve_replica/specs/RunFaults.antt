@@ -11,8 +11,8 @@ use Rattle.eve_replica.specs.declared.fault.AttemptFault.TheVariants as attempt
 use Rattle.eve_replica.specs.declared.fault.RunFault.{RunFault}
 use Rattle.eve_replica.specs.declared.fault.RunFault.TheVariants as run
 use Rattle.eve_replica.specs.Sections.{RunPlan}
-use Rattle.eve_replica.specs.SoFar.{HasComeTo, count_first}
-use Rattle.eve_replica.specs.Taken.{states_in}
+use Rattle.eve_replica.specs.RunProgress.{HasComeTo, count_first}
+use Rattle.eve_replica.specs.Transfers.{states_in}
 
 -- a worker's fault is the attempt's of the same name
 abbrev pub attempt_fault_of : ExecFault → AttemptFault
@@ -34,7 +34,7 @@ run_fault_of attempt.NoRow = run.Broken
 run_fault_of attempt.Mismatch = run.Broken
 run_fault_of attempt.Broken = run.Broken
 
--- A run has come so far, and some batch is left. An attempt of it failed, or the state that is to be taken over has no
+-- A run has come so far, and some batch is left. An attempt of it failed, or the state that is to be transferred has no
 -- spelling, or there were two windows for each batch: no clause tells which.
 pub record StopsAmid (p : RunPlan) (replicas : ℕ) : Type 0 where
   pub batches : ℕ
@@ -44,8 +44,8 @@ pub record StopsAmid (p : RunPlan) (replicas : ℕ) : Type 0 where
   pub left : batches < length p.batches
 
 -- A run of version 2 has come so far. More than half of all replicas have one token for the next batch, and each other
--- would take over the state of it. The frames of these states and of those that were taken over so far have more bytes
--- than a trace may have, whatever stands in them.
+-- would get by a transfer the state of it. The frames of these states and of those that were transferred so far have
+-- more bytes than a trace may have, whatever stands in them.
 pub record TakesTooMuch (p : RunPlan) (replicas : ℕ) : Type 0 where
   pub version : p.first.version ≡ 2
   pub batches : ℕ

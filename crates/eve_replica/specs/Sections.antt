@@ -1,13 +1,13 @@
 -- What the section of a replica says, step by step, of the replica's account of its rows. docs/MODEL.md, "A run".
 use Rattle.std.specs.Prelude.{◌≡◌, ℕ, ◌+◌, ◌-◌, ◌<◌, Bool, true, false, List, [], ◌∷◌, length, slice_get, Some}
 use Rattle.eve_stamps.specs.Applied.{Applied}
-use Rattle.eve_grammar.specs.Trace.{Batch, Attempt, Rollback, Transfer, Step, Attempts, Commits, RollsBack, TakesOver}
+use Rattle.eve_grammar.specs.Trace.{Batch, Attempt, Rollback, Transfer, Step, Attempts, Commits, RollsBack, Transfers}
 use Rattle.eve_grammar.specs.Trace.{Vote, ForCommit, ForRollback}
 use Rattle.eve_attempts.specs.Ledgers.{Ledger}
-use Rattle.eve_attempts.specs.Closing.{touched_in_batch, Closes}
-use Rattle.eve_attempts.specs.Discarding as account
-use Rattle.eve_attempts.specs.TakingOver as state
-use Rattle.eve_replica.specs.Replicas.{front_of}
+use Rattle.eve_attempts.specs.ClosedAttempts.{touched_in_batch, Closes}
+use Rattle.eve_attempts.specs.CommitsAndRollbacks as ledgers
+use Rattle.eve_attempts.specs.Transfers as state
+use Rattle.eve_replica.specs.Replicas.{attempt_prefix_of}
 
 -- What the replicas of a run have in common: the customers' names, the batches, and the account that each begins with.
 pub record RunPlan : Type 0 where
@@ -26,29 +26,30 @@ pub record AttemptsNext (p : RunPlan) (old new : Ledger) (a : Attempt) : Type 0 
   pub batch : Batch
   pub due : slice_get p.batches (place_due old) ≡ Some batch
   pub records : List Applied
-  pub closed : Closes (front_of old old.view old.is_next_serial) old new batch (touched_in_batch p.names batch) records
+  pub closed : Closes (attempt_prefix_of old old.view old.is_next_serial) old new batch (touched_in_batch p.names batch)
+      records
       a
 
 -- A batch is left, and the account rolls back. In version 1 an attempt is open, so that one is discarded at least.
 pub record RollsBackNext (p : RunPlan) (old new : Ledger) (r : Rollback) : Type 0 where
   pub left : old.committed < length p.batches
   pub discards : old.version ≡ 1 → 0 < length old.opened
-  pub rolled_back : account.RollsBack old new r
+  pub rolled_back : ledgers.RollsBack old new r
 
--- The account is of version 2, and takes over the state of the batch that is next, in its own view.
-pub record TakesOverNext (p : RunPlan) (old new : Ledger) (x : Transfer) : Type 0 where
+-- The account is of version 2, and gets by a transfer the state of the batch that is next, in its own view.
+pub record TransfersNext (p : RunPlan) (old new : Ledger) (x : Transfer) : Type 0 where
   pub version : old.version ≡ 2
   pub left : old.committed < length p.batches
   pub next : x.seq ≡ old.committed + 1
   pub view : x.view ≡ old.view
-  pub taken : state.TakesOver x old new
+  pub transferred : state.Transfers x old new
 
 -- what the step of a section makes of the account
 abbrev pub MakesOf : RunPlan → Step → Ledger → Ledger → Type 0
 MakesOf p (Attempts a) old new = AttemptsNext p old new a
-MakesOf p (Commits c) old new = account.Commits old new c
+MakesOf p (Commits c) old new = ledgers.Commits old new c
 MakesOf p (RollsBack r) old new = RollsBackNext p old new r
-MakesOf p (TakesOver x) old new = TakesOverNext p old new x
+MakesOf p (Transfers x) old new = TransfersNext p old new x
 
 -- the steps of a section make this account of that one
 abbrev pub GoesThrough : RunPlan → List Step → Ledger → Ledger → Type 0
@@ -63,7 +64,7 @@ abbrev pub rollback_vote : (seq view : ℕ) → Vote
 rollback_vote seq view = record { seq = seq; view = view; choice = ForRollback }
 
 -- These are the votes on which a replica took its steps, one after another. A commit is of its batch, view and token. A
--- rollback is of the batch after the one that it goes back to, in the view before its own. A state is taken over where
+-- rollback is of the batch after the one that it goes back to, in the view before its own. A state is transferred where
 -- its batch is committed in its view, with whatever token.
 abbrev pub AreVotesOf : List Step → List Vote → Type 0
 AreVotesOf [] votes = votes ≡ []
@@ -72,15 +73,15 @@ AreVotesOf (Commits c ∷ steps) votes =
     (rest : List Vote) × (votes ≡ commit_vote c.seq c.view c.token ∷ rest) × AreVotesOf steps rest
 AreVotesOf (RollsBack r ∷ steps) votes =
     (rest : List Vote) × (votes ≡ rollback_vote (r.to + 1) (r.view - 1) ∷ rest) × AreVotesOf steps rest
-AreVotesOf (TakesOver x ∷ steps) votes =
+AreVotesOf (Transfers x ∷ steps) votes =
     (token : List ℕ) × (rest : List Vote) × (votes ≡ commit_vote x.seq x.view token ∷ rest) × AreVotesOf steps rest
 
--- whether a step reaches a batch: by a commit, or by a state that is taken over
+-- whether a step reaches a batch: by a commit, or by a state that is transferred
 abbrev pub reaches_batch : Step → Bool
 reaches_batch (Attempts a) = false
 reaches_batch (Commits c) = true
 reaches_batch (RollsBack r) = false
-reaches_batch (TakesOver x) = true
+reaches_batch (Transfers x) = true
 
 -- the number of batches that a section reaches
 abbrev pub reached_in : List Step → ℕ
@@ -88,4 +89,4 @@ reached_in [] = 0
 reached_in (Attempts a ∷ steps) = reached_in steps
 reached_in (Commits c ∷ steps) = 1 + reached_in steps
 reached_in (RollsBack r ∷ steps) = reached_in steps
-reached_in (TakesOver x ∷ steps) = 1 + reached_in steps
+reached_in (Transfers x ∷ steps) = 1 + reached_in steps

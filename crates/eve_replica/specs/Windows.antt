@@ -1,6 +1,6 @@
 -- How a section goes window by window. docs/MODEL.md, "A run".
 use Rattle.std.specs.Prelude.{◌≡◌, ℕ, ◌+◌, ◌-◌, ◌<◌, ◌==◌, min, if◌then◌else◌, List, [], ◌∷◌, ◌++◌}
-use Rattle.eve_grammar.specs.Trace.{Step, Attempts, Commits, RollsBack, TakesOver}
+use Rattle.eve_grammar.specs.Trace.{Step, Attempts, Commits, RollsBack, Transfers}
 
 -- How far a section is in a window: the numbers of batches that aren't reached, of attempts of the window that are
 -- still due, and of batches of the window that were attempted and aren't decided.
@@ -26,7 +26,7 @@ GoByWindows window at (Attempts a ∷ steps) =
 GoByWindows window at (Commits c ∷ steps) =
     (at.due ≡ 0) × GoByWindows window (window_with window (at.left - 1) (at.opened - 1)) steps
 GoByWindows window at (RollsBack r ∷ steps) = (at.due ≡ 0) × GoByWindows window (window_with window at.left 0) steps
-GoByWindows window at (TakesOver x ∷ steps) =
+GoByWindows window at (Transfers x ∷ steps) =
     (at.due ≡ 0) × GoByWindows window (window_with window (at.left - 1) (at.opened - 1)) steps
 
 -- These steps have come to this state of a window: whatever goes on window by window from there does so after them from

@@ -5,17 +5,19 @@ ghost use Rattle.std.specs.Prelude.{IsTrue, IfOk, IfErr, IfSome, IfNone, OnOk, O
 ghost use Rattle.std.specs.List.{AllZip, list_all};
 ghost use Rattle.eve_grammar.specs.Limits.{is_batch, is_step};
 ghost use Rattle.eve_write.specs.Data.{attempt, batch as plain_batch, section, step as plain};
-ghost use Rattle.eve_attempts.specs.Closing.{touched_in_batch, AreMismatched};
+ghost use Rattle.eve_attempts.specs.ClosedAttempts.{touched_in_batch, AreMismatched};
 ghost use Rattle.eve_replica_crew.specs.Assignments.{IsRightAssignment};
 ghost use Rattle.eve_replica_crew.specs.Recording.{AreNotedOf, IsNotedFor};
-ghost use Rattle.eve_replica.specs.Replicas.{AttemptsDue, BreaksBy, ClosesThese, FailsAttempt, MayAttempt, front_of};
+ghost use Rattle.eve_replica.specs.Replicas.{AttemptsDue, BreaksBy, ClosesThese, FailsAttempt, MayAttempt};
+ghost use Rattle.eve_replica.specs.Replicas.{attempt_prefix_of};
 ghost use Rattle.eve_replica.specs.Replicas.{IsMismatchOnly, MismatchesDue};
-ghost use Rattle.eve_replica.specs.Serving.{AreDue, GoesOn, IsRightMixed, MayAttemptAll, AttemptsAll, attempt_move};
-ghost use Rattle.eve_replica.specs.Serving.{IsNotedAs, MismatchesAmid, server_with};
+ghost use Rattle.eve_replica.specs.inner.RunInvariant.{AreDue, GoesOn, IsRightMixed, MayAttemptAll, AttemptsAll};
+ghost use Rattle.eve_replica.specs.inner.RunInvariant.{attempt_move};
+ghost use Rattle.eve_replica.specs.inner.RunInvariant.{IsNotedAs, MismatchesAmid, server_with};
 
 use crate::fault::{AttemptFault, fault_of};
 use crate::replica::Replica;
-use eve_attempts::{AttemptFront, CloseFault as Unclosed};
+use eve_attempts::{AttemptPrefix, CloseFault as Unclosed};
 use eve_floor::Floor;
 use eve_grammar::{MOST_BATCHES, MOST_WORKERS};
 use eve_recorder::Gate;
@@ -178,15 +180,16 @@ impl<'n> Replica<'n> {
         requires due { MayAttempt self.old (plain_batch batch.now) touched.now }
         requires noted { AreNotedOf self.old.names (plain_batch batch.now) records.now }
         ensures attempted { IfOk result (λ a. AttemptsDue self.old self.new (plain_batch batch.now) (attempt a)) }
-        ensures records { let front = front_of self.old.ledger self.old.ledger.view self.old.ledger.is_next_serial in
-            IfOk result (λ a. ClosesThese front self.old self.new (plain_batch batch.now) records.now (attempt a)) }
+        ensures records { let prefix = attempt_prefix_of self.old.ledger self.old.ledger.view
+            self.old.ledger.is_next_serial in
+            IfOk result (λ a. ClosesThese prefix self.old self.new (plain_batch batch.now) records.now (attempt a)) }
         ensures refused { IfErr result (λ why. FailsAttempt why self.old self.new) }
         ensures broken { OnErr result (self.new.is_broken ≡ true) }
         ensures mismatch { IfErr result (IsMismatchOnly (MismatchesDue self.old (plain_batch batch.now))) }
     {
-        let front = self.next_front();
+        let prefix = self.next_prefix();
         let tick = greatest_tick(records);
-        match self.close(alloc, front, batch, touched, records, tick) {
+        match self.close(alloc, prefix, batch, touched, records, tick) {
             Ok(attempt) => Ok(attempt),
             Err(Unclosed::Memory) => Err(self.broken_by(AttemptFault::Memory)),
             Err(Unclosed::Mismatch) => Err(self.broken_by(AttemptFault::Mismatch)),
@@ -194,11 +197,11 @@ impl<'n> Replica<'n> {
     }
 
     /// Number, view and mode of the attempt that is due.
-    fn next_front(&self) -> AttemptFront
+    fn next_prefix(&self) -> AttemptPrefix
         requires { self.now.ledger.committed + 1 + length self.now.ledger.opened ≤ MOST_BATCHES }
-        ensures { result ≡ front_of self.now.ledger self.now.ledger.view self.now.ledger.is_next_serial }
+        ensures { result ≡ attempt_prefix_of self.now.ledger self.now.ledger.view self.now.ledger.is_next_serial }
     {
-        AttemptFront {
+        AttemptPrefix {
             seq: self.ledger.next_number() as u32,
             view: self.ledger.view(),
             serial: self.ledger.is_next_serial(),
@@ -219,30 +222,30 @@ impl<'n> Replica<'n> {
     pub(crate) fn close(
         &mut self,
         alloc: Global,
-        front: AttemptFront,
+        prefix: AttemptPrefix,
         batch: &BatchData,
         touched: &[Touched],
         records: &[AccessRecord],
         tick: Option<u64>,
     ) -> Result<AttemptData, Unclosed>
-        requires seq { front.seq ≡ self.old.ledger.committed + 1 + length self.old.ledger.opened }
-        requires last { front.seq ≤ MOST_BATCHES }
+        requires seq { prefix.seq ≡ self.old.ledger.committed + 1 + length self.old.ledger.opened }
+        requires last { prefix.seq ≤ MOST_BATCHES }
         requires room { length self.old.ledger.opened < self.old.ledger.window }
-        requires view { front.view ≡ self.old.ledger.view }
-        requires serial { front.serial ≡ self.old.ledger.is_next_serial }
+        requires view { prefix.view ≡ self.old.ledger.view }
+        requires serial { prefix.serial ≡ self.old.ledger.is_next_serial }
         requires batch { IsTrue (is_batch (plain_batch batch.now)) }
         requires touched { touched.now ≡ touched_in_batch self.old.names (plain_batch batch.now) }
         ensures closed { let b = plain_batch batch.now in
-            IfOk result (λ a. ClosesThese front self.old self.new b records.now (attempt a)) }
+            IfOk result (λ a. ClosesThese prefix self.old self.new b records.now (attempt a)) }
         ensures mismatch { let reached = touched_in_batch self.old.names (plain_batch batch.now) in
             result ≡ Err Unclosed.Mismatch
-            → AreMismatched front self.old.ledger (plain_batch batch.now) reached records.now }
+            → AreMismatched prefix self.old.ledger (plain_batch batch.now) reached records.now }
         ensures refused { OnErr result (self.new ≡ self.old) }
     {
         if self.settles.reserve(1).is_err() {
             return Err(Unclosed::Memory);
         }
-        match self.ledger.close(alloc, front, batch, touched, records) {
+        match self.ledger.close(alloc, prefix, batch, touched, records) {
             Ok(attempt) => {
                 self.settles.push_reserved(tick);
                 Ok(attempt)

@@ -49,7 +49,7 @@ pub enum CommitFault {
     Broken,
 }
 
-/// Why no state was taken over.
+/// Why no state was transferred.
 #[derive(Clone, Copy, PartialEq, Eq)]
 pub enum TransferFault {
     /// Its batch isn't later than the last committed one, or its view is an earlier one than the replica's.
@@ -65,7 +65,7 @@ pub enum RunFault {
     Memory,
     /// A replica failed otherwise, or some batch wasn't committed after two windows for each batch.
     Broken,
-    /// In format 2, the states that replicas took over have more bytes than a trace may have.
+    /// In format 2, the states that were transferred to replicas have more bytes than a trace may have.
     TooLong,
 }
 

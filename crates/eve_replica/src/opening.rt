@@ -6,10 +6,10 @@ ghost use Rattle.std.specs.List.{list_all};
 ghost use Rattle.eve_grammar.specs.Trace.{opening_rows};
 ghost use Rattle.eve_grammar.specs.Limits.{is_customer};
 ghost use Rattle.eve_write.specs.Data.{asked, batch as plain, customer};
-ghost use Rattle.eve_workload.specs.Mixing.{cut, batch_with};
+ghost use Rattle.eve_workload.specs.Mixers.{cut, batch_with};
 ghost use Rattle.eve_workload.specs.Batches.{asked_lists};
 ghost use Rattle.eve_workload.specs.Workload.{customer_names, is_listed};
-ghost use Rattle.eve_replica.specs.Serving.{IsRightMixed};
+ghost use Rattle.eve_replica.specs.inner.RunInvariant.{IsRightMixed};
 
 use eve_accounts::{Balances, Names, Row};
 use eve_grammar::MOST_CUSTOMERS;

@@ -9,17 +9,17 @@ ghost use Rattle.eve_write.specs.Data.{batch as plain, attempt, commit, rollback
 ghost use Rattle.eve_stamps.specs.Stripes.{HaveRightVersions};
 ghost use Rattle.eve_token.specs.Token.{rows_root};
 ghost use Rattle.eve_attempts.specs.Ledgers.{ledger_rows, opening};
-ghost use Rattle.eve_attempts.specs.Closing.{touched_in_batch, AreMismatched};
-ghost use Rattle.eve_attempts.specs.Discarding.{RollsBack};
-ghost use Rattle.eve_attempts.specs.TakingOver.{IsStateOf, TakesOver};
+ghost use Rattle.eve_attempts.specs.ClosedAttempts.{touched_in_batch, AreMismatched};
+ghost use Rattle.eve_attempts.specs.CommitsAndRollbacks.{RollsBack};
+ghost use Rattle.eve_attempts.specs.Transfers.{IsStateOf, Transfers};
 ghost use Rattle.eve_replica.specs.Replicas.{Attempts, FailsAttempt, ClosesOwn, IsMismatchOnly, MismatchesNoted};
-ghost use Rattle.eve_replica.specs.Replicas.{front_of};
+ghost use Rattle.eve_replica.specs.Replicas.{attempt_prefix_of};
 ghost use Rattle.eve_replica.specs.Replicas.{IsDue, IsFirstOpen, CommitsFirst};
 
 use crate::attempting::assignment_of;
 use crate::fault::{AttemptFault, CloseFault, CommitFault, TransferFault};
 use eve_accounts::{Balances, Names};
-use eve_attempts::{AttemptFront, CloseFault as Unclosed, Ledger};
+use eve_attempts::{AttemptPrefix, CloseFault as Unclosed, Ledger};
 use eve_floor::Floor;
 use eve_grammar::{MOST_BATCHES, MOST_WINDOW, MOST_WORKERS, TransferData};
 use eve_recorder::Gate;
@@ -220,8 +220,8 @@ impl<'n> Replica<'n> {
         requires batch { IsTrue (is_batch (plain batch.now)) }
         ensures attempted { IfOk result (λ a. Attempts view serial self.old self.new (plain batch.now) (attempt a)) }
         ensures refused { IfErr result (λ why. FailsAttempt why self.old self.new) }
-        ensures mismatch { let front = front_of self.old.ledger view serial in
-            IfErr result (IsMismatchOnly (MismatchesNoted front self.old (plain batch.now))) }
+        ensures mismatch { let prefix = attempt_prefix_of self.old.ledger view serial in
+            IfErr result (IsMismatchOnly (MismatchesNoted prefix self.old (plain batch.now))) }
     {
         if self.is_broken {
             return Err(AttemptFault::Broken);
@@ -289,9 +289,9 @@ impl<'n> Replica<'n> {
         let Ok(touched) = look_up(alloc, batch.requests.as_slice(), self.names) else {
             return Err(CloseFault::Memory);
         };
-        let front = AttemptFront { seq, view, serial };
+        let prefix = AttemptPrefix { seq, view, serial };
         let touched = touched.as_slice();
-        match self.close(alloc, front, batch, touched, records, None) {
+        match self.close(alloc, prefix, batch, touched, records, None) {
             Ok(attempt) => Ok(attempt),
             Err(Unclosed::Memory) => Err(CloseFault::Memory),
             Err(Unclosed::Mismatch) => Err(CloseFault::Mismatch),
@@ -332,7 +332,7 @@ impl<'n> Replica<'n> {
     pub fn transfer(&mut self, state: &TransferData) -> Result<(), TransferFault>
         requires rows { length state.now.rows.items ≡ ledger_rows self.old.ledger }
         requires versions { HaveRightVersions (plain_state state.now).rows }
-        ensures taken { OnOk result (TakesOver (plain_state state.now) self.old.ledger self.new.ledger) }
+        ensures transferred { OnOk result (Transfers (plain_state state.now) self.old.ledger self.new.ledger) }
         ensures whole { OnOk result (self.new ≡ record self.old { ledger = self.new.ledger }) }
         ensures there { IsOk result ↔ ((self.old.is_broken ≡ false) × IsDue (plain_state state.now) self.old.ledger) }
         ensures broken { (result ≡ Err TransferFault.Broken) ↔ (self.old.is_broken ≡ true) }
@@ -342,7 +342,7 @@ impl<'n> Replica<'n> {
             return Err(TransferFault::Broken);
         }
         let _many = self.names.len();
-        if self.ledger.take_over(state).is_err() {
+        if self.ledger.apply_transfer(state).is_err() {
             return Err(TransferFault::NotDue);
         }
         self.settles.clear();

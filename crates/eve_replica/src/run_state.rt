@@ -3,15 +3,16 @@
 ghost use Rattle.std.specs.Prelude.{◌≡◌, ◌≤◌, ◌+◌, ◌-◌, ◌<◌, ◌++◌, All, List, OnOk, Some, None, length};
 ghost use Rattle.eve_grammar.specs.Trace.{Vote};
 ghost use Rattle.eve_replica.specs.declared.standing.Standing.{Standing};
-ghost use Rattle.eve_replica.specs.Deciding.{AreUndecided};
+ghost use Rattle.eve_replica.specs.Decisions.{AreUndecided};
 ghost use Rattle.eve_replica.specs.RunFaults.{EndsSoFar, IsLongOnly};
 ghost use Rattle.eve_replica.specs.Sections.{RunPlan};
-ghost use Rattle.eve_replica.specs.Serving.{Serves, AreAllOn, Discards, IsSameRun, IsUnderWay};
-ghost use Rattle.eve_replica.specs.Serving.{after_commit, after_rollback, commit_move};
-ghost use Rattle.eve_replica.specs.Serving.{IsDecision, IsLeft, count_with, live_in, sections_in, states_len};
-ghost use Rattle.eve_replica.specs.Handing.{CommitsOrWaits, IsLentByFirst, MayTakeOverOrStay, TakesOverOrStays};
+ghost use Rattle.eve_replica.specs.inner.RunInvariant.{Serves, AreAllOn, Discards, IsSameRun, IsUnderWay};
+ghost use Rattle.eve_replica.specs.inner.RunInvariant.{after_commit, after_rollback, commit_move};
+ghost use Rattle.eve_replica.specs.inner.RunInvariant.{IsDecision, IsLeft, count_with, live_in, sections_in};
+ghost use Rattle.eve_replica.specs.inner.RunInvariant.{states_len};
+ghost use Rattle.eve_replica.specs.inner.Commits.{CommitsOrWaits, IsLentByFirst, MayTransferOrStay, TransfersOrStays};
 ghost use Rattle.std.specs.List.{AllZip, Any};
-ghost use Rattle.eve_replica.specs.Taken.{AreCommittedByMost, AreTakenIn, states_in};
+ghost use Rattle.eve_replica.specs.Transfers.{AreCommittedByMost, AreTransferredIn, states_in};
 ghost use Rattle.std.specs.Prelude.{◌*◌, ◌⊎◌, ℕ, true, false, IsTrue, IfOk, IfErr};
 ghost use Rattle.std.specs.Arc.{arc_value};
 ghost use Rattle.eve_grammar.specs.Bodies.{transfer};
@@ -30,13 +31,13 @@ use std::alloc::{AllocError, Global};
 use std::sync::{Arc, Wait};
 use std::thread::Threads;
 
-// of the frame of a state that is taken over: what stands before its rows, and each row
+// of the frame of a state that is transferred: what stands before its rows, and each row
 const TRANSFER_HEAD_LEN: u64 = 13;
 
 const ROW_LEN: u64 = 16;
 
-/// How far a run is: its numbers and its batches, its replicas, where the live ones stand, the votes of each
-/// verifier, and how much room the trace has for states that are taken over.
+/// How far a run is: its numbers and its batches, its replicas, where the live ones stand, the votes of each verifier,
+/// and how much room the trace has for states that are transferred.
 #[derive(Drop)]
 pub(crate) struct RunState<'n, 'b> {
     pub head: Head,
@@ -110,7 +111,7 @@ impl<'n, 'b> RunState<'n, 'b> {
     }
 
     /// Every verifier votes for the commit of the first open batch. A replica with this token commits it; any other
-    /// stops in format 1, and takes over in format 2 what was committed.
+    /// stops in format 1, and gets by a transfer in format 2 what was committed.
     fn commit(&mut self, alloc: Global, token: [u8; 32]) -> Result<(), RunFault>
         requires under_way { (p : RunPlan) × IsUnderWay p self.old }
         requires open { 0 < self.old.standing.opened }
@@ -158,8 +159,8 @@ impl<'n, 'b> RunState<'n, 'b> {
     }
 }
 
-/// Each replica with this token commits the batch, which is the next. Any other stops in format 1, and takes over in
-/// format 2 what was committed, if a trace has room for the states that are taken over.
+/// Each replica with this token commits the batch, which is the next. Any other stops in format 1, and gets by a
+/// transfer in format 2 what was committed, if a trace has room for the states that are transferred.
 fn commit_each(
     alloc: Global,
     head: &Head,
@@ -180,9 +181,9 @@ fn commit_each(
     ensures majority { OnOk result (length servers.new < 2 * live_in servers.new) }
     ensures committed { AreCommittedByMost (seq - 1) (sections_in servers.old)
         → OnOk result (AreCommittedByMost seq (sections_in servers.new)) }
-    ensures taken { (p : RunPlan) (at : Standing) (votes : List Vote) → All (Serves p at votes) servers.old
-        → IsLeft p.batches at → AreTakenIn p (sections_in servers.old)
-        → OnOk result (AreTakenIn p (sections_in servers.new)) }
+    ensures transferred { (p : RunPlan) (at : Standing) (votes : List Vote) → All (Serves p at votes) servers.old
+        → IsLeft p.batches at → AreTransferredIn p (sections_in servers.old)
+        → OnOk result (AreTransferredIn p (sections_in servers.new)) }
     ensures undecided { AreUndecided (sections_in servers.old) → OnOk result (AreUndecided (sections_in servers.new)) }
     ensures spent { head.now.version ≡ 2
         → OnOk result (room.old + states_len head.now.customers (states_in (sections_in servers.old))
@@ -195,7 +196,7 @@ fn commit_each(
         return Ok(());
     }
     spend(room, head, servers, token)?;
-    commit_or_take_over(alloc, head, servers, seq, token)
+    commit_or_transfer(alloc, head, servers, seq, token)
 }
 
 /// In format 1, each live replica commits this batch, which is the next, or stops.
@@ -208,8 +209,8 @@ fn commit_all(servers: &mut [Server], seq: u32, token: [u8; 32]) -> Result<(), A
     ensures live { OnOk result (live_in servers.new ≡ count_with token servers.old) }
     ensures committed { IsDecision (Some token) servers.old → AreCommittedByMost (seq - 1) (sections_in servers.old)
         → OnOk result (AreCommittedByMost seq (sections_in servers.new)) }
-    ensures taken { (p : RunPlan) (at : Standing) (votes : List Vote) → All (Serves p at votes) servers.old
-        → AreTakenIn p (sections_in servers.old) → OnOk result (AreTakenIn p (sections_in servers.new)) }
+    ensures transferred { (p : RunPlan) (at : Standing) (votes : List Vote) → All (Serves p at votes) servers.old
+        → AreTransferredIn p (sections_in servers.old) → OnOk result (AreTransferredIn p (sections_in servers.new)) }
     ensures undecided { AreUndecided (sections_in servers.old) → OnOk result (AreUndecided (sections_in servers.new)) }
 {
     for server in servers.iter_mut() {
@@ -218,9 +219,9 @@ fn commit_all(servers: &mut [Server], seq: u32, token: [u8; 32]) -> Result<(), A
     Ok(())
 }
 
-/// In format 2, each replica with this token commits the batch, which is the next, and each other takes over what the
-/// lowest-numbered of these then has committed.
-fn commit_or_take_over(
+/// In format 2, each replica with this token commits the batch, which is the next, and each other gets by a transfer
+/// what the lowest-numbered of these then has committed.
+fn commit_or_transfer(
     alloc: Global,
     head: &Head,
     servers: &mut [Server],
@@ -237,9 +238,9 @@ fn commit_or_take_over(
     ensures live { OnOk result (live_in servers.new ≡ live_in servers.old) }
     ensures committed { AreCommittedByMost (seq - 1) (sections_in servers.old)
         → OnOk result (AreCommittedByMost seq (sections_in servers.new)) }
-    ensures taken { (p : RunPlan) (at : Standing) (votes : List Vote) → All (Serves p at votes) servers.old
-        → IsLeft p.batches at → AreTakenIn p (sections_in servers.old)
-        → OnOk result (AreTakenIn p (sections_in servers.new)) }
+    ensures transferred { (p : RunPlan) (at : Standing) (votes : List Vote) → All (Serves p at votes) servers.old
+        → IsLeft p.batches at → AreTransferredIn p (sections_in servers.old)
+        → OnOk result (AreTransferredIn p (sections_in servers.new)) }
     ensures undecided { AreUndecided (sections_in servers.old) → OnOk result (AreUndecided (sections_in servers.new)) }
     ensures states { let others = length servers.old - count_with token servers.old in
         OnOk result (states_in (sections_in servers.old) + others ≤ states_in (sections_in servers.new)) }
@@ -250,7 +251,7 @@ fn commit_or_take_over(
         return Ok(());
     }
     let state = state_committed(alloc, head, servers, seq)?;
-    take_over_all(servers, &state)?;
+    apply_transfer_to_all(servers, &state)?;
     Ok(())
 }
 
@@ -297,14 +298,17 @@ fn state_committed(
     unreachable!()
 }
 
-/// Each replica that hasn't committed the state's batch takes it over; the others stay as they are.
-fn take_over_all(servers: &mut [Server], state: &Arc<TransferData>) -> Result<(), AllocError>
-    requires { All (MayTakeOverOrStay (transfer (arc_value state.now))) servers.old }
+/// Each replica that hasn't committed the state's batch has it transferred; the others stay as they are.
+fn apply_transfer_to_all(
+    servers: &mut [Server],
+    state: &Arc<TransferData>,
+) -> Result<(), AllocError>
+    requires { All (MayTransferOrStay (transfer (arc_value state.now))) servers.old }
     ensures { (token : List ℕ)
-        → OnOk result (AllZip (TakesOverOrStays token (transfer (arc_value state.now))) servers.old servers.new) }
+        → OnOk result (AllZip (TransfersOrStays token (transfer (arc_value state.now))) servers.old servers.new) }
 {
     for server in servers.iter_mut() {
-        server.take_over_or_stay(state)?;
+        server.apply_transfer_or_stay(state)?;
     }
     Ok(())
 }

@@ -7,9 +7,10 @@ ghost use Rattle.eve_workload.specs.Workload.{customer_names};
 ghost use Rattle.eve_replica.specs.Run.{IsRunOf, run_plan};
 ghost use Rattle.eve_replica.specs.RunFaults.{EndsSoFar};
 ghost use Rattle.eve_replica.specs.Sections.{RunPlan};
-ghost use Rattle.eve_replica.specs.Sending.{sent_from_on};
-ghost use Rattle.eve_replica.specs.Serving.{IsRightMixed, IsPlanFor, Serves, IsUnderWay, IsSameRun, AreReplies};
-ghost use Rattle.eve_replica.specs.Serving.{plan_with, first_standing};
+ghost use Rattle.eve_replica.specs.SentReplies.{sent_from_on};
+ghost use Rattle.eve_replica.specs.inner.RunInvariant.{IsRightMixed, IsPlanFor, Serves, IsUnderWay, IsSameRun};
+ghost use Rattle.eve_replica.specs.inner.RunInvariant.{AreReplies};
+ghost use Rattle.eve_replica.specs.inner.RunInvariant.{plan_with, first_standing};
 
 use crate::fault::RunFault;
 use crate::opening::{balances_of, batches_of, names_of};
@@ -38,7 +39,7 @@ use std::thread::Threads;
 /// gate is entered before each execution, with the request's index; in a long window several replicas enter it at once.
 /// It fails with `Memory` where memory runs out, with `Broken` where a replica fails otherwise, or where some batch
 /// isn't committed after two windows for each batch. In format 2 it also fails with `TooLong`, where the states that
-/// are taken over so far, and those that would be next, have in their frames alone more bytes than a trace may. May
+/// are transferred so far, and those that would be next, have in their frames alone more bytes than a trace may. May
 /// wait for other threads.
 pub fn run<R: Threads + Wait + Sync, G: Gate>(
     rt: &R,

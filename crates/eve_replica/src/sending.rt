@@ -5,8 +5,8 @@ ghost use Rattle.std.specs.Prelude.{◌+◌, length, vec_len, vec_capacity};
 ghost use Rattle.eve_grammar.specs.Limits.{is_sent};
 ghost use Rattle.eve_write.specs.Data.{asked, attempt as plain_attempt, batch, section, sent as plain};
 ghost use Rattle.eve_write.specs.Data.{step as plain_step};
-ghost use Rattle.eve_replica.specs.Sending.{answered, answers_of, sent_along, sent_from_on};
-ghost use Rattle.eve_replica.specs.Serving.{AreReplies};
+ghost use Rattle.eve_replica.specs.SentReplies.{answered, answers_of, sent_along, sent_from_on};
+ghost use Rattle.eve_replica.specs.inner.RunInvariant.{AreReplies};
 
 use crate::server::Server;
 use eve_grammar::{MOST_REPLICAS, reply_fits};

@@ -6,16 +6,17 @@ ghost use Rattle.std.specs.Prelude.{◌≢◌, ◌*◌, ℕ, List, IfErr, IfOk};
 ghost use Rattle.std.specs.Arc.{arc_value};
 ghost use Rattle.eve_grammar.specs.Bodies.{transfer};
 ghost use Rattle.eve_grammar.specs.Limits.{is_step, is_transfer};
-ghost use Rattle.eve_grammar.specs.Trace.{TakesOver};
+ghost use Rattle.eve_grammar.specs.Trace.{Transfers};
 ghost use Rattle.eve_attempts.specs.Ledgers.{ledger_rows};
 ghost use Rattle.eve_write.specs.Data.{section, step as plain};
-ghost use Rattle.eve_replica.specs.Deciding.{is_some_of};
+ghost use Rattle.eve_replica.specs.Decisions.{is_some_of};
 ghost use Rattle.eve_replica.specs.RunFaults.{IsLongOnly};
 ghost use Rattle.eve_replica.specs.Sections.{RunPlan};
-ghost use Rattle.eve_replica.specs.Serving.{AreRightSteps, GoesOn, GivesUpNext};
-ghost use Rattle.eve_replica.specs.Serving.{AttemptsUnbroken, IsDueTo};
-ghost use Rattle.eve_replica.specs.Serving.{commit_move, rollback_move};
-ghost use Rattle.eve_replica.specs.Serving.{next_token, standing_of, CommitsNext, IsLentBy, MayTakeOver, MissesRightly};
+ghost use Rattle.eve_replica.specs.inner.RunInvariant.{AreRightSteps, GoesOn, GivesUpNext};
+ghost use Rattle.eve_replica.specs.inner.RunInvariant.{AttemptsUnbroken, IsDueTo};
+ghost use Rattle.eve_replica.specs.inner.RunInvariant.{commit_move, rollback_move};
+ghost use Rattle.eve_replica.specs.inner.RunInvariant.{next_token, standing_of, CommitsNext, IsLentBy, MayTransfer};
+ghost use Rattle.eve_replica.specs.inner.RunInvariant.{MissesRightly};
 
 use crate::attempting::add_step;
 use crate::fault::RunFault;
@@ -33,7 +34,7 @@ use std::thread::Threads;
 pub(crate) struct Server<'n> {
     pub replica: Replica<'n>,
     pub is_live: bool,
-    // of how many batches of the window it awaits the decision without an attempt, since it took over a state
+    // of how many batches of the window it awaits the decision without an attempt, since it had a state transferred
     pub missing: usize,
     pub steps: Vec<Step>,
 }
@@ -139,8 +140,8 @@ impl<'n> Server<'n> {
         self.did(Step::Commit(commit))
     }
 
-    /// The state that the replica has committed. That of a replica whose rows lie within the limits may always be taken
-    /// over.
+    /// The state that the replica has committed. That of a replica whose rows lie within the limits may always be
+    /// transferred.
     pub(crate) fn state(&self, alloc: Global, head: &Head) -> Result<Arc<TransferData>, RunFault>
         ensures lent { IfOk result (λ x. IsLentBy self.now (transfer (arc_value x))) }
         ensures right { IfOk result (λ x. IsTrue (is_transfer (2 * head.now.customers) (transfer (arc_value x)))) }
@@ -163,17 +164,20 @@ impl<'n> Server<'n> {
 
     /// Takes over the state of the batch that is next, which another replica has committed. One that has committed the
     /// batch too stays as it is.
-    pub(crate) fn take_over_or_stay(&mut self, state: &Arc<TransferData>) -> Result<(), AllocError>
+    pub(crate) fn apply_transfer_or_stay(
+        &mut self,
+        state: &Arc<TransferData>,
+    ) -> Result<(), AllocError>
         requires whole { self.old.replica.is_broken ≡ false }
         requires right { IsTrue (is_transfer (ledger_rows self.old.replica.ledger) (transfer (arc_value state.now))) }
         requires live { self.old.is_live ≡ true }
         requires next { self.old.replica.ledger.committed ≢ (arc_value state.now).seq
-            → MayTakeOver (transfer (arc_value state.now)) self.old }
+            → MayTransfer (transfer (arc_value state.now)) self.old }
         ensures stays { self.old.replica.ledger.committed ≡ (arc_value state.now).seq → self.new ≡ self.old }
         ensures on { (token : List ℕ) → self.old.replica.ledger.committed ≢ (arc_value state.now).seq
             → OnOk result (GoesOn (commit_move token) self.old self.new) }
-        ensures taken { self.old.replica.ledger.committed ≢ (arc_value state.now).seq → OnOk result
-            (section self.new.steps ≡ section self.old.steps ++ TakesOver (transfer (arc_value state.now)) ∷ []) }
+        ensures transferred { self.old.replica.ledger.committed ≢ (arc_value state.now).seq → OnOk result
+            (section self.new.steps ≡ section self.old.steps ++ Transfers (transfer (arc_value state.now)) ∷ []) }
     {
         if self.replica.committed() == state.seq {
             return Ok(());

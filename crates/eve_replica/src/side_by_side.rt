@@ -2,7 +2,7 @@
 
 ghost use Rattle.std.specs.Prelude.{◌≡◌, ◌≤◌, false, All, OnOk};
 ghost use Rattle.std.specs.Thread.{IsSync};
-ghost use Rattle.eve_replica.specs.Serving.{AreAllOn, AttemptsIfLive, AttemptsUnbroken, IsDueTo};
+ghost use Rattle.eve_replica.specs.inner.RunInvariant.{AreAllOn, AttemptsIfLive, AttemptsUnbroken, IsDueTo};
 
 use crate::fault::AttemptFault;
 use crate::replica::Replica;

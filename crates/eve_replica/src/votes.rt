@@ -3,7 +3,7 @@
 ghost use Rattle.std.specs.Prelude.{◌≡◌, ◌≤◌, [], ◌∷◌, ◌++◌, map, OnOk};
 ghost use Rattle.eve_grammar.specs.Trace.{ForCommit, ForRollback};
 ghost use Rattle.eve_write.specs.Data.{vote as plain};
-ghost use Rattle.eve_replica.specs.Serving.{AreVotesOn};
+ghost use Rattle.eve_replica.specs.inner.RunInvariant.{AreVotesOn};
 
 use eve_grammar::token_fits;
 use eve_write::{ChoiceData, VoteData};

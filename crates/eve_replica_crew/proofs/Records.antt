@@ -8,7 +8,7 @@ use native.Mathlib.Decide.{dec_le, ℕ_discrete}
 use Rattle.eve_stamps.specs.Applied.{Applied}
 use Rattle.eve_grammar.specs.Trace.{Batch, request_with}
 use Rattle.eve_recorder.specs.Noted.{of_worker}
-use Rattle.eve_recorder.specs.Seen.{Noter, noted_on}
+use Rattle.eve_recorder.specs.RecorderViews.{Noter, noted_on}
 use Rattle.eve_write.specs.declared.batch.BatchData.{BatchData}
 use Rattle.eve_write.specs.Data.{batch as plain}
 use Rattle.eve_floor.specs.declared.task.Task.{Task}

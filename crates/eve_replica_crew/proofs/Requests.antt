@@ -5,7 +5,7 @@ use Rattle.eve_smallbank.specs.declared.rows.Touched.{Touched}
 use Rattle.eve_smallbank.specs.Touch.{touched_of}
 use Rattle.eve_grammar.specs.Limits.{is_batch}
 use Rattle.eve_grammar.specs.Trace.{Asked, no_request, request_with}
-use Rattle.eve_grammar.proofs.Grouping.{few_requests, some_requests}
+use Rattle.eve_grammar.proofs.GroupOrder.{few_requests, some_requests}
 use Rattle.eve_write.specs.declared.batch.BatchData.{BatchData}
 use Rattle.eve_write.specs.Data.{batch, asked}
 use Rattle.eve_replica_crew.specs.Assignments.{AreLookedUp}

@@ -1,7 +1,7 @@
 -- The workers of a replica. docs/MODEL.md, "Executions".
 use Rattle.std.specs.Prelude.{ℕ, List, [], ◌∷◌, Option, None}
 use Rattle.std.specs.Option.{option_or}
-use Rattle.eve_recorder.specs.Drawing.{TicketSource}
+use Rattle.eve_recorder.specs.TicketViews.{TicketSource}
 use Rattle.eve_floor.specs.declared.fault.ExecFault.{ExecFault}
 use Rattle.eve_replica_crew.specs.declared.workers.Member.{Member}
 

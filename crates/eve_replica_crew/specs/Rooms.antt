@@ -1,8 +1,8 @@
 -- The rooms of batches, and the seats that workers have there. docs/MODEL.md, "Executions".
 use Rattle.std.specs.Prelude.{◌≡◌, ℕ, IsTrue, ◌≤◌, All, List, [], length, None, Some, slice_index_or}
 use Rattle.std.specs.List.{AllZip}
-use Rattle.eve_recorder.specs.Drawing.{TicketSource}
-use Rattle.eve_recorder.specs.Seen.{noted_on}
+use Rattle.eve_recorder.specs.TicketViews.{TicketSource}
+use Rattle.eve_recorder.specs.RecorderViews.{noted_on}
 use Rattle.eve_grammar.specs.declared.limits.TheConstants.{MOST_REQUESTS}
 use Rattle.eve_write.specs.Data.{batch as plain}
 use Rattle.eve_replica_crew.specs.declared.places.Place.{Place}

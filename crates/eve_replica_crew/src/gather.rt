@@ -3,7 +3,7 @@
 ghost use Rattle.std.specs.Prelude.{◌≡◌, ◌<◌, ◌≤◌, ℕ, [], None, Some, IfOk, IfSome, map, slice_index_or};
 ghost use Rattle.std.specs.List.{AllZip};
 ghost use Rattle.eve_recorder.specs.Noted.{of_worker};
-ghost use Rattle.eve_recorder.specs.Seen.{noted_on};
+ghost use Rattle.eve_recorder.specs.RecorderViews.{noted_on};
 ghost use Rattle.eve_replica_crew.specs.Recording.{IsNotedFor};
 ghost use Rattle.eve_replica_crew.specs.Rooms.{IsSeatingIn};
 

@@ -1,7 +1,7 @@
 //! The workers of a replica.
 
 ghost use Rattle.std.specs.Prelude.{◌≡◌, ◌≤◌, IfOk, vec_len, vec_capacity};
-ghost use Rattle.eve_recorder.specs.Drawing.{fresh_seats};
+ghost use Rattle.eve_recorder.specs.TicketViews.{fresh_seats};
 ghost use Rattle.eve_replica_crew.specs.Crews.{fault_of_lowest};
 ghost use Rattle.eve_replica_crew.specs.Rooms.{AreSeatedAt};
 

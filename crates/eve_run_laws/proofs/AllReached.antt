@@ -4,33 +4,38 @@ use Rattle.std.proofs.Common.{Some, refl, sym, ap, subst, ◌∙◌, ◌⊎◌, 
 use Rattle.std.proofs.Common.{arith}
 use Rattle.std.specs.List.{AllByRecursion}
 use Rattle.std.proofs.lemmas.Option.{same_Some}
-use Rattle.eve_grammar.specs.Trace.{Commit, Transfer, Step, Attempts, Commits, RollsBack, TakesOver, Trace}
+use Rattle.eve_grammar.specs.Trace.{Commit, Transfer, Step, Attempts, Commits, RollsBack, Transfers, Trace}
 use Rattle.eve_grammar.specs.Spelling.{steps_of}
-use Rattle.eve_history.specs.Section.{Placed, Landing, ByAttempt, ByTransfer, Skipped, SectionState, start, committing}
-use Rattle.eve_history.specs.Section.{taking_over, next, state_after}
+use Rattle.eve_history.specs.Section.{Placed, HowReached, ByAttempt, ByTransfer, Skipped, SectionState, start}
+use Rattle.eve_history.specs.Section.{committing}
+use Rattle.eve_history.specs.Section.{after_transfer, next, state_after}
 use Rattle.eve_history.specs.SectionHistory.{history}
 use Rattle.eve_attempts.specs.Ledgers.{Ledger}
 use Rattle.eve_replica.specs.Sections.{RunPlan, MakesOf}
 use Rattle.eve_replica.specs.Run.{IsSectionOf}
-use Rattle.eve_chains.proofs.Linked.{none≢some}
-use Rattle.eve_run_laws.proofs.Alike.{IsPlanOf, AreAlike}
-use Rattle.eve_run_laws.proofs.Along.{kept_where}
+use Rattle.eve_chains.proofs.LinkedPaths.{none≢some}
+use Rattle.eve_run_laws.proofs.LedgersAlike.{IsPlanOf, AreAlike}
+use Rattle.eve_run_laws.proofs.SectionSteps.{kept_where}
 
 -- ---- what was reached stays
 
 -- the first numbers after steps were reached as before them
 pub record KeepsReached (s end : SectionState) : Type 0 where
-  pub more : List Landing
-  pub is : end.landings ≡ s.landings ++ more
+  pub more : List HowReached
+  pub is : end.each_reached ≡ s.each_reached ++ more
 
 committing_keeps : (s : SectionState) (pending : List Placed) (end : SectionState)
     → KeepsReached (committing s pending) end → KeepsReached s end
 committing_keeps s [] end keeps = keeps
 committing_keeps s (q ∷ pending) end keeps =
-    record { more = ByAttempt q ∷ keeps.more; is = keeps.is ∙ append_assoc s.landings (ByAttempt q ∷ []) keeps.more }
+    record {
+      more = ByAttempt q ∷ keeps.more;
+      is = keeps.is
+          ∙ append_assoc s.each_reached (ByAttempt q ∷ []) keeps.more;
+    }
 
 pub reached_stays : (steps : List (ℕ × Step)) (s : SectionState) → KeepsReached s (state_after s steps)
-reached_stays [] s = record { more = []; is = sym (append-nil s.landings) }
+reached_stays [] s = record { more = []; is = sym (append-nil s.each_reached) }
 reached_stays ((at, Attempts a) ∷ steps) s =
     let rest = reached_stays steps (next s (at, Attempts a)) in record { more = rest.more; is = rest.is }
 reached_stays ((at, Commits c) ∷ steps) s =
@@ -38,28 +43,28 @@ reached_stays ((at, Commits c) ∷ steps) s =
     (reached_stays steps (next s (at, Commits c)))
 reached_stays ((at, RollsBack r) ∷ steps) s =
     let rest = reached_stays steps (next s (at, RollsBack r)) in record { more = rest.more; is = rest.is }
-reached_stays ((at, TakesOver x) ∷ steps) s =
-    let rest = reached_stays steps (next s (at, TakesOver x)) in
-    let taken : List Landing = replicate (x.seq - (s.last + 1)) Skipped ++ ByTransfer at x ∷ [] in
-    record { more = taken ++ rest.more; is = rest.is ∙ append_assoc s.landings taken rest.more }
+reached_stays ((at, Transfers x) ∷ steps) s =
+    let rest = reached_stays steps (next s (at, Transfers x)) in
+    let transferred : List HowReached = replicate (x.seq - (s.last + 1)) Skipped ++ ByTransfer at x ∷ [] in
+    record { more = transferred ++ rest.more; is = rest.is ∙ append_assoc s.each_reached transferred rest.more }
 
 -- ---- by which steps
 
 -- a number was reached so by a step of its own, of which this holds
-abbrev pub IsReachedBy : (Step → Type 0) → ℕ → Landing → Type 0
+abbrev pub IsReachedBy : (Step → Type 0) → ℕ → HowReached → Type 0
 IsReachedBy H n (ByAttempt q) = (c : Commit) × (c.seq ≡ n) × H (Commits c)
-IsReachedBy H n (ByTransfer at x) = (x.seq ≡ n) × H (TakesOver x)
+IsReachedBy H n (ByTransfer at x) = (x.seq ≡ n) × H (Transfers x)
 IsReachedBy H n Skipped = ⊥
 
 -- each number up to the last was
 pub record AreReachedBy (H : Step → Type 0) (s : SectionState) : Type 0 where
-  pub counted : s.last ≡ length s.landings
-  pub each : (k : ℕ) (l : Landing) → slice_get s.landings k ≡ Some l → IsReachedBy H (suc k) l
+  pub counted : s.last ≡ length s.each_reached
+  pub each : (k : ℕ) (l : HowReached) → slice_get s.each_reached k ≡ Some l → IsReachedBy H (suc k) l
 
 pub reached_first : (H : Step → Type 0) → AreReachedBy H start
 reached_first H = record { counted = refl; each = λ k l at. none≢some l at }
 
-pushed : (ls : List Landing) (last : Landing) (k : ℕ) (l : Landing) → slice_get (ls ++ last ∷ []) k ≡ Some l
+pushed : (ls : List HowReached) (last : HowReached) (k : ℕ) (l : HowReached) → slice_get (ls ++ last ∷ []) k ≡ Some l
     → (slice_get ls k ≡ Some l) ⊎ ((length ls ≡ k) × (last ≡ l))
 pushed [] last zero l at = inr (refl, same_Some last l at)
 pushed [] last (suc k) l at = none≢some l at
@@ -68,16 +73,18 @@ pushed (m ∷ ls) last (suc k) l at =
     elim (pushed ls last k l at) [ inl there ↦ inl there | inr here ↦ inr (ap suc here.0, here.1) ]
 
 -- one number more
-one_more : (H : Step → Type 0) (s t : SectionState) (last : Landing) → t.landings ≡ s.landings ++ last ∷ []
+one_more : (H : Step → Type 0) (s t : SectionState) (last : HowReached) → t.each_reached ≡ s.each_reached ++ last ∷ []
     → t.last ≡ s.last + 1 → IsReachedBy H (s.last + 1) last → AreReachedBy H s → AreReachedBy H t
 one_more H s t last are number by reached = record {
-  counted = let before = reached.counted in omega (arith, number, ap length are, length-append s.landings (last ∷ []));
-  each = λ k l at. elim (pushed s.landings last k l (ap (λ (ls : List Landing). slice_get ls k) (sym are) ∙ at)) [
-    | inl there ↦ reached.each k l there
-    | inr here ↦
-        let own : s.last + 1 ≡ suc k = omega (arith, reached.counted, here.0) in
-        subst (IsReachedBy H (suc k)) here.1 (subst (λ (n : ℕ). IsReachedBy H n last) own by)
-  ];
+  counted = let before = reached.counted in
+      omega (arith, number, ap length are, length-append s.each_reached (last ∷ []));
+  each = λ k l at. elim (pushed s.each_reached last k l
+      (ap (λ (ls : List HowReached). slice_get ls k) (sym are) ∙ at)) [
+        | inl there ↦ reached.each k l there
+        | inr here ↦
+            let own : s.last + 1 ≡ suc k = omega (arith, reached.counted, here.0) in
+            subst (IsReachedBy H (suc k)) here.1 (subst (λ (n : ℕ). IsReachedBy H n last) own by)
+      ];
 }
 
 reached_committing : (H : Step → Type 0) (s : SectionState) (c : Commit) (pending : List Placed) → c.seq ≡ s.last + 1
@@ -100,11 +107,11 @@ module _ (H : Step → Type 0) (p : RunPlan) (t : Trace) where
       reached_committing H s c s.pending (ap (λ (d : Commit). d.seq) made.commit ∙ omega arith) holds reached
   reached_next s old new at (RollsBack r) alike made holds reached =
       record { counted = reached.counted; each = reached.each }
-  reached_next s old new at (TakesOver x) alike made holds reached =
+  reached_next s old new at (Transfers x) alike made holds reached =
       let last = alike.last in
       let own : x.seq ≡ s.last + 1 = made.next ∙ omega arith in
-      one_more H s (taking_over s at x) (ByTransfer at x)
-      (ap (λ (ls : List Landing). s.landings ++ ls) (no_skips (x.seq - (s.last + 1)) at x (omega arith))) own
+      one_more H s (after_transfer s at x) (ByTransfer at x)
+      (ap (λ (ls : List HowReached). s.each_reached ++ ls) (no_skips (x.seq - (s.last + 1)) at x (omega arith))) own
       (own, holds) reached
 
   pub all_reached : IsPlanOf p t → All (IsSectionOf p) t.sections → (e : ℕ) → AllByRecursion H (steps_of t e)

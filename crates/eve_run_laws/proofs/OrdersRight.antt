@@ -18,7 +18,7 @@ use Rattle.eve_history.specs.Order.{name_in, request_ids_at, StandsInOrders, Has
 use Rattle.eve_grammar.specs.Trace.{RequestId, request_id}
 use Rattle.eve_history.proofs.OrderLaws.{none_twice}
 use Rattle.eve_workload.specs.declared.mixer.Mixer.{Mixer}
-use Rattle.eve_workload.specs.Mixing.{cut, batch_with}
+use Rattle.eve_workload.specs.Mixers.{cut, batch_with}
 use Rattle.eve_workload.specs.Workload.{Workload, IsWorkload, customer_names, requests_of}
 use Rattle.eve_replica.specs.Run.{batches_cut}
 

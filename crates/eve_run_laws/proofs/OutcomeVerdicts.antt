@@ -2,7 +2,7 @@
 use Rattle.std.proofs.Common.{◌≡◌, ℕ, List, subst, ap, arith}
 use Rattle.eve_grammar.specs.Trace.{Trace}
 use Rattle.eve_grammar.specs.Limits.{HasLimits}
-use Rattle.eve_grammar.specs.Following.{Spells}
+use Rattle.eve_grammar.specs.FrameOrder.{Spells}
 use Rattle.eve_views.specs.Code.{phase_of}
 use Rattle.eve_views.specs.Form.{StandsInForm}
 use Rattle.eve_views.specs.declared.fault.Code.{Code}
@@ -16,9 +16,9 @@ use Rattle.eve_agree.specs.SentReplies.{StandsInReplies}
 use Rattle.eve_audit.specs.Verdict.{Stands, in_form, in_trace, IsTraceFault, in_orders, in_section, in_common}
 use Rattle.eve_audit.specs.Verdict.{of_votes, of_majorities, of_agreement, of_replies}
 use Rattle.eve_audit.specs.Reports.{IsSoundToAgreement}
-use Rattle.eve_audit.proofs.Firsts.{own_phase}
+use Rattle.eve_audit.proofs.FirstFaults.{own_phase}
 use Rattle.eve_run_laws.specs.Collision.{Collides}
-use Rattle.eve_run_laws.proofs.Agreed.{outcome_fault_collides}
+use Rattle.eve_run_laws.proofs.Agreement.{outcome_fault_collides}
 
 module _ (bytes : List ℕ) (t : Trace) (f : Fault) (once : (u : Trace) → Spells bytes u → u ≡ t)
     (outcome : f.code ≡ code.Outcome) (limits : HasLimits t) (sound : IsSoundToAgreement t) where

@@ -13,37 +13,37 @@ use Rattle.eve_smallbank.specs.declared.versioned.Versioned.{Versioned}
 use Rattle.eve_smallbank.specs.Access.{Executed, writes_row}
 use Rattle.eve_smallbank.specs.Chain.{Table, left_by, table_after, table_after_all}
 use Rattle.eve_smallbank.proofs.Members.{In, here, there, all_in}
-use Rattle.eve_grammar.specs.Trace.{Customer, Access, Attempt, Transfer, Step, Attempts, Commits, RollsBack, TakesOver}
+use Rattle.eve_grammar.specs.Trace.{Customer, Access, Attempt, Transfer, Step, Attempts, Commits, RollsBack, Transfers}
 use Rattle.eve_grammar.specs.Trace.{Trace, head_of, opening_rows}
 use Rattle.eve_grammar.specs.Spelling.{steps_at}
 use Rattle.eve_grammar.specs.declared.limits.TheConstants.{MOST_REQUESTS, MOST_VERSIONS}
 use Rattle.eve_grammar.specs.Limits.{is_between, is_number, is_token, is_reply, is_customer, is_entry}
 use Rattle.eve_grammar.specs.Limits.{is_access, is_attempt, is_whole_attempt, are_no_debts, is_versioned, is_transfer}
 use Rattle.eve_grammar.specs.Limits.{is_step, row_count, HasLimits}
-use Rattle.eve_history.specs.Section.{Placed, Landing, ByAttempt, ByTransfer, Skipped, came_by, attempts_by}
+use Rattle.eve_history.specs.Section.{Placed, HowReached, ByAttempt, ByTransfer, Skipped, came_by, attempts_by}
 use Rattle.eve_history.specs.Section.{transfers_by}
 use Rattle.eve_history.specs.Fates.{fates_from}
 use Rattle.eve_history.specs.SectionHistory.{attempts_among, history, committed_at, is_committed, placed_at}
-use Rattle.eve_history.proofs.Coming.{steps_fit}
+use Rattle.eve_history.proofs.SectionSteps.{steps_fit}
 use Rattle.eve_history.proofs.FateLaws.{committed_are_picked}
 use Rattle.eve_history.proofs.Transfers.{transfers_among, transfers_of_steps}
-use Rattle.eve_chains.specs.Visible.{opening_table, entries_with, executed_in, execution, taken_table, with_came}
+use Rattle.eve_chains.specs.Visible.{opening_table, entries_with, executed_in, execution, transferred_table, with_came}
 use Rattle.eve_chains.specs.Committed.{first_rows, values_to, balances_to}
 use Rattle.eve_chains.proofs.Attempts.{in_picked}
 use Rattle.eve_chains.proofs.Distinct.{in_map}
-use Rattle.eve_chains.proofs.Linked.{none≢some, landing_by, in_attempts}
+use Rattle.eve_chains.proofs.LinkedPaths.{none≢some, how_reached_by, in_attempts}
 use Rattle.eve_chains.proofs.AttemptRecords.{its_entries, whole_section}
 use Rattle.eve_audit.proofs.SameBanks.{rows_length}
 
 -- ---- what is committed lies within the limits of the format
 
 pub committed_whole : (t : Trace) (e : ℕ) → HasLimits t → (q : Placed)
-    → In q (attempts_by (history t e).landings) → IsTrue (is_whole_attempt (row_count (head_of t)) q.attempt)
+    → In q (attempts_by (history t e).each_reached) → IsTrue (is_whole_attempt (row_count (head_of t)) q.attempt)
 committed_whole t e limits q i =
     all_in (λ x. IsTrue (is_whole_attempt (row_count (head_of t)) x.1)) (whole_section t e limits)
     (in_picked is_committed (attempts_among (steps_at t e)) (fates_from 0 (steps_at t e))
     (subst (λ (xs : List (ℕ × Attempt)). In (placed_at q) xs) (committed_are_picked t e)
-    (in_map placed_at (attempts_by (history t e).landings) i)))
+    (in_map placed_at (attempts_by (history t e).each_reached) i)))
 
 -- ---- replies
 
@@ -61,8 +61,8 @@ pub replies_within : (t : Trace) (e n : ℕ) (q : Placed) → HasLimits t → co
 replies_within t e zero q limits at = none≢some q at
 replies_within t e (suc n) q limits at =
     whole_replies (row_count (head_of t)) q.attempt
-    (committed_whole t e limits q (in_attempts (history t e).landings n q
-    (landing_by (slice_get (history t e).landings n) q at)))
+    (committed_whole t e limits q (in_attempts (history t e).each_reached n q
+    (how_reached_by (slice_get (history t e).each_reached n) q at)))
 
 -- ---- tables of balances
 
@@ -145,7 +145,7 @@ execution_within rows t a (index ∷ order) h = (
   execution_within rows t a order h,
 )
 
--- a state that is taken over lies within the limits
+-- a state that is transferred lies within the limits
 abbrev IsWithin : ℕ → ℕ × Transfer → Type 0
 IsWithin rows x = IsTrue (is_transfer rows x.1)
 
@@ -158,28 +158,28 @@ states_among rows ((at, Commits c) ∷ steps) fit = states_among rows steps
     (and_parts (is_step rows (Commits c)) (list_all (λ x. is_step rows x.1) steps) fit).1
 states_among rows ((at, RollsBack r) ∷ steps) fit = states_among rows steps
     (and_parts (is_step rows (RollsBack r)) (list_all (λ x. is_step rows x.1) steps) fit).1
-states_among rows ((at, TakesOver x) ∷ steps) fit =
-    let parts = and_parts (is_step rows (TakesOver x)) (list_all (λ x. is_step rows x.1) steps) fit in
+states_among rows ((at, Transfers x) ∷ steps) fit =
+    let parts = and_parts (is_step rows (Transfers x)) (list_all (λ x. is_step rows x.1) steps) fit in
     (parts.0, states_among rows steps parts.1)
 
 states_within : (t : Trace) (e : ℕ) → HasLimits t
-    → AllByRecursion (IsWithin (row_count (head_of t))) (transfers_by (history t e).landings)
+    → AllByRecursion (IsWithin (row_count (head_of t))) (transfers_by (history t e).each_reached)
 states_within t e limits =
     let rows = row_count (head_of t) in
     subst (AllByRecursion (IsWithin rows)) (sym (transfers_of_steps t e))
     (states_among rows (steps_at t e) (steps_fit t e limits))
 
-state_balances : (rows : ℕ) (x : Transfer) → IsTrue (is_transfer rows x) → AreBalances (taken_table x.rows)
+state_balances : (rows : ℕ) (x : Transfer) → IsTrue (is_transfer rows x) → AreBalances (transferred_table x.rows)
 state_balances rows x fits row =
     let one = and_parts (is_number 4 x.seq) _ fits in
     let two = and_parts (is_number 4 x.view) _ one.1 in
     let three = and_parts (are_no_debts 0 x.rows) _ two.1 in
     let four = and_parts (length x.rows == rows) (list_all is_versioned x.rows) three.1 in
     let none : Versioned = record { version = 0; value = pos 0 } in
-    (and_parts (nat_le (taken_table x.rows row).version MOST_VERSIONS) _
+    (and_parts (nat_le (transferred_table x.rows row).version MOST_VERSIONS) _
     (passes_at is_versioned x.rows row none refl four.1)).1
 
-values_along : (rows : ℕ) (t : Trace) (ls : List Landing) (n : ℕ)
+values_along : (rows : ℕ) (t : Trace) (ls : List HowReached) (n : ℕ)
     → ((q : Placed) → In q (attempts_by ls) → IsTrue (is_whole_attempt rows q.attempt))
     → AllByRecursion (IsWithin rows) (transfers_by ls) → (table : Table) → AreBalances table
     → AreBalances (fold (with_came t) table (flat_map came_by (take n ls)))
@@ -191,11 +191,11 @@ values_along rows t (ByAttempt p ∷ ls) (suc n) whole states table all =
     (balances_after_all rows table (execution t p.attempt) all
     (execution_within rows t p.attempt p.attempt.certificate (whole p here)))
 values_along rows t (ByTransfer at x ∷ ls) (suc n) whole states table all =
-    values_along rows t ls n whole states.1 (taken_table x.rows) (state_balances rows x states.0)
+    values_along rows t ls n whole states.1 (transferred_table x.rows) (state_balances rows x states.0)
 values_along rows t (Skipped ∷ ls) (suc n) whole states table all = values_along rows t ls n whole states table all
 
 values_within : (t : Trace) (e n : ℕ) → HasLimits t → (row : ℕ) → IsTrue (is_balance (values_to t e n row))
-values_within t e n limits = values_along (row_count (head_of t)) t (history t e).landings n
+values_within t e n limits = values_along (row_count (head_of t)) t (history t e).each_reached n
     (committed_whole t e limits) (states_within t e limits) (opening_table t) (opening_balances t limits)
 
 first_within : (values : ℕ → ℤ) → ((row : ℕ) → IsTrue (is_balance (values row))) → (n : ℕ)

@@ -3,7 +3,7 @@ use Rattle.std.proofs.Common.{◌≡◌, ℕ, zero, suc, ◌≤◌, ◌==◌, �
 use Rattle.std.proofs.Common.{slice_get, Some, refl, sym, subst, ap, ◌∙◌, length-append, IsTrue, arith}
 use Rattle.std.specs.List.{list_all}
 use Rattle.std.proofs.lemmas.Bool.{and_parts, eqb-true}
-use Rattle.eve_smallbank.proofs.Members.{In, here, there, in_front, in_cons}
+use Rattle.eve_smallbank.proofs.Members.{In, here, there, in_prefix, in_cons}
 use Rattle.eve_grammar.specs.Trace.{Attempt, Trace, head_of}
 use Rattle.eve_grammar.specs.Certificate.{is_permutation, keeps_groups}
 use Rattle.eve_grammar.specs.declared.limits.TheConstants.{MOST_REQUESTS}
@@ -13,13 +13,13 @@ use Rattle.eve_history.specs.Section.{Placed, batch_at, request_count}
 use Rattle.eve_history.specs.SectionHistory.{history, committed_at, IsRightSection}
 use Rattle.eve_chains.proofs.Distinct.{Distinct, distinct_permutation, below_permutation, in_permutation, in_split}
 use Rattle.eve_chains.proofs.Distinct.{in_right}
-use Rattle.eve_chains.proofs.Linked.{none≢some, landing_by, in_attempts, linked_number, committed_number}
+use Rattle.eve_chains.proofs.LinkedPaths.{none≢some, how_reached_by, in_attempts, linked_number, committed_number}
 use Rattle.eve_run_laws.proofs.Ranges.{committed_whole}
 
 -- ---- permutations
 
 -- what stands in a list parts it
-parted : {A : Type 0} {z : A} (xs : List A) → In z xs → (front : List A) × (back : List A) × (xs ≡ front ++ z ∷ back)
+parted : {A : Type 0} {z : A} (xs : List A) → In z xs → (prefix : List A) × (back : List A) × (xs ≡ prefix ++ z ∷ back)
 parted [] i = elim i [ ]
 parted (x ∷ xs) here = ([], xs, refl)
 parted (x ∷ xs) (there i) =
@@ -34,13 +34,13 @@ no_longer {A = A} (x ∷ xs) ys d within =
     (in_split part.0 (x ∷ part.1) (subst (In z) part.2 (within z (there i))))) in
     omega (arith, rest, ap length part.2, length-append part.0 (x ∷ part.1), length-append part.0 part.1)
   where
-    other : (z : A) → In z xs → (front back : List A) → In z front ⊎ In z (x ∷ back) → In z (front ++ back)
-    other z i front back (inl before) = in_front back before
-    other z i front back (inr later) = by (in_cons back later)
+    other : (z : A) → In z xs → (prefix back : List A) → In z prefix ⊎ In z (x ∷ back) → In z (prefix ++ back)
+    other z i prefix back (inl before) = in_prefix back before
+    other z i prefix back (inr later) = by (in_cons back later)
       where
-        by : (z ≡ x) ⊎ In z back → In z (front ++ back)
+        by : (z ≡ x) ⊎ In z back → In z (prefix ++ back)
         by (inl same) = absurd (d.0 (subst (λ (y : A). In y xs) same i))
-        by (inr after) = in_right front back after
+        by (inr after) = in_right prefix back after
 
 -- two orders of the same indexes
 as_long : (r : ℕ) (xs ys : List ℕ) → is_permutation r xs ≡ true → is_permutation r ys ≡ true → length xs ≡ length ys
@@ -67,8 +67,8 @@ module _ (t : Trace) (e n : ℕ) (q : Placed) (limits : HasLimits t) (right : Is
   replies_as_certificate : length q.attempt.replies ≡ length q.attempt.certificate
   replies_as_certificate =
       one_for_each (row_count (head_of t)) q.attempt
-      (committed_whole t e limits q (in_attempts (history t e).landings n q
-      (landing_by (slice_get (history t e).landings n) q at)))
+      (committed_whole t e limits q (in_attempts (history t e).each_reached n q
+      (how_reached_by (slice_get (history t e).each_reached n) q at)))
 
   permutes : is_permutation (length (batch_at t (suc n)).requests) q.attempt.certificate ≡ true
   permutes =

@@ -8,10 +8,10 @@ use Rattle.eve_workload.specs.declared.mixer.Mixer.{Mixer}
 use Rattle.eve_workload.specs.Workload.{Workload, customer_names}
 use Rattle.eve_attempts.specs.Ledgers.{opening}
 use Rattle.eve_replica.specs.Run.{IsTraceOf, run_plan}
-use Rattle.eve_run_laws.proofs.Alike.{IsPlanOf}
-use Rattle.eve_run_laws.proofs.Following.{step_alike}
-use Rattle.eve_run_laws.proofs.Along.{right_section, kept}
-use Rattle.eve_run_laws.proofs.Due.{AreDueSoFar, due_next, due_first, tokens_due}
+use Rattle.eve_run_laws.proofs.LedgersAlike.{IsPlanOf}
+use Rattle.eve_run_laws.proofs.RightSteps.{step_alike}
+use Rattle.eve_run_laws.proofs.SectionSteps.{right_section, kept}
+use Rattle.eve_run_laws.proofs.DueTokens.{AreDueSoFar, due_next, due_first, tokens_due}
 
 module _ (w : Workload) (mixer : Mixer) (t : Trace) (run : IsTraceOf w mixer t) where
   -- the run's plan is one of its trace

@@ -12,27 +12,27 @@ use Rattle.eve_grammar.specs.declared.head.Head.{Head}
 use Rattle.eve_grammar.specs.Limits.{HasLimits}
 use Rattle.eve_grammar.specs.Spelling.{steps_of}
 use Rattle.eve_grammar.proofs.HeadLimits.{head_has_limits}
-use Rattle.eve_votes.proofs.Counting.{Counted, counted}
-use Rattle.eve_votes.proofs.Deciding.{quorum_limits}
+use Rattle.eve_votes.proofs.Backers.{Counted, counted}
+use Rattle.eve_votes.proofs.DecisionLaws.{quorum_limits}
 use Rattle.eve_history.specs.Section.{ByTransfer}
-use Rattle.eve_history.specs.SectionHistory.{history, landing_at, IsRightSection}
+use Rattle.eve_history.specs.SectionHistory.{history, how_reached_at, IsRightSection}
 use Rattle.eve_chains.specs.Committed.{balances_to}
 use Rattle.eve_workload.specs.declared.mixer.Mixer.{Mixer}
 use Rattle.eve_workload.specs.Workload.{Workload}
 use Rattle.eve_attempts.specs.Ledgers.{Ledger}
-use Rattle.eve_replica.specs.Deciding.{is_some_of, token_given_up}
+use Rattle.eve_replica.specs.Decisions.{is_some_of, token_given_up}
 use Rattle.eve_replica.specs.Sections.{RunPlan, reached_in}
 use Rattle.eve_replica.specs.Run.{IsTraceOf, IsDecidedBy, has_reached, run_plan}
 use Rattle.eve_run_laws.specs.Collision.{Collides}
 use Rattle.eve_run_laws.specs.RolledBack.{rolled_back_to, AreRolledBackOnce}
-use Rattle.eve_run_laws.proofs.Alike.{IsPlanOf}
-use Rattle.eve_run_laws.proofs.Agreed.{outcomes_collide}
+use Rattle.eve_run_laws.proofs.LedgersAlike.{IsPlanOf}
+use Rattle.eve_run_laws.proofs.Agreement.{outcomes_collide}
 use Rattle.eve_run_laws.proofs.RightRuns.{plan_of, sections_right, sections_due}
-use Rattle.eve_run_laws.proofs.StatesTaken.{IsLike, committed_like}
-use Rattle.eve_run_laws.proofs.Voting.{votes_sound, all_backed}
-use Rattle.eve_run_laws.proofs.GoingBack.{DontFall, dont_fall, Differ, Repeats, differ_or_repeat, differ_before}
-use Rattle.eve_run_laws.proofs.GoingBack.{voted_back_to, voted_along}
-use Rattle.eve_run_laws.proofs.GivingUp.{gives_up_serial, number_reached}
+use Rattle.eve_run_laws.proofs.StatesTransferred.{IsLike, committed_like}
+use Rattle.eve_run_laws.proofs.Votes.{votes_sound, all_backed}
+use Rattle.eve_run_laws.proofs.Rollbacks.{DontFall, dont_fall, Differ, Repeats, differ_or_repeat, differ_before}
+use Rattle.eve_run_laws.proofs.Rollbacks.{voted_back_to, voted_along}
+use Rattle.eve_run_laws.proofs.GivenUp.{gives_up_serial, number_reached}
 use Rattle.eve_run_laws.proofs.SerialTokens.{serial_token}
 
 -- ---- counts
@@ -80,9 +80,9 @@ count_or_one {A = A} p q (x ∷ xs) = by (p x) (q x) refl refl (count_or_one p q
 
 -- ---- one run
 
--- with what is known of states that are taken over
+-- with what is known of states that are transferred
 module _ (states : (t : Trace) (e n at : ℕ) (x : Transfer) → HasLimits t → IsRightSection t e
-    → landing_at t e n ≡ Some (ByTransfer at x) → balances_to t e n ≡ map (λ v. v.value) x.rows)
+    → how_reached_at t e n ≡ Some (ByTransfer at x) → balances_to t e n ≡ map (λ v. v.value) x.rows)
     (w : Workload) (mixer : Mixer) (t : Trace) (run : IsTraceOf w mixer t) (limits : HasLimits t) where
   abbrev p : RunPlan
   p = run_plan w mixer
@@ -165,7 +165,7 @@ module _ (states : (t : Trace) (e n at : ℕ) (x : Transfer) → HasLimits t →
         (goes_back f there whole)
 
     reached : (f : ℕ) → f < length t.sections → is_whole (steps_of t f) ≡ true
-        → twice.number ≤ length (history t f).landings
+        → twice.number ≤ length (history t f).each_reached
     reached f there whole =
         number_reached p t plan some twice.number twice.rest run.sections f there twice.before (goes_back f there whole)
 
@@ -180,12 +180,12 @@ module _ (states : (t : Trace) (e n at : ℕ) (x : Transfer) → HasLimits t →
         ∙ (bytes_decides (own f) (own e)).1 (ap (serial_token p twice.number) (sym same)))
 
     -- each number that a replica reached some replica committed, with the same balances after it
-    like : (f n : ℕ) → suc n ≤ length (history t f).landings → IsLike t f (suc n)
-    like = committed_like p t plan run.sections run.taken
+    like : (f n : ℕ) → suc n ≤ length (history t f).each_reached → IsLike t f (suc n)
+    like = committed_like p t plan run.sections run.transferred
         (λ f n at x is. states t f n at x limits (sections_right w mixer t run f) is)
 
     -- and two replicas that have committed other balances show a collision
-    apart_collide : (f n : ℕ) → n ≤ length (history t e).landings → n ≤ length (history t f).landings
+    apart_collide : (f n : ℕ) → n ≤ length (history t e).each_reached → n ≤ length (history t f).each_reached
         → ¬ (balances_to t e n ≡ balances_to t f n) → Collides t
     apart_collide f zero one other apart = absurd (apart refl)
     apart_collide f (suc n) one other apart =

@@ -26,9 +26,9 @@ use Rattle.eve_history.specs.Section.{no_batch}
 use Rattle.eve_chains.specs.Committed.{first_rows}
 use Rattle.eve_agree.proofs.TokensInOrder.{rows_are}
 use Rattle.eve_attempts.specs.Ledgers.{Ledger, Opened, table_now}
-use Rattle.eve_attempts.specs.Closing.{executed, indexes_of}
+use Rattle.eve_attempts.specs.ClosedAttempts.{executed, indexes_of}
 use Rattle.eve_grammar.specs.Trace.{request_with}
-use Rattle.eve_attempts.proofs.Ordered.{all_moved}
+use Rattle.eve_attempts.proofs.TickOrder.{all_moved}
 use Rattle.eve_replica.specs.Sections.{RunPlan, AttemptsNext, place_due}
 
 -- ---- requests on values, whatever the versions

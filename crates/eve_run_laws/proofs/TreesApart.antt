@@ -322,8 +322,8 @@ module _ {X : Type 0} (text : X → List ℕ) (size : ℕ) (test : X → Bool) (
   leaves_apart n (x ∷ xs) (y ∷ ys) long xt yt same =
       let x_parts = and_parts (test x) (list_all test xs) xt in
       let y_parts = and_parts (test y) (list_all test ys) yt in
-      let front = leaf_hash n (text x) in
-      let other_front = leaf_hash n (text y) in
+      let prefix = leaf_hash n (text x) in
+      let other_prefix = leaf_hash n (text y) in
       let rest = leaf_hashes text (n + 1) xs in
       let other_rest = leaf_hashes text (n + 1) ys in
       let here : n ≡ n + 0 = omega arith in
@@ -332,7 +332,7 @@ module _ {X : Type 0} (text : X → List ℕ) (size : ℕ) (test : X → Bool) (
             let leaf = texts.once x y x_parts.0 y_parts.0 (append_cancel_left (big_bytes 4 n) (text x) (text y)
             (same_others 0 0 (big_bytes 4 n ++ text x) (big_bytes 4 n ++ text y) one)) in
             elim (leaves_apart (n + 1) xs ys (omega (arith, long)) x_parts.1 y_parts.1
-            (same_others front other_front rest other_rest same)) [
+            (same_others prefix other_prefix rest other_rest same)) [
               | inl all ↦ inl (λ i. leaf i ∷ all i)
               | inr apart ↦ inr (leaves_later n x y xs ys apart)
             ]
@@ -343,7 +343,7 @@ module _ {X : Type 0} (text : X → List ℕ) (size : ℕ) (test : X → Bool) (
           at = refl;
           other_at = refl;
           collision = subst (λ (m : ℕ). IsCollision (leaf_message m (text x)) (leaf_message m (text y))) here
-              (leaf_collides n x y apart (same_first front other_front rest other_rest same));
+              (leaf_collides n x y apart (same_first prefix other_prefix rest other_rest same));
         })
       ]
 

@@ -3,13 +3,13 @@ use Rattle.std.proofs.Common.{◌≡◌, ◌+◌, ◌-◌, List, [], ◌∷◌, 
 use Rattle.std.specs.Prelude.{⊤}
 use Rattle.std.specs.List.{AllByRecursion}
 use Rattle.std.proofs.lemmas.List.Elements.{All-nil, All-cons, All-head, All-append}
-use Rattle.eve_grammar.specs.Trace.{Step, Attempts, Commits, RollsBack, TakesOver, Attempt, Commit, Vote}
+use Rattle.eve_grammar.specs.Trace.{Step, Attempts, Commits, RollsBack, Transfers, Attempt, Commit, Vote}
 use Rattle.eve_attempts.specs.Ledgers.{Opened, Ledger}
-use Rattle.eve_attempts.specs.Closing.{opened_as}
-use Rattle.eve_attempts.specs.Discarding as account
+use Rattle.eve_attempts.specs.ClosedAttempts.{opened_as}
+use Rattle.eve_attempts.specs.CommitsAndRollbacks as ledgers
 use Rattle.eve_replica.specs.Sections.{RunPlan, AttemptsNext, GoesThrough, AreVotesOf, commit_vote, rollback_vote}
-use Rattle.eve_replica.specs.Serving.{AreOfItsView}
-use Rattle.eve_replica.proofs.OneStep.{committed_in_view}
+use Rattle.eve_replica.specs.inner.RunInvariant.{AreOfItsView}
+use Rattle.eve_replica.proofs.Steps.{committed_in_view}
 use Rattle.eve_run_laws.proofs.VotesApart.{Rise, rise_from_earlier}
 
 -- ---- they rise
@@ -25,7 +25,7 @@ attempted_in_view p old new a made of_view =
     (All-append InView old.opened (one ∷ []) of_view (All-cons InView one [] closed.attempt.view (All-nil InView)))
 
 -- so are the first open attempt and the others
-opened_in_view : (old new : Ledger) (c : Commit) (made : account.Commits old new c) → AreOfItsView old
+opened_in_view : (old new : Ledger) (c : Commit) (made : ledgers.Commits old new c) → AreOfItsView old
     → All (λ o. o.view ≡ old.view) (made.first ∷ made.others)
 opened_in_view old new c made of_view =
     subst (λ (os : List Opened). All (λ o. o.view ≡ old.view) os) made.opened of_view
@@ -62,9 +62,9 @@ votes_rise p (RollsBack r ∷ steps) votes a b of_view goes led =
           (votes_rise p steps led.0 goes.0 b
           (subst AreOfItsView (sym made.changed) (All-nil (λ (o : Opened). o.view ≡ a.view + 1))) goes.2 led.2),
     )
-votes_rise p (TakesOver x ∷ steps) votes a b of_view goes led =
+votes_rise p (Transfers x ∷ steps) votes a b of_view goes led =
     let made = goes.1 in
-    let changed = made.taken.changed in
+    let changed = made.transferred.changed in
     let number = ap (λ (s : Ledger). s.committed) changed in
     let same = ap (λ (s : Ledger). s.view) changed in
     subst (Rise (a.committed + 1) a.view) (sym led.2) (
@@ -82,7 +82,7 @@ abbrev pub OfItsVote : (Vote → Type 0) → Step → Type 0
 OfItsVote Q (Attempts a) = ⊤
 OfItsVote Q (Commits c) = Q (commit_vote c.seq c.view c.token)
 OfItsVote Q (RollsBack r) = Q (rollback_vote (r.to + 1) (r.view - 1))
-OfItsVote Q (TakesOver x) = ⊤
+OfItsVote Q (Transfers x) = ⊤
 
 -- what holds of each vote that a verifier gave holds of those
 pub each_on : (Q : Vote → Type 0) (steps : List Step) (own later : List Vote) → AreVotesOf steps own
@@ -95,6 +95,6 @@ each_on Q (Commits c ∷ steps) own later led all =
 each_on Q (RollsBack r ∷ steps) own later led all =
     let mine = subst (λ (vs : List Vote). AllByRecursion Q (vs ++ later)) led.1 all in
     (mine.0, each_on Q steps led.0 later led.2 mine.1)
-each_on Q (TakesOver x ∷ steps) own later led all =
+each_on Q (Transfers x ∷ steps) own later led all =
     let mine = subst (λ (vs : List Vote). AllByRecursion Q (vs ++ later)) led.2 all in
     (tt, each_on Q steps led.1 later led.3 mine.1)

@@ -7,7 +7,7 @@ use Rattle.std.proofs.lemmas.List.Elements.{All-nil, All-cons, All-weaker}
 use Rattle.eve_grammar.specs.Trace.{Choice, ForRollback, ForCommit, Vote}
 use Rattle.eve_grammar.proofs.Lists.{filter_kept, filter_dropped}
 use Rattle.eve_votes.specs.Votes.{is_vote_on}
-use Rattle.eve_votes.proofs.Sifting.{voted}
+use Rattle.eve_votes.proofs.SiftedVotes.{voted}
 
 -- ---- votes that rise
 

@@ -4,10 +4,10 @@ pub mod Chains
 pub mod Orders
 pub mod SerialOrders
 pub mod Walks
-pub mod Fitting
+pub mod FittingRecords
 pub mod Unique
-pub mod Deciding
+pub mod DecisionLaws
 pub mod Records
-pub mod Applying
-pub mod Recording
-mod Seeing
+pub mod RequestBalances
+pub mod DecisionEntries
+mod SeenValues

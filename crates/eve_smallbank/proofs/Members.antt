@@ -40,31 +40,31 @@ pub in_cons : {A : Type 0} {z y : A} (xs : List A) → In z (y ∷ xs) → (z �
 in_cons xs here = inl refl
 in_cons xs (there i) = inr i
 
-pub in_front : {A : Type 0} {x : A} {xs : List A} (ys : List A) → In x xs → In x (xs ++ ys)
-in_front ys here = here
-in_front ys (there i) = there (in_front ys i)
+pub in_prefix : {A : Type 0} {x : A} {xs : List A} (ys : List A) → In x xs → In x (xs ++ ys)
+in_prefix ys here = here
+in_prefix ys (there i) = there (in_prefix ys i)
 
-pub in_middle : {A : Type 0} (x : A) (front back : List A) → In x (front ++ x ∷ back)
+pub in_middle : {A : Type 0} (x : A) (prefix back : List A) → In x (prefix ++ x ∷ back)
 in_middle x [] back = here
-in_middle x (y ∷ front) back = there (in_middle x front back)
+in_middle x (y ∷ prefix) back = there (in_middle x prefix back)
 
 -- one more element in the middle
-pub in_around : {A : Type 0} {z : A} (x : A) (front back : List A) → In z (front ++ back) → In z (front ++ x ∷ back)
+pub in_around : {A : Type 0} {z : A} (x : A) (prefix back : List A) → In z (prefix ++ back) → In z (prefix ++ x ∷ back)
 in_around x [] back i = there i
-in_around x (y ∷ front) back here = here
-in_around x (y ∷ front) back (there i) = there (in_around x front back i)
+in_around x (y ∷ prefix) back here = here
+in_around x (y ∷ prefix) back (there i) = there (in_around x prefix back i)
 
 pub in_after : {A : Type 0} {z : A} (xs ys : List A) → IsReordering xs ys → In z xs → In z ys
 in_after [] ys r i = elim i [ ]
 in_after {A} {z} (x ∷ xs) ys r here = subst (In z) (sym r.2) (in_middle z r.0 r.1)
 in_after {A} {z} (x ∷ xs) ys r (there i) = subst (In z) (sym r.2) (in_around x r.0 r.1 (in_after xs (r.0 ++ r.1) r.3 i))
 
-pub in_cases : {A : Type 0} {z : A} (x : A) (front back : List A) → In z (front ++ x ∷ back) → (z ≡ x)
-    ⊎ In z (front ++ back)
+pub in_cases : {A : Type 0} {z : A} (x : A) (prefix back : List A) → In z (prefix ++ x ∷ back) → (z ≡ x)
+    ⊎ In z (prefix ++ back)
 in_cases x [] back here = inl refl
 in_cases x [] back (there i) = inr i
-in_cases x (y ∷ front) back here = inr here
-in_cases x (y ∷ front) back (there i) = elim (in_cases x front back i) [ inl e ↦ inl e | inr j ↦ inr (there j) ]
+in_cases x (y ∷ prefix) back here = inr here
+in_cases x (y ∷ prefix) back (there i) = elim (in_cases x prefix back i) [ inl e ↦ inl e | inr j ↦ inr (there j) ]
 
 pub in_before : {A : Type 0} {z : A} (xs ys : List A) → IsReordering xs ys → In z ys → In z xs
 in_before {A} {z} [] ys r i = subst (In z) r i

@@ -11,7 +11,7 @@ use Rattle.eve_smallbank.specs.Access.{Executed, is_write, writes_row}
 use Rattle.eve_smallbank.specs.Chain.{Table, left_by, Sees, table_after, table_after_all}
 use Rattle.eve_smallbank.specs.Conflict.{entry_precedes, precedes, AgreesWithConflicts, IsReordering}
 use Rattle.eve_smallbank.proofs.Members.{In, here, there, all_in, all_from_in, list_any-none, none_of_list_any}
-use Rattle.eve_smallbank.proofs.Members.{in_front, in_middle, in_before}
+use Rattle.eve_smallbank.proofs.Members.{in_prefix, in_middle, in_before}
 use Rattle.eve_smallbank.proofs.Chains.{Follows}
 use Rattle.eve_smallbank.specs.declared.versioned.Versioned.{Versioned}
 
@@ -107,13 +107,13 @@ stands_above_head table y x xs follows i e f a b same =
     above_later (table_after table y.entries) e.row (floor e) f x xs follows.1
     (above_request table table e y.entries follows.0 (le_refl _) a) i b same
 
-stands_above : (table : Table) (y x : Executed) (front back : List Executed) → Follows table (front ++ x ∷ back)
-    → In y front → StandsAbove y x
+stands_above : (table : Table) (y x : Executed) (prefix back : List Executed) → Follows table (prefix ++ x ∷ back)
+    → In y prefix → StandsAbove y x
 stands_above table y x [] back follows i = elim i [ ]
-stands_above table y x (z ∷ front) back follows here = stands_above_head table y x (front ++ x ∷ back) follows
-    (in_middle x front back)
-stands_above table y x (z ∷ front) back follows (there i) =
-    stands_above (table_after table z.entries) y x front back follows.1 i
+stands_above table y x (z ∷ prefix) back follows here = stands_above_head table y x (prefix ++ x ∷ back) follows
+    (in_middle x prefix back)
+stands_above table y x (z ∷ prefix) back follows (there i) =
+    stands_above (table_after table z.entries) y x prefix back follows.1 i
 
 -- ---- the chain agrees with the conflict order
 
@@ -257,13 +257,14 @@ sees_moved table other e h sees = record {
 
 -- A request may be moved before others that it is apart from: all still see what they saw, and the table after all is
 -- the same.
-moved_front : (table : Table) (x : Executed) (front back : List Executed) → ((y : Executed) → In y front → AreApart y x)
-    → Follows table (front ++ x ∷ back)
-    → Follows table (x ∷ front ++ back)
-    × (table_after_all table (front ++ x ∷ back) ≡ table_after_all table (x ∷ front ++ back))
-moved_front table x [] back apart follows = (follows, refl)
-moved_front table x (y ∷ front) back apart follows =
-    let rest = moved_front (table_after table y.entries) x front back (λ z i. apart z (there i)) follows.1 in
+moved_prefix : (table : Table) (x : Executed) (prefix back : List Executed)
+    → ((y : Executed) → In y prefix → AreApart y x)
+    → Follows table (prefix ++ x ∷ back)
+    → Follows table (x ∷ prefix ++ back)
+    × (table_after_all table (prefix ++ x ∷ back) ≡ table_after_all table (x ∷ prefix ++ back))
+moved_prefix table x [] back apart follows = (follows, refl)
+moved_prefix table x (y ∷ prefix) back apart follows =
+    let rest = moved_prefix (table_after table y.entries) x prefix back (λ z i. apart z (there i)) follows.1 in
     let xy = apart y here in
     let tables = exchange_tables table y x xy in (
       (
@@ -274,10 +275,10 @@ moved_front table x (y ∷ front) back apart follows =
           all_from_in (Sees (table_after table x.entries)) y.entries
               (λ e i. sees_moved table (table_after table x.entries) e
               (sym (untouched table e.row x.entries (left_alone_too y x xy e i))) (all_in (Sees table) follows.0 i)),
-          subst (λ t. Follows t (front ++ back)) tables rest.0.1,
+          subst (λ t. Follows t (prefix ++ back)) tables rest.0.1,
         ),
       ),
-      rest.1 ∙ ap (λ t. table_after_all t (front ++ back)) tables,
+      rest.1 ∙ ap (λ t. table_after_all t (prefix ++ back)) tables,
     )
 
 -- In every order that agrees with the conflict order all see what they saw, and the table after all is the same.
@@ -285,12 +286,13 @@ pub reordered : (table : Table) (ys xs : List Executed) → IsReordering ys xs �
     → Follows table ys × (table_after_all table xs ≡ table_after_all table ys)
 reordered table [] xs order agrees follows = (tt, ap (table_after_all table) order)
 reordered table (x ∷ ys) xs order agrees follows =
-    let front : List Executed = order.0 in
+    let prefix : List Executed = order.0 in
     let back : List Executed = order.1 in
     let here_follows = subst (Follows table) order.2 follows in
-    let first = moved_front table x front back
-    (λ y i. apart y x (stands_above table y x front back here_follows i)
-    (all_in (λ z. precedes z x ≡ false) agrees.0 (in_before ys (front ++ back) order.3 (in_front back i)))) here_follows
+    let first = moved_prefix table x prefix back
+    (λ y i. apart y x (stands_above table y x prefix back here_follows i)
+    (all_in (λ z. precedes z x ≡ false) agrees.0 (in_before ys (prefix ++ back) order.3 (in_prefix back i))))
+    here_follows
     in
-    let rest = reordered (table_after table x.entries) ys (front ++ back) order.3 agrees.1 first.0.1 in
+    let rest = reordered (table_after table x.entries) ys (prefix ++ back) order.3 agrees.1 first.0.1 in
     ((first.0.0, rest.0), ap (table_after_all table) order.2 ∙ first.1 ∙ rest.1)

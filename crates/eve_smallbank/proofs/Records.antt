@@ -26,14 +26,14 @@ use Rattle.eve_smallbank.specs.Chain.{Table, Sees, values_of}
 use Rattle.eve_smallbank.specs.Execution.{entry_on, executed_on}
 use Rattle.eve_smallbank.specs.Touch.{knows_names, has_bad_amount, touched_of, rows_in}
 use Rattle.eve_smallbank.specs.Decide.{effect_in, decision_in, entries_from, executed_from, IsExact}
-use Rattle.eve_smallbank.specs.FromValues.{only_read, written, abort_after, done_within, decided_from}
-use Rattle.eve_smallbank.proofs.Fitting as fitting
-use Rattle.eve_smallbank.proofs.Fitting.{always_fits}
+use Rattle.eve_smallbank.specs.inner.FromValues.{only_read, written, abort_after, done_within, decided_from}
+use Rattle.eve_smallbank.proofs.FittingRecords as fitting
+use Rattle.eve_smallbank.proofs.FittingRecords.{always_fits}
 use Rattle.eve_smallbank.proofs.Unique.{AreDistinct, numbers, numbers-as_reads, numbers-pairs, request_rows}
 use Rattle.eve_smallbank.proofs.Unique.{entries_are_rows, made_of_table}
 use Rattle.eve_smallbank.specs.declared.versioned.Versioned.{Versioned}
 use Rattle.eve_smallbank.proofs.Banks.{rows_for}
-use Rattle.eve_smallbank.proofs.Deciding as deciding
+use Rattle.eve_smallbank.proofs.DecisionLaws as deciding
 
 -- ---- which requests are refused
 

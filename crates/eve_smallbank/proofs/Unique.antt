@@ -21,7 +21,7 @@ use Rattle.eve_smallbank.specs.Chain.{Table, Sees, values_of}
 use Rattle.eve_smallbank.specs.Execution.{value_in, value_left, entry_on, executed_on}
 use Rattle.eve_smallbank.proofs.Banks.{chosen, rows_for}
 use Rattle.eve_smallbank.proofs.Chains.{seen_values}
-use Rattle.eve_smallbank.proofs.Fitting.{value_saving, value_checking}
+use Rattle.eve_smallbank.proofs.FittingRecords.{value_saving, value_checking}
 
 -- ---- rows of customers, each once
 

@@ -8,6 +8,4 @@ pub mod Spelling
 pub mod Few
 pub mod Touch
 pub mod Decide
-pub mod FromValues
-pub mod Recorded
-pub mod Seen
+pub mod inner

@@ -3,7 +3,7 @@
 ghost use Rattle.std.specs.Prelude.{◌≡◌, ◌<◌, ◌*◌, ℕ, length, map, take, All, Contains, slice_get};
 ghost use Rattle.eve_smallbank.specs.SmallBank.{plain, does};
 ghost use Rattle.eve_smallbank.specs.Access.{bank_of, balance_of_row, rows_of, written_rows};
-ghost use Rattle.eve_smallbank.specs.FromValues.{balances_after};
+ghost use Rattle.eve_smallbank.specs.inner.FromValues.{balances_after};
 
 use crate::{Effect, Kind, Reply, Request, Touched, UpToThree, decide, touched};
 use eve_accounts::{Balances, Cents, Names, Row};

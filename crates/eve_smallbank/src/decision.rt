@@ -6,7 +6,7 @@ ghost use Rattle.eve_smallbank.specs.SmallBank.{check_cost, plain};
 ghost use Rattle.eve_smallbank.specs.Access.{Executed, Fits};
 ghost use Rattle.eve_smallbank.specs.Touch.{touched_of, rows_in};
 ghost use Rattle.eve_smallbank.specs.Decide.{IsExact, executed_from};
-ghost use Rattle.eve_smallbank.specs.FromValues.{only_read, written, abort_after, done_within, decided_from};
+ghost use Rattle.eve_smallbank.specs.inner.FromValues.{only_read, written, abort_after, done_within, decided_from};
 
 use crate::{Abort, Kind, PENALTY, Reply, Request, Touched, UpToThree};
 use eve_accounts::{Amount, Cents};

@@ -5,7 +5,7 @@ ghost use Rattle.std.specs.Bool.{Decides};
 ghost use Rattle.eve_smallbank.specs.SmallBank.{plain};
 ghost use Rattle.eve_smallbank.specs.Access.{Fits};
 ghost use Rattle.eve_smallbank.specs.Touch.{touched_of};
-ghost use Rattle.eve_smallbank.specs.Recorded.{noted_from, HasEffect};
+ghost use Rattle.eve_smallbank.specs.inner.Recorded.{noted_from, HasEffect};
 
 use crate::{Effect, Entry, Kind, Reply, Request, Touched, UpToThree, decide};
 use eve_accounts::{Cents, Row};

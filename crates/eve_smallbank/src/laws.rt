@@ -12,7 +12,7 @@ ghost use Rattle.eve_smallbank.specs.Touch.{touched_of, rows_in};
 ghost use Rattle.eve_smallbank.specs.Chain.{Table, visible_at, Sees, IsChained, IsRowChained, HasOneEach, IsWalk};
 ghost use Rattle.eve_smallbank.specs.Chain.{row_entries};
 ghost use Rattle.eve_smallbank.specs.Execution.{executed_on};
-ghost use Rattle.eve_smallbank.specs.Seen.{as_seen};
+ghost use Rattle.eve_smallbank.specs.inner.Seen.{as_seen};
 ghost use Rattle.eve_smallbank.specs.SerialOrder.{IsSound, IsSerial};
 
 /// What a request makes of the rows that it meets fits it.

@@ -4,7 +4,7 @@ use Rattle.std.proofs.lemmas.Option.{get_or_from_slice_get, slice_get_within}
 use Rattle.eve_smallbank.specs.declared.entry.Entry.{Entry}
 use Rattle.eve_smallbank.specs.declared.decision.Effect.{Effect}
 use Rattle.eve_stamps.specs.Stripes.{HeldRow}
-use Rattle.eve_stamps.specs.Holding.{entries_on}
+use Rattle.eve_stamps.specs.HeldRows.{entries_on}
 
 abbrev entry_on : HeldRow → Effect → Entry
 entry_on r e = record { row = r.row; kind = e.kind; version = r.version; seen = r.value; after = e.after }

@@ -1,11 +1,11 @@
 pub mod RowLaws
 pub mod JournalLaws
 pub mod Places
-pub mod Settling
+pub mod WrittenRows
 pub mod Versions
-pub mod Keeping
-pub mod Refusing
+pub mod StripeLaws
+pub mod Refusals
 pub mod Outcomes
 pub mod OpeningLaws
 mod Entries
-mod Seeing
+mod SeenRows

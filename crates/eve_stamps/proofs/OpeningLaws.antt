@@ -8,7 +8,7 @@ use Rattle.std.proofs.lemmas.Bool.{eq-eqb, ne_eqb}
 use Rattle.std.proofs.lemmas.List.Elements.{filter-append}
 use Rattle.std.proofs.lemmas.Grind.{flat_map-append}
 use Rattle.eve_stamps.specs.Stripes.{HeldRow, RowsRise, AreWithinLimit}
-use Rattle.eve_stamps.specs.Opening.{stripe_of_customer, rows_of_customer, rows_of_stripe}
+use Rattle.eve_stamps.specs.OpeningRows.{stripe_of_customer, rows_of_customer, rows_of_stripe}
 
 -- ---- one customer more
 

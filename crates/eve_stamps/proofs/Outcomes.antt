@@ -20,8 +20,8 @@ use Rattle.eve_smallbank.specs.Decide.{entries_from, executed_from}
 use Rattle.eve_smallbank.specs.Execution.{executed_on, entry_on}
 use Rattle.eve_grammar.specs.declared.limits.TheConstants.{MOST_VERSIONS}
 use Rattle.eve_stamps.specs.Stripes.{HeldRow, row_in}
-use Rattle.eve_stamps.specs.Stamping.{is_worn}
-use Rattle.eve_stamps.specs.Holding.{entries_on, CanBeNoted}
+use Rattle.eve_stamps.specs.Requests.{is_worn}
+use Rattle.eve_stamps.specs.HeldRows.{entries_on, CanBeNoted}
 
 -- the rows, as a table has them
 abbrev pub seen_rows : Table → RowKinds → List HeldRow

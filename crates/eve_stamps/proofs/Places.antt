@@ -12,7 +12,7 @@ use Rattle.std.proofs.lemmas.Option.{slice_get-get_or}
 use Rattle.std.proofs.lemmas.Bool.{ne_eqb, cases_lt}
 use Rattle.std.proofs.lemmas.Bool.Decides.{nat_tests}
 use Rattle.eve_stamps.specs.Stripes.{HeldRow, lies_in, RowsRise}
-use Rattle.eve_stamps.specs.Holding.{IsPlaceOf}
+use Rattle.eve_stamps.specs.HeldRows.{IsPlaceOf}
 
 abbrev nowhere : HeldRow
 nowhere = record { row = 0; version = 0; value = pos 0 }

@@ -11,7 +11,7 @@ use Rattle.eve_stamps.specs.declared.journal.Journaled.{Journaled}
 use Rattle.eve_stamps.specs.Stripes.{HeldRow, Stripe, IsStripe, lies_in, row_in, rows_in_table, AreWithinLimit}
 use Rattle.eve_stamps.specs.Stripes.{committed}
 use Rattle.eve_stamps.specs.Stripes.{rows_now, table_after_journal, AreJournaled, was_written, restores_of}
-use Rattle.eve_stamps.specs.Holding.{rows_changed, CanBeNoted}
+use Rattle.eve_stamps.specs.HeldRows.{rows_changed, CanBeNoted}
 use Rattle.eve_stamps.proofs.RowLaws.{rows_in_table-self}
 
 -- what entries that see the table t leave in another

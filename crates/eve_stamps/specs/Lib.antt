@@ -1,5 +1,5 @@
 pub mod Applied
-pub mod Holding
-pub mod Opening
-pub mod Stamping
+pub mod HeldRows
+pub mod OpeningRows
+pub mod Requests
 pub mod Stripes

@@ -11,9 +11,9 @@ ghost use Rattle.eve_smallbank.specs.Touch.{touched_of, rows_in};
 ghost use Rattle.eve_smallbank.specs.Execution.{executed_on};
 ghost use Rattle.eve_stamps.specs.Applied.{noted_of, executed_as};
 ghost use Rattle.eve_stamps.specs.Stripes.{has_row, row_in, rows_now, is_above, stripe_with};
-ghost use Rattle.eve_stamps.specs.Stamping.{has_row_in_two, rows_in_two, entries_within, entries_outside, is_worn};
-ghost use Rattle.eve_stamps.specs.Stamping.{seen_of, refusal, refusal_of_two, IsRefusedFor, IsRun};
-ghost use Rattle.eve_stamps.specs.Holding.{stripe_held, IsHeldStripe, CanBeNoted};
+ghost use Rattle.eve_stamps.specs.Requests.{has_row_in_two, rows_in_two, entries_within, entries_outside, is_worn};
+ghost use Rattle.eve_stamps.specs.Requests.{seen_of, refusal, refusal_of_two, IsRefusedFor, IsRun};
+ghost use Rattle.eve_stamps.specs.HeldRows.{stripe_held, IsHeldStripe, CanBeNoted};
 
 use crate::executing::executed;
 use crate::journal::Journaled;

@@ -7,8 +7,8 @@ ghost use Rattle.eve_smallbank.specs.Chain.{Table};
 ghost use Rattle.eve_smallbank.specs.Touch.{touched_of, rows_in};
 ghost use Rattle.eve_smallbank.specs.Execution.{executed_on};
 ghost use Rattle.eve_stamps.specs.Stripes.{row_in};
-ghost use Rattle.eve_stamps.specs.Holding.{entries_on, CanBeNoted};
-ghost use Rattle.eve_stamps.specs.Stamping.{is_worn};
+ghost use Rattle.eve_stamps.specs.HeldRows.{entries_on, CanBeNoted};
+ghost use Rattle.eve_stamps.specs.Requests.{is_worn};
 
 use crate::HeldRow;
 use eve_accounts::Cents;
@@ -38,7 +38,7 @@ pub fn executed(
     (decision.reply, entries_of(seen, &decision.effects))
 }
 
-/// The values of the rows, at the front of an array.
+/// The values of the rows, at the beginning of an array.
 fn values_in(seen: &UpToThree<HeldRow>) -> [Cents; 3]
     ensures { take (length seen.now) result ≡ map (λ r. r.value) seen.now }
 {

@@ -1,4 +1,4 @@
-//! A state that a stripe takes over.
+//! A state that is transferred to a stripe.
 
 ghost use Rattle.std.specs.Prelude.{◌≡◌, map};
 ghost use Rattle.eve_grammar.specs.Bodies.{transfer as plain};

@@ -1,7 +1,7 @@
 //! The stripes of an opening.
 
 ghost use Rattle.std.specs.Prelude.{◌≡◌, ◌*◌, ◌≤◌, ◌<◌, IfOk, length, None, []};
-ghost use Rattle.eve_stamps.specs.Opening.{opening_row, rows_of_stripe};
+ghost use Rattle.eve_stamps.specs.OpeningRows.{opening_row, rows_of_stripe};
 
 use crate::limits::STRIPES;
 use crate::{HeldRow, Stripe};

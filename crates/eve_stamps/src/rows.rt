@@ -6,7 +6,7 @@ ghost use Rattle.std.specs.List.{AllByRecursion};
 ghost use Rattle.eve_smallbank.specs.Chain.{table_after};
 ghost use Rattle.eve_stamps.specs.Stripes.{RowsRise, IsEntryIn, JournalLiesIn, table_in, rows_in_table};
 ghost use Rattle.eve_stamps.specs.Stripes.{JournalRises, table_after_journal};
-ghost use Rattle.eve_stamps.specs.Holding.{IsPlaceOf, rows_changed};
+ghost use Rattle.eve_stamps.specs.HeldRows.{IsPlaceOf, rows_changed};
 
 use crate::HeldRow;
 use crate::journal::Journaled;
@@ -69,7 +69,7 @@ fn write_one(rows: &mut [HeldRow], entry: &Entry)
     }
 }
 
-/// Writes the rows as the journal does up to the tick, and takes these items off its front.
+/// Writes the rows as the journal does up to the tick, and takes these items off its beginning.
 pub fn settle_up_to(rows: &mut [HeldRow], journal: &mut VecDeque<Journaled>, tick: u64)
     requires rise { RowsRise rows.old }
     requires ticks { JournalRises journal.old.items }

@@ -3,7 +3,7 @@
 ghost use Rattle.std.specs.Prelude.{◌≡◌, ◌≤◌, ◌<◌, ℕ, List, ◌==◌, ◌||◌, length};
 ghost use Rattle.eve_smallbank.specs.SmallBank.{Request};
 ghost use Rattle.eve_smallbank.specs.Touch.{touched_of, rows_in};
-ghost use Rattle.eve_stamps.specs.Opening.{stripe_of, touches};
+ghost use Rattle.eve_stamps.specs.OpeningRows.{stripe_of, touches};
 
 use crate::limits::STRIPES;
 use eve_accounts::Row;

@@ -32,7 +32,7 @@ impl Model for Stripe {
 
     ghost Value = { model.Stripe };
 
-    ghost use Rattle.eve_stamps.specs.Holding.{stripe_held, IsHeldStripe};
+    ghost use Rattle.eve_stamps.specs.HeldRows.{stripe_held, IsHeldStripe};
 
     ghost view = { λ s. stripe_held s.base.items s.journal.items s.greatest };
 

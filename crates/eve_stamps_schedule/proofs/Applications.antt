@@ -23,18 +23,18 @@ use Rattle.eve_grammar.proofs.Lists.{all-weaker}
 use Rattle.eve_stamps.specs.declared.fault.StampFault.{StampFault}
 use Rattle.eve_stamps.specs.declared.fault.StampFault.TheVariants as fault
 use Rattle.eve_stamps.specs.Stripes.{Stripe, has_row, rows_now, is_above, stripe_with}
-use Rattle.eve_stamps.specs.Stamping.{has_row_in_two, rows_in_two, entries_within, entries_outside, is_worn}
-use Rattle.eve_stamps.specs.Stamping.{refused_for, refusal, refusal_of_two, IsRefusedFor}
+use Rattle.eve_stamps.specs.Requests.{has_row_in_two, rows_in_two, entries_within, entries_outside, is_worn}
+use Rattle.eve_stamps.specs.Requests.{refused_for, refusal, refusal_of_two, IsRefusedFor}
 use Rattle.eve_stamps.specs.declared.limits.TheConstants.{STRIPES}
-use Rattle.eve_stamps.specs.Opening.{stripe_of}
+use Rattle.eve_stamps.specs.OpeningRows.{stripe_of}
 use Rattle.eve_stamps.proofs.JournalLaws.{rows_now-noted}
 use Rattle.eve_stamps_schedule.specs.Stripes.{needs}
 use Rattle.eve_stamps_schedule.specs.Schedule.{stripe_at, table_of_stripes}
-use Rattle.eve_stamps_schedule.specs.Applying.{HaveTheirRows, AreFresh, IsKeptAt}
+use Rattle.eve_stamps_schedule.specs.AppliedRequests.{HaveTheirRows, AreFresh, IsKeptAt}
 use Rattle.eve_stamps_schedule.proofs.Changes.{below_itself}
 use Rattle.eve_stamps_schedule.proofs.Spans.{AreEnds}
 use Rattle.eve_stamps_schedule.proofs.Tables.{table_after-none, table_after-some}
-use Rattle.eve_stamps_schedule.proofs.Reaches.{IsPlaced, rows_placed, entries_placed, executed_alike}
+use Rattle.eve_stamps_schedule.proofs.RequestRows.{IsPlaced, rows_placed, entries_placed, executed_alike}
 
 -- ---- stripes by number
 
@@ -220,41 +220,42 @@ two_kept ss a b tick es test i less within ends =
     or_true false = refl
 
 -- both stripes, written each in its part of the list
-both_set : (ss front back : List Stripe) (a b : ℕ) (x y : Stripe) → ss ≡ front ++ back → a < length front → length front
-    ≡ b → set front a x ++ set back 0 y ≡ set (set ss a x) b y
-both_set ss front back a b x y is within cut =
-    let long : length (set front a x) ≡ b = length-set front a x ∙ cut in
+both_set : (ss prefix back : List Stripe) (a b : ℕ) (x y : Stripe) → ss ≡ prefix ++ back → a < length prefix
+    → length prefix
+    ≡ b → set prefix a x ++ set back 0 y ≡ set (set ss a x) b y
+both_set ss prefix back a b x y is within cut =
+    let long : length (set prefix a x) ≡ b = length-set prefix a x ∙ cut in
     let none : b - b ≡ 0 = omega arith in
     sym (ap (λ (l : List Stripe). set (set l a x) b y) is
-    ∙ ap (λ (l : List Stripe). set l b y) (set-append_left front back a x within)
-    ∙ set-append_right (set front a x) back b b y long (omega arith) ∙ ap (λ n. set front a x ++ set back n y) none)
+    ∙ ap (λ (l : List Stripe). set l b y) (set-append_left prefix back a x within)
+    ∙ set-append_right (set prefix a x) back b b y long (omega arith) ∙ ap (λ n. set prefix a x ++ set back n y) none)
 
-pub two_written : (ss front back : List Stripe) (a b tick : ℕ) (s u one two : Stripe) (es : List Entry)
-    → ss ≡ front ++ back → a < length front → length front ≡ b
+pub two_written : (ss prefix back : List Stripe) (a b tick : ℕ) (s u one two : Stripe) (es : List Entry)
+    → ss ≡ prefix ++ back → a < length prefix → length prefix ≡ b
     → s ≡ stripe_at ss a → u ≡ stripe_at ss b → one ≡ stripe_with s tick (entries_within s es)
     → two ≡ stripe_with u tick (entries_outside s es)
-    → set front a one ++ set back 0 two ≡ both_noted ss a b tick es
-two_written ss front back a b tick s u one two es is within cut first last x y =
-    both_set ss front back a b one two is within cut
+    → set prefix a one ++ set back 0 two ≡ both_noted ss a b tick es
+two_written ss prefix back a b tick s u one two es is within cut first last x y =
+    both_set ss prefix back a b one two is within cut
     ∙ ap₂ (λ (p q : Stripe). set (set ss a p) b q)
     (x ∙ ap (λ (r : Stripe). stripe_with r tick (entries_within r es)) first)
     (y ∙ ap₂ (λ (q r : Stripe). stripe_with q tick (entries_outside r es)) last first)
 
 -- a stripe of the first part, and the first of the second
-pub in_front : (ss front back : List Stripe) (a : ℕ) (d : Stripe) → ss ≡ front ++ back → a < length front
-    → get_or front a d ≡ stripe_at ss a
-in_front ss front back a d is within =
-    get_or_default front a d (record { base = []; journal = []; greatest = None }) within
-    ∙ sym (get_or_append_left front back (record { base = []; journal = []; greatest = None }) a within)
+pub in_prefix : (ss prefix back : List Stripe) (a : ℕ) (d : Stripe) → ss ≡ prefix ++ back → a < length prefix
+    → get_or prefix a d ≡ stripe_at ss a
+in_prefix ss prefix back a d is within =
+    get_or_default prefix a d (record { base = []; journal = []; greatest = None }) within
+    ∙ sym (get_or_append_left prefix back (record { base = []; journal = []; greatest = None }) a within)
     ∙ ap (λ (l : List Stripe). stripe_at l a) (sym is)
 
-pub in_back : (ss front back : List Stripe) (b : ℕ) (d : Stripe) → ss ≡ front ++ back → length front ≡ b
+pub in_back : (ss prefix back : List Stripe) (b : ℕ) (d : Stripe) → ss ≡ prefix ++ back → length prefix ≡ b
     → 0 < length back → get_or back 0 d ≡ stripe_at ss b
-in_back ss front back b d is cut some =
-    let long : length front + 0 ≡ b = omega arith in
+in_back ss prefix back b d is cut some =
+    let long : length prefix + 0 ≡ b = omega arith in
     get_or_default back 0 d (record { base = []; journal = []; greatest = None }) some
-    ∙ sym (get_or-append-add front back 0 (record { base = []; journal = []; greatest = None }))
-    ∙ ap (stripe_at (front ++ back)) long ∙ ap (λ (l : List Stripe). stripe_at l b) (sym is)
+    ∙ sym (get_or-append-add prefix back 0 (record { base = []; journal = []; greatest = None }))
+    ∙ ap (stripe_at (prefix ++ back)) long ∙ ap (λ (l : List Stripe). stripe_at l b) (sym is)
 
 -- ---- the rows of a request
 

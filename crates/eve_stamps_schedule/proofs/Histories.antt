@@ -16,15 +16,16 @@ use Rattle.eve_stamps_schedule.specs.declared.event.Event.TheVariants.{Claim, Ti
 use Rattle.eve_stamps_schedule.specs.declared.stage.Stage.{Stage}
 use Rattle.eve_stamps_schedule.specs.declared.stage.Stage.TheVariants as at
 use Rattle.eve_stamps.specs.declared.limits.TheConstants.{STRIPES}
-use Rattle.eve_stamps_schedule.specs.Before.{EachBefore}
+use Rattle.eve_stamps_schedule.specs.ListOrder.{EachBefore}
 use Rattle.eve_stamps_schedule.specs.World.{Plan, World, planned_request, executed_record, noted_count}
 use Rattle.eve_stamps_schedule.specs.Events.{changed, current_group, may_claim, is_owner, needs_at, next_stripe}
 use Rattle.eve_stamps_schedule.specs.Events.{last_stripe, is_free, with_owner, record_made, with_applied, with_noted}
 use Rattle.eve_stamps_schedule.specs.Events.{then_happens}
 use Rattle.eve_stamps_schedule.proofs.Changes.{below_itself, at_change, changed-other, counted-at_least}
 use Rattle.eve_stamps_schedule.proofs.Changes.{greatest_passes, none_passes}
-use Rattle.eve_stamps_schedule.proofs.Holding.{flag, held, is_busy, Counts, Bound, IsMade, IsReady, executed, Holds}
-use Rattle.eve_stamps_schedule.proofs.Counting.{counts_note, current_later}
+use Rattle.eve_stamps_schedule.proofs.WorldInvariant.{flag, held, is_busy, Counts, Bound, IsMade, IsReady, executed}
+use Rattle.eve_stamps_schedule.proofs.WorldInvariant.{Holds}
+use Rattle.eve_stamps_schedule.proofs.EventCounts.{counts_note, current_later}
 
 -- ---- lists
 

@@ -5,9 +5,9 @@ use Rattle.std.specs.List.{AllByRecursion, list_all}
 use Rattle.std.proofs.lemmas.Bool.{cases_Bool, and_from, eq-eqb, lt-ltb, le-leb, cond-true, cond-false}
 use Rattle.std.specs.Prelude.{IsTrue}
 use Rattle.eve_grammar.specs.Certificate.{occurrences, all_below, is_permutation, group_of, is_grouped, keeps_groups}
-use Rattle.eve_stamps_schedule.specs.Before.{EachBefore}
-use Rattle.eve_stamps_schedule.proofs.Inserting.{count_cons}
-use Rattle.eve_stamps_schedule.proofs.Holding.{flag}
+use Rattle.eve_stamps_schedule.specs.ListOrder.{EachBefore}
+use Rattle.eve_stamps_schedule.proofs.InsertedRecords.{count_cons}
+use Rattle.eve_stamps_schedule.proofs.WorldInvariant.{flag}
 
 counted : (i : ℕ) (xs : List ℕ) → occurrences i xs ≡ count_by (λ j. j == i) xs
 counted i [] = refl

@@ -15,20 +15,20 @@ use Rattle.eve_smallbank.specs.declared.versioned.Versioned.{Versioned}
 use Rattle.eve_stamps.specs.Applied.{Applied}
 use Rattle.eve_stamps.specs.Stripes.{HeldRow, Stripe, lies_in, table_in, has_row, committed, rows_now, is_above}
 use Rattle.eve_stamps.specs.declared.limits.TheConstants.{STRIPES}
-use Rattle.eve_stamps.specs.Opening.{stripe_of, stripe_of_customer, rows_of_customer, rows_of_stripe}
+use Rattle.eve_stamps.specs.OpeningRows.{stripe_of, stripe_of_customer, rows_of_customer, rows_of_stripe}
 use Rattle.eve_stamps.proofs.OpeningLaws.{opening_rows_more}
 use Rattle.eve_stamps_schedule.specs.declared.stage.Stage.{Stage}
 use Rattle.eve_stamps_schedule.specs.declared.stage.Stage.TheVariants as at
 use Rattle.eve_stamps_schedule.specs.World.{first_world, noted_count}
 use Rattle.eve_stamps_schedule.specs.Serial.{IsReachedWorld}
 use Rattle.eve_stamps_schedule.specs.Schedule.{Schedule, stripe_at, table_of_stripes, base_of, plan_of, world_of}
-use Rattle.eve_stamps_schedule.specs.Applying.{HaveTheirRows}
+use Rattle.eve_stamps_schedule.specs.AppliedRequests.{HaveTheirRows}
 use Rattle.eve_stamps_schedule.specs.Scheduled.{IsHeldSchedule}
 use Rattle.eve_stamps_schedule.proofs.Places.{all_alike}
-use Rattle.eve_stamps_schedule.proofs.Sharing.{stripe_below}
-use Rattle.eve_stamps_schedule.proofs.Keeping.{nothing_noted}
-use Rattle.eve_stamps_schedule.proofs.Reaching.{reached_first}
-use Rattle.eve_stamps_schedule.proofs.Stepping.{idle_not_ticked}
+use Rattle.eve_stamps_schedule.proofs.CommonStripes.{stripe_below}
+use Rattle.eve_stamps_schedule.proofs.ReachedWorlds.{nothing_noted}
+use Rattle.eve_stamps_schedule.proofs.EventSteps.{reached_first}
+use Rattle.eve_stamps_schedule.proofs.ScheduleSteps.{idle_not_ticked}
 
 -- ---- the rows of a stripe
 
@@ -97,8 +97,8 @@ lies_opening balances i (suc n) row =
     none false false = refl
 
 -- what a row has at first
-abbrev opened_at : List ℤ → ℕ → Versioned
-opened_at balances row = record { version = 0; value = balance_of_row balances row }
+abbrev opening_at : List ℤ → ℕ → Versioned
+opening_at balances row = record { version = 0; value = balance_of_row balances row }
 
 -- each at version 0, with its balance
 abbrev AreOpening : List ℤ → List HeldRow → Type 0
@@ -110,24 +110,24 @@ all_opening balances [] = tt
 all_opening balances (c ∷ customers) = ((refl, refl), ((refl, refl), all_opening balances customers))
 
 table_opening : (balances : List ℤ) (rows : List HeldRow) (row : ℕ) → AreOpening balances rows
-    → table_in rows row ≡ cond (lies_in rows row) (opened_at balances row) (record { version = 0; value = pos 0 })
+    → table_in rows row ≡ cond (lies_in rows row) (opening_at balances row) (record { version = 0; value = pos 0 })
 table_opening balances [] row are = refl
 table_opening balances (r ∷ rows) row are =
     elim (cases_Bool (r.row == row)) [
       | inl here ↦
-          let first : ◌≡◌ {A = Versioned} (record { version = r.version; value = r.value }) (opened_at balances row) =
+          let first : ◌≡◌ {A = Versioned} (record { version = r.version; value = r.value }) (opening_at balances row) =
           (λ k. record {
             version = are.0.0 k;
             value = (are.0.1 ∙ ap (balance_of_row balances) (eqb-true r.row row here))
                 k;
           }) in
           ap (λ b. cond b (record { version = r.version; value = r.value }) (table_in rows row)) here ∙ first
-          ∙ ap (λ b. cond (b || lies_in rows row) (opened_at balances row) (record { version = 0; value = pos 0 }))
+          ∙ ap (λ b. cond (b || lies_in rows row) (opening_at balances row) (record { version = 0; value = pos 0 }))
           (sym here)
       | inr other ↦
           ap (λ b. cond b (record { version = r.version; value = r.value }) (table_in rows row)) other
           ∙ table_opening balances rows row are.1
-          ∙ ap (λ b. cond (b || lies_in rows row) (opened_at balances row) (record { version = 0; value = pos 0 }))
+          ∙ ap (λ b. cond (b || lies_in rows row) (opening_at balances row) (record { version = 0; value = pos 0 }))
           (sym other)
     ]
 
@@ -154,21 +154,21 @@ opening_have balances customers i row small =
     ap (λ (s : Stripe). has_row s row) (at_first balances customers i small) ∙ lies_opening balances i customers row
 
 pub opening_base : (balances : List ℤ) (customers : ℕ) → length balances ≡ 2 * customers
-    → base_of (opening_stripes balances customers) ≡ opened_at balances
+    → base_of (opening_stripes balances customers) ≡ opening_at balances
 opening_base balances customers long =
     fun_ext (λ row.
     let i : ℕ = stripe_of row in
     ap (λ (s : Stripe). committed s row) (at_first balances customers i (stripe_below row))
     ∙ table_opening balances (rows_of_stripe balances i customers) row
     (all_opening balances (filter (λ c. stripe_of_customer c == i) (range_with_len 0 customers)))
-    ∙ ap (λ b. cond b (opened_at balances row) (record { version = 0; value = pos 0 }))
+    ∙ ap (λ b. cond b (opening_at balances row) (record { version = 0; value = pos 0 }))
     (lies_opening balances i customers row ∙ ap (λ b. b && nat_lt row (2 * customers)) (eq-eqb i i refl))
     ∙ elim (cases_lt row (2 * customers)) [
-      | inl there ↦ ap (λ b. cond b (opened_at balances row) (record { version = 0; value = pos 0 }))
+      | inl there ↦ ap (λ b. cond b (opening_at balances row) (record { version = 0; value = pos 0 }))
           (lt-ltb row (2 * customers) there)
       | inr past ↦
           let none : balance_of_row balances row ≡ pos 0 = get_or_past balances row (pos 0) (omega arith) in
-          ap (λ b. cond b (opened_at balances row) (record { version = 0; value = pos 0 }))
+          ap (λ b. cond b (opening_at balances row) (record { version = 0; value = pos 0 }))
           (le-ltb row (2 * customers) past)
           ∙ sym (ap (λ (z : ℤ). record { version = 0; value = z }) none)
     ])
@@ -243,7 +243,7 @@ opening_held names balances sizes requests workers long few =
       noted = length-replicate workers none ∙ sym (length-replicate workers at.Idle);
       counted = sym (ap (λ (f : ℕ → List Applied). noted_count f (length s.stages)) (all_alike workers none)
           ∙ nothing_noted (length s.stages));
-      opened = λ row. ap (λ (t : Table). (t row).version) (opening_base balances (length names) long);
+      from_opening = λ row. ap (λ (t : Table). (t row).version) (opening_base balances (length names) long);
       reached = subst (IsReachedWorld (plan_of s)) (sym (opening_world names balances sizes requests workers))
           (reached_first (plan_of s));
       rows = opening_have balances (length names);

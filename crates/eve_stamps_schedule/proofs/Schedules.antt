@@ -10,24 +10,25 @@ use Rattle.eve_smallbank.specs.Chain.{Table, table_after, values_of, visible_at}
 use Rattle.eve_smallbank.specs.Conflict.{entry_precedes, precedes, AgreesWithConflicts}
 use Rattle.eve_smallbank.proofs.Members.{In, here, there, all_in, list_any-none, in_after, reordering_map}
 use Rattle.eve_smallbank.proofs.Chains.{Follows, chain_follows, run_along}
-use Rattle.eve_smallbank.proofs.Fitting.{always_fits}
+use Rattle.eve_smallbank.proofs.FittingRecords.{always_fits}
 use Rattle.eve_smallbank.proofs.Orders.{StandsAbove, stands_above_head, later_precedes_not, reordered}
 use Rattle.eve_grammar.specs.Certificate.{group_of, keeps_groups}
 use Rattle.eve_stamps.specs.Applied.{Applied}
 use Rattle.eve_stamps_schedule.specs.declared.stage.Stage.{Stage}
 use Rattle.eve_stamps_schedule.specs.declared.stage.Stage.TheVariants as at
-use Rattle.eve_stamps.specs.Opening.{stripe_of}
-use Rattle.eve_stamps_schedule.specs.Before.{EachBefore}
+use Rattle.eve_stamps.specs.OpeningRows.{stripe_of}
+use Rattle.eve_stamps_schedule.specs.ListOrder.{EachBefore}
 use Rattle.eve_stamps_schedule.specs.World.{Plan, World, planned_request, executed_record, noted_count, pending}
 use Rattle.eve_stamps_schedule.specs.World.{records_at, records_below, noted_below}
 use Rattle.eve_stamps_schedule.specs.Events.{needs_at}
 use Rattle.eve_stamps_schedule.specs.Serial.{IsReachedWorld, executed_so_far, IsSerialWorld, order_of, is_done}
 use Rattle.eve_stamps_schedule.specs.Serial.{IsComplete}
 use Rattle.eve_stamps_schedule.proofs.Changes.{below_itself}
-use Rattle.eve_stamps_schedule.proofs.Holding.{flag, held, is_busy, has_index, Share, Bound, IsMade, executed, Holds}
-use Rattle.eve_stamps_schedule.proofs.Holding.{IsKept}
-use Rattle.eve_stamps_schedule.proofs.Sharing.{in_map, needed_by, stripe_below}
-use Rattle.eve_stamps_schedule.proofs.Keeping.{kept_after}
+use Rattle.eve_stamps_schedule.proofs.WorldInvariant.{flag, held, is_busy, has_index, Share, Bound, IsMade, executed}
+use Rattle.eve_stamps_schedule.proofs.WorldInvariant.{Holds}
+use Rattle.eve_stamps_schedule.proofs.WorldInvariant.{IsKept}
+use Rattle.eve_stamps_schedule.proofs.CommonStripes.{in_map, needed_by, stripe_below}
+use Rattle.eve_stamps_schedule.proofs.ReachedWorlds.{kept_after}
 use Rattle.eve_stamps_schedule.proofs.KeptGroups.{keeps}
 
 -- ---- the order of ticks

@@ -1,9 +1,9 @@
 pub mod Stripes
-pub mod Before
+pub mod ListOrder
 pub mod World
 pub mod Events
 pub mod Serial
 pub mod Schedule
-pub mod Applying
+pub mod AppliedRequests
 pub mod Scheduled
-pub mod Worked
+pub mod inner

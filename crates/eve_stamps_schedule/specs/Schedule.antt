@@ -7,7 +7,7 @@ use Rattle.eve_smallbank.specs.Chain.{Table}
 use Rattle.eve_grammar.specs.Trace.{Batch}
 use Rattle.eve_stamps.specs.Applied.{Applied}
 use Rattle.eve_stamps.specs.Stripes.{Stripe, committed, rows_now}
-use Rattle.eve_stamps.specs.Opening.{stripe_of}
+use Rattle.eve_stamps.specs.OpeningRows.{stripe_of}
 use Rattle.eve_stamps_schedule.specs.declared.event.Event.{Event}
 use Rattle.eve_stamps_schedule.specs.declared.event.Event.TheVariants.{Claim, LockStripe, Tick, Apply, Unlock, Note}
 use Rattle.eve_stamps_schedule.specs.declared.fault.StepFault.{StepFault}

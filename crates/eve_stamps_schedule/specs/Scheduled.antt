@@ -10,7 +10,7 @@ use Rattle.eve_stamps_schedule.specs.World.{noted_count}
 use Rattle.eve_stamps_schedule.specs.Events.{is_owner}
 use Rattle.eve_stamps_schedule.specs.Serial.{IsReachedWorld}
 use Rattle.eve_stamps_schedule.specs.Schedule.{Schedule, requests_of_batch, stripe_at, base_of, plan_of, world_of}
-use Rattle.eve_stamps_schedule.specs.Applying.{HaveTheirRows}
+use Rattle.eve_stamps_schedule.specs.AppliedRequests.{HaveTheirRows}
 
 abbrev pub schedule_of : Inside → Schedule
 schedule_of s = record {
@@ -41,7 +41,7 @@ pub record IsHeldSchedule (s : Schedule) (count : ℕ) : Type 0 where
   pub noted : length s.noted ≡ length s.stages
   pub counted : count ≡ noted_count (world_of s).noted (length s.stages)
   pub reached : IsReachedWorld (plan_of s) (world_of s)
-  pub opened : (row : ℕ) → (base_of s.stripes row).version ≡ 0
+  pub from_opening : (row : ℕ) → (base_of s.stripes row).version ≡ 0
   pub rows : HaveTheirRows (length s.names) s.stripes
   pub timely : (i : ℕ) → i < STRIPES → IsTimely s.counter (slice_index_or s.owners i None) s.stages
       (stripe_at s.stripes i).greatest

@@ -6,7 +6,7 @@ use Rattle.eve_smallbank.specs.Access.{Executed, bank_of, Fits}
 use Rattle.eve_smallbank.specs.Chain.{values_of, IsChained}
 use Rattle.eve_stamps.specs.Applied.{Applied}
 use Rattle.eve_stamps_schedule.specs.declared.event.Event.{Event}
-use Rattle.eve_stamps_schedule.specs.Before.{EachBefore}
+use Rattle.eve_stamps_schedule.specs.ListOrder.{EachBefore}
 use Rattle.eve_stamps_schedule.specs.World.{Plan, World, first_world, executed_record, noted_count, noted_below}
 use Rattle.eve_stamps_schedule.specs.Events.{are_allowed, world_after}
 use Rattle.eve_grammar.specs.Certificate.{keeps_groups}

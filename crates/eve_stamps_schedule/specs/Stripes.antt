@@ -2,7 +2,7 @@
 use Rattle.std.specs.Prelude.{ℕ, zero, suc, Bool, if◌then◌else◌, List, Option, Some, None}
 use Rattle.eve_smallbank.specs.SmallBank.{Request}
 use Rattle.eve_smallbank.specs.Touch.{touched_of, rows_in}
-use Rattle.eve_stamps.specs.Opening.{touches}
+use Rattle.eve_stamps.specs.OpeningRows.{touches}
 
 -- whether the request touches a row of the stripe
 abbrev pub needs : List (List ℕ) → Request → ℕ → Bool

@@ -6,13 +6,13 @@ ghost use Rattle.eve_smallbank.specs.Chain.{table_after};
 ghost use Rattle.eve_smallbank.specs.Execution.{executed_on};
 ghost use Rattle.eve_stamps.specs.Applied.{noted_of};
 ghost use Rattle.eve_stamps.specs.Stripes.{is_above, rows_now, stripe_with};
-ghost use Rattle.eve_stamps.specs.Stamping.{rows_in_two, entries_within, entries_outside};
-ghost use Rattle.eve_stamps.specs.Stamping.{refusal, refusal_of_two, IsRefusedFor};
+ghost use Rattle.eve_stamps.specs.Requests.{rows_in_two, entries_within, entries_outside};
+ghost use Rattle.eve_stamps.specs.Requests.{refusal, refusal_of_two, IsRefusedFor};
 ghost use Rattle.eve_smallbank.specs.Touch.{touched_of, rows_in};
 ghost use Rattle.eve_stamps.specs.declared.limits.TheConstants.{STRIPES};
 ghost use Rattle.eve_stamps_schedule.specs.Stripes.{needs};
 ghost use Rattle.eve_stamps_schedule.specs.Schedule.{stripe_at, table_of_stripes};
-ghost use Rattle.eve_stamps_schedule.specs.Applying.{HaveTheirRows, AreFresh, IsKeptAt};
+ghost use Rattle.eve_stamps_schedule.specs.AppliedRequests.{HaveTheirRows, AreFresh, IsKeptAt};
 
 use eve_accounts::Names;
 use eve_smallbank::{Request, Touched, touched};
@@ -100,9 +100,9 @@ fn on_two(
         IsRefusedFor (refusal_of_two first (stripe_at stripes.old span.last) stamp.tick (rows_in reached.now)) result }
     ensures kept { OnErr result (stripes.new ≡ stripes.old) }
 {
-    let (front, back) = stripes.split_at_mut(span.last);
+    let (prefix, back) = stripes.split_at_mut(span.last);
     apply_two(
-        &mut front[span.first],
+        &mut prefix[span.first],
         &mut back[0],
         request,
         reached,

@@ -7,9 +7,10 @@ ghost use Rattle.eve_stamps_schedule.specs.World.{Plan, World, first_world, reco
 ghost use Rattle.eve_stamps_schedule.specs.Events.{is_allowed_event, happens, are_allowed};
 ghost use Rattle.eve_stamps_schedule.specs.Serial.{IsReachedWorld, IsSerialWorld, AreNotedBy, order_of, is_done};
 ghost use Rattle.eve_stamps_schedule.specs.Serial.{IsComplete};
-ghost use Rattle.eve_stamps_schedule.specs.Worked.{same_stripe, two_groups, two_stripes, no_stripe, up_to_the_lock};
-ghost use Rattle.eve_stamps_schedule.specs.Worked.{the_rest_of, one_after_the_other, applied_out_of_order};
-ghost use Rattle.eve_stamps_schedule.specs.Worked.{world_of_events};
+ghost use Rattle.eve_stamps_schedule.specs.inner.Worked.{same_stripe, two_groups, two_stripes, no_stripe};
+ghost use Rattle.eve_stamps_schedule.specs.inner.Worked.{up_to_the_lock};
+ghost use Rattle.eve_stamps_schedule.specs.inner.Worked.{the_rest_of, one_after_the_other, applied_out_of_order};
+ghost use Rattle.eve_stamps_schedule.specs.inner.Worked.{world_of_events};
 
 /// If each event was allowed where it came, the applied records are serial in the order of their ticks, also where
 /// requests on different stripes were applied in another order.

@@ -3,7 +3,7 @@
 ghost use Rattle.std.specs.Prelude.{◌≡◌, ◌*◌, ◌≤◌, IfOk, length, map, replicate, [], None};
 ghost use Rattle.std.specs.List.{range_with_len};
 ghost use Rattle.eve_stamps.specs.declared.limits.TheConstants.{STRIPES};
-ghost use Rattle.eve_stamps.specs.Opening.{rows_of_stripe};
+ghost use Rattle.eve_stamps.specs.OpeningRows.{rows_of_stripe};
 
 use crate::stage::Stage;
 use eve_accounts::{Balances, MOST_NAMES};

@@ -4,7 +4,7 @@ ghost use Rattle.std.specs.Prelude.{◌≡◌, ◌<◌, ℕ, List, ◌&&◌, not
 ghost use Rattle.eve_smallbank.specs.SmallBank.{Request};
 ghost use Rattle.eve_smallbank.specs.Touch.{touched_of, rows_in};
 ghost use Rattle.eve_stamps.specs.declared.limits.TheConstants.{STRIPES};
-ghost use Rattle.eve_stamps.specs.Opening.{touches};
+ghost use Rattle.eve_stamps.specs.OpeningRows.{touches};
 ghost use Rattle.eve_stamps_schedule.specs.Stripes.{least_from, greatest_below};
 ghost use Rattle.eve_stamps_schedule.specs.Events.{is_owner};
 

@@ -11,7 +11,7 @@ sink_behind b = b.sink
 abbrev pub held_bytes : {S : Type 0} → Buffered S → List ℕ
 held_bytes b = b.held.items
 
--- the sink behind took a front of what was held, and not all of it, and the rest is held
+-- the sink behind took a prefix of what was held, and not all of it, and the rest is held
 pub record SendsHeld {S : Type 0} (written : S → Option (List ℕ)) (old new : Buffered S) : Type 0 where
   pub count : ℕ
   pub proper : count < length (held_bytes old)

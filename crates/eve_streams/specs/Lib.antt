@@ -1,6 +1,6 @@
 pub mod Buffers
 pub mod Failures
-pub mod Front
+pub mod Prefix
 pub mod Readers
 pub mod Writers
 pub mod Trials

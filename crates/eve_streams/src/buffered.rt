@@ -5,7 +5,7 @@ ghost use Rattle.std.specs.Io.KnownBytes.{Appends, append_known};
 ghost use Rattle.eve_streams.specs.Failures.{after_failure};
 ghost use Rattle.eve_streams.specs.declared.buffered.TheConstants.{ROOM};
 
-use crate::sink::send_front;
+use crate::sink::send_prefix;
 use crate::{SendFault, Sink};
 use std::alloc::{AllocError, Global};
 
@@ -49,19 +49,19 @@ impl<S: Sink + Drop> Buffered<S> {
         self.held.as_slice()
     }
 
-    /// Sends on what is held. After a fault a front of it has been sent on, and the rest is held.
+    /// Sends on what is held. After a fault a prefix of it has been sent on, and the rest is held.
     pub fn flush(&mut self) -> Result<(), SendFault>
         ensures sent { OnOk result
             (Appends (S.written (sink_behind self.old)) (S.written (sink_behind self.new)) (held_bytes self.old)) }
         ensures empty { OnOk result (held_bytes self.new ≡ []) }
-        ensures front { OnErr result (SendsHeld S.written self.old self.new) }
+        ensures prefix { OnErr result (SendsHeld S.written self.old self.new) }
         ensures fine { OnOk result
             (S.failures (sink_behind self.new) ≡ S.failures (sink_behind self.old)) }
         ensures counted { OnErr result
             (S.failures (sink_behind self.new) ≡ after_failure (S.failures (sink_behind self.old))) }
     {
-        let (sent, result) = send_front(&mut self.sink, self.held.as_slice());
-        remove_front(&mut self.held, sent);
+        let (sent, result) = send_prefix(&mut self.sink, self.held.as_slice());
+        remove_prefix(&mut self.held, sent);
         result
     }
 }
@@ -93,7 +93,7 @@ fn hold(held: &mut Vec<u8>, bytes: &[u8])
     };
 }
 
-fn remove_front(held: &mut Vec<u8>, n: usize)
+fn remove_prefix(held: &mut Vec<u8>, n: usize)
     requires { n ≤ vec_len held.old }
     ensures items { held.new.items ≡ drop n held.old.items }
     ensures capacity { vec_capacity held.new ≡ vec_capacity held.old }

@@ -3,7 +3,7 @@
 ghost use Rattle.std.specs.Prelude.{◌≡◌, ◌≤◌, ◌<◌, ℕ, Option, List, length, take, IfOk, OnOk, OnErr};
 ghost use Rattle.std.specs.Io.KnownBytes.{Appends, Keeps};
 ghost use Rattle.eve_streams.specs.Failures.{after_failure};
-ghost use Rattle.eve_streams.specs.Front.{AppendsFront};
+ghost use Rattle.eve_streams.specs.Prefix.{AppendsPrefix};
 
 /// A sink failed, and counted it.
 #[derive(Clone, Copy, Debug)]
@@ -18,7 +18,7 @@ pub trait Sink {
     // from one that met none.
     ghost failures: { Self → ℕ };
 
-    /// Takes a front of `bytes`, at least one byte where there is one, and returns its length; or fails, takes nothing
+    /// Takes a prefix of `bytes`, at least one byte where there is one, and returns its length; or fails, takes nothing
     /// and counts one failure.
     fn send(&mut self, bytes: &[u8]) -> Result<usize, SendFault>
         ensures within { IfOk result (λ n. n ≤ length bytes.now) }
@@ -30,24 +30,24 @@ pub trait Sink {
         ensures counted { OnErr result (failures self.new ≡ after_failure (failures self.old)) };
 }
 
-/// Sends all of `bytes`. After a fault a front of them has been taken, but not all of them; the sink failed once, in
+/// Sends all of `bytes`. After a fault a prefix of them has been taken, but not all of them; the sink failed once, in
 /// this call.
 pub fn send_all<S: Sink>(sink: &mut S, bytes: &[u8]) -> Result<(), SendFault>
     ensures sent { OnOk result (Appends (S.written sink.old) (S.written sink.new) bytes.now) }
-    ensures front { OnErr result
-        (AppendsFront (S.written sink.old) (S.written sink.new) bytes.now) }
+    ensures prefix { OnErr result
+        (AppendsPrefix (S.written sink.old) (S.written sink.new) bytes.now) }
     ensures fine { OnOk result (S.failures sink.new ≡ S.failures sink.old) }
     ensures counted { OnErr result (S.failures sink.new ≡ after_failure (S.failures sink.old)) }
 {
-    let (_, result) = send_front(sink, bytes);
+    let (_, result) = send_prefix(sink, bytes);
     result
 }
 
 /// Sends until all is sent or the sink fails, and returns how many bytes were sent.
-pub(crate) fn send_front<S: Sink>(sink: &mut S, bytes: &[u8]) -> (usize, Result<(), SendFault>)
+pub(crate) fn send_prefix<S: Sink>(sink: &mut S, bytes: &[u8]) -> (usize, Result<(), SendFault>)
     ensures within { result.0 ≤ length bytes.now }
     ensures all { OnOk result.1 (result.0 ≡ length bytes.now) }
-    ensures front { OnErr result.1 (result.0 < length bytes.now) }
+    ensures prefix { OnErr result.1 (result.0 < length bytes.now) }
     ensures sent { Appends (S.written sink.old) (S.written sink.new) (take result.0 bytes.now) }
     ensures fine { OnOk result.1 (S.failures sink.new ≡ S.failures sink.old) }
     ensures counted { OnErr result.1 (S.failures sink.new ≡ after_failure (S.failures sink.old)) }

@@ -18,9 +18,9 @@
 //!   token
 //! - `writes NAME BALANCES ROW=CENTS..`: the root that a tree gives at first and after each write
 //! - `random NAME COUNT BALANCES`: after how many of COUNT random writes the root is that of a new tree
-//! - `workload read NAME TEXT`: the text read as a workload, or its first bad line; `workload cut NAME TEXT`: the same of
-//!   each front of it; `workload mix NAME TEXT`: its batches cut by both mixers, by the numbers of their requests. In a
-//!   text `/` stands for a line feed
+//! - `workload read NAME TEXT`: the text read as a workload, or its first bad line; `workload cut NAME TEXT`: the same
+//!   of each prefix of it; `workload mix NAME TEXT`: its batches cut by both mixers, by the numbers of their requests.
+//!   In a text `/` stands for a line feed
 //! - `workload greatest`: texts with the greatest numbers of customers, requests and batches, and more
 //!
 //! Where a word isn't as it must be, or memory is refused, nothing is printed of the line, and the program ends there.

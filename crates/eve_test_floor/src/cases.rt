@@ -52,7 +52,7 @@ pub enum Act {
     Settle(u64),
     /// All stripes go back to what is committed.
     GoBack,
-    /// All stripes take over a state.
+    /// All stripes have a state transferred.
     Install,
 }
 
@@ -131,7 +131,7 @@ impl<'n> Case<'n> {
         }
     }
 
-    /// All stripes take over a state, if there is memory for it.
+    /// All stripes have a state transferred, if there is memory for it.
     fn install(&mut self, alloc: Global, text: &mut Text) {
         match state_of(alloc) {
             Ok(state) => self.site.floor.install(&state),

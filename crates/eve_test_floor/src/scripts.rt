@@ -141,7 +141,7 @@ pub static SCRIPTS: [Script; 10] = [
         ],
         is_taken_apart: false,
     },
-    // A state is taken over after a deposit for each of two customers, whose rows lie in the first stripe and in the
+    // A state is transferred after a deposit for each of two customers, whose rows lie in the first stripe and in the
     // last: what comes next sees the state, and neither a settled tick nor going back brings a deposit in.
     Script {
         begin: "installed:",

@@ -50,8 +50,8 @@ pub const UNCOMMITTED: &str = "uncommitted";
 /// with that of a new tree.
 pub const MERKLE: &str = "merkle";
 
-/// A second ledger takes over what the first one commits.
-pub const TAKEN_OVER: &str = "taken-over";
+/// A second ledger gets by a transfer what the first one commits.
+pub const TRANSFERRED: &str = "taken-over";
 
 /// A change, and the word that names it.
 struct Word {

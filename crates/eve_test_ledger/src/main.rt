@@ -8,8 +8,8 @@
 //! batch is committed once more, and all is rolled back.
 //!
 //! With `merkle` the ledger is of version 2: the token of an attempt is compared with one made from nothing, and after
-//! each step the root with that of a new tree. With `taken-over` a second ledger goes along, which takes over what the
-//! first has committed where that commits.
+//! each step the root with that of a new tree. With `taken-over` a second ledger goes along, which gets by a transfer
+//! what the first has committed where that commits.
 #![tactic(auto)]
 
 mod changing;

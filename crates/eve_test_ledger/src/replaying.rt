@@ -4,14 +4,14 @@ ghost use Rattle.std.specs.Prelude.{◌+◌, ◌<◌, ◌≤◌, IsTrue, IfOk, l
 ghost use Rattle.eve_grammar.specs.Limits.{is_attempt, is_batch};
 ghost use Rattle.eve_write.specs.Data.{attempt as plain_attempt, batch as plain};
 
-use crate::changing::{Change, FEWER_ROWS, MERKLE, SERIAL, TAKEN_OVER, UNCOMMITTED};
+use crate::changing::{Change, FEWER_ROWS, MERKLE, SERIAL, TRANSFERRED, UNCOMMITTED};
 use crate::comparing::{Shown, has_token_of, is_attempt_of, is_batch_of};
 use crate::framed::Framed;
 use crate::meeting::{Meeting, meetings_of, record_of};
 use crate::opening::{balances_of, batch_of};
 use crate::taking::replay_beside;
 use eve_accounts::{Balances, MOST_NAMED_ROWS, Names};
-use eve_attempts::{AttemptFront, CloseFault, Ledger};
+use eve_attempts::{AttemptPrefix, CloseFault, Ledger};
 use eve_frames::{CommitView, RollbackView};
 use eve_grammar::{MOST_BATCHES, Restore};
 use eve_stamps::AccessRecord;
@@ -83,7 +83,7 @@ fn has_its_batch(case: &Case, number: u32, said: &mut Text) -> bool
 pub fn replay(case: &Case, section: u8, said: &mut Text)
     requires { section < length case.now.trace.now.sections }
 {
-    if case.has(TAKEN_OVER) {
+    if case.has(TRANSFERRED) {
         return replay_beside(case, section, said);
     }
     let Ok(mut ledger) = ledger_of(case) else {
@@ -328,13 +328,13 @@ fn close_due(
         return Err(CloseFault::Memory);
     };
     let touched = touched.as_slice();
-    let front = AttemptFront {
+    let prefix = AttemptPrefix {
         seq: ledger.next_number() as u32,
         view: ledger.view(),
         serial: ledger.is_next_serial(),
     };
-    match ledger.close(alloc, front, batch, touched, records) {
-        Err(CloseFault::Memory) => ledger.close(alloc, front, batch, touched, records),
+    match ledger.close(alloc, prefix, batch, touched, records) {
+        Err(CloseFault::Memory) => ledger.close(alloc, prefix, batch, touched, records),
         told => told,
     }
 }

@@ -1,4 +1,4 @@
-//! A ledger that takes over what another one committed.
+//! A ledger that gets by a transfer what another one committed.
 
 ghost use Rattle.std.specs.Prelude.{◌<◌, length};
 
@@ -11,8 +11,8 @@ use eve_testing::Text;
 use eve_views::Step;
 use std::alloc::{AllocError, Global};
 
-/// Replays a section on two new ledgers. Where the first commits, the second takes over what the first has committed;
-/// all other steps are taken by both. At the end the second is ended.
+/// Replays a section on two new ledgers. Where the first commits, the second gets by a transfer what the first has
+/// committed; all other steps are taken by both. At the end the second is ended.
 pub fn replay_beside(case: &Case, section: u8, said: &mut Text)
     requires { section < length case.now.trace.now.sections }
 {
@@ -29,7 +29,7 @@ pub fn replay_beside(case: &Case, section: u8, said: &mut Text)
         };
         replay_step(case, &mut first, &step, said);
         match &step {
-            Step::Commit(_) => take_over(case.alloc, &first, &mut second, said),
+            Step::Commit(_) => apply_transfer(case.alloc, &first, &mut second, said),
             _ => replay_step(case, &mut second, &step, said),
         }
     }
@@ -38,7 +38,7 @@ pub fn replay_beside(case: &Case, section: u8, said: &mut Text)
 
 /// Takes over what the first ledger has committed, and tells what came of it. Then neither that state is due any more,
 /// nor a later one of an earlier view.
-fn take_over(alloc: Global, first: &Ledger, second: &mut Ledger, said: &mut Text) {
+fn apply_transfer(alloc: Global, first: &Ledger, second: &mut Ledger, said: &mut Text) {
     let Some(rows) = said.made(state_of(alloc, first)) else {
         return;
     };
@@ -74,10 +74,10 @@ fn state_of(alloc: Global, ledger: &Ledger) -> Result<Vec<Versioned>, AllocError
     }
 }
 
-/// Whether the ledger takes the state over, which must have its rows.
+/// Whether the ledger has the state transferred, which must have its rows.
 fn takes(ledger: &mut Ledger, state: &TransferData) -> bool {
     let many = ledger.balances().len();
-    many == state.rows.len() && many <= MOST_ROWS as usize && ledger.take_over(state).is_ok()
+    many == state.rows.len() && many <= MOST_ROWS as usize && ledger.apply_transfer(state).is_ok()
 }
 
 /// Whether the ledger has the state's number, view and rows, and nothing open, so that the next attempt is parallel.

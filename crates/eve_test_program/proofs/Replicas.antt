@@ -5,9 +5,9 @@ use Rattle.std.proofs.lemmas.Bool.{cases_lt}
 use Rattle.eve_grammar.specs.Trace.{Trace}
 use Rattle.eve_grammar.proofs.Numbered.{numbered_more, numbered_all}
 use Rattle.eve_history.specs.SectionHistory.{SectionHistory, section_history, section_histories, IsRightSection}
-use Rattle.eve_history.proofs.Rights.{right_beyond}
-use Rattle.eve_chains.specs.Settling.{Settling, settling, settlings}
-use Rattle.eve_test_program.specs.SectionHistories.{AreTold}
+use Rattle.eve_history.proofs.RightSections.{right_beyond}
+use Rattle.eve_chains.specs.CommittedValues.{Settling, settling, settlings}
+use Rattle.eve_test_program.specs.inner.SectionHistories.{AreTold}
 
 module _ (t : Trace) where
   pub none_told : AreTold t 0 [] []

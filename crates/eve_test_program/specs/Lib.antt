@@ -1,1 +1,1 @@
-pub mod SectionHistories
+pub mod inner

@@ -2,7 +2,7 @@
 
 use crate::gates::{Held, Turn};
 use crate::replicas::{Attempted, Closed, Deed, Due, OPENING, Seen, Setting, Want};
-use crate::taking::{KEEPS_ITS_TREE, TAKES_NOTHING_OVER, TAKES_OVER};
+use crate::taking::{KEEPS_ITS_TREE, TRANSFERS, TRANSFERS_NOTHING};
 use eve_grammar::MOST_VERSIONS;
 use eve_replica::eve_workload::Mixer;
 use eve_replica::{AttemptFault, CloseFault, CommitFault};
@@ -146,7 +146,7 @@ const IN_TURN: &[Want] = &[Want {
 /// row may be written no more, and the other, who waits for it, is told.
 const GIVEN_UP: &[Want] = &[
     Want {
-        deed: Deed::TakeOver(1, 0, WORN, None),
+        deed: Deed::ApplyTransfer(1, 0, WORN, None),
         what: "her row may be written no more",
     },
     Want {
@@ -398,12 +398,12 @@ static CASES: [Case; 24] = [
     Case {
         name: "replica-transfer",
         file: "deposits-of-100-and-5",
-        doing: Doing::Calls(OF_VERSION_2, &[TAKES_OVER]),
+        doing: Doing::Calls(OF_VERSION_2, &[TRANSFERS]),
     },
     Case {
         name: "transfer-while-broken",
         file: "one-deposit",
-        doing: Doing::Calls(OF_VERSION_2, &[TAKES_NOTHING_OVER]),
+        doing: Doing::Calls(OF_VERSION_2, &[TRANSFERS_NOTHING]),
     },
     Case {
         name: "tree-follows-replica",

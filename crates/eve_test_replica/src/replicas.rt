@@ -2,7 +2,7 @@
 
 use crate::gates::{Held, HoldingGate};
 use crate::misses::Misses;
-use crate::states::{cents, has_cents, has_root, has_state, take_over};
+use crate::states::{apply_transfer, cents, has_cents, has_root, has_state};
 use crate::world::{
     Fit, attempt, batch_of, close, closed, names_of, ran, record_at, replica_of, roll_back,
     stopped, trace_of,
@@ -113,8 +113,8 @@ pub enum Deed {
     Discard(u32),
     /// The last batch is attempted, and a request of it is held.
     Hold(Held),
-    /// A state of ann alone is taken over, of this number and view and with her row so, or that is refused so.
-    TakeOver(u32, u32, Seen, Option<TransferFault>),
+    /// A state of ann alone is transferred, of this number and view and with her row so, or that is refused so.
+    ApplyTransfer(u32, u32, Seen, Option<TransferFault>),
     /// The replica's state is of ann alone, with her row so.
     HaveState(Seen),
     /// After the open attempts there are this many cents in ann's row.
@@ -244,8 +244,8 @@ impl<R: Threads + Wait + Sync> Bench<'_, R> {
             Deed::GoBackAtLast(seen) => goes_back_at_last(self.alloc, replica, seen),
             Deed::Discard(times) => self.discards(times, replica),
             Deed::Hold(held) => Ok(self.holds(held, replica)),
-            Deed::TakeOver(seq, view, seen, fault) => {
-                let taken = take_over(self.alloc, replica, seq, view, seen.row())?;
+            Deed::ApplyTransfer(seq, view, seen, fault) => {
+                let taken = apply_transfer(self.alloc, replica, seq, view, seen.row())?;
                 Ok(taken.err() == fault)
             }
             Deed::HaveState(seen) => has_state(self.alloc, replica, seen.row()),

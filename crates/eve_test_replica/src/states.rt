@@ -1,4 +1,4 @@
-//! States that a replica lends and takes over, and its tree.
+//! States that a replica lends and gets by a transfer, and its tree.
 
 ghost use Rattle.std.specs.Prelude.{◌≡◌, IfOk, length};
 ghost use Rattle.eve_stamps.specs.Stripes.{HaveRightVersions};
@@ -46,8 +46,8 @@ fn state_of(
     })
 }
 
-/// The replica, which has one customer, takes over a state with her checking row as this one is.
-pub fn take_over(
+/// The replica, which has one customer, has a state transferred with her checking row as this one is.
+pub fn apply_transfer(
     alloc: Global,
     replica: &mut Replica,
     seq: u32,

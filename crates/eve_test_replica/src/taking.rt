@@ -1,4 +1,4 @@
-//! Cases in which a replica takes over a state, or may not.
+//! Cases in which a replica has a state transferred, or may not.
 
 use crate::cases::FIRST;
 use crate::replicas::{Attempted, Closed, Deed, Due, OPENING, Seen, Want};
@@ -7,12 +7,12 @@ use eve_replica::{AttemptFault, CommitFault, TransferFault};
 /// As one of 100 does.
 const HUNDRED: Seen = Seen(1, 100);
 
-/// As it is in a state that is taken over.
-const TAKEN_OVER: Seen = Seen(3, 30);
+/// As it is in a state that is transferred.
+const TRANSFERRED: Seen = Seen(3, 30);
 
-/// A deposit of 100 is committed, one of 5 is open, and a state is taken over in its place: a deposit of 5 sees that
-/// state then, and no earlier one is taken over.
-pub const TAKES_OVER: &[Want] = &[
+/// A deposit of 100 is committed, one of 5 is open, and a state is transferred in its place: a deposit of 5 sees that
+/// state then, and no earlier one is transferred.
+pub const TRANSFERS: &[Want] = &[
     FIRST,
     Want {
         deed: Deed::Commit(1, None),
@@ -39,7 +39,7 @@ pub const TAKES_OVER: &[Want] = &[
         what: "the balances are with it",
     },
     Want {
-        deed: Deed::TakeOver(1, 0, TAKEN_OVER, Some(TransferFault::NotDue)),
+        deed: Deed::ApplyTransfer(1, 0, TRANSFERRED, Some(TransferFault::NotDue)),
         what: "its number is committed",
     },
     Want {
@@ -51,11 +51,11 @@ pub const TAKES_OVER: &[Want] = &[
         what: "nothing is discarded",
     },
     Want {
-        deed: Deed::TakeOver(2, 0, TAKEN_OVER, None),
+        deed: Deed::ApplyTransfer(2, 0, TRANSFERRED, None),
         what: "the state is taken over",
     },
     Want {
-        deed: Deed::HaveState(TAKEN_OVER),
+        deed: Deed::HaveState(TRANSFERRED),
         what: "the state is that one",
     },
     Want {
@@ -63,7 +63,7 @@ pub const TAKES_OVER: &[Want] = &[
         what: "nothing is open on it",
     },
     Want {
-        deed: Deed::TakeOver(2, 0, HUNDRED, Some(TransferFault::NotDue)),
+        deed: Deed::ApplyTransfer(2, 0, HUNDRED, Some(TransferFault::NotDue)),
         what: "it isn't taken over again",
     },
     Want {
@@ -77,7 +77,7 @@ pub const TAKES_OVER: &[Want] = &[
                 seq: 3,
                 view: 0,
                 serial: false,
-                seen: TAKEN_OVER,
+                seen: TRANSFERRED,
             }),
         ),
         what: "the next deposit sees the state",
@@ -99,7 +99,7 @@ pub const TAKES_OVER: &[Want] = &[
         what: "nothing to restore",
     },
     Want {
-        deed: Deed::TakeOver(4, 0, TAKEN_OVER, Some(TransferFault::NotDue)),
+        deed: Deed::ApplyTransfer(4, 0, TRANSFERRED, Some(TransferFault::NotDue)),
         what: "its view is an earlier one",
     },
     Want {
@@ -107,7 +107,7 @@ pub const TAKES_OVER: &[Want] = &[
         what: "nothing is taken over in an earlier view",
     },
     Want {
-        deed: Deed::TakeOver(9, 4, TAKEN_OVER, None),
+        deed: Deed::ApplyTransfer(9, 4, TRANSFERRED, None),
         what: "numbers and views are skipped",
     },
     Want {
@@ -117,17 +117,17 @@ pub const TAKES_OVER: &[Want] = &[
                 seq: 10,
                 view: 4,
                 serial: false,
-                seen: TAKEN_OVER,
+                seen: TRANSFERRED,
             }),
         ),
         what: "the next attempt is parallel, in that view",
     },
     Want {
-        deed: Deed::TakeOver(u32::MAX, 4, TAKEN_OVER, None),
+        deed: Deed::ApplyTransfer(u32::MAX, 4, TRANSFERRED, None),
         what: "no number is too great",
     },
     Want {
-        deed: Deed::TakeOver(u32::MAX, 5, HUNDRED, Some(TransferFault::NotDue)),
+        deed: Deed::ApplyTransfer(u32::MAX, 5, HUNDRED, Some(TransferFault::NotDue)),
         what: "none comes after it",
     },
     Want {
@@ -137,8 +137,8 @@ pub const TAKES_OVER: &[Want] = &[
 ];
 
 /// Ann's deposit is closed of a record that was taken by hand, so that another attempt fails. The broken replica has
-/// its state and its balances, and takes no other over, be it due or not.
-pub const TAKES_NOTHING_OVER: &[Want] = &[
+/// its state and its balances, and has no other transferred, be it due or not.
+pub const TRANSFERS_NOTHING: &[Want] = &[
     Want {
         deed: Deed::Close(0, Closed::Made),
         what: "her deposit is closed",
@@ -156,11 +156,11 @@ pub const TAKES_NOTHING_OVER: &[Want] = &[
         what: "the balances of a broken replica",
     },
     Want {
-        deed: Deed::TakeOver(1, 0, TAKEN_OVER, Some(TransferFault::Broken)),
+        deed: Deed::ApplyTransfer(1, 0, TRANSFERRED, Some(TransferFault::Broken)),
         what: "it is due to no broken replica",
     },
     Want {
-        deed: Deed::TakeOver(0, 0, TAKEN_OVER, Some(TransferFault::Broken)),
+        deed: Deed::ApplyTransfer(0, 0, TRANSFERRED, Some(TransferFault::Broken)),
         what: "broken comes before what isn't due",
     },
     Want {
@@ -172,15 +172,15 @@ pub const TAKES_NOTHING_OVER: &[Want] = &[
         what: "her row is restored",
     },
     Want {
-        deed: Deed::TakeOver(1, 0, TAKEN_OVER, Some(TransferFault::NotDue)),
+        deed: Deed::ApplyTransfer(1, 0, TRANSFERRED, Some(TransferFault::NotDue)),
         what: "its view is an earlier one",
     },
     Want {
-        deed: Deed::TakeOver(1, 1, TAKEN_OVER, None),
+        deed: Deed::ApplyTransfer(1, 1, TRANSFERRED, None),
         what: "the state is taken over",
     },
     Want {
-        deed: Deed::HaveState(TAKEN_OVER),
+        deed: Deed::HaveState(TRANSFERRED),
         what: "the state is that one",
     },
     Want {
@@ -190,7 +190,7 @@ pub const TAKES_NOTHING_OVER: &[Want] = &[
                 seq: 2,
                 view: 1,
                 serial: false,
-                seen: TAKEN_OVER,
+                seen: TRANSFERRED,
             }),
         ),
         what: "the next attempt sees the state",
@@ -241,7 +241,7 @@ pub const KEEPS_ITS_TREE: &[Want] = &[
         what: "the root is that of a new tree, after a commit",
     },
     Want {
-        deed: Deed::TakeOver(2, 1, TAKEN_OVER, None),
+        deed: Deed::ApplyTransfer(2, 1, TRANSFERRED, None),
         what: "the state is taken over",
     },
     Want {
@@ -255,7 +255,7 @@ pub const KEEPS_ITS_TREE: &[Want] = &[
                 seq: 3,
                 view: 1,
                 serial: false,
-                seen: TAKEN_OVER,
+                seen: TRANSFERRED,
             }),
         ),
         what: "a deposit sees the state",

@@ -44,7 +44,7 @@ enum Step {
     Settle(u64),
     /// The first stripe goes back.
     GoBack,
-    /// The first stripe takes over a state in which the first customer's rows are so.
+    /// The first stripe has a state transferred in which the first customer's rows are so.
     Install(Opening),
     /// Undoes the first stripe; whether there is room for what is told.
     Undo(bool, &'static str),
@@ -208,7 +208,7 @@ pub const SETTLED_AND_WENT_BACK: Case = Case {
     ],
 };
 
-/// A state that is taken over stands as committed, with its versions, and what was noted before is gone.
+/// A state that is transferred stands as committed, with its versions, and what was noted before is gone.
 pub const INSTALLED: Case = Case {
     first: SEVEN,
     second: OTHER,
@@ -454,7 +454,7 @@ impl Stripes {
         };
     }
 
-    /// The first stripe takes over a state; where no memory was left for it, it is made once more.
+    /// The first stripe has a state transferred; where no memory was left for it, it is made once more.
     fn install(&mut self, alloc: Global, opening: &Opening, seen: &mut Seen) {
         let state = match state_of(alloc, opening) {
             Err(AllocError) => state_of(alloc, opening),

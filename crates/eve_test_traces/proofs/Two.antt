@@ -3,7 +3,7 @@ use Rattle.std.proofs.Common.{◌≡◌, ℕ, List, [], ◌∷◌, map, length, 
 use Rattle.std.specs.List.{enumerate_from}
 use Rattle.eve_grammar.specs.Trace.{Trace}
 use Rattle.eve_history.specs.SectionHistory.{SectionHistory, section_history, section_histories}
-use Rattle.eve_chains.specs.Settling.{Settling, settling, settlings}
+use Rattle.eve_chains.specs.CommittedValues.{Settling, settling, settlings}
 
 both : {A B : Type 0} (h : ℕ → B) (xs : List A) → length xs ≡ 2 → map (λ s. h s.0) (enumerate_from 0 xs)
     ≡ h 0 ∷ h 1 ∷ []

@@ -8,7 +8,7 @@ use eve_agree::equal_balances;
 use eve_chains::Settled;
 use eve_frames::VoteView;
 use eve_grammar::Choice;
-use eve_history::{History, Landing};
+use eve_history::{History, HowReached};
 use eve_testing::Text;
 use eve_views::{CheckFault, Trace};
 use eve_votes::Tally;
@@ -25,30 +25,30 @@ fn push_attempts(text: &mut Text, history: &History) {
 }
 
 /// How it reached a number.
-fn push_landing(text: &mut Text, landing: Landing) {
-    match landing {
-        Landing::Attempt(i) => text.value(" by attempt ", u64::from(i)),
-        Landing::Transfer(i) => text.value(" by transfer ", u64::from(i)),
-        Landing::Skipped => text.words(" skipped"),
+fn push_how_reached(text: &mut Text, how_reached: HowReached) {
+    match how_reached {
+        HowReached::Attempt(i) => text.value(" by attempt ", u64::from(i)),
+        HowReached::Transfer(i) => text.value(" by transfer ", u64::from(i)),
+        HowReached::Skipped => text.words(" skipped"),
     }
 }
 
 /// Whether a number was reached by the commit of this attempt.
-fn is_by(landing: Landing, attempt: usize) -> bool {
-    match landing {
-        Landing::Attempt(i) => i as usize == attempt,
+fn is_by(how_reached: HowReached, attempt: usize) -> bool {
+    match how_reached {
+        HowReached::Attempt(i) => i as usize == attempt,
         _ => false,
     }
 }
 
 /// How it reached each number up to the last; and that the attempt that it committed is told otherwise, where it is.
-fn push_landings(text: &mut Text, history: &History) {
+fn push_each_reached(text: &mut Text, history: &History) {
     for n in 0..history.committed() {
-        let landing = history.landing(n + 1);
+        let how_reached = history.how_reached(n + 1);
         text.value("\n  batch ", u64::from(n + 1));
-        push_landing(text, landing);
+        push_how_reached(text, how_reached);
         if history.by_attempt(n + 1) {
-            let alike = is_by(landing, history.committed_attempt(n + 1));
+            let alike = is_by(how_reached, history.committed_attempt(n + 1));
             text.words(if alike { "" } else { "(unlike)" });
         }
     }
@@ -70,12 +70,13 @@ fn push_transfers(text: &mut Text, history: &History) {
     }
 }
 
-/// A replica's attempts with their fates, how it reached its numbers, its rollbacks, and the states that it took over.
+/// A replica's attempts with their fates, how it reached its numbers, its rollbacks, and the states that were
+/// transferred to it.
 fn push_history(text: &mut Text, history: &History) {
     text.value("\n replica ", u64::from(history.replica()));
     text.value(" committed ", u64::from(history.committed()));
     push_attempts(text, history);
-    push_landings(text, history);
+    push_each_reached(text, history);
     push_rollbacks(text, history);
     push_transfers(text, history);
 }

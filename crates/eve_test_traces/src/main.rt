@@ -5,7 +5,7 @@
 //!
 //! - `audit FILE CHANGE..`: the verdict, as the status and the line that `eve audit` has for it, by every number of
 //!   workers.
-//! - `fronts FILE`: the same of each front of the file, as it is and with its own total.
+//! - `prefixes FILE`: the same of each prefix of the file, as it is and with its own total.
 //! - `lengths FILE AT`: the same where the frame at byte AT claims another length of its body.
 //! - `bytes FILE`: with which values of each byte it is yes.
 //! - `each-one-higher FILE`: the verdict with each byte one higher, modulo 256, if two workers come to the same.
@@ -78,7 +78,7 @@ enum Call {
 struct Named(&'static str, Call);
 
 static CALLS: [Named; 12] = [
-    Named("fronts", Call::Sweep(Sweep::Fronts)),
+    Named("fronts", Call::Sweep(Sweep::Prefixes)),
     Named("lengths", Call::Sweep(Sweep::Lengths)),
     Named("bytes", Call::Sweep(Sweep::Bytes)),
     Named("each-one-higher", Call::Sweep(Sweep::Higher)),

@@ -117,7 +117,7 @@ fn push_by_one_and_two<R: AllocGlobal + RandomSource + Threads + Wait + Sync>(
 #[derive(Clone, Copy)]
 pub enum Sweep {
     /// It ends early.
-    Fronts,
+    Prefixes,
     /// A frame claims another number of bytes for its body.
     Lengths,
     /// Each byte has every value.
@@ -130,9 +130,9 @@ pub enum Sweep {
 #[derive(Clone, Copy)]
 enum Way {
     /// Only the given number of its first bytes is left.
-    Front,
+    Prefix,
     /// The same, with its own total.
-    FrontWithTotal,
+    PrefixWithTotal,
     /// The frame at this place claims the given number of bytes for its body.
     Length(usize),
     /// The byte at this place has every value.
@@ -164,8 +164,8 @@ fn raise(bytes: &mut [u8], at: usize) {
 fn varied(alloc: Global, bytes: &[u8], way: Way, number: usize) -> Result<Vec<u8>, AllocError> {
     let mut copy = bytes.to_vec(alloc)?;
     match way {
-        Way::Front => copy.truncate(number),
-        Way::FrontWithTotal => {
+        Way::Prefix => copy.truncate(number),
+        Way::PrefixWithTotal => {
             copy.truncate(number);
             set_total(copy.as_mut_slice());
         }
@@ -223,16 +223,16 @@ fn say_each<R: AllocGlobal + RandomSource + Threads + Wait + Sync>(
     }
 }
 
-/// What is said of each front of a trace but the whole, as it is; and of those with a header, with their own totals.
-fn say_fronts<R: AllocGlobal + RandomSource + Threads + Wait + Sync>(
+/// What is said of each prefix of a trace but the whole, as it is; and of those with a header, with their own totals.
+fn say_prefixes<R: AllocGlobal + RandomSource + Threads + Wait + Sync>(
     ranges: &mut Ranges,
     rt: &R,
     bytes: &[u8],
 ) {
     ranges.head("the first bytes");
-    say_each(ranges, rt, bytes, Way::Front, (0, bytes.len()));
+    say_each(ranges, rt, bytes, Way::Prefix, (0, bytes.len()));
     ranges.head("\n  and with their own total");
-    say_each(ranges, rt, bytes, Way::FrontWithTotal, (32, bytes.len()));
+    say_each(ranges, rt, bytes, Way::PrefixWithTotal, (32, bytes.len()));
 }
 
 /// The frame at a place, and the length of its body that it claims.
@@ -272,7 +272,7 @@ fn say_all<R: AllocGlobal + RandomSource + Threads + Wait + Sync>(
     more: Option<&str>,
 ) {
     match sweep {
-        Sweep::Fronts => say_fronts(ranges, rt, bytes),
+        Sweep::Prefixes => say_prefixes(ranges, rt, bytes),
         Sweep::Lengths => say_lengths(ranges, rt, bytes, more),
         Sweep::Bytes => {
             ranges.head("each byte");

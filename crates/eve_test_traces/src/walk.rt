@@ -22,7 +22,7 @@ pub struct Walk {
     /// How many attempts have come.
     come: usize,
     /// The first fault of records.
-    unfit: Option<Fault>,
+    misfit: Option<Fault>,
     /// The first fault of chains.
     wrong: Option<Fault>,
     /// The balances of all rows at the opening, and after each number.
@@ -163,7 +163,7 @@ impl Walk {
             committed: Vec::new(alloc),
             settled: 0,
             come: 0,
-            unfit: None,
+            misfit: None,
             wrong: None,
             balances: Vec::new(alloc),
             is_whole: true,
@@ -222,7 +222,7 @@ impl Walk {
     }
 
     /// Takes a state over: the open attempts are discarded, and numbers that are skipped leave what was there.
-    fn take_over(&mut self, alloc: Global, history: &History, state: &TransferView<'_>) {
+    fn apply_transfer(&mut self, alloc: Global, history: &History, state: &TransferView<'_>) {
         self.roll_back(alloc, history);
         for _ in self.balances.len()..state.seq() as usize {
             self.keep(alloc);
@@ -239,7 +239,7 @@ impl Walk {
             Step::Attempt(_, _) => self.come = self.come.saturating_add(1),
             Step::Commit(_) => self.commit(alloc, history),
             Step::Rollback(_) => self.roll_back(alloc, history),
-            Step::Transfer(view) => self.take_over(alloc, history, &view),
+            Step::Transfer(view) => self.apply_transfer(alloc, history, &view),
         }
     }
 
@@ -247,7 +247,7 @@ impl Walk {
     fn judge_fits(&mut self, trace: &Trace, history: &History, names: &Names) {
         for i in 0..history.attempts() {
             if history.fate(i) != Fate::Open {
-                self.unfit = judge_fit(trace, history, names, i, self.unfit);
+                self.misfit = judge_fit(trace, history, names, i, self.misfit);
             }
         }
     }
@@ -278,7 +278,7 @@ impl Walk {
 
     /// The first fault of records; or of chains, where there is none of records.
     pub fn first(&self) -> Option<Fault> {
-        match self.unfit {
+        match self.misfit {
             Some(fault) => Some(fault),
             None => self.wrong,
         }

@@ -100,17 +100,17 @@ split-at : (hs : List (List ℕ)) (j : ℕ) → 2 ^ j < length hs → length hs 
 unfolding next_level
 split-at hs j below most =
     let k = 2 ^ j in
-    let front = take k hs in
+    let prefix = take k hs in
     let back = drop k hs in
-    let front_len : length front ≡ k = omega (arith, length-take k hs, below) in
+    let front_len : length prefix ≡ k = omega (arith, length-take k hs, below) in
     let back_len : length back ≡ length hs - k = length-drop k hs in
-    let front_up = levels-root j front (omega (arith, front_len, pow_pos j)) (omega (arith, front_len)) in
+    let prefix_up = levels-root j prefix (omega (arith, front_len, pow_pos j)) (omega (arith, front_len)) in
     let back_up = levels-root j back (omega (arith, back_len, below)) (omega (arith, back_len, most)) in
-    let parts : levels_up j hs ≡ levels_up j front ++ levels_up j back =
-    ap (levels_up j) (sym (take-append-drop k hs)) ∙ levels-append j 1 front back (omega (arith, front_len)) in
-    let both : levels_up j hs ≡ merkle_root front ∷ (merkle_root back ∷ []) =
-    parts ∙ ap (λ t. t ++ levels_up j back) front_up ∙ ap (λ t. merkle_root front ∷ t) back_up in
-    sym (root-is (suc j) hs (node_hash (merkle_root front) (merkle_root back)) (omega (arith, below))
+    let parts : levels_up j hs ≡ levels_up j prefix ++ levels_up j back =
+    ap (levels_up j) (sym (take-append-drop k hs)) ∙ levels-append j 1 prefix back (omega (arith, front_len)) in
+    let both : levels_up j hs ≡ merkle_root prefix ∷ (merkle_root back ∷ []) =
+    parts ∙ ap (λ t. t ++ levels_up j back) prefix_up ∙ ap (λ t. merkle_root prefix ∷ t) back_up in
+    sym (root-is (suc j) hs (node_hash (merkle_root prefix) (merkle_root back)) (omega (arith, below))
     (levels-next j hs ∙ ap next_level both))
 
 -- the law of the split

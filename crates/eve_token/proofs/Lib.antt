@@ -1,7 +1,7 @@
-pub mod Spelled
+pub mod SpelledReplies
 pub mod WorkedTokens
 pub mod Levels
 pub mod Leaves
 pub mod Places
-pub mod Keeping
+pub mod KeptPlaces
 pub mod Messages

@@ -43,15 +43,15 @@ nodes-split-at : (hs : List (List ℕ)) (j : ℕ) → 2 ^ j < length hs → leng
     → nodes_of hs ≡ nodes_of (take (2 ^ j) hs) ++ (merkle_root hs ∷ nodes_of (drop (2 ^ j) hs))
 nodes-split-at hs j below most =
     let k = 2 ^ j in
-    let front = take k hs in
+    let prefix = take k hs in
     let back = drop k hs in
-    let front_few : length front ≤ k = omega (arith, length-take k hs) in
+    let prefix_few : length prefix ≤ k = omega (arith, length-take k hs) in
     let back_few : length back ≤ k = omega (arith, length-drop k hs, most) in
     within-any (length hs) (suc j) hs (below-power (length hs)) (omega (arith, most, pow-double j 1))
     ∙ cut j hs below
     ∙ ap (λ t. t ++ (merkle_root hs ∷ nodes_within j back))
-    (within-any j (length front) front front_few (below-power (length front)))
-    ∙ ap (λ t. nodes_of front ++ (merkle_root hs ∷ t))
+    (within-any j (length prefix) prefix prefix_few (below-power (length prefix)))
+    ∙ ap (λ t. nodes_of prefix ++ (merkle_root hs ∷ t))
     (within-any j (length back) back back_few (below-power (length back)))
 
 pub nodes-split : (hs : List (List ℕ)) (k : ℕ) → IsGreatestPowerBelow k (length hs)
@@ -70,16 +70,16 @@ nodes-count-within zero hs some few = omega (arith, some, few)
 nodes-count-within (suc d) hs some few =
     elim (cases_lt (2 ^ d) (length hs)) [
       | inl more ↦
-          let front = take (2 ^ d) hs in
+          let prefix = take (2 ^ d) hs in
           let back = drop (2 ^ d) hs in
-          let front_len : length front ≡ 2 ^ d = omega (arith, length-take (2 ^ d) hs, more) in
+          let front_len : length prefix ≡ 2 ^ d = omega (arith, length-take (2 ^ d) hs, more) in
           let back_len : length back ≡ length hs - 2 ^ d = length-drop (2 ^ d) hs in
-          let left = nodes-count-within d front (omega (arith, front_len, pow_pos d)) (omega (arith, front_len)) in
+          let left = nodes-count-within d prefix (omega (arith, front_len, pow_pos d)) (omega (arith, front_len)) in
           let right = nodes-count-within d back (omega (arith, back_len, more))
           (omega (arith, back_len, few, pow-double d 1)) in
           let all : length (nodes_within (suc d) hs)
-          ≡ length (nodes_within d front) + suc (length (nodes_within d back)) =
-          ap length (cut d hs more) ∙ length-append (nodes_within d front) (merkle_root hs ∷ nodes_within d back) in
+          ≡ length (nodes_within d prefix) + suc (length (nodes_within d back)) =
+          ap length (cut d hs more) ∙ length-append (nodes_within d prefix) (merkle_root hs ∷ nodes_within d back) in
           omega (arith, all, left, right, front_len, back_len, more)
       | inr enough_here ↦
           let same = ap length (enough d hs enough_here) in

@@ -2,4 +2,4 @@ pub mod Merkle
 pub mod Token
 pub mod Places
 pub mod TokenRows
-pub mod Holding
+pub mod HeldBalances

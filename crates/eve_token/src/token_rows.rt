@@ -36,7 +36,7 @@ impl Model for TokenRows {
 
     ghost Value = { model.TokenRows };
 
-    ghost use Rattle.eve_token.specs.Holding.{token_rows_of};
+    ghost use Rattle.eve_token.specs.HeldBalances.{token_rows_of};
 
     ghost view = { λ t. token_rows_of t.kept };
 }

@@ -12,10 +12,10 @@ use Rattle.eve_tool.specs.declared.fault.ToolFault.TheVariants as fault
 use Rattle.eve_tool.specs.Audit.{AuditsAs, Judges, StopsJudging, verdict_text}
 use Rattle.eve_tool.specs.Calls.{Leaves, StopsSending}
 use Rattle.eve_tool.specs.Lines.{status_of_verdict}
-use Rattle.eve_tool.specs.Writes.{WritesAllOf, WritesFrontOf}
+use Rattle.eve_tool.specs.Writes.{WritesAllOf, WritesPrefixOf}
 use Rattle.eve_tool_arguments.specs.Arguments.{Audit}
 use Rattle.eve_tool_arguments.specs.declared.style.Style.{Style}
-use Rattle.eve_tool.proofs.Cutting.{Judges-cut}
+use Rattle.eve_tool.proofs.CutInput.{Judges-cut}
 
 -- the verdict on what was read is the verdict on all
 pub judged : (known : Option (List ℕ)) (lent read : List ℕ) (v : Verdict) → lent ≡ read
@@ -66,14 +66,14 @@ styled_left written failures style known failed v old new fault.Broken judges st
 styled_left written failures style known failed v old new fault.Random judges stopped = absurd stopped
 styled_left written failures style known failed v old new fault.Memory judges stopped = inl stopped
 styled_left written failures style known failed v old new fault.Write judges stopped =
-    (stopped.counted, front known judges)
+    (stopped.counted, prefix known judges)
   where
-    front : (known : Option (List ℕ)) → IfSome known (λ bytes. Judges bytes v)
-        → WritesFrontOf (AuditsAs (verdict_text style)) known (written old) (written new)
-    front None judges = tt
-    front (Some bytes) judges = record {
+    prefix : (known : Option (List ℕ)) → IfSome known (λ bytes. Judges bytes v)
+        → WritesPrefixOf (AuditsAs (verdict_text style)) known (written old) (written new)
+    prefix None judges = tt
+    prefix (Some bytes) judges = record {
       text = verdict_text style v;
       status = status_of_verdict v;
       said = audits_as (verdict_text style) bytes v (status_of_verdict v) judges refl;
-      written = stopped.front;
+      written = stopped.prefix;
     }

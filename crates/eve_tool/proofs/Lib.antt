@@ -1,11 +1,11 @@
-mod Cutting
+mod CutInput
 mod SentLines
 mod WholeInput
-pub mod Leaving
-pub mod Running
-mod Putting
+pub mod UnsentText
+pub mod RunText
+mod LinesPut
 mod LongLines
-mod Explaining
+mod ExplainedLines
 mod CallWords
 mod Judging
 mod SentFiles

@@ -13,10 +13,10 @@ use Rattle.eve_frames.specs.declared.frame.FrameView.{FrameView}
 use Rattle.eve_grammar.specs.Trace.{Trace}
 use Rattle.eve_grammar.specs.Frames.{Frame, frames_of, kind_of, next_place, start_place}
 use Rattle.eve_grammar.specs.Spelling.{body_text, frame_text, frames_text, head_text}
-use Rattle.eve_grammar.specs.Following.{Follow, Spells}
+use Rattle.eve_grammar.specs.FrameOrder.{Follow, Spells}
 use Rattle.eve_grammar.specs.Limits.{FitsAt, is_head}
 use Rattle.eve_grammar.specs.Places.{number_in}
-use Rattle.eve_grammar.specs.Reading.{header_of}
+use Rattle.eve_grammar.specs.Readers.{header_of}
 use Rattle.eve_grammar.specs.declared.head.Head.{Head}
 use Rattle.eve_grammar.specs.declared.place.Place.{Place}
 use Rattle.eve_grammar.proofs.FrameLaws.{limits_text, Exact-header}
@@ -24,61 +24,62 @@ use Rattle.eve_grammar.proofs.HeaderParts.{behind_magic, header_parts, in_parts,
 use Rattle.eve_lines.specs.FrameLines.{frame_words}
 use Rattle.eve_lines.specs.Rest.{words_in}
 use Rattle.std.specs.Io.KnownBytes.{Appends}
-use Rattle.eve_streams.specs.Front.{AppendsFront}
+use Rattle.eve_streams.specs.Prefix.{AppendsPrefix}
 use Rattle.std.proofs.KnownBytes.{Appends-nil, Appends-trans}
-use Rattle.eve_streams.proofs.Joining.{AppendsFront-after, AppendsFront-more}
-use Rattle.eve_views.specs.Form.{IsReached, SaysHead, StandsInForm, said_by}
+use Rattle.eve_streams.proofs.JoinedSends.{AppendsPrefix-after, AppendsPrefix-more}
+use Rattle.eve_views.specs.Form.{IsReached, SaysHead, StandsInForm, decoded_by}
 use Rattle.eve_views.specs.declared.fault.Code.{Code}
 use Rattle.eve_views.specs.declared.fault.Code.TheVariants as code
 use Rattle.eve_views.proofs.Bytes.{number_again}
 use Rattle.eve_views.proofs.FrameLaws.{length-frame_text}
 use Rattle.eve_views.proofs.WholeTraces.{spells_frames}
-use Rattle.eve_tool.specs.Lines.{line_feed, line_front}
-use Rattle.eve_tool.specs.Sending.{PutsText}
+use Rattle.eve_tool.specs.Lines.{line_feed, line_prefix}
+use Rattle.eve_tool.specs.inner.LineSends.{PutsText}
 use Rattle.eve_tool.specs.Long.{AreLinesBefore, AreLinesIf, AreLinesOf, AreLinesTo, is_countable, with_total}
 use Rattle.eve_tool.specs.Long.{HasFrames, SendsLines, SendsUpTo, StopsInLines, StopsUpTo, frame_len}
-use Rattle.eve_tool.specs.Long.{front_of_view, line_of_view, lines_from, long_line, long_lines}
-use Rattle.eve_tool.proofs.Putting.{PutsUpTo, puts-begun, puts-stops, puts-text, puts-then, up_to-all, up_to-more}
-use Rattle.eve_tool.proofs.Putting.{up_to-none, up_to-stops}
+use Rattle.eve_tool.specs.Long.{prefix_of_view, line_of_view, lines_from, long_line, long_lines}
+use Rattle.eve_tool.proofs.LinesPut.{PutsUpTo, puts-begun, puts-stops, puts-text, puts-then, up_to-all, up_to-more}
+use Rattle.eve_tool.proofs.LinesPut.{up_to-none, up_to-stops}
 
 -- ---- a line
 
--- its front was put, from what was asked of the view
-pub front_put : (l k name : List ℕ) (offset body_len : ℕ) (view : FrameView) → k ≡ l ++ line_front offset name body_len
+-- its prefix was put, from what was asked of the view
+pub prefix_put : (l k name : List ℕ) (offset body_len : ℕ) (view : FrameView) → k ≡ l
+    ++ line_prefix offset name body_len
     → offset ≡ view.offset → name ≡ kind_name (slice_index view.bytes.now 0) → body_len ≡ length view.bytes.now - 5
-    → k ≡ l ++ front_of_view view
-front_put l k name offset body_len view put at named counted =
-    let is : line_front offset name body_len ≡ front_of_view view = rw (at, named, counted) refl in
+    → k ≡ l ++ prefix_of_view view
+prefix_put l k name offset body_len view put at named counted =
+    let is : line_prefix offset name body_len ≡ prefix_of_view view = rw (at, named, counted) refl in
     put ∙ ap (λ x. l ++ x) is
 
--- room was made, and its front, its words and its end were put
-pub line-put : (a b c d : Option (List ℕ)) (held l k j m kept front words left : List ℕ) → PutsText a b held l []
-    → k ≡ l ++ front → j ++ left ≡ k ++ words → PutsText b c j m left → PutsText c d m kept line_feed
-    → PutsText a d held kept (front ++ (words ++ line_feed))
-line-put a b c d held l k j m kept front words left room first begun put last =
-    puts-then a b d held l kept [] (front ++ (words ++ line_feed)) room
-    (puts-then b b d l k kept front (words ++ line_feed) (puts-text b l k front first)
+-- room was made, and its prefix, its words and its end were put
+pub line-put : (a b c d : Option (List ℕ)) (held l k j m kept prefix words left : List ℕ) → PutsText a b held l []
+    → k ≡ l ++ prefix → j ++ left ≡ k ++ words → PutsText b c j m left → PutsText c d m kept line_feed
+    → PutsText a d held kept (prefix ++ (words ++ line_feed))
+line-put a b c d held l k j m kept prefix words left room first begun put last =
+    puts-then a b d held l kept [] (prefix ++ (words ++ line_feed)) room
+    (puts-then b b d l k kept prefix (words ++ line_feed) (puts-text b l k prefix first)
     (puts-then b c d k m kept words line_feed (puts-begun b c k j m left words begun put) last))
 
 -- it was stopped in its words
-pub line-stops_in_words : (a b c : Option (List ℕ)) (held l k j front words left : List ℕ) → PutsText a b held l []
-    → k ≡ l ++ front → j ++ left ≡ k ++ words → AppendsFront b c (j ++ left)
-    → AppendsFront a c (held ++ (front ++ (words ++ line_feed)))
-line-stops_in_words a b c held l k j front words left room first begun stops =
-    puts-stops a b c held l [] (front ++ (words ++ line_feed)) room
-    (puts-stops b b c l k front (words ++ line_feed) (puts-text b l k front first)
-    (subst (AppendsFront b c) (append_assoc k words line_feed)
-    (AppendsFront-more b c (k ++ words) line_feed (subst (AppendsFront b c) begun stops))))
+pub line-stops_in_words : (a b c : Option (List ℕ)) (held l k j prefix words left : List ℕ) → PutsText a b held l []
+    → k ≡ l ++ prefix → j ++ left ≡ k ++ words → AppendsPrefix b c (j ++ left)
+    → AppendsPrefix a c (held ++ (prefix ++ (words ++ line_feed)))
+line-stops_in_words a b c held l k j prefix words left room first begun stops =
+    puts-stops a b c held l [] (prefix ++ (words ++ line_feed)) room
+    (puts-stops b b c l k prefix (words ++ line_feed) (puts-text b l k prefix first)
+    (subst (AppendsPrefix b c) (append_assoc k words line_feed)
+    (AppendsPrefix-more b c (k ++ words) line_feed (subst (AppendsPrefix b c) begun stops))))
 
 -- it was stopped before its end
-pub line-stops_at_end : (a b c d : Option (List ℕ)) (held l k j m front words left : List ℕ) → PutsText a b held l []
-    → k ≡ l ++ front → j ++ left ≡ k ++ words → PutsText b c j m left → AppendsFront c d m
-    → AppendsFront a d (held ++ (front ++ (words ++ line_feed)))
-line-stops_at_end a b c d held l k j m front words left room first begun put last =
-    puts-stops a b d held l [] (front ++ (words ++ line_feed)) room
-    (puts-stops b b d l k front (words ++ line_feed) (puts-text b l k front first)
+pub line-stops_at_end : (a b c d : Option (List ℕ)) (held l k j m prefix words left : List ℕ) → PutsText a b held l []
+    → k ≡ l ++ prefix → j ++ left ≡ k ++ words → PutsText b c j m left → AppendsPrefix c d m
+    → AppendsPrefix a d (held ++ (prefix ++ (words ++ line_feed)))
+line-stops_at_end a b c d held l k j m prefix words left room first begun put last =
+    puts-stops a b d held l [] (prefix ++ (words ++ line_feed)) room
+    (puts-stops b b d l k prefix (words ++ line_feed) (puts-text b l k prefix first)
     (puts-stops b c d k m words line_feed (puts-begun b c k j m left words begun put)
-    (AppendsFront-more c d m line_feed last)))
+    (AppendsPrefix-more c d m line_feed last)))
 
 -- ---- the frame at a place
 
@@ -186,14 +187,14 @@ lists-more say a b c held kept longer bytes at number h frames view whole offset
 pub lists-stops : SayTheirWords → (a b c : Option (List ℕ)) (held kept bytes : List ℕ) (at number : ℕ) (h : Head)
     (frames : List Frame) (view : FrameView) → 5 ≤ length view.bytes.now → view.offset ≡ at
     → view.bytes.now ≡ take (frame_len (drop at bytes)) (drop at bytes)
-    → ListsSoFar a b held kept bytes at number h frames → AppendsFront b c (kept ++ line_of_view number view)
-    → AppendsFront a c (held ++ lines_from 0 32 frames)
+    → ListsSoFar a b held kept bytes at number h frames → AppendsPrefix b c (kept ++ line_of_view number view)
+    → AppendsPrefix a c (held ++ lines_from 0 32 frames)
 lists-stops say a b c held kept bytes at number h frames view whole offset cut far stops =
     by far.place far.rest far.right far.here far.puts
   where
     by : (p : Place) (rest : List Frame) → Follow h p rest → drop at bytes ≡ frames_text rest
         → PutsUpTo a b held kept (lines_from 0 32 frames) (lines_from number at rest)
-        → AppendsFront a c (held ++ lines_from 0 32 frames)
+        → AppendsPrefix a c (held ++ lines_from 0 32 frames)
     by p [] right here puts =
         absurd (omega (arith, ap length cut, length-take (frame_len (drop at bytes)) (drop at bytes), ap length here))
     by p (f ∷ fs) right here puts =
@@ -201,7 +202,7 @@ lists-stops say a b c held kept bytes at number h frames view whole offset cut f
         let line = line_is say bytes at number h p f fs view far.limits stands offset cut in
         up_to-stops a b c held kept (lines_from 0 32 frames) (long_line number at f)
         (lines_from (number + 1) (at + length (frame_text f)) fs) puts
-        (subst (λ l. AppendsFront b c (kept ++ l)) line stops)
+        (subst (λ l. AppendsPrefix b c (kept ++ l)) line stops)
 
 -- no frame lies there any more: all lines were put
 pub lists-all : (a b : Option (List ℕ)) (held kept bytes : List ℕ) (at number : ℕ) (h : Head) (frames : List Frame)
@@ -220,15 +221,15 @@ lists-all a b held kept bytes at number h frames short far =
 
 -- ---- what a header says
 
-said_by_text : (h : Head) (total : ℕ) (rest : List ℕ) → said_by (head_text h total ++ rest) ≡ limits_text h
-said_by_text h total rest =
-    ap said_by (header_parts h total rest) ∙ ap (take 18) (behind_magic h total rest)
+decoded_by_text : (h : Head) (total : ℕ) (rest : List ℕ) → decoded_by (head_text h total ++ rest) ≡ limits_text h
+decoded_by_text h total rest =
+    ap decoded_by (header_parts h total rest) ∙ ap (take 18) (behind_magic h total rest)
     ∙ take_at (limits_text h) (drop 18 (drop 6 (in_parts h total rest))) 18 (length-limits_text h)
 
 -- it is read as it is said
-pub head_read : (bytes : List ℕ) (h : Head) → SaysHead bytes h → header_of (said_by bytes) ≡ Some h
+pub head_read : (bytes : List ℕ) (h : Head) → SaysHead bytes h → header_of (decoded_by bytes) ≡ Some h
 head_read bytes h says =
-    ap header_of (says.said ∙ ap said_by (sym (append-nil (head_text h 0))) ∙ said_by_text h 0 [])
+    ap header_of (says.decoded ∙ ap decoded_by (sym (append-nil (head_text h 0))) ∙ decoded_by_text h 0 [])
     ∙ Exact-header.again h says.limits
 
 -- a trace's header says its head, and its frames stand behind it
@@ -236,8 +237,8 @@ pub trace_says : (bytes : List ℕ) (t : Trace) → Spells bytes t → SaysHead 
 trace_says bytes t spells =
     let s = spells_frames bytes t spells in record {
       limits = s.limits;
-      said = ap said_by s.spelled ∙ said_by_text t.head (length bytes) (frames_text (frames_of t))
-          ∙ sym (said_by_text t.head 0 []) ∙ ap said_by (append-nil (head_text t.head 0));
+      decoded = ap decoded_by s.spelled ∙ decoded_by_text t.head (length bytes) (frames_text (frames_of t))
+          ∙ sym (decoded_by_text t.head 0 []) ∙ ap decoded_by (append-nil (head_text t.head 0));
     }
 
 pub trace_has : (bytes : List ℕ) (t : Trace) → Spells bytes t → HasFrames bytes t.head (frames_of t)
@@ -263,11 +264,11 @@ says_cut : (bytes : List ℕ) (at : ℕ) (h : Head) → 32 ≤ at → SaysHead b
 says_cut bytes at h long says =
     let sum : at ≡ 6 + (at - 6) = omega arith in record {
       limits = says.limits;
-      said = ap (λ (n : ℕ). take 18 (drop 6 (take n bytes))) sum ∙ ap (take 18) (drop-take 6 (at - 6) bytes)
-          ∙ take-take 18 (at - 6) (drop 6 bytes) (omega arith) ∙ says.said;
+      decoded = ap (λ (n : ℕ). take 18 (drop 6 (take n bytes))) sum ∙ ap (take 18) (drop-take 6 (at - 6) bytes)
+          ∙ take-take 18 (at - 6) (drop 6 bytes) (omega arith) ∙ says.decoded;
     }
 
-frames_cut : (bytes : List ℕ) (at : ℕ) (r : IsReached bytes at) → HasFrames (take at bytes) r.head r.front
+frames_cut : (bytes : List ℕ) (at : ℕ) (r : IsReached bytes at) → HasFrames (take at bytes) r.head r.prefix
 frames_cut bytes at r =
     let place = r.at_is in
     let within = r.within in
@@ -276,18 +277,18 @@ frames_cut bytes at r =
       limits = r.says.limits;
       right = r.right;
       spelled = ap (drop 32) r.before
-          ∙ drop_at (take 32 bytes) (frames_text r.front) 32 (omega (arith, length-take 32 bytes));
+          ∙ drop_at (take 32 bytes) (frames_text r.prefix) 32 (omega (arith, length-take 32 bytes));
     }
 
 -- the header says a head, and frames that may stand there are the bytes up to the fault's
 pub record Before (bytes : List ℕ) (at : ℕ) (c : Code) : Type 0 where
   pub reached : IsReached bytes at
   pub says : SaysHead (take at bytes) reached.head
-  pub has : HasFrames (take at bytes) reached.head reached.front
-  pub are : (text : List ℕ) → text ≡ long_lines reached.head reached.front → AreLinesTo c bytes at text
+  pub has : HasFrames (take at bytes) reached.head reached.prefix
+  pub are : (text : List ℕ) → text ≡ long_lines reached.head reached.prefix → AreLinesTo c bytes at text
 
 before_of : (bytes : List ℕ) (at : ℕ) (c : Code) (r : IsReached bytes at)
-    → ((text : List ℕ) → text ≡ long_lines r.head r.front → AreLinesTo c bytes at text) → Before bytes at c
+    → ((text : List ℕ) → text ≡ long_lines r.head r.prefix → AreLinesTo c bytes at text) → Before bytes at c
 before_of bytes at c r are =
     let place = r.at_is in record {
       reached = r;
@@ -307,12 +308,12 @@ before _ bytes at behind stands = absurd stands
 
 -- where it is
 pub none_before : (c : Code) (bytes : List ℕ) (at : ℕ) → at < 32 → StandsInForm c bytes at → AreLinesTo c bytes at []
-none_before code.Frame bytes at front stands = let place = stands.0.at_is in absurd (omega arith)
-none_before code.Body bytes at front stands = let place = stands.0.at_is in absurd (omega arith)
-none_before code.Length bytes at front stands = refl
-none_before code.Magic bytes at front stands = refl
-none_before code.Head bytes at front stands = refl
-none_before _ bytes at front stands = absurd stands
+none_before code.Frame bytes at prefix stands = let place = stands.0.at_is in absurd (omega arith)
+none_before code.Body bytes at prefix stands = let place = stands.0.at_is in absurd (omega arith)
+none_before code.Length bytes at prefix stands = refl
+none_before code.Magic bytes at prefix stands = refl
+none_before code.Head bytes at prefix stands = refl
+none_before _ bytes at prefix stands = absurd stands
 
 -- of a fault that isn't the number of the bytes
 pub not_counted : (c : Code) (bytes : List ℕ) (at : ℕ) (text : List ℕ) → (c ≡ code.Length → ⊥)
@@ -342,11 +343,11 @@ sends_none a Are are = record { text = []; are = are; sent = Appends-nil a }
 
 pub sends_as : (a b : Option (List ℕ)) (P Q : List ℕ → Type 0) → ((text : List ℕ) → P text → Q text)
     → SendsLines a b P → SendsLines a b Q
-sends_as a b P Q said sends = record { text = sends.text; are = said sends.text sends.are; sent = sends.sent }
+sends_as a b P Q decoded sends = record { text = sends.text; are = decoded sends.text sends.are; sent = sends.sent }
 
 pub stops_as : (a b : Option (List ℕ)) (P Q : List ℕ → Type 0) → ((text : List ℕ) → P text → Q text)
     → StopsInLines a b P → StopsInLines a b Q
-stops_as a b P Q said stops = record { text = stops.text; are = said stops.text stops.are; sent = stops.sent }
+stops_as a b P Q decoded stops = record { text = stops.text; are = decoded stops.text stops.are; sent = stops.sent }
 
 -- ---- up to a line
 
@@ -363,15 +364,15 @@ pub stops-before : (a b : Option (List ℕ)) (Are : List ℕ → Type 0) (last :
 stops-before a b Are last stops = record {
   before = stops.text;
   are = stops.are;
-  sent = AppendsFront-more a b stops.text last stops.sent;
+  sent = AppendsPrefix-more a b stops.text last stops.sent;
 }
 
 pub stops-in_last : (a b c : Option (List ℕ)) (Are : List ℕ → Type 0) (last : List ℕ) → SendsLines a b Are
-    → AppendsFront b c last → StopsUpTo a c Are last
-stops-in_last a b c Are last some front = record {
+    → AppendsPrefix b c last → StopsUpTo a c Are last
+stops-in_last a b c Are last some prefix = record {
   before = some.text;
   are = some.are;
-  sent = AppendsFront-after a b c some.text last some.sent front;
+  sent = AppendsPrefix-after a b c some.text last some.sent prefix;
 }
 
 -- ---- results

@@ -11,7 +11,8 @@ use Rattle.eve_streams.specs.Buffers.{held_bytes}
 use Rattle.eve_streams.specs.declared.buffered.Buffered.{Buffered}
 use Rattle.eve_tool.specs.Audit.{AuditsAs, Judges, named_text, verdict_text}
 use Rattle.eve_tool.specs.Fault.{status_of}
-use Rattle.eve_tool.specs.Files.{AllSpellAudited, JudgesAll, JudgesFile, JudgesFiles, ServesCall, ServesFile, StopsAmong}
+use Rattle.eve_tool.specs.Files.{AllSpellAudited, JudgesAll, JudgesFile, JudgesFiles, ServesCall, ServesFile}
+use Rattle.eve_tool.specs.Files.{StopsAmong}
 use Rattle.eve_tool.specs.Files.{all_bytes, all_failures, first_named}
 use Rattle.eve_tool.specs.Lines.{status_of_verdict}
 use Rattle.eve_tool.specs.Writes.{WritesAll, WritesAllOf}
@@ -21,7 +22,7 @@ use Rattle.eve_tool.specs.declared.fault.ToolFault.TheVariants as fault
 use Rattle.eve_tool.specs.declared.files.OpenFault.{OpenFault}
 use Rattle.eve_tool_arguments.specs.Arguments.{Audit, Explain, Run, Show, ShowLong, Subcommand}
 use Rattle.eve_tool_arguments.specs.declared.style.Style.{Style}
-use Rattle.eve_tool.proofs.Cutting.{audited, audited_of, explained_of}
+use Rattle.eve_tool.proofs.CutInput.{audited, audited_of, explained_of}
 use Rattle.eve_tool.proofs.Judging.{audits_as}
 
 -- what is so of what an input had is so of the bytes of its file, where they are known
@@ -39,7 +40,7 @@ named_as style name (Some bytes) v text status judges is ends =
     subst (λ (t : List ℕ). AuditsAs (named_text style name) bytes t status) (sym is)
     (audits_as (named_text style name) bytes v status judges ends)
 
--- where a front of what was held was sent, and the rest is held, nothing is lost
+-- where a prefix of what was held was sent, and the rest is held, nothing is lost
 pub holds_back : (a b : Option (List ℕ)) (held left : List ℕ) (n : ℕ) → Appends a b (take n held)
     → left ≡ drop n held → Appends (append_known a held) (append_known b left) []
 holds_back None b held left n sent kept = tt
@@ -123,15 +124,15 @@ one_more {E = E} remaining fetched told untold bytes refuses style [] name a b c
   (let none : status ≡ 0 = judges.2 in omega (arith, none)),
 )
 one_more remaining fetched told untold bytes refuses style (n ∷ names) name a b c text first status one
-    (mid, front, rest, this, others, judges, behind, joined, greatest) more = (
+    (mid, prefix, rest, this, others, judges, behind, joined, greatest) more = (
       mid,
-      front,
+      prefix,
       rest ++ first,
       this,
       max others one,
       judges,
       one_more remaining fetched told untold bytes refuses style names name mid b c rest first others one behind more,
-      ap (λ l. l ++ first) joined ∙ append_assoc front rest first,
+      ap (λ l. l ++ first) joined ∙ append_assoc prefix rest first,
       (let is : status ≡ max this others = greatest in omega (arith, is)),
     )
 
@@ -191,18 +192,21 @@ pub so_far_more : {I E O : Type 0} (remaining : I → Option (List ℕ)) (fetche
     (bytes : List ℕ → Option (List ℕ)) (refuses : List ℕ → OpenFault → Type 0) (style : Style)
     (all : List (List ℕ)) (name : List ℕ) (left : List (List ℕ)) (a b c : E) (old mid new : Buffered O)
     (status one : ℕ) (first : List ℕ)
-    → JudgedSoFar remaining fetched told untold written failures bytes refuses style all (name ∷ left) a b old mid status
+    → JudgedSoFar remaining fetched told untold written failures bytes refuses style all (name ∷ left) a b old mid
+    status
     → JudgesFile remaining fetched told untold bytes refuses style name b c first one
     → Appends (all_bytes written mid) (all_bytes written new) first → held_bytes new ≡ []
     → all_failures failures new ≡ all_failures failures mid
     → JudgedSoFar remaining fetched told untold written failures bytes refuses style all left a c old new
     (max status one)
-so_far_more remaining fetched told untold written failures bytes refuses style all name left a b c old mid new status one
+so_far_more remaining fetched told untold written failures bytes refuses style all name left a b c old mid new status
+    one
     first so_far judges sent flushed fine = record {
       before = so_far.before ++ name ∷ [];
       whole = so_far.whole ∙ sym (append_assoc so_far.before (name ∷ []) left);
       text = so_far.text ++ first;
-      judges = one_more remaining fetched told untold bytes refuses style so_far.before name a b c so_far.text first status
+      judges = one_more remaining fetched told untold bytes refuses style so_far.before name a b c so_far.text first
+          status
           one so_far.judges judges;
       sent = Appends-trans (all_bytes written old) (all_bytes written mid) (all_bytes written new) so_far.text first
           so_far.sent sent;
@@ -255,11 +259,11 @@ said_of_file says (Some bytes) input old mid new before status is all more same 
       written = subst (Appends old new) (append-nil of.text) (Appends-trans old mid new of.text [] of.written more);
     }
 
-pub said_of_opened : (says : List ℕ → List ℕ → ℕ → Type 0) (known input old new : Option (List ℕ)) (status : ℕ)
+pub decoded_of_opened : (says : List ℕ → List ℕ → ℕ → Type 0) (known input old new : Option (List ℕ)) (status : ℕ)
     → IfSome known (λ bytes. input ≡ Some bytes) → WritesAllOf says input old new status
     → WritesAllOf says known old new status
-said_of_opened says None input old new status is all = tt
-said_of_opened says (Some bytes) input old new status is all =
+decoded_of_opened says None input old new status is all = tt
+decoded_of_opened says (Some bytes) input old new status is all =
     subst (λ (o : Option (List ℕ)). WritesAllOf says o old new status) is all
 
 -- ---- calls
@@ -296,7 +300,8 @@ pub serves_one : {I E O : Type 0} (remaining : I → Option (List ℕ)) (fetched
     (bytes : List ℕ → Option (List ℕ)) (refuses : List ℕ → OpenFault → Type 0) (call : Subcommand)
     (names : List (List ℕ)) (a b : E) (old new : Buffered O) (status : ℕ)
     → ((style : Style) → call ≡ Audit style → length names < 2)
-    → ServesFile remaining fetched told untold written failures bytes refuses call (first_named names) a b old new status
+    → ServesFile remaining fetched told untold written failures bytes refuses call (first_named names) a b old new
+    status
     → ServesCall remaining fetched told untold written failures bytes refuses call names a b old new status
 serves_one remaining fetched told untold written failures bytes refuses (Audit style) [] a b old new status few is = is
 serves_one remaining fetched told untold written failures bytes refuses (Audit style) (n ∷ []) a b old new status few is
@@ -318,7 +323,8 @@ pub call_yes : {I E O : Type 0} (remaining : I → Option (List ℕ)) (fetched :
     → status ≡ 0 → AllSpellAudited bytes names
 call_yes remaining fetched told untold written failures bytes refuses style [] a b old new status serves zero = tt
 call_yes remaining fetched told untold written failures bytes refuses style (n ∷ []) a b old new status serves zero =
-    let said = serves.said (omega (arith, zero)) in (audited_of (verdict_text style) (bytes n) _ _ status said.0.said zero, tt)
+    let said = serves.said (omega (arith, zero)) in
+    (audited_of (verdict_text style) (bytes n) _ _ status said.0.said zero, tt)
 call_yes remaining fetched told untold written failures bytes refuses style (n ∷ m ∷ names) a b old new status
     (inl judges) zero =
     all_yes remaining fetched told untold bytes refuses style (n ∷ m ∷ names) a b judges.text status judges.judges zero
@@ -333,7 +339,9 @@ pub explain_yes : {I E O : Type 0} (remaining : I → Option (List ℕ)) (fetche
     → ServesCall remaining fetched told untold written failures bytes refuses Explain names a b old new status
     → names ≡ name ∷ [] → status ≡ 0 → IfSome (bytes name) SpellsAudited
 explain_yes remaining fetched told untold written failures bytes refuses names name a b old new status serves is zero =
-    let served : ServesFile remaining fetched told untold written failures bytes refuses Explain name a b old new status =
-    subst (λ (ns : List (List ℕ)). ServesCall remaining fetched told untold written failures bytes refuses Explain ns a b
+    let served : ServesFile remaining fetched told untold written failures bytes refuses Explain name a b old new
+    status =
+    subst (λ (ns : List (List ℕ)). ServesCall remaining fetched told untold written failures bytes refuses Explain ns a
+    b
     old new status) is serves in
     let said = served.said (omega (arith, zero)) in explained_of (bytes name) _ _ status said.0.said zero

@@ -13,24 +13,24 @@ use Rattle.eve_frames.specs.Kinds.{kind_name}
 use Rattle.eve_grammar.specs.Frames.{Frame, End, kind_of}
 use Rattle.eve_grammar.specs.Spelling.{body_text, frame_text, frames_text, located}
 use Rattle.eve_views.proofs.FrameLaws.{length-frame_text}
-use Rattle.eve_views.proofs.Locating.{length-located}
-use Rattle.eve_streams.specs.Front.{AppendsFront}
-use Rattle.eve_streams.proofs.Joining.{AppendsFront-after, AppendsFront-more}
+use Rattle.eve_views.proofs.FrameOffsets.{length-located}
+use Rattle.eve_streams.specs.Prefix.{AppendsPrefix}
+use Rattle.eve_streams.proofs.JoinedSends.{AppendsPrefix-after, AppendsPrefix-more}
 use Rattle.eve_tool.specs.Lines.{frame_line, line_feed}
 use Rattle.eve_tool.specs.Show.{header_line, line_of, trace_lines}
 
--- what was sent is a front of all where more is to come
-pub AppendsFront-so_far : (a b : Option (List ℕ)) (sent rest : List ℕ) → 0 < length rest → Appends a b sent
-    → AppendsFront a b (sent ++ rest)
-AppendsFront-so_far a b sent rest more sends = record {
+-- what was sent is a prefix of all where more is to come
+pub AppendsPrefix-so_far : (a b : Option (List ℕ)) (sent rest : List ℕ) → 0 < length rest → Appends a b sent
+    → AppendsPrefix a b (sent ++ rest)
+AppendsPrefix-so_far a b sent rest more sends = record {
   count = length sent;
   proper = omega (arith, length-append sent rest);
   appended = subst (Appends a b) (sym (take-append_seam sent rest)) sends;
 }
 
 -- nothing was sent
-pub AppendsFront-none : (a : Option (List ℕ)) (all : List ℕ) → 0 < length all → AppendsFront a a all
-AppendsFront-none a all more = record { count = 0; proper = more; appended = Appends-nil a }
+pub AppendsPrefix-none : (a : Option (List ℕ)) (all : List ℕ) → 0 < length all → AppendsPrefix a a all
+AppendsPrefix-none a all more = record { count = 0; proper = more; appended = Appends-nil a }
 
 -- the lines from the next one on
 pub flat_map-drop_next : {X : Type 0} (f : X → List ℕ) (xs : List X) (i : ℕ) (x : X) → slice_get xs i ≡ Some x
@@ -138,10 +138,10 @@ all_is_sent a b c held frames i past far sends =
     ∙ far.whole in
     subst (Appends a c) whole (Appends-trans a b c far.sent held far.appended sends)
 
--- where a line is to come, a front was sent
-pub front_so_far : (a b : Option (List ℕ)) (held : List ℕ) (frames : List Frame) (i : ℕ) → i < length frames
-    → SendsSoFar a b held frames i → AppendsFront a b (trace_lines frames)
-front_so_far a b held frames i within far =
+-- where a line is to come, a prefix was sent
+pub prefix_so_far : (a b : Option (List ℕ)) (held : List ℕ) (frames : List Frame) (i : ℕ) → i < length frames
+    → SendsSoFar a b held frames i → AppendsPrefix a b (trace_lines frames)
+prefix_so_far a b held frames i within far =
     let at = placed_at frames i within in
     let rest = flat_map line_of (drop i (located frame_text 32 frames)) in
     let later = flat_map line_of (drop (i + 1) (located frame_text 32 frames)) in
@@ -149,16 +149,17 @@ front_so_far a b held frames i within far =
     let some = frame_line-some at.0.0 (kind_name (kind_of at.0.1)) (length (body_text at.0.1)) in
     let more : 0 < length (held ++ rest) =
     omega (arith, length-append held rest, ap length next, length-append (line_of at.0) later) in
-    subst (AppendsFront a b) far.whole (AppendsFront-so_far a b far.sent (held ++ rest) more far.appended)
+    subst (AppendsPrefix a b) far.whole (AppendsPrefix-so_far a b far.sent (held ++ rest) more far.appended)
 
--- where a front of what is held was sent, a front of all was sent
-pub front_of_held : (a b c : Option (List ℕ)) (held : List ℕ) (frames : List Frame) (i : ℕ)
-    → SendsSoFar a b held frames i → AppendsFront b c held → AppendsFront a c (trace_lines frames)
-front_of_held a b c held frames i far front =
+-- where a prefix of what is held was sent, a prefix of all was sent
+pub prefix_of_held : (a b c : Option (List ℕ)) (held : List ℕ) (frames : List Frame) (i : ℕ)
+    → SendsSoFar a b held frames i → AppendsPrefix b c held → AppendsPrefix a c (trace_lines frames)
+prefix_of_held a b c held frames i far prefix =
     let rest = flat_map line_of (drop i (located frame_text 32 frames)) in
-    let more = AppendsFront-more a c (far.sent ++ held) rest (AppendsFront-after a b c far.sent held far.appended front)
+    let more = AppendsPrefix-more a c (far.sent ++ held) rest
+    (AppendsPrefix-after a b c far.sent held far.appended prefix)
     in
-    subst (AppendsFront a c) (append_assoc far.sent held rest ∙ far.whole) more
+    subst (AppendsPrefix a c) (append_assoc far.sent held rest ∙ far.whole) more
 
 -- the line of a frame, from what a view of it says
 pub line_of_view : (frames : List Frame) (i : ℕ) (p : ℕ × Frame) (f : Frame) (offset : ℕ) (name : List ℕ) (body_len : ℕ)

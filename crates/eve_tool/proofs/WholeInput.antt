@@ -15,7 +15,7 @@ use Rattle.eve_tool.specs.Run.{EndsRun, IsRunnable, IsTooLong, Runs}
 use Rattle.eve_tool_arguments.specs.Arguments.{Run}
 use Rattle.eve_tool_arguments.specs.Formats.{version_of}
 use Rattle.eve_tool_arguments.specs.declared.format.Format.{Format}
-use Rattle.eve_tool.specs.Writes.{WritesFront}
+use Rattle.eve_tool.specs.Writes.{WritesPrefix}
 
 -- the bytes that were read are all that was left, where that is known
 pub record IsAll (known : Option (List ℕ)) (bytes : List ℕ) : Type 0 where
@@ -35,11 +35,11 @@ short_is_all limit (Some k) read bytes same e short = record { same = same ∙ e
 -- what is left is what is behind what was read
 pub is_read : (limit : ℕ) (known left : Option (List ℕ)) (read : List ℕ)
     → IfSome known (λ k. read ≡ take (limit + 1) k) → Consumes known left read → WasRead limit known left
-is_read limit None left read front eaten = record { rest = tt }
-is_read limit (Some k) None read front eaten = absurd eaten
-is_read limit (Some k) (Some rest) read front eaten =
+is_read limit None left read prefix eaten = record { rest = tt }
+is_read limit (Some k) None read prefix eaten = absurd eaten
+is_read limit (Some k) (Some rest) read prefix eaten =
     let whole : take (limit + 1) k ++ rest ≡ take (limit + 1) k ++ drop (limit + 1) k =
-    ap (λ l. l ++ rest) (sym front) ∙ sym eaten ∙ sym (take-append-drop (limit + 1) k) in
+    ap (λ l. l ++ rest) (sym prefix) ∙ sym eaten ∙ sym (take-append-drop (limit + 1) k) in
     record { rest = ap Some (append_cancel_left (take (limit + 1) k) rest (drop (limit + 1) k) whole) }
 
 -- what is said of all that was left is said of what was read
@@ -70,6 +70,7 @@ left_of_all limit written failures mixer asked known failed bytes old new fault.
 left_of_all limit written failures mixer asked known failed bytes old new fault.Random all left =
     (of_all all (λ b. (length b ≤ limit) × IsRunnable asked b) left.0, left.1)
 left_of_all limit written failures mixer asked known failed bytes old new fault.Memory all (inl same) = inl same
-left_of_all limit written failures mixer asked known failed bytes old new fault.Memory all (inr front) = absurd front.0
+left_of_all limit written failures mixer asked known failed bytes old new fault.Memory all (inr prefix) =
+    absurd prefix.0
 left_of_all limit written failures mixer asked known failed bytes old new fault.Write all left =
-    (left.0, of_all all (λ b. WritesFront (Runs limit mixer asked) b (written old) (written new)) left.1)
+    (left.0, of_all all (λ b. WritesPrefix (Runs limit mixer asked) b (written old) (written new)) left.1)

@@ -2,10 +2,10 @@
 -- docs/USING.md, "Lines and statuses".
 use Rattle.std.specs.Prelude.{◌≡◌, ◌≢◌, ℕ, ◌+◌, ◌≤◌, ◌⊎◌, List, length, drop, Option, Some, IfSome, ⊤}
 use Rattle.eve_streams.specs.Failures.{after_failure}
-use Rattle.eve_streams.specs.Front.{AppendsFront}
+use Rattle.eve_streams.specs.Prefix.{AppendsPrefix}
 use Rattle.eve_grammar.specs.declared.limits.TheConstants.{MOST_BYTES}
 use Rattle.eve_workload.specs.Steps.{IsBadLine}
-use Rattle.eve_write.specs.Writing.{Wrote, Stopped}
+use Rattle.eve_write.specs.Writes.{Wrote, Stopped}
 use Rattle.eve_replica.specs.declared.fault.RunFault.TheVariants as ended
 use Rattle.eve_tool.specs.declared.fault.ToolFault.{ToolFault}
 use Rattle.eve_tool.specs.declared.fault.ToolFault.TheVariants as fault
@@ -17,7 +17,7 @@ use Rattle.eve_tool.specs.Show.{Shows}
 use Rattle.eve_tool.specs.Long.{ShowsLong, StopsInLines, StopsUpTo}
 use Rattle.eve_tool_arguments.specs.Formats.{version_of}
 use Rattle.eve_tool_arguments.specs.Arguments.{Subcommand, Audit, Explain, Run, Show, ShowLong, call_of}
-use Rattle.eve_tool.specs.Writes.{WritesFrontOf}
+use Rattle.eve_tool.specs.Writes.{WritesPrefixOf}
 
 -- the arguments are this call
 abbrev pub Calls : Subcommand → List (List ℕ) → Type 0
@@ -37,7 +37,7 @@ HasBadLine limit (Run mixer asked) known number =
     IfSome known (λ bytes. (length bytes ≤ limit) × IsBadLine (version_of asked) bytes number)
 HasBadLine limit _ known number = ⊥
 
--- the bytes are too long for `run`, or the trace of them is, or a run of them would take over too much
+-- the bytes are too long for `run`, or the trace of them is, or a run of them would transfer too much
 abbrev pub IsTooLongFor : ℕ → Subcommand → Option (List ℕ) → Type 0
 IsTooLongFor limit (Run mixer asked) known = IfSome known (IsTooLong limit mixer asked)
 IsTooLongFor limit _ known = ⊥
@@ -79,10 +79,10 @@ Leaves limit written failures call known failed old new fault.Broken = CallBreak
 Leaves limit written failures call known failed old new fault.Random =
     AsksForRandom limit call known × (new ≡ old)
 Leaves limit written failures call known failed old new fault.Memory =
-    (new ≡ old) ⊎ (SendsInParts call × WritesFrontOf (CallSays limit call) known (written old) (written new))
+    (new ≡ old) ⊎ (SendsInParts call × WritesPrefixOf (CallSays limit call) known (written old) (written new))
 Leaves limit written failures call known failed old new fault.Write =
     (failures new ≡ after_failure (failures old))
-    × WritesFrontOf (CallSays limit call) known (written old) (written new)
+    × WritesPrefixOf (CallSays limit call) known (written old) (written new)
 
 -- what was left of a text that was to be sent, by a fault: the text is held whole before any of it is sent
 abbrev pub StopsSending : {O : Type 0} → (O → Option (List ℕ)) → (O → ℕ) → O → O → List ℕ → ToolFault → Type 0
@@ -93,12 +93,13 @@ StopsSending written failures old new text _ = ⊥
 -- what was left of a text that was to be sent in parts: where memory ran out, out did not fail
 abbrev pub StopsInParts : {O : Type 0} → (O → Option (List ℕ)) → (O → ℕ) → O → O → List ℕ → ToolFault → Type 0
 StopsInParts written failures old new text fault.Memory =
-    AppendsFront (written old) (written new) text × (failures new ≡ failures old)
+    AppendsPrefix (written old) (written new) text × (failures new ≡ failures old)
 StopsInParts written failures old new text fault.Write = Stopped written failures old new text
 StopsInParts written failures old new text _ = ⊥
 
 -- what was left of lines of which the fact holds
-abbrev pub StopsListing : {O : Type 0} → (O → Option (List ℕ)) → (O → ℕ) → O → O → (List ℕ → Type 0) → ToolFault → Type 0
+abbrev pub StopsListing : {O : Type 0} → (O → Option (List ℕ)) → (O → ℕ) → O → O → (List ℕ → Type 0) → ToolFault
+    → Type 0
 StopsListing written failures old new Are fault.Memory = new ≡ old
 StopsListing written failures old new Are fault.Write =
     StopsInLines (written old) (written new) Are × (failures new ≡ after_failure (failures old))
@@ -117,7 +118,7 @@ StopsLong written failures old new Are last _ = ⊥
 pub record WasRead (limit : ℕ) (known left : Option (List ℕ)) : Type 0 where
   pub rest : IfSome known (λ bytes. left ≡ Some (drop (limit + 1) bytes))
 
--- a line was sent, or a front of it and then the stream failed
+-- a line was sent, or a prefix of it and then the stream failed
 abbrev pub TellsLine : {E : Type 0} → (E → Option (List ℕ)) → (E → ℕ) → E → E → List ℕ → Type 0
 TellsLine written failures old new line = Wrote written failures old new line ⊎ Stopped written failures old new line
 

@@ -2,7 +2,6 @@ pub mod Fault
 pub mod Lines
 pub mod Objects
 pub mod Writes
-pub mod Sending
 pub mod Show
 pub mod Long
 pub mod Audit
@@ -11,3 +10,4 @@ pub mod Run
 pub mod Calls
 pub mod Words
 pub mod Files
+pub mod inner

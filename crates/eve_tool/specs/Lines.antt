@@ -15,9 +15,9 @@ unfoldable pub frame_line : ℕ → List ℕ → ℕ → List ℕ
 frame_line offset name body_len =
     decimal offset ++ (codes " " ++ (name ++ (codes " " ++ (decimal body_len ++ line_feed))))
 
--- the front of a frame's line: what `show` prints of it, without the line feed
-unfoldable pub line_front : ℕ → List ℕ → ℕ → List ℕ
-line_front offset name body_len = decimal offset ++ (codes " " ++ (name ++ (codes " " ++ decimal body_len)))
+-- the prefix of a frame's line: what `show` prints of it, without the line feed
+unfoldable pub line_prefix : ℕ → List ℕ → ℕ → List ℕ
+line_prefix offset name body_len = decimal offset ++ (codes " " ++ (name ++ (codes " " ++ decimal body_len)))
 
 -- the replica in whose section a fault stands
 abbrev pub replica_text : Option ℕ → List ℕ

@@ -8,7 +8,7 @@ use Rattle.eve_frames.specs.declared.frame.FrameView.{FrameView}
 use Rattle.eve_grammar.specs.Trace.{Trace}
 use Rattle.eve_grammar.specs.Frames.{Frame, kind_of, frames_of, start_place}
 use Rattle.eve_grammar.specs.Spelling.{body_text, frame_text, frames_text}
-use Rattle.eve_grammar.specs.Following.{Follow, Spells}
+use Rattle.eve_grammar.specs.FrameOrder.{Follow, Spells}
 use Rattle.eve_grammar.specs.Limits.{is_head}
 use Rattle.eve_grammar.specs.Places.{number_in}
 use Rattle.eve_grammar.specs.declared.head.Head.{Head}
@@ -16,21 +16,21 @@ use Rattle.eve_grammar.specs.declared.head.TheConstants.{HEADER_LEN}
 use Rattle.eve_grammar.specs.declared.limits.TheConstants.{MOST_BYTES}
 use Rattle.eve_lines.specs.FrameLines.{frame_words, header_words}
 use Rattle.eve_lines.specs.Rest.{words_in}
-use Rattle.eve_streams.specs.Front.{AppendsFront}
+use Rattle.eve_streams.specs.Prefix.{AppendsPrefix}
 use Rattle.eve_views.specs.Form.{IsLeast, IsReached, StandsInForm, IsFaultOutside}
 use Rattle.eve_views.specs.declared.fault.Code.{Code}
 use Rattle.eve_views.specs.declared.fault.Code.TheVariants as code
 use Rattle.eve_views.specs.declared.fault.Fault.{Fault}
-use Rattle.eve_tool.specs.Lines.{fault_line, line_feed, line_front}
+use Rattle.eve_tool.specs.Lines.{fault_line, line_feed, line_prefix}
 
 -- the header's line: what `show` prints of it, and what it says
 abbrev pub header_long_line : Head → List ℕ
-header_long_line head = line_front 0 (codes "Header") 32 ++ (header_words head ++ line_feed)
+header_long_line head = line_prefix 0 (codes "Header") 32 ++ (header_words head ++ line_feed)
 
 -- the line of a frame, which has this number, from 0, and begins at this byte
 abbrev pub long_line : ℕ → ℕ → Frame → List ℕ
 long_line number at f =
-    line_front at (kind_name (kind_of f)) (length (body_text f)) ++ (frame_words number f ++ line_feed)
+    line_prefix at (kind_name (kind_of f)) (length (body_text f)) ++ (frame_words number f ++ line_feed)
 
 -- the lines of frames that stand one behind the other, from the one that has this number and begins at this byte
 abbrev pub lines_from : ℕ → ℕ → List Frame → List ℕ
@@ -50,8 +50,8 @@ pub record ShowsLongTrace (bytes text : List ℕ) : Type 0 where
 -- The text is the lines of the header and of the frames before a fault of form: of those of which the header says that
 -- they may stand there, up to the fault's byte. Of a fault of the header there are none.
 abbrev pub AreLinesTo : Code → List ℕ → ℕ → List ℕ → Type 0
-AreLinesTo code.Frame bytes at text = (r : IsReached bytes at) × (text ≡ long_lines r.head r.front)
-AreLinesTo code.Body bytes at text = (r : IsReached bytes at) × (text ≡ long_lines r.head r.front)
+AreLinesTo code.Frame bytes at text = (r : IsReached bytes at) × (text ≡ long_lines r.head r.prefix)
+AreLinesTo code.Body bytes at text = (r : IsReached bytes at) × (text ≡ long_lines r.head r.prefix)
 AreLinesTo _ bytes at text = text ≡ []
 
 -- The text is the lines that there are of bytes: of a trace all, else those before the first fault of form.
@@ -95,15 +95,15 @@ ShowsLong bytes text status =
 -- ---- what is sent of them
 
 -- what `show` prints of a frame, by its bytes
-abbrev pub front_of_view : FrameView → List ℕ
-front_of_view view =
-    line_front view.offset (kind_name (slice_index view.bytes.now 0)) (length view.bytes.now - 5)
+abbrev pub prefix_of_view : FrameView → List ℕ
+prefix_of_view view =
+    line_prefix view.offset (kind_name (slice_index view.bytes.now 0)) (length view.bytes.now - 5)
 
 -- the line of a frame, by its bytes
 abbrev pub line_of_view : ℕ → FrameView → List ℕ
-line_of_view number view = front_of_view view ++ (words_in number view.bytes.now ++ line_feed)
+line_of_view number view = prefix_of_view view ++ (words_in number view.bytes.now ++ line_feed)
 
--- how many bytes the frame at the front of bytes has, by its length
+-- how many bytes the frame at the beginning of bytes has, by its length
 abbrev pub frame_len : List ℕ → ℕ
 frame_len bytes = 5 + number_in 4 1 bytes
 
@@ -120,11 +120,11 @@ pub record SendsLines (old new : Option (List ℕ)) (Are : List ℕ → Type 0) 
   pub are : Are text
   pub sent : Appends old new text
 
--- a front of such lines was sent, and not all of it
+-- a prefix of such lines was sent, and not all of it
 pub record StopsInLines (old new : Option (List ℕ)) (Are : List ℕ → Type 0) : Type 0 where
   pub text : List ℕ
   pub are : Are text
-  pub sent : AppendsFront old new text
+  pub sent : AppendsPrefix old new text
 
 -- such lines were sent, and then this one
 pub record SendsUpTo (old new : Option (List ℕ)) (Are : List ℕ → Type 0) (last : List ℕ) : Type 0 where
@@ -132,8 +132,8 @@ pub record SendsUpTo (old new : Option (List ℕ)) (Are : List ℕ → Type 0) (
   pub are : Are before
   pub sent : Appends old new (before ++ last)
 
--- a front of such lines and this one was sent, and not all of it
+-- a prefix of such lines and this one was sent, and not all of it
 pub record StopsUpTo (old new : Option (List ℕ)) (Are : List ℕ → Type 0) (last : List ℕ) : Type 0 where
   pub before : List ℕ
   pub are : Are before
-  pub sent : AppendsFront old new (before ++ last)
+  pub sent : AppendsPrefix old new (before ++ last)

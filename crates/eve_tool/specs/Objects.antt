@@ -48,5 +48,5 @@ file_member None = []
 
 -- the object of a verdict, with these members before its own
 abbrev pub object_line : List Token → Verdict → List ℕ
-object_line front v =
-    print ((begin_object ∷ front) ++ (verdict_members v ++ end_object ∷ [])) ++ line_feed
+object_line prefix v =
+    print ((begin_object ∷ prefix) ++ (verdict_members v ++ end_object ∷ [])) ++ line_feed

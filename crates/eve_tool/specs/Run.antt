@@ -3,7 +3,7 @@ use Rattle.std.specs.Prelude.{◌≡◌, ℕ, ◌<◌, ◌≤◌, List, length, 
 use Rattle.eve_grammar.specs.Trace.{Trace}
 use Rattle.eve_grammar.specs.Spelling.{length_of}
 use Rattle.eve_grammar.specs.Limits.{HasLimits}
-use Rattle.eve_grammar.specs.Following.{Spells}
+use Rattle.eve_grammar.specs.FrameOrder.{Spells}
 use Rattle.eve_workload.specs.declared.mixer.Mixer.{Mixer}
 use Rattle.eve_workload.specs.Workload.{Workload, IsWorkload}
 use Rattle.eve_workload.specs.Lines.{workload_text}
@@ -61,7 +61,7 @@ pub record EndsRun (why : RunFault) (mixer : Mixer) (asked : Format) (bytes : Li
   pub typed : IsText asked bytes workload
   pub ends : EndsSoFar (run_plan workload mixer) workload.deployment.replicas why
 
--- the bytes, or a trace of a run of them, are more than `limit`, or a run of them would take over too much
+-- the bytes, or a trace of a run of them, are more than `limit`, or a run of them would transfer too much
 abbrev pub IsTooLong : ℕ → Mixer → Format → List ℕ → Type 0
 IsTooLong limit mixer asked bytes =
     (limit < length bytes) ⊎ (RunsTooLong limit mixer asked bytes ⊎ EndsRun ended.TooLong mixer asked bytes)

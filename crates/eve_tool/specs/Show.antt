@@ -5,7 +5,7 @@ use Rattle.eve_frames.specs.Kinds.{kind_name}
 use Rattle.eve_grammar.specs.Trace.{Trace}
 use Rattle.eve_grammar.specs.Frames.{Frame, kind_of, frames_of}
 use Rattle.eve_grammar.specs.Spelling.{body_text, frame_text, located}
-use Rattle.eve_grammar.specs.Following.{Spells}
+use Rattle.eve_grammar.specs.FrameOrder.{Spells}
 use Rattle.eve_views.specs.Form.{IsLeast, StandsInForm, IsFaultOutside}
 use Rattle.eve_views.specs.declared.fault.Fault.{Fault}
 use Rattle.eve_tool.specs.Lines.{fault_line, frame_line}

@@ -5,7 +5,7 @@ ghost use Rattle.std.specs.Option.{option_map};
 ghost use Rattle.std.specs.Io.KnownBytes.{Appends};
 ghost use Rattle.eve_reasons.specs.Lines.{ended};
 ghost use Rattle.eve_streams.specs.Failures.{after_failure};
-ghost use Rattle.eve_streams.specs.Front.{AppendsFront};
+ghost use Rattle.eve_streams.specs.Prefix.{AppendsPrefix};
 ghost use Rattle.eve_tool.specs.Calls.{WasRead, Leaves};
 ghost use Rattle.eve_tool.specs.Explain.{Explains, lines_behind, text_behind};
 ghost use Rattle.eve_tool.specs.Writes.{WritesAll, WritesAllOf};
@@ -40,7 +40,7 @@ fn line_behind<'e>(i: usize, explained: &'e Explained<'e>) -> Option<Line>
 /// Sends the lines behind the verdict's.
 fn send_reasons<'e, O: Sink>(explained: &'e Explained<'e>, out: &mut O) -> Result<(), SendFault>
     ensures sent { OnOk result (Appends (O.written out.old) (O.written out.new) (text_behind explained.now)) }
-    ensures front { OnErr result (AppendsFront (O.written out.old) (O.written out.new) (text_behind explained.now)) }
+    ensures prefix { OnErr result (AppendsPrefix (O.written out.old) (O.written out.new) (text_behind explained.now)) }
     ensures fine { OnOk result (O.failures out.new ≡ O.failures out.old) }
     ensures counted { OnErr result (O.failures out.new ≡ after_failure (O.failures out.old)) }
 {

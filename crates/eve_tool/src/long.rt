@@ -7,14 +7,14 @@ ghost use Rattle.arrayvec.specs.ArrayVec.{array_vec_len};
 ghost use Rattle.eve_grammar.specs.Frames.{Frame};
 ghost use Rattle.eve_lines.specs.Rest.{words_left};
 ghost use Rattle.eve_streams.specs.Failures.{after_failure};
-ghost use Rattle.eve_streams.specs.Front.{AppendsFront};
+ghost use Rattle.eve_streams.specs.Prefix.{AppendsPrefix};
 ghost use Rattle.eve_views.specs.Form.{IsFaultOutside, SaysHead, StandsInForm};
 ghost use Rattle.eve_tool.specs.Calls.{WasRead, Leaves, StopsListing, StopsLong};
-ghost use Rattle.eve_tool.specs.Lines.{fault_line, line_feed, line_front};
+ghost use Rattle.eve_tool.specs.Lines.{fault_line, line_feed, line_prefix};
 ghost use Rattle.eve_tool.specs.Long.{AreLinesBefore, AreLinesOf, AreLinesTo, HasFrames, SendsLines, SendsUpTo};
 ghost use Rattle.eve_tool.specs.Long.{ShowsLong, StopsInLines, with_total};
 ghost use Rattle.eve_tool.specs.Long.{frame_len, header_long_line, line_of_view, lines_from, long_lines};
-ghost use Rattle.eve_tool.specs.Sending.{PutsText};
+ghost use Rattle.eve_tool.specs.inner.LineSends.{PutsText};
 ghost use Rattle.eve_tool_arguments.specs.Arguments.{ShowLong};
 ghost use Rattle.eve_tool.specs.Writes.{WritesAll, WritesAllOf};
 
@@ -33,11 +33,11 @@ use std::alloc::Global;
 /// How many bytes of lines are sent together, about.
 const BLOCK: usize = 1024;
 
-/// Appends the front of a frame's line: the byte at which it begins, its kind's name, and how many bytes its body has.
-fn put_front(line: &mut Line, offset: u64, name: &str, body_len: u64)
+/// Appends the prefix of a frame's line: the byte at which it begins, its kind's name, and how many bytes its body has.
+fn put_prefix(line: &mut Line, offset: u64, name: &str, body_len: u64)
     requires room { array_vec_len line.old + LONGEST_PART ≤ LINE_ROOM }
     requires short { length name.now ≤ 8 }
-    ensures items { line.new.items ≡ line.old.items ++ line_front offset name.now body_len }
+    ensures items { line.new.items ≡ line.old.items ++ line_prefix offset name.now body_len }
     ensures len { array_vec_len line.new ≤ array_vec_len line.old + 50 }
 {
     put_number(line, offset);
@@ -50,7 +50,7 @@ fn put_front(line: &mut Line, offset: u64, name: &str, body_len: u64)
 fn send_held<O: Sink>(line: &mut Line, out: &mut O) -> Result<(), SendFault>
     ensures sent { OnOk result (Appends (O.written out.old) (O.written out.new) line.old.items) }
     ensures empty { OnOk result (line.new.items ≡ []) }
-    ensures front { OnErr result (AppendsFront (O.written out.old) (O.written out.new) line.old.items) }
+    ensures prefix { OnErr result (AppendsPrefix (O.written out.old) (O.written out.new) line.old.items) }
     ensures fine { OnOk result (O.failures out.new ≡ O.failures out.old) }
     ensures counted { OnErr result (O.failures out.new ≡ after_failure (O.failures out.old)) }
 {
@@ -59,11 +59,11 @@ fn send_held<O: Sink>(line: &mut Line, out: &mut O) -> Result<(), SendFault>
     Ok(())
 }
 
-/// Sends what is held, where it leaves no room for a front and a part of the words.
+/// Sends what is held, where it leaves no room for a prefix and a part of the words.
 fn make_room<O: Sink>(line: &mut Line, out: &mut O) -> Result<(), SendFault>
     ensures puts { OnOk result (PutsText (O.written out.old) (O.written out.new) line.old.items line.new.items []) }
     ensures room { OnOk result (array_vec_len line.new + 2 * LONGEST_PART ≤ LINE_ROOM) }
-    ensures front { OnErr result (AppendsFront (O.written out.old) (O.written out.new) line.old.items) }
+    ensures prefix { OnErr result (AppendsPrefix (O.written out.old) (O.written out.new) line.old.items) }
     ensures fine { OnOk result (O.failures out.new ≡ O.failures out.old) }
     ensures counted { OnErr result (O.failures out.new ≡ after_failure (O.failures out.old)) }
 {
@@ -81,7 +81,7 @@ fn put_words<O: Sink>(
 ) -> Result<(), SendFault>
     ensures puts { OnOk result (PutsText (O.written out.old) (O.written out.new) line.old.items line.new.items
         (words_left words.old)) }
-    ensures front { OnErr result (AppendsFront (O.written out.old) (O.written out.new)
+    ensures prefix { OnErr result (AppendsPrefix (O.written out.old) (O.written out.new)
         (line.old.items ++ words_left words.old)) }
     ensures fine { OnOk result (O.failures out.new ≡ O.failures out.old) }
     ensures counted { OnErr result (O.failures out.new ≡ after_failure (O.failures out.old)) }
@@ -98,7 +98,7 @@ fn put_words<O: Sink>(
 fn put_end<O: Sink>(line: &mut Line, out: &mut O) -> Result<(), SendFault>
     ensures puts { OnOk result (PutsText (O.written out.old) (O.written out.new) line.old.items line.new.items
         line_feed) }
-    ensures front { OnErr result (AppendsFront (O.written out.old) (O.written out.new) line.old.items) }
+    ensures prefix { OnErr result (AppendsPrefix (O.written out.old) (O.written out.new) line.old.items) }
     ensures fine { OnOk result (O.failures out.new ≡ O.failures out.old) }
     ensures counted { OnErr result (O.failures out.new ≡ after_failure (O.failures out.old)) }
 {
@@ -116,13 +116,13 @@ fn put_frame<O: Sink>(
 ) -> Result<(), SendFault>
     ensures puts { OnOk result (PutsText (O.written out.old) (O.written out.new) line.old.items line.new.items
         (line_of_view number frame.now)) }
-    ensures front { OnErr result (AppendsFront (O.written out.old) (O.written out.new)
+    ensures prefix { OnErr result (AppendsPrefix (O.written out.old) (O.written out.new)
         (line.old.items ++ line_of_view number frame.now)) }
     ensures fine { OnOk result (O.failures out.new ≡ O.failures out.old) }
     ensures counted { OnErr result (O.failures out.new ≡ after_failure (O.failures out.old)) }
 {
     make_room(line, out)?;
-    put_front(
+    put_prefix(
         line,
         frame.offset(),
         frame.kind_name(),
@@ -167,8 +167,8 @@ fn put_frames<O: Sink>(line: &mut Line, bytes: &[u8], out: &mut O) -> Result<(),
     ensures puts { (head : Head) (frames : List Frame) → HasFrames bytes.now head frames
         → OnOk result (PutsText (O.written out.old) (O.written out.new) line.old.items line.new.items
         (lines_from 0 32 frames)) }
-    ensures front { (head : Head) (frames : List Frame) → HasFrames bytes.now head frames
-        → OnErr result (AppendsFront (O.written out.old) (O.written out.new)
+    ensures prefix { (head : Head) (frames : List Frame) → HasFrames bytes.now head frames
+        → OnErr result (AppendsPrefix (O.written out.old) (O.written out.new)
         (line.old.items ++ lines_from 0 32 frames)) }
     ensures fine { OnOk result (O.failures out.new ≡ O.failures out.old) }
     ensures counted { OnErr result (O.failures out.new ≡ after_failure (O.failures out.old)) }
@@ -190,7 +190,7 @@ fn put_header_line(line: &mut Line, head: &Head)
     requires { line.old.items ≡ [] }
     ensures { line.new.items ≡ header_long_line head.now }
 {
-    put_front(line, 0, "Header", 32);
+    put_prefix(line, 0, "Header", 32);
     put_header(line, head);
     put_line_feed(line);
 }
@@ -199,8 +199,8 @@ fn put_header_line(line: &mut Line, head: &Head)
 fn send_lines<O: Sink>(bytes: &[u8], out: &mut O) -> Result<(), SendFault>
     ensures sent { (head : Head) (frames : List Frame) → SaysHead bytes.now head → HasFrames bytes.now head frames
         → OnOk result (Appends (O.written out.old) (O.written out.new) (long_lines head frames)) }
-    ensures front { (head : Head) (frames : List Frame) → SaysHead bytes.now head → HasFrames bytes.now head frames
-        → OnErr result (AppendsFront (O.written out.old) (O.written out.new) (long_lines head frames)) }
+    ensures prefix { (head : Head) (frames : List Frame) → SaysHead bytes.now head → HasFrames bytes.now head frames
+        → OnErr result (AppendsPrefix (O.written out.old) (O.written out.new) (long_lines head frames)) }
     ensures fine { OnOk result (O.failures out.new ≡ O.failures out.old) }
     ensures counted { OnErr result (O.failures out.new ≡ after_failure (O.failures out.old)) }
 {
@@ -222,7 +222,7 @@ fn send_before<O: Sink>(bytes: &[u8], fault: &Fault, out: &mut O) -> Result<(), 
     requires stands { IsFaultOutside StandsInForm bytes.now fault.now }
     ensures sent { OnOk result (SendsLines (O.written out.old) (O.written out.new)
         (AreLinesTo fault.now.code bytes.now fault.now.offset)) }
-    ensures front { OnErr result (StopsInLines (O.written out.old) (O.written out.new)
+    ensures prefix { OnErr result (StopsInLines (O.written out.old) (O.written out.new)
         (AreLinesTo fault.now.code bytes.now fault.now.offset)) }
     ensures fine { OnOk result (O.failures out.new ≡ O.failures out.old) }
     ensures counted { OnErr result (O.failures out.new ≡ after_failure (O.failures out.old)) }

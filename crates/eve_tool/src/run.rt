@@ -6,7 +6,7 @@ ghost use Rattle.eve_grammar.specs.Spelling.{length_of, spelling};
 ghost use Rattle.eve_streams.specs.Failures.{after_failure};
 ghost use Rattle.eve_write.specs.Data.{trace};
 ghost use Rattle.eve_write.specs.Writable.{HasSpelling};
-ghost use Rattle.eve_write.specs.Writing.{Wrote, Stopped};
+ghost use Rattle.eve_write.specs.Writes.{Wrote, Stopped};
 ghost use Rattle.eve_tool.specs.Calls.{WasRead, Leaves};
 ghost use Rattle.eve_tool.specs.Run.{Runs, IsRunOfText, StopsRun};
 ghost use Rattle.eve_tool_arguments.specs.Arguments.{Run};
@@ -100,7 +100,7 @@ fn run_bytes<R: RandomSource + Threads + Wait + Sync, O: Sink>(
 /// whose trace would be; nothing is sent then, nor where a line of it is bad. So what is too long can be tried with
 /// little; for `eve run` the limit is 2^30. Refused, in the order of the tests: `Read`; `TooLong` of the workload;
 /// `Line`; `Random`; `Broken`, or `TooLong` of the run; `TooLong` of the trace; `Write`; and `Memory` where it is met.
-/// Then nothing is sent, but a front of the trace after `Write`.
+/// Then nothing is sent, but a prefix of the trace after `Write`.
 pub fn run_within<R: AllocGlobal + RandomSource + Threads + Wait + Sync, I: Source, O: Sink>(
     rt: &R,
     mixer: Mixer,

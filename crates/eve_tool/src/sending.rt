@@ -4,7 +4,7 @@ ghost use Rattle.std.specs.Prelude.{◌≡◌, []};
 ghost use Rattle.std.specs.Prelude.{IfErr, OnOk, OnErr};
 ghost use Rattle.std.specs.String.{string_bytes};
 ghost use Rattle.std.specs.Io.KnownBytes.{Appends};
-ghost use Rattle.eve_streams.specs.Front.{AppendsFront};
+ghost use Rattle.eve_streams.specs.Prefix.{AppendsPrefix};
 ghost use Rattle.eve_tool.specs.Calls.{StopsSending, TellsLine};
 ghost use Rattle.eve_tool.specs.Lines.{fault_line};
 
@@ -20,7 +20,7 @@ pub(crate) fn send_text<O: Sink>(text: &mut String, out: &mut O) -> Result<(), T
         (string_bytes text.old)) }
     ensures empty { OnOk result (string_bytes text.new ≡ []) }
     ensures fine { OnOk result (O.failures out.new ≡ O.failures out.old) }
-    ensures front { OnErr result (AppendsFront (O.written out.old) (O.written out.new)
+    ensures prefix { OnErr result (AppendsPrefix (O.written out.old) (O.written out.new)
         (string_bytes text.old)) }
     ensures stopped { IfErr result (StopsSending O.written O.failures out.old out.new
         (string_bytes text.old)) }

@@ -11,7 +11,7 @@ use Rattle.clap.specs.declared.builder.action.ArgAction.TheVariants.{Append, Set
 use Rattle.clap.specs.declared.error.kind.ErrorKind.TheVariants as kind
 use Rattle.clap.specs.declared.error.kind.ErrorKind.{ErrorKind}
 use Rattle.eve_workload.specs.declared.mixer.Mixer.{Mixer}
-use Rattle.eve_workload.specs.Mixing.{mixer_named}
+use Rattle.eve_workload.specs.Mixers.{mixer_named}
 use Rattle.eve_tool_arguments.specs.Formats.{format_named}
 use Rattle.eve_tool_arguments.specs.declared.format.Format.{Format}
 use Rattle.eve_tool_arguments.specs.declared.style.Style.{Style}

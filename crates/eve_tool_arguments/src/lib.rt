@@ -1,4 +1,4 @@
-//! What the arguments of the program's command line ask for. A chamber of eve_tool.
+//! What the arguments of the program's command line ask for. An internal crate of eve_tool.
 #![tactic(auto)]
 
 mod arguments;

@@ -14,15 +14,15 @@ use Rattle.eve_grammar.specs.Frames.{frames_of}
 use Rattle.eve_grammar.specs.Spelling.{frame_text, frames_text, located, steps_of, steps_at, votes_of, votes_at}
 use Rattle.eve_grammar.specs.Spelling.{section_start, verifier_start, step_text, length_of}
 use Rattle.eve_grammar.specs.Limits.{HasLimits, is_vote, is_step, row_count}
-use Rattle.eve_grammar.specs.Gathering.{Gathered, nothing, gathered}
+use Rattle.eve_grammar.specs.GatheredTraces.{Gathered, nothing, gathered}
 use Rattle.eve_grammar.proofs.Gatherings.{gathered-steps, with_steps}
 use Rattle.eve_grammar.specs.declared.limits.TheConstants.{MOST_ROWS, MOST_BATCHES}
-use Rattle.eve_views.specs.Fronts.{before_sections, before_section, before_verifiers, before_verifier}
+use Rattle.eve_views.specs.inner.FramesBefore.{before_sections, before_section, before_verifiers, before_verifier}
 use Rattle.eve_views.specs.Parts.{byte_of, frames_between, votes_between, steps_between, AreVotes, AreSteps}
-use Rattle.eve_views.proofs.Fronting.{frames_from_sections, frames_from_verifiers}
-use Rattle.eve_views.proofs.Locating.{length-frames_text, section_begins, verifier_begins}
+use Rattle.eve_views.proofs.NumberedFrames.{frames_from_sections, frames_from_verifiers}
+use Rattle.eve_views.proofs.FrameOffsets.{length-frames_text, section_begins, verifier_begins}
 use Rattle.eve_views.proofs.PartLaws.{votes_are}
-use Rattle.eve_views.proofs.WalkLaws.{front_short}
+use Rattle.eve_views.proofs.WalkLaws.{prefix_short}
 
 -- ---- the k-th of numbered parts
 
@@ -46,11 +46,11 @@ cut_part {X = X} frames xs k d lt =
     let later : List Frame = flat_map frames (drop (suc k) numbered) in
     let tail : drop k numbered ≡ here ∷ drop (suc k) numbered = drop-cons numbered k none long
     ∙ ap (λ (x : ℕ × X). x ∷ drop (suc k) numbered) is in
-    let front : take (suc k) numbered ≡ take k numbered ++ here ∷ [] = take-suc numbered k none long
+    let prefix : take (suc k) numbered ≡ take k numbered ++ here ∷ [] = take-suc numbered k none long
     ∙ ap (λ (x : ℕ × X). take k numbered ++ x ∷ []) is in
     record {
       rest = later;
-      next = ap (flat_map frames) front ∙ flat_map-append frames (take k numbered) (here ∷ [])
+      next = ap (flat_map frames) prefix ∙ flat_map-append frames (take k numbered) (here ∷ [])
           ∙ ap (λ (fs : List Frame). flat_map frames (take k numbered) ++ fs) (append-nil (frames here));
       all = ap (flat_map frames)
           (sym (take-append-drop k numbered) ∙ ap (λ (ys : List (ℕ × X)). take k numbered ++ ys) tail)
@@ -66,25 +66,25 @@ pub record IsPart (fs before part next : List Frame) (first : Frame) : Type 0 wh
   pub next_is : next ≡ before ++ (first ∷ part)
 
 -- the k-th of numbered parts, each of which begins with a frame of its own
-part_cut : {X : Type 0} (frames : ℕ × X → List Frame) (xs : List X) (k : ℕ) (d : X) (fs front others part : List Frame)
-    (first : Frame) → k < length xs → fs ≡ front ++ (flat_map frames (enumerate_from 0 xs) ++ others)
+part_cut : {X : Type 0} (frames : ℕ × X → List Frame) (xs : List X) (k : ℕ) (d : X) (fs prefix others part : List Frame)
+    (first : Frame) → k < length xs → fs ≡ prefix ++ (flat_map frames (enumerate_from 0 xs) ++ others)
     → frames (k, get_or xs k d) ≡ first ∷ part
-    → IsPart fs (front ++ flat_map frames (take k (enumerate_from 0 xs))) part
-    (front ++ flat_map frames (take (suc k) (enumerate_from 0 xs))) first
-part_cut frames xs k d fs front others part first lt split is =
+    → IsPart fs (prefix ++ flat_map frames (take k (enumerate_from 0 xs))) part
+    (prefix ++ flat_map frames (take (suc k) (enumerate_from 0 xs))) first
+part_cut frames xs k d fs prefix others part first lt split is =
     let cut = cut_part frames xs k d lt in
     let own = flat_map frames (take k (enumerate_from 0 xs)) in
     record {
       rest = cut.rest ++ others;
       whole = split
-          ∙ ap (λ (gs : List Frame). front ++ (gs ++ others))
+          ∙ ap (λ (gs : List Frame). prefix ++ (gs ++ others))
           (cut.all ∙ ap (λ (gs : List Frame). own ++ (gs ++ cut.rest)) is)
-          ∙ ap (λ (gs : List Frame). front ++ gs)
+          ∙ ap (λ (gs : List Frame). prefix ++ gs)
           (append_assoc own (first ∷ (part ++ cut.rest)) others
           ∙ ap (λ (gs : List Frame). own ++ gs) (append_assoc (first ∷ part) cut.rest others))
-          ∙ sym (append_assoc front own (first ∷ (part ++ (cut.rest ++ others))));
-      next_is = ap (λ (gs : List Frame). front ++ gs) (cut.next ∙ ap (λ (gs : List Frame). own ++ gs) is)
-          ∙ sym (append_assoc front own (first ∷ part));
+          ∙ sym (append_assoc prefix own (first ∷ (part ++ (cut.rest ++ others))));
+      next_is = ap (λ (gs : List Frame). prefix ++ gs) (cut.next ∙ ap (λ (gs : List Frame). own ++ gs) is)
+          ∙ sym (append_assoc prefix own (first ∷ part));
     }
 
 pub section_cut : (t : Trace) (e : ℕ) → e < length t.sections
@@ -112,7 +112,7 @@ few_votes t v lt =
       length-append (before_verifier t v) (OfVerifier v ∷ (part ++ cut.rest)),
       length-append part cut.rest,
       length-map (votes_of t v) OfVote,
-      front_short (frames_of t),
+      prefix_short (frames_of t),
     )
 
 -- the same by numbers of frames
@@ -125,15 +125,15 @@ pub record IsBetween (fs part : List Frame) (from to : ℕ) : Type 0 where
 pub between : (fs before part next : List Frame) (first : Frame) (from to : ℕ) → IsPart fs before part next first
     → from ≡ length before + 1 → to ≡ length next → IsBetween fs part from to
 between fs before part next first from to p at_from at_to =
-    let front : List Frame = before ++ first ∷ [] in
-    let wide : length front ≡ from = omega (arith, at_from, length-append before (first ∷ [])) in
-    let cut : fs ≡ front ++ (part ++ p.rest) = p.whole ∙ sym (append_assoc before (first ∷ []) (part ++ p.rest)) in
-    let behind : drop from fs ≡ part ++ p.rest = ap (drop from) cut ∙ drop_at front (part ++ p.rest) from wide in
+    let prefix : List Frame = before ++ first ∷ [] in
+    let wide : length prefix ≡ from = omega (arith, at_from, length-append before (first ∷ [])) in
+    let cut : fs ≡ prefix ++ (part ++ p.rest) = p.whole ∙ sym (append_assoc before (first ∷ []) (part ++ p.rest)) in
+    let behind : drop from fs ≡ part ++ p.rest = ap (drop from) cut ∙ drop_at prefix (part ++ p.rest) from wide in
     let ends : to ≡ from + length part =
     omega (arith, at_from, at_to, ap length p.next_is, length-append before (first ∷ part)) in
     let many : to - from ≡ length part = omega (arith, ends) in
     let long : length fs ≡ from + (length part + length p.rest) =
-    omega (arith, ap length cut, wide, length-append front (part ++ p.rest), length-append part p.rest) in
+    omega (arith, ap length cut, wide, length-append prefix (part ++ p.rest), length-append part p.rest) in
     record {
       up = omega (arith, ends);
       within = omega (arith, ends, long);
@@ -146,13 +146,13 @@ pub byte_behind : (fs before part next : List Frame) (first : Frame) (from : ℕ
     → from ≡ length before + 1
     → byte_of fs from ≡ 32 + length (frames_text before) + length (frame_text first)
 byte_behind fs before part next first from p at_from =
-    let front : List Frame = before ++ first ∷ [] in
-    let wide : length front ≡ from = omega (arith, at_from, length-append before (first ∷ [])) in
-    let cut : fs ≡ front ++ (part ++ p.rest) = p.whole ∙ sym (append_assoc before (first ∷ []) (part ++ p.rest)) in
-    let front_is : take from fs ≡ front = ap (take from) cut ∙ take_at front (part ++ p.rest) from wide in
+    let prefix : List Frame = before ++ first ∷ [] in
+    let wide : length prefix ≡ from = omega (arith, at_from, length-append before (first ∷ [])) in
+    let cut : fs ≡ prefix ++ (part ++ p.rest) = p.whole ∙ sym (append_assoc before (first ∷ []) (part ++ p.rest)) in
+    let prefix_is : take from fs ≡ prefix = ap (take from) cut ∙ take_at prefix (part ++ p.rest) from wide in
     omega (
       arith,
-      ap (λ (gs : List Frame). length (frames_text gs)) front_is,
+      ap (λ (gs : List Frame). length (frames_text gs)) prefix_is,
       length-frames_text before (first ∷ []),
       length-append (frame_text first) [],
     )

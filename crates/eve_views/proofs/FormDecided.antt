@@ -6,23 +6,23 @@ use Rattle.std.proofs.lemmas.Bool.{cases_Bool, false≢true}
 use Rattle.std.proofs.lemmas.List.{append-nil, length-append}
 use Rattle.eve_grammar.specs.Trace.{Trace}
 use Rattle.eve_grammar.specs.Frames.{Frame, start_place}
-use Rattle.eve_grammar.specs.Following.{AreAllFrames, Spells}
-use Rattle.eve_grammar.specs.Reading.{header_of}
+use Rattle.eve_grammar.specs.FrameOrder.{AreAllFrames, Spells}
+use Rattle.eve_grammar.specs.Readers.{header_of}
 use Rattle.eve_grammar.specs.Spelling.{frame_text, frames_text}
 use Rattle.eve_grammar.proofs.Codec.{IsBytes}
 use Rattle.eve_grammar.specs.declared.head.Head.{Head}
 use Rattle.eve_grammar.specs.declared.place.Place.{Place}
-use Rattle.eve_views.specs.Form.{is_sized, has_magic, said_by, SaysHead, IsLeast, StandsInForm, IsFaultOutside}
-use Rattle.eve_views.specs.Header.{IsHeader}
+use Rattle.eve_views.specs.Form.{is_sized, has_magic, decoded_by, SaysHead, IsLeast, StandsInForm, IsFaultOutside}
+use Rattle.eve_views.specs.inner.Header.{IsHeader}
 use Rattle.eve_views.specs.Walk.{frame_at}
-use Rattle.eve_views.specs.Indexing.{kept}
+use Rattle.eve_views.specs.Indexes.{kept}
 use Rattle.eve_views.specs.declared.fault.Code.TheVariants as code
 use Rattle.eve_views.specs.declared.fault.Fault.{Fault}
 use Rattle.eve_views.proofs.HeaderLaws.{says_head, header_again_of, Sized-from, header_spelled}
 use Rattle.eve_views.proofs.FormLaws.{refused_at_header, refused_behind}
-use Rattle.eve_views.specs.Walking.{Reached}
-use Rattle.eve_views.proofs.Reaching.{reached_start, step_of, reached_more, split_at, reached_fault}
-use Rattle.eve_views.proofs.WalkLaws.{front_short}
+use Rattle.eve_views.specs.inner.WalkProgress.{Reached}
+use Rattle.eve_views.proofs.WalkSteps.{reached_start, step_of, reached_more, split_at, reached_fault}
+use Rattle.eve_views.proofs.WalkLaws.{prefix_short}
 use Rattle.eve_views.proofs.WholeTraces.{SpellsFrames, spells_trace}
 
 result_cases : {A B C : Type 0} (r : Result A B) → ((x : A) → r ≡ Ok x → C) → ((y : B) → r ≡ Err y → C) → C
@@ -45,10 +45,10 @@ module _ (h : Head) (bytes : List ℕ) (says : SaysHead bytes h) (fits : IsBytes
   ended : (at : ℕ) (p : Place) (offsets : List ℕ) → Reached h bytes at p offsets → IsTrue p.ended → drop at bytes ≡ []
       → IsEnded h bytes
   ended at p offsets r end none = record {
-    frames = r.front;
+    frames = r.prefix;
     run = record { follow = r.right; ended = subst (λ (q : Place). IsTrue q.ended) (sym r.place_is) end };
-    text = split_at at bytes (frames_text r.front) r.at_is r.within r.before
-        ∙ ap (λ (b : List ℕ). frames_text r.front ++ b) none ∙ append-nil (frames_text r.front);
+    text = split_at at bytes (frames_text r.prefix) r.at_is r.within r.before
+        ∙ ap (λ (b : List ℕ). frames_text r.prefix ++ b) none ∙ append-nil (frames_text r.prefix);
   }
 
   some_byte : (b : ℕ) (bs : List ℕ) → ◌≡◌ {A = List ℕ} (b ∷ bs) [] → ⊥
@@ -73,7 +73,7 @@ module _ (h : Head) (bytes : List ℕ) (says : SaysHead bytes h) (fits : IsBytes
     | inr more ↦ result_cases (kept (drop at bytes) (frame_at h p (drop at bytes)))
         (λ k is.
         let step = step_of h p bytes at k says.limits fits r.within is in
-        let some = front_short (step.frame ∷ []) in
+        let some = prefix_short (step.frame ∷ []) in
         let one = length-append (frame_text step.frame) [] in
         walked fuel (at + k.len) _ _ (omega (arith, lt, step.len, some, one))
         (reached_more h bytes at p offsets k r step))
@@ -90,7 +90,7 @@ Found bytes = ((f : Fault) × IsLeast (IsFaultOutside StandsInForm bytes) f) ⊎
 module _ (bytes : List ℕ) (fits : IsBytes bytes) where
   with_header : (h : Head) → IsHeader bytes h → Found bytes
   with_header h is =
-      let says = says_head bytes h fits is.said in
+      let says = says_head bytes h fits is.decoded in
       let sized = Sized-from bytes is.sized in
       by says sized.short (walked h bytes says fits (suc (length bytes)) 32 start_place [] (omega arith)
       (reached_start h bytes sized.long))
@@ -114,14 +114,14 @@ module _ (bytes : List ℕ) (fits : IsBytes bytes) where
     | inr unsized ↦ inl (_, (refused_at_header code.Length bytes unsized).least)
     | inl sized ↦ elim (cases_Bool (has_magic bytes)) [
       | inr other ↦ inl (_, (refused_at_header code.Magic bytes (sized, other)).least)
-      | inl magic ↦ by sized magic (header_of (said_by bytes)) refl
+      | inl magic ↦ by sized magic (header_of (decoded_by bytes)) refl
     ]
   ]
     where
-      by : IsTrue (is_sized bytes) → IsTrue (has_magic bytes) → (o : Option Head) → header_of (said_by bytes) ≡ o
+      by : IsTrue (is_sized bytes) → IsTrue (has_magic bytes) → (o : Option Head) → header_of (decoded_by bytes) ≡ o
           → Found bytes
       by sized magic None is = inl (_, (refused_at_header code.Head bytes (sized, magic, is)).least)
-      by sized magic (Some h) is = with_header h (record { sized = sized; magic = magic; said = is })
+      by sized magic (Some h) is = with_header h (record { sized = sized; magic = magic; decoded = is })
 
 -- where a fault of form stands nothing is spelled
 pub nothing_spelled : (bytes : List ℕ) (f : Fault) → IsBytes bytes → IsFaultOutside StandsInForm bytes f → (t : Trace)

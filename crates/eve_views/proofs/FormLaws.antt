@@ -5,21 +5,21 @@ use Rattle.std.proofs.lemmas.List.{length-drop}
 use Rattle.eve_grammar.specs.Trace.{Trace}
 use Rattle.eve_grammar.specs.Frames.{Frame, start_place, frames_of}
 use Rattle.eve_grammar.specs.Spelling.{frames_text}
-use Rattle.eve_grammar.specs.Reading.{header_of}
+use Rattle.eve_grammar.specs.Readers.{header_of}
 use Rattle.eve_views.specs.declared.fault.Code.{Code}
 use Rattle.eve_views.specs.declared.fault.Code.TheVariants as code
 use Rattle.eve_views.specs.declared.fault.Fault.{Fault}
 use Rattle.eve_views.specs.Code.{code_number}
-use Rattle.eve_views.specs.Form.{is_sized, has_magic, said_by, IsReached, StandsInForm, IsLeast, IsFaultOutside}
-use Rattle.eve_views.specs.Header.{IsHeader, StopsAtHeader}
+use Rattle.eve_views.specs.Form.{is_sized, has_magic, decoded_by, IsReached, StandsInForm, IsLeast, IsFaultOutside}
+use Rattle.eve_views.specs.inner.Header.{IsHeader, StopsAtHeader}
 use Rattle.eve_views.specs.Walk.{Walked, walk}
 use Rattle.eve_grammar.proofs.Codec.{IsBytes, IsBytes-drop}
 use Rattle.eve_grammar.specs.declared.head.Head.{Head}
-use Rattle.eve_grammar.specs.Following.{Spells, after}
+use Rattle.eve_grammar.specs.FrameOrder.{Spells, after}
 use Rattle.eve_views.proofs.FrameLaws.{StandsHere, true_false}
-use Rattle.eve_views.proofs.WalkLaws.{stopped, StandsBehind, walk_fault, walk_again, front_short}
-use Rattle.eve_views.proofs.Reaching.{split_at}
-use Rattle.eve_views.proofs.HeaderLaws.{says_head, head_said, header_again_of}
+use Rattle.eve_views.proofs.WalkLaws.{stopped, StandsBehind, walk_fault, walk_again, prefix_short}
+use Rattle.eve_views.proofs.WalkSteps.{split_at}
+use Rattle.eve_views.proofs.HeaderLaws.{says_head, head_decoded, header_again_of}
 use Rattle.eve_views.proofs.WholeTraces.{spells_frames}
 
 some_none : {A : Type 0} (o : Option A) (x : A) → o ≡ Some x → o ≡ None → ⊥
@@ -37,7 +37,7 @@ pub stands_at_header : (c : Code) (bytes : List ℕ) → StopsAtHeader bytes c �
 stands_at_header code.Length bytes s = (refl, s)
 stands_at_header code.Magic bytes s = (refl, s.1)
 stands_at_header code.Head bytes s =
-    (refl, λ h says. some_none (header_of (said_by bytes)) h (head_said bytes h says) s.2)
+    (refl, λ h says. some_none (header_of (decoded_by bytes)) h (head_decoded bytes h says) s.2)
 stands_at_header c bytes s = absurd s
 
 abbrev IsNotBefore : Code → ℕ → Code → Type 0
@@ -80,21 +80,21 @@ first_at_header c d bytes at s t = absurd s
 none_at_header : (c : Code) (bytes : List ℕ) (t : Trace) → StopsAtHeader bytes c → Spells bytes t → ⊥
 none_at_header code.Length bytes t s spells = true_false (is_sized bytes) (header_again_of bytes t spells).0.sized s
 none_at_header code.Magic bytes t s spells = true_false (has_magic bytes) (header_again_of bytes t spells).0.magic s.1
-none_at_header code.Head bytes t s spells = some_none (header_of (said_by bytes)) t.head
-    (header_again_of bytes t spells).0.said s.2
+none_at_header code.Head bytes t s spells = some_none (header_of (decoded_by bytes)) t.head
+    (header_again_of bytes t spells).0.decoded s.2
 none_at_header c bytes t s spells = s
 
 -- ---- a fault of the frames
 
 behind_frames : (c : Code) (bytes : List ℕ) (at : ℕ) (h : Head) (r : IsReached bytes at) → r.head ≡ h
-    → StandsHere c r.head (after start_place r.front) (drop at bytes)
+    → StandsHere c r.head (after start_place r.prefix) (drop at bytes)
     → StandsBehind c h (drop 32 bytes) (drop at bytes) × (at ≤ length bytes)
 behind_frames c bytes at h r same s = (
   subst (λ (g : Head). StandsBehind c g (drop 32 bytes) (drop at bytes)) same
       (record {
-        front = r.front;
+        prefix = r.prefix;
         right = r.right;
-        before = split_at at bytes (frames_text r.front) r.at_is r.within
+        before = split_at at bytes (frames_text r.prefix) r.at_is r.within
             r.before;
         here = s;
       }),
@@ -106,11 +106,11 @@ behind_of : (c : Code) (bytes : List ℕ) (at : ℕ) (h : Head) → StandsInForm
     → StandsBehind c h (drop 32 bytes) (drop at bytes) × (at ≤ length bytes)
 behind_of code.Length bytes at h s is fits = absurd (true_false (is_sized bytes) is.sized s.1)
 behind_of code.Magic bytes at h s is fits = absurd (true_false (has_magic bytes) is.magic s.1)
-behind_of code.Head bytes at h s is fits = absurd (s.1 h (says_head bytes h fits is.said))
+behind_of code.Head bytes at h s is fits = absurd (s.1 h (says_head bytes h fits is.decoded))
 behind_of code.Frame bytes at h s is fits = behind_frames code.Frame bytes at h s.0
-    (same_some (header_of (said_by bytes)) s.0.head h (head_said bytes s.0.head s.0.says) is.said) s.1
+    (same_some (header_of (decoded_by bytes)) s.0.head h (head_decoded bytes s.0.head s.0.says) is.decoded) s.1
 behind_of code.Body bytes at h s is fits = behind_frames code.Body bytes at h s.0
-    (same_some (header_of (said_by bytes)) s.0.head h (head_said bytes s.0.head s.0.says) is.said) s.1
+    (same_some (header_of (decoded_by bytes)) s.0.head h (head_decoded bytes s.0.head s.0.says) is.decoded) s.1
 behind_of c bytes at h s is fits = absurd s
 
 abbrev stop_of : Code × List ℕ → Walked → Code × List ℕ
@@ -134,7 +134,7 @@ stops_at : (c : Code) (bytes : List ℕ) (at : ℕ) (h : Head) → StandsInForm 
 stops_at c bytes at h s is fits =
     let b = behind_of c bytes at h s is fits in
     walk_fault c (suc (length (drop 32 bytes))) h (drop 32 bytes) (drop at bytes)
-    (says_head bytes h fits is.said).limits (IsBytes-drop 32 bytes fits) (omega arith) b.0
+    (says_head bytes h fits is.decoded).limits (IsBytes-drop 32 bytes fits) (omega arith) b.0
 
 one_place : (c d : Code) (bytes : List ℕ) (at to : ℕ) (h : Head) → IsHeader bytes h → IsBytes bytes
     → StandsInForm c bytes at → StandsInForm d bytes to → (c ≡ d) × (at ≡ to)
@@ -149,12 +149,12 @@ none_behind : (c : Code) (bytes : List ℕ) (at : ℕ) (h : Head) (t : Trace) �
     → StandsInForm c bytes at → Spells bytes t → ⊥
 none_behind c bytes at h t is fits s spells =
     let a = header_again_of bytes t spells in
-    let same : t.head ≡ h = same_some (header_of (said_by bytes)) t.head h a.0.said is.said in
+    let same : t.head ≡ h = same_some (header_of (decoded_by bytes)) t.head h a.0.decoded is.decoded in
     let frames = spells_frames bytes t spells in
     let again : walk (suc (length (drop 32 bytes))) t.head start_place (drop 32 bytes)
     ≡ Ok (frames_of t) = ap (λ (b : List ℕ). walk (suc (length b)) t.head start_place b) a.1
     ∙ walk_again (frames_of t) (suc (length (frames_text (frames_of t)))) t.head start_place frames.limits
-    frames.run.follow frames.run.ended (omega (arith, front_short (frames_of t))) in
+    frames.run.follow frames.run.ended (omega (arith, prefix_short (frames_of t))) in
     stop_ok c (drop at bytes) (walk (suc (length (drop 32 bytes))) h start_place (drop 32 bytes)) (frames_of t)
     (stops_at c bytes at h s is fits)
     (ap (λ (g : Head). walk (suc (length (drop 32 bytes))) g start_place (drop 32 bytes)) (sym same) ∙ again)

@@ -10,7 +10,7 @@ use Rattle.byteorder.specs.Numbers.{length-bytes_high_first}
 use Rattle.eve_grammar.specs.Frames.{Frame, kind_of, is_allowed}
 use Rattle.eve_grammar.specs.Spelling.{body_text, frame_text}
 use Rattle.eve_grammar.specs.Limits.{is_head, FitsAt}
-use Rattle.eve_grammar.specs.Reading.{body_of}
+use Rattle.eve_grammar.specs.Readers.{body_of}
 use Rattle.eve_views.specs.declared.fault.Code.{Code}
 use Rattle.eve_views.specs.declared.fault.Code.TheVariants as code
 use Rattle.eve_views.specs.Form.{is_framed, HasNoFrame, HasWrongBody}
@@ -128,9 +128,9 @@ frame_again h p f rest right fits =
     in
     let framed : is_framed h p (kind_of f ∷ (digits ++ (body ++ rest))) ≡ true =
     and_from _ _ one (and_from _ _ two three) in
-    let front : take len (body ++ rest) ≡ body = take_at body rest len refl in
+    let prefix : take len (body ++ rest) ≡ body = take_at body rest len refl in
     let back : drop len (body ++ rest) ≡ rest = drop_at body rest len refl in
-    ap (frame_at h p) regrouped ∙ rw (framed, len-is, rest-is, front, back, body_of-again h p f right fits) refl
+    ap (frame_at h p) regrouped ∙ rw (framed, len-is, rest-is, prefix, back, body_of-again h p f right fits) refl
 
 -- ---- faults
 

@@ -1,23 +1,23 @@
 pub mod Bytes
 pub mod FrameLaws
 pub mod WalkLaws
-pub mod Keeping
+pub mod KeptFrames
 pub mod StartLaws
-pub mod Reaching
-pub mod Unjudged
+pub mod WalkSteps
+pub mod UnjudgedFrames
 pub mod HeaderLaws
 pub mod FormLaws
 pub mod TraceLaws
 pub mod WholeTraces
-pub mod Fronting
-pub mod Locating
+pub mod NumberedFrames
+pub mod FrameOffsets
 pub mod PartLaws
 pub mod CutLaws
-pub mod StartsAt
+pub mod IndexedParts
 pub mod StepLaws
 pub mod Firsts
-pub mod Lowering
+pub mod LeastNumbers
 pub mod Lists
 pub mod FormDecided
-mod OneBeforeAnother
-mod StandingInOrder
+mod FaultOrder
+mod PartOrder

@@ -11,9 +11,9 @@ use Rattle.eve_grammar.specs.Frames.{verifier_frames, batches_of, sections_of, v
 use Rattle.eve_grammar.specs.Spelling.{frame_text, frames_text, spelling, located, customers_at, batches_at, sent_at}
 use Rattle.eve_grammar.specs.Spelling.{sent_start, batches_start}
 use Rattle.eve_grammar.specs.Limits.{HasLimits, is_customer, is_batch, is_sent, is_vote, is_access}
-use Rattle.eve_grammar.specs.Gathering.{Gathered, nothing, gathered}
+use Rattle.eve_grammar.specs.GatheredTraces.{Gathered, nothing, gathered}
 use Rattle.eve_grammar.proofs.Gatherings.{gathered-votes, gathered-accesses}
-use Rattle.eve_grammar.proofs.Grouping.{all_at}
+use Rattle.eve_grammar.proofs.GroupOrder.{all_at}
 use Rattle.eve_frames.specs.Views.{has_batch_body, has_sent_body, has_vote_body, has_access_body, batch_in, sent_in}
 use Rattle.eve_grammar.specs.declared.limits.TheConstants.{MOST_ROWS, MOST_BATCHES}
 use Rattle.eve_frames.specs.Views.{has_customer_body, customer_in, vote_in, access_in, Says}
@@ -23,25 +23,25 @@ use Rattle.eve_grammar.proofs.HeadLimits.{head_has_limits}
 use Rattle.eve_grammar.specs.declared.head.Head.{Head}
 use Rattle.eve_grammar.proofs.Spelled.{limits_of_spelled}
 use Rattle.eve_views.specs.declared.walk.Index.{Index}
-use Rattle.eve_views.specs.Held.{IsHeldTrace}
+use Rattle.eve_views.specs.HeldTraces.{IsHeldTrace}
 use Rattle.eve_views.specs.Lent.{HasBytesAt}
-use Rattle.eve_views.specs.Fronts.{before_batches, before_sections, before_sent}
+use Rattle.eve_views.specs.inner.FramesBefore.{before_batches, before_sections, before_sent}
 use Rattle.eve_views.specs.Parts.{byte_of, frames_between, accesses_between, votes_between, AreOfOneKind, AreAccesses}
 use Rattle.eve_views.specs.Parts.{AreVotes}
-use Rattle.eve_views.proofs.Fronting.{frames_from_sections, frames_from_sent}
-use Rattle.eve_views.proofs.Locating.{IsPlaced, placed, length-located, batches_begin, sent_begin}
+use Rattle.eve_views.proofs.NumberedFrames.{frames_from_sections, frames_from_sent}
+use Rattle.eve_views.proofs.FrameOffsets.{IsPlaced, placed, length-located, batches_begin, sent_begin}
 
 -- ---- single items
 
 -- an item of a part, met at its frame
-pub record Met {A : Type 0} (frame : A → Frame) (test : A → Bool) (list : List (ℕ × A)) (i offset : ℕ)
+pub record Located {A : Type 0} (frame : A → Frame) (test : A → Bool) (list : List (ℕ × A)) (i offset : ℕ)
     (f : Frame) : Type 0 where
   pub item : A
   pub is : f ≡ frame item
   pub right : IsTrue (test item)
   pub there : slice_get list i ≡ Some (offset, item)
 
--- the same where the frames are the front, the part and what is after it
+-- the same where the frames are the prefix, the part and what is after it
 placed_in : {A : Type 0} (frame : A → Frame) (before : List Frame) (xs : List A) (rest fs : List Frame)
     (n i at offset : ℕ) (f : Frame) → i < length xs → at ≡ 32 + length (frames_text before)
     → fs ≡ before ++ (map frame xs ++ rest) → n ≡ length before + i → slice_get fs n ≡ Some f → offset ≡ byte_of fs n
@@ -51,19 +51,19 @@ placed_in frame before xs rest fs n i at offset f lt begins cut number got stand
     (ap (λ (gs : List Frame). slice_get gs (length before + i)) (sym cut) ∙ ap (slice_get fs) (sym number) ∙ got)
     (stands ∙ ap (byte_of fs) number ∙ ap (λ (gs : List Frame). byte_of gs (length before + i)) cut)
 
-pub met_in : {A : Type 0} (frame : A → Frame) (test : A → Bool) (before : List Frame) (xs : List A)
+pub located_in : {A : Type 0} (frame : A → Frame) (test : A → Bool) (before : List Frame) (xs : List A)
     (rest fs : List Frame) (n i at offset : ℕ) (f : Frame) → IsTrue (list_all test xs) → i < length xs
     → at ≡ 32 + length (frames_text before) → fs ≡ before ++ (map frame xs ++ rest) → n ≡ length before + i
     → slice_get fs n ≡ Some f → offset ≡ byte_of fs n
-    → Met frame test (located (λ x. frame_text (frame x)) at xs) i offset f
-met_in frame test before xs rest fs n i at offset f all lt begins cut number got stands =
+    → Located frame test (located (λ x. frame_text (frame x)) at xs) i offset f
+located_in frame test before xs rest fs n i at offset f all lt begins cut number got stands =
     let p = placed_in frame before xs rest fs n i at offset f lt begins cut number got stands in
     record { item = p.item; is = p.is; right = all_at test xs i p.item all p.got; there = p.located_at }
 
 -- what is read of a frame's bytes is what the frame says
-pub says_met : {A : Type 0} (is_frame : List ℕ → Bool) (read : List ℕ → A) (bytes : List ℕ) (f g : Frame) (x : A)
+pub says_located : {A : Type 0} (is_frame : List ℕ → Bool) (read : List ℕ → A) (bytes : List ℕ) (f g : Frame) (x : A)
     → bytes ≡ frame_text f → f ≡ g → Says is_frame read (frame_text g) x → Says is_frame read bytes x
-says_met is_frame read bytes f g x text same says = subst (λ (b : List ℕ). Says is_frame read b x)
+says_located is_frame read bytes f g x text same says = subst (λ (b : List ℕ). Says is_frame read b x)
     (sym (text ∙ ap frame_text same)) says
 
 pub returned : {A : Type 0} (read : List ℕ → A) (list : List (ℕ × A)) (i offset at : ℕ) (x : A) (bytes own : List ℕ)
@@ -90,15 +90,15 @@ pub record Lends {A : Type 0} (is_frame : List ℕ → Bool) (read : List ℕ �
   pub text : (own : List ℕ) → own ≡ bytes → own ≡ frame_text (frame (read own))
 
 pub lends : {A : Type 0} (is_frame : List ℕ → Bool) (read : List ℕ → A) (frame : A → Frame) (test : A → Bool)
-    (list : List (ℕ × A)) (i offset : ℕ) (f : Frame) (bytes : List ℕ) (met : Met frame test list i offset f)
-    → bytes ≡ frame_text f → Says is_frame read (frame_text (frame met.item)) met.item
+    (list : List (ℕ × A)) (i offset : ℕ) (f : Frame) (bytes : List ℕ) (is_located : Located frame test list i offset f)
+    → bytes ≡ frame_text f → Says is_frame read (frame_text (frame is_located.item)) is_located.item
     → Lends is_frame read frame list i offset bytes
-lends is_frame read frame test list i offset f bytes met text again =
-    let says = says_met is_frame read bytes f (frame met.item) met.item text met.is again in
+lends is_frame read frame test list i offset f bytes is_located text again =
+    let says = says_located is_frame read bytes f (frame is_located.item) is_located.item text is_located.is again in
     record {
       readable = says.0;
-      item = λ at own same is. returned read list i offset at met.item bytes own met.there says.1 same is;
-      text = λ own is. lent_text frame read bytes own f met.item text met.is says.1 is;
+      item = λ at own same is. returned read list i offset at is_located.item bytes own is_located.there says.1 same is;
+      text = λ own is. lent_text frame read bytes own f is_located.item text is_located.is says.1 is;
     }
 
 -- which stands where the frame does
@@ -111,12 +111,12 @@ lent_there t at offset bytes own stands there same = record {
 
 -- ---- customers, batches, replies sent
 
-customer_met : (t : Trace) (i offset : ℕ) (f : Frame) → HasLimits t → i < length t.customers
+customer_located : (t : Trace) (i offset : ℕ) (f : Frame) → HasLimits t → i < length t.customers
     → slice_get (frames_of t) i ≡ Some f → offset ≡ byte_of (frames_of t) i
-    → Met OfCustomer is_customer (customers_at t) i offset f
+    → Located OfCustomer is_customer (customers_at t) i offset f
 unfolding frames_of customers_at
-customer_met t i offset f limits lt got stands =
-    met_in OfCustomer is_customer [] t.customers _ (frames_of t) i i 32 offset f limits.customers lt refl refl
+customer_located t i offset f limits lt got stands =
+    located_in OfCustomer is_customer [] t.customers _ (frames_of t) i i 32 offset f limits.customers lt refl refl
     (omega arith) got stands
 
 enumerated : {A : Type 0} (test : A → Bool) (n : ℕ) (xs : List A) → IsTrue (list_all test xs)
@@ -136,13 +136,13 @@ of_batch b = OfBatch b.0 b.1
 abbrev is_batch_of : ℕ × Batch → Bool
 is_batch_of b = is_batch b.1
 
-batch_met : (t : Trace) (n k offset : ℕ) (f : Frame) → HasLimits t → k < length t.batches
+batch_located : (t : Trace) (n k offset : ℕ) (f : Frame) → HasLimits t → k < length t.batches
     → n ≡ length t.customers + k → slice_get (frames_of t) n ≡ Some f → offset ≡ byte_of (frames_of t) n
-    → Met of_batch is_batch_of (batches_at t) k offset f
+    → Located of_batch is_batch_of (batches_at t) k offset f
 unfolding frames_of batches_at
-batch_met t n k offset f limits lt number got stands =
+batch_located t n k offset f limits lt number got stands =
     let many : length (before_batches t) ≡ length t.customers = length-map t.customers OfCustomer in
-    met_in of_batch is_batch_of (before_batches t) (batches_of t) _ (frames_of t) n k (batches_start t) offset f
+    located_in of_batch is_batch_of (before_batches t) (batches_of t) _ (frames_of t) n k (batches_start t) offset f
     (enumerated is_batch 1 t.batches limits.batches)
     (omega (arith, lt, length-enumerate_from 1 t.batches)) (sym (batches_begin t)) refl
     (omega (arith, number, many)) got stands
@@ -159,18 +159,19 @@ batch_number t k offset b e = counted t.batches 1 (batches_start t) k e
     counted [] n at k e = cc
     counted (c ∷ bs) n at zero e =
         let here : ℕ × (ℕ × Batch) = (at, (n, c)) in
-        let met : ℕ × (ℕ × Batch) = (offset, b) in
-        let same : here ≡ met = cc in
+        let is_located : ℕ × (ℕ × Batch) = (offset, b) in
+        let same : here ≡ is_located = cc in
         let number : n ≡ b.0 = ap (λ (x : ℕ × (ℕ × Batch)). x.1.0) same in
         omega (arith, number)
     counted (c ∷ bs) n at (suc k) e = omega (arith, counted bs (n + 1) (at + length (frame_text (OfBatch n c))) k e)
 
-sent_met : (t : Trace) (n i offset : ℕ) (f : Frame) → HasLimits t → i < length t.sent
+sent_located : (t : Trace) (n i offset : ℕ) (f : Frame) → HasLimits t → i < length t.sent
     → n ≡ length (before_sent t) + i → slice_get (frames_of t) n ≡ Some f → offset ≡ byte_of (frames_of t) n
-    → Met OfSent (is_sent (length t.sections) (length t.batches)) (sent_at t) i offset f
+    → Located OfSent (is_sent (length t.sections) (length t.batches)) (sent_at t) i offset f
 unfolding sent_at
-sent_met t n i offset f limits lt number got stands =
-    met_in OfSent (is_sent (length t.sections) (length t.batches)) (before_sent t) t.sent (End ∷ []) (frames_of t) n i
+sent_located t n i offset f limits lt number got stands =
+    located_in OfSent (is_sent (length t.sections) (length t.batches)) (before_sent t) t.sent (End ∷ []) (frames_of t) n
+    i
     (sent_start t) offset f limits.sent lt (sym (sent_begin t)) (frames_from_sent t) number got stands
 
 -- how many frames there are
@@ -214,9 +215,9 @@ module _ {A : Type 0} (frame : A → Frame) (fits : ℕ → A → Bool) (most : 
   items_many : length list ≡ to - from
   items_many = ap length are ∙ length-located (λ x. frame_text (frame x)) (byte_of fs from) part.items ∙ part.many
 
-  item_met : (i offset : ℕ) (f : Frame) → i < to - from → slice_get fs (from + i) ≡ Some f
-      → offset ≡ byte_of fs (from + i) → Met frame (fits part.count) list i offset f
-  item_met i offset f lt got stands =
+  item_located : (i offset : ℕ) (f : Frame) → i < to - from → slice_get fs (from + i) ≡ Some f
+      → offset ≡ byte_of fs (from + i) → Located frame (fits part.count) list i offset f
+  item_located i offset f lt got stands =
       let up = part.up in
       let inside = part.within in
       let many = part.many in
@@ -224,16 +225,17 @@ module _ {A : Type 0} (frame : A → Frame) (fits : ℕ → A → Bool) (most : 
       let rest = drop (to - from) (drop from fs) in
       let cut : fs ≡ take from fs ++ (map frame part.items ++ rest) =
       cut_at fs from (to - from) ∙ ap (λ (gs : List Frame). take from fs ++ (gs ++ rest)) part.there in
-      subst (λ (xs : List (ℕ × A)). Met frame (fits part.count) xs i offset f) (sym are)
-      (met_in frame (fits part.count) (take from fs) part.items rest fs (from + i) i (byte_of fs from) offset f
+      subst (λ (xs : List (ℕ × A)). Located frame (fits part.count) xs i offset f) (sym are)
+      (located_in frame (fits part.count) (take from fs) part.items rest fs (from + i) i (byte_of fs from) offset f
       part.right (omega (arith, lt, many)) refl cut (omega (arith, long)) got stands)
 
   item_lent : (is_frame : List ℕ → Bool) (read : List ℕ → A) (i offset : ℕ) (bytes : List ℕ)
       → ((x : A) → IsTrue (fits part.count x) → Says is_frame read (frame_text (frame x)) x) → i < length list
       → IsFrameAt fs (from + i) bytes → offset ≡ byte_of fs (from + i) → Lends is_frame read frame list i offset bytes
   item_lent is_frame read i offset bytes again lt f stands =
-      let met = item_met i offset f.0 (omega (arith, lt, items_many)) f.1 stands in
-      lends is_frame read frame (fits part.count) list i offset f.0 bytes met f.2 (again met.item met.right)
+      let is_located = item_located i offset f.0 (omega (arith, lt, items_many)) f.1 stands in
+      lends is_frame read frame (fits part.count) list i offset f.0 bytes is_located f.2
+      (again is_located.item is_located.right)
 
 pub votes_many : (fs : List Frame) (from to : ℕ) (xs : List (ℕ × Vote)) (are : AreVotes fs from to)
     → votes_between fs from (to - from) ≡ xs → length xs ≡ to - from
@@ -303,9 +305,9 @@ pub customer_lent : (t : Trace) (i offset : ℕ) (bytes : List ℕ) → HasLimit
     → IsFrameAt (frames_of t) i bytes → offset ≡ byte_of (frames_of t) i
     → Lends has_customer_body customer_in OfCustomer (customers_at t) i offset bytes
 customer_lent t i offset bytes limits lt f stands =
-    let met = customer_met t i offset f.0 limits lt f.1 stands in
-    lends has_customer_body customer_in OfCustomer is_customer (customers_at t) i offset f.0 bytes met f.2
-    (customer_again met.item met.right)
+    let is_located = customer_located t i offset f.0 limits lt f.1 stands in
+    lends has_customer_body customer_in OfCustomer is_customer (customers_at t) i offset f.0 bytes is_located f.2
+    (customer_again is_located.item is_located.right)
 
 -- the number of a batch's frame, by the header that the trace is held under
 pub batch_held : (bytes : List ℕ) (h : Head) (index : Index) (t u : Trace) (n : ℕ) → t ≡ u → IsHeldTrace bytes h index t
@@ -319,17 +321,19 @@ pub batch_lent : (t : Trace) (n k offset : ℕ) (bytes : List ℕ) → HasLimits
     → n ≡ length t.customers + k → IsFrameAt (frames_of t) n bytes → offset ≡ byte_of (frames_of t) n
     → Lends has_batch_body batch_in of_batch (batches_at t) k offset bytes
 batch_lent t n k offset bytes limits lt number f stands =
-    let met = batch_met t n k offset f.0 limits lt number f.1 stands in
+    let is_located = batch_located t n k offset f.0 limits lt number f.1 stands in
     let few = few_batches t limits in
-    let small : met.item.0 < 2 ^ 32 = omega (arith, few, lt, batch_number t k offset met.item met.there) in
-    lends has_batch_body batch_in of_batch is_batch_of (batches_at t) k offset f.0 bytes met f.2
-    (batch_again met.item.0 met.item.1 small met.right)
+    let small : is_located.item.0 < 2 ^ 32 = omega
+    (arith, few, lt, batch_number t k offset is_located.item is_located.there) in
+    lends has_batch_body batch_in of_batch is_batch_of (batches_at t) k offset f.0 bytes is_located f.2
+    (batch_again is_located.item.0 is_located.item.1 small is_located.right)
 
 pub sent_lent : (t : Trace) (n i offset : ℕ) (bytes : List ℕ) → HasLimits t → i < length t.sent
     → n ≡ length (before_sent t) + i → IsFrameAt (frames_of t) n bytes → offset ≡ byte_of (frames_of t) n
     → Lends has_sent_body sent_in OfSent (sent_at t) i offset bytes
 sent_lent t n i offset bytes limits lt number f stands =
-    let met = sent_met t n i offset f.0 limits lt number f.1 stands in
+    let is_located = sent_located t n i offset f.0 limits lt number f.1 stands in
     lends has_sent_body sent_in OfSent (is_sent (length t.sections) (length t.batches)) (sent_at t) i offset f.0 bytes
-    met f.2 (sent_again (length t.sections) (length t.batches) met.item met.right (few_replicas t limits)
+    is_located f.2 (sent_again (length t.sections) (length t.batches) is_located.item is_located.right
+    (few_replicas t limits)
     (few_batches t limits))

@@ -10,14 +10,14 @@ use Rattle.eve_grammar.specs.Frames.{Frame, OfCustomer, OfBatch, OfReplica, OfAt
 use Rattle.eve_grammar.specs.Frames.{OfTransfer, OfVerifier, OfVote, OfSent, End, start_place, next_place, kind_of}
 use Rattle.eve_grammar.specs.Frames.{is_allowed}
 use Rattle.eve_grammar.specs.Limits.{FitsAt}
-use Rattle.eve_grammar.proofs.Lists.{get_in_front}
-use Rattle.eve_grammar.proofs.Standing.{not_ended}
+use Rattle.eve_grammar.proofs.Lists.{get_in_prefix}
+use Rattle.eve_grammar.proofs.FramePlaces.{not_ended}
 use Rattle.eve_grammar.specs.declared.head.Head.{Head}
 use Rattle.eve_grammar.specs.declared.place.Place.{Place}
 use Rattle.eve_views.specs.declared.starts.Starts.{Starts}
-use Rattle.eve_views.specs.Starting.{no_starts, noted}
-use Rattle.eve_views.specs.Indexing.{is_last, frames_before_sent, AreStarts}
-use Rattle.eve_views.specs.Walking.{has_last, Started}
+use Rattle.eve_views.specs.inner.PartStarts.{no_starts, noted}
+use Rattle.eve_views.specs.Indexes.{is_last, frames_before_sent, AreStarts}
+use Rattle.eve_views.specs.inner.WalkProgress.{has_last, Started}
 use Rattle.eve_views.proofs.FrameLaws.{true_false}
 
 -- ---- what an allowed kind says of the place
@@ -94,8 +94,8 @@ started_same : (h : Head) (fs : List Frame) (p q : Place) (s : Starts) (f : Fram
 started_same h fs p q s f st k plain = record {
   eight = st.eight;
   sixteen = st.sixteen;
-  sections = λ e lt. get_in_front fs (f ∷ []) _ (OfReplica e) (st.sections e (subst (λ (n : ℕ). e < n) k.replicas lt));
-  verifiers = λ v lt. get_in_front fs (f ∷ []) _ (OfVerifier v)
+  sections = λ e lt. get_in_prefix fs (f ∷ []) _ (OfReplica e) (st.sections e (subst (λ (n : ℕ). e < n) k.replicas lt));
+  verifiers = λ v lt. get_in_prefix fs (f ∷ []) _ (OfVerifier v)
       (st.verifiers v (subst (λ (n : ℕ). v < n) k.verifiers lt));
   sent = λ e.
       let t = st.sent (sym (kept_last p q k) ∙ e) in
@@ -115,7 +115,7 @@ table_more fs f xs count of room is before e lt =
     elim (cases_lt e count) [
       | inl below ↦
           let other : e ≢ count = omega arith in
-          rw (get_or-set_other xs count e (length fs) 0 other) (get_in_front fs (f ∷ []) _ (of e) (before e below))
+          rw (get_or-set_other xs count e (length fs) 0 other) (get_in_prefix fs (f ∷ []) _ (of e) (before e below))
       | inr le ↦
           let same : e ≡ count = omega arith in
           rw (same, get_or-set_same xs count (length fs) 0 room) (slice_get_last fs f ∙ ap Some is)
@@ -147,7 +147,7 @@ started_verifier : (h : Head) (fs : List Frame) (p : Place) (s : Starts) (n : �
 started_verifier h fs p s n st few is all going = record {
   eight = st.eight;
   sixteen = length-set s.verifiers p.verifiers (length fs) ∙ st.sixteen;
-  sections = λ e lt. get_in_front fs (OfVerifier n ∷ []) _ (OfReplica e) (st.sections e lt);
+  sections = λ e lt. get_in_prefix fs (OfVerifier n ∷ []) _ (OfReplica e) (st.sections e lt);
   verifiers = table_more fs (OfVerifier n) s.verifiers p.verifiers OfVerifier (omega (arith, st.sixteen))
       (ap OfVerifier is) st.verifiers;
   sent = λ e.
@@ -167,10 +167,10 @@ started_last : (h : Head) (fs : List Frame) (p q : Place) (s : Starts) (f : Fram
 started_last h fs p q s f st last going replicas verifiers has full = by p.sending refl
   where
     sections : (e : ℕ) → e < q.replicas → slice_get (fs ++ f ∷ []) (get_or s.sections e 0) ≡ Some (OfReplica e)
-    sections e lt = get_in_front fs (f ∷ []) _ (OfReplica e) (st.sections e (subst (λ (n : ℕ). e < n) replicas lt))
+    sections e lt = get_in_prefix fs (f ∷ []) _ (OfReplica e) (st.sections e (subst (λ (n : ℕ). e < n) replicas lt))
 
     others : (v : ℕ) → v < q.verifiers → slice_get (fs ++ f ∷ []) (get_or s.verifiers v 0) ≡ Some (OfVerifier v)
-    others v lt = get_in_front fs (f ∷ []) _ (OfVerifier v) (st.verifiers v (subst (λ (n : ℕ). v < n) verifiers lt))
+    others v lt = get_in_prefix fs (f ∷ []) _ (OfVerifier v) (st.verifiers v (subst (λ (n : ℕ). v < n) verifiers lt))
 
     all : 0 < q.verifiers → q.replicas ≡ h.replicas
     all lt = replicas ∙ st.some (subst (λ (n : ℕ). 0 < n) verifiers lt)

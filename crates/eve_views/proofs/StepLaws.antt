@@ -8,7 +8,7 @@ use Rattle.std.proofs.lemmas.List.{length-append, length-take-le, length-drop, t
 use Rattle.std.proofs.lemmas.List.{drop_at, drop-drop}
 use Rattle.std.proofs.Math.Seq.{take-append-add}
 use Rattle.std.proofs.lemmas.Option.{same_Some}
-use Rattle.eve_grammar.specs.Trace.{Attempt, Step, Attempts, Commits, RollsBack, TakesOver}
+use Rattle.eve_grammar.specs.Trace.{Attempt, Step, Attempts, Commits, RollsBack, Transfers}
 use Rattle.eve_grammar.specs.Frames.{Frame, OfAttempt, OfAccess, OfCommit, OfRollback, OfTransfer, kind_of}
 use Rattle.eve_grammar.specs.Frames.{without_accesses, step_frames}
 use Rattle.eve_grammar.specs.Spelling.{frame_text, frames_text, located, accesses_at, step_text}
@@ -19,8 +19,8 @@ use Rattle.eve_frames.specs.Views.{has_attempt_body, has_commit_body, has_rollba
 use Rattle.eve_frames.specs.Views.{commit_in, rollback_in, transfer_in, Says}
 use Rattle.eve_frames.proofs.Rereading.{attempt_again, commit_again, rollback_again, transfer_again}
 use Rattle.eve_views.specs.Parts.{byte_of, frames_between, accesses_between, steps_between, AreAccesses, AreSteps}
-use Rattle.eve_views.proofs.Locating.{length-frames_text}
-use Rattle.eve_views.proofs.PartLaws.{accesses_are, says_met, IsFrameAt}
+use Rattle.eve_views.proofs.FrameOffsets.{length-frames_text}
+use Rattle.eve_views.proofs.PartLaws.{accesses_are, says_located, IsFrameAt}
 use Rattle.eve_views.proofs.CutLaws.{steps_are}
 
 -- ---- frames at a place
@@ -37,7 +37,7 @@ is_at fs part behind at le cut =
     let all : fs ≡ take at fs ++ drop at fs = sym (take-append-drop at fs) in
     let here : take (length part) (drop at fs) ≡ part = ap (take (length part)) cut
     ∙ take_at part behind (length part) refl in
-    let front : take (at + length part) fs ≡ take at fs ++ part =
+    let prefix : take (at + length part) fs ≡ take at fs ++ part =
     ap (take (at + length part)) all
     ∙ (let same : at + length part ≡ length (take at fs) + length part = omega (arith, wide) in
     ap (λ (n : ℕ). take n (take at fs ++ drop at fs)) same)
@@ -51,7 +51,7 @@ is_at fs part behind at le cut =
           ∙ ap (λ (gs : List Frame). slice_get gs 0) (cut ∙ ap (λ (gs : List Frame). gs ++ behind) e);
       byte = omega (
         arith,
-        ap (λ (gs : List Frame). length (frames_text gs)) front,
+        ap (λ (gs : List Frame). length (frames_text gs)) prefix,
         length-frames_text (take at fs) part,
       );
     }
@@ -116,27 +116,27 @@ abbrev first : Step → Frame
 first (Attempts a) = OfAttempt (without_accesses a)
 first (Commits c) = OfCommit c
 first (RollsBack r) = OfRollback r
-first (TakesOver x) = OfTransfer x
+first (Transfers x) = OfTransfer x
 
 others_of : (s : Step) → (others : List Frame) × (step_frames s ≡ first s ∷ others)
 others_of (Attempts a) = (map OfAccess a.accesses, refl)
 others_of (Commits c) = ([], refl)
 others_of (RollsBack r) = ([], refl)
-others_of (TakesOver x) = ([], refl)
+others_of (Transfers x) = ([], refl)
 
 -- a step that is there, and its first frame
-record IsMet (fs : List Frame) (at to : ℕ) (f : Frame) : Type 0 where
+record IsLocated (fs : List Frame) (at to : ℕ) (f : Frame) : Type 0 where
   rows : ℕ
   few : rows ≤ MOST_ROWS
   step : Step
   is : IsNext fs at to rows step
   begins : f ≡ first step
 
-met_of : (fs : List Frame) (at to : ℕ) (f : Frame) (are : AreSteps fs at to) → at ≢ to → slice_get fs at ≡ Some f
-    → IsMet fs at to f
-met_of fs at to f are more got = by are.steps refl
+located_of : (fs : List Frame) (at to : ℕ) (f : Frame) (are : AreSteps fs at to) → at ≢ to → slice_get fs at ≡ Some f
+    → IsLocated fs at to f
+located_of fs at to f are more got = by are.steps refl
   where
-    by : (steps : List Step) → are.steps ≡ steps → IsMet fs at to f
+    by : (steps : List Step) → are.steps ≡ steps → IsLocated fs at to f
     by [] e =
         let up = are.up in
         let within = are.within in
@@ -172,7 +172,7 @@ none_left fs at to are e = by are.steps refl
 -- ---- by kind
 
 -- an attempt is met: what its frame says, its accesses, and the steps after them
-pub record IsAttemptMet (fs : List Frame) (at to : ℕ) (bytes : List ℕ) : Type 0 where
+pub record IsAttemptLocated (fs : List Frame) (at to : ℕ) (bytes : List ℕ) : Type 0 where
   pub attempt : Attempt
   pub says : Says has_attempt_body attempt_in bytes (without_accesses attempt)
   pub frame : bytes ≡ frame_text (OfAttempt (without_accesses attempt))
@@ -184,19 +184,20 @@ pub record IsAttemptMet (fs : List Frame) (at to : ℕ) (bytes : List ℕ) : Typ
   pub value : (next : ℕ) → next ≡ at + 1 + length attempt.certificate → steps_between fs at (to - at)
       ≡ (byte_of fs at, Attempts attempt) ∷ steps_between fs next (to - next)
 
-attempt_met : (fs : List Frame) (at to : ℕ) (f : Frame) (bytes : List ℕ) → IsMet fs at to f → kind_of f ≡ 17
-    → bytes ≡ frame_text f → IsAttemptMet fs at to bytes
-attempt_met fs at to f bytes met kind text = by met.step met.is met.begins
+attempt_located : (fs : List Frame) (at to : ℕ) (f : Frame) (bytes : List ℕ) → IsLocated fs at to f → kind_of f ≡ 17
+    → bytes ≡ frame_text f → IsAttemptLocated fs at to bytes
+attempt_located fs at to f bytes is_located kind text = by is_located.step is_located.is is_located.begins
   where
-    by : (s : Step) → IsNext fs at to met.rows s → f ≡ first s → IsAttemptMet fs at to bytes
+    by : (s : Step) → IsNext fs at to is_located.rows s → f ≡ first s → IsAttemptLocated fs at to bytes
     by (Commits c) next begins = absurd (omega (arith, kind, ap kind_of begins))
     by (RollsBack r) next begins = absurd (omega (arith, kind, ap kind_of begins))
-    by (TakesOver x) next begins = absurd (omega (arith, kind, ap kind_of begins))
+    by (Transfers x) next begins = absurd (omega (arith, kind, ap kind_of begins))
     by (Attempts a) next begins =
-        let few = met.few in
+        let few = is_located.few in
         let parts = and_parts (is_attempt a)
-        ((length a.accesses == length a.certificate) && list_all (is_access met.rows) a.accesses) next.right in
-        let more = and_parts (length a.accesses == length a.certificate) (list_all (is_access met.rows) a.accesses)
+        ((length a.accesses == length a.certificate) && list_all (is_access is_located.rows) a.accesses) next.right in
+        let more = and_parts (length a.accesses == length a.certificate)
+        (list_all (is_access is_located.rows) a.accesses)
         parts.1 in
         let many : length a.accesses ≡ length a.certificate =
         eqb-true (length a.accesses) (length a.certificate) more.0 in
@@ -210,7 +211,7 @@ attempt_met fs at to f bytes met kind text = by met.step met.is met.begins
         (omega (arith, wide, inside)) next.cut.1 in
         let are : AreAccesses fs (at + 1) (at + 1 + length a.certificate) = record {
           items = a.accesses;
-          count = met.rows;
+          count = is_located.rows;
           few = few;
           right = more.1;
           many = omega (arith, many);
@@ -225,7 +226,8 @@ attempt_met fs at to f bytes met kind text = by met.step met.is met.begins
         let step : at + length (step_frames (Attempts a)) ≡ at + 1 + length a.certificate = omega (arith, wide) in
         record {
           attempt = a;
-          says = says_met has_attempt_body attempt_in bytes f (OfAttempt (without_accesses a)) (without_accesses a) text
+          says = says_located has_attempt_body attempt_in bytes f (OfAttempt (without_accesses a)) (without_accesses a)
+              text
               begins (attempt_again (without_accesses a) parts.0);
           frame = text ∙ ap frame_text begins;
           accesses = λ n e. subst (λ (n : ℕ). AreAccesses fs (at + 1) n) (sym e) are;
@@ -238,70 +240,72 @@ attempt_met fs at to f bytes met kind text = by met.step met.is met.begins
         }
 
 -- a step of one frame is met
-pub record IsOneMet {A : Type 0} (is_frame : List ℕ → Bool) (read : List ℕ → A) (frame : A → Frame) (step : A → Step)
+pub record IsOneLocated {A : Type 0} (is_frame : List ℕ → Bool) (read : List ℕ → A) (frame : A → Frame)
+    (step : A → Step)
     (fs : List Frame) (at to : ℕ) (bytes : List ℕ) : Type 0 where
-  pub said : A
-  pub says : Says is_frame read bytes said
-  pub text : bytes ≡ frame_text (frame said)
+  pub decoded : A
+  pub says : Says is_frame read bytes decoded
+  pub text : bytes ≡ frame_text (frame decoded)
   pub rest : AreSteps fs (at + 1) to
-  pub value : steps_between fs at (to - at) ≡ (byte_of fs at, step said) ∷ steps_between fs (at + 1) (to - (at + 1))
+  pub value : steps_between fs at (to - at) ≡ (byte_of fs at, step decoded) ∷ steps_between fs (at + 1) (to - (at + 1))
 
-abbrev pub IsCommitMet : List Frame → ℕ → ℕ → List ℕ → Type 0
-IsCommitMet = IsOneMet has_commit_body commit_in OfCommit Commits
+abbrev pub IsCommitLocated : List Frame → ℕ → ℕ → List ℕ → Type 0
+IsCommitLocated = IsOneLocated has_commit_body commit_in OfCommit Commits
 
-abbrev pub IsRollbackMet : List Frame → ℕ → ℕ → List ℕ → Type 0
-IsRollbackMet = IsOneMet has_rollback_body rollback_in OfRollback RollsBack
+abbrev pub IsRollbackLocated : List Frame → ℕ → ℕ → List ℕ → Type 0
+IsRollbackLocated = IsOneLocated has_rollback_body rollback_in OfRollback RollsBack
 
-abbrev pub IsTransferMet : List Frame → ℕ → ℕ → List ℕ → Type 0
-IsTransferMet = IsOneMet has_transfer_body transfer_in OfTransfer TakesOver
+abbrev pub IsTransferLocated : List Frame → ℕ → ℕ → List ℕ → Type 0
+IsTransferLocated = IsOneLocated has_transfer_body transfer_in OfTransfer Transfers
 
-commit_met : (fs : List Frame) (at to : ℕ) (f : Frame) (bytes : List ℕ) → IsMet fs at to f → kind_of f ≡ 19
-    → bytes ≡ frame_text f → IsCommitMet fs at to bytes
-commit_met fs at to f bytes met kind text = by met.step met.is met.begins
+commit_located : (fs : List Frame) (at to : ℕ) (f : Frame) (bytes : List ℕ) → IsLocated fs at to f → kind_of f ≡ 19
+    → bytes ≡ frame_text f → IsCommitLocated fs at to bytes
+commit_located fs at to f bytes is_located kind text = by is_located.step is_located.is is_located.begins
   where
-    by : (s : Step) → IsNext fs at to met.rows s → f ≡ first s → IsCommitMet fs at to bytes
+    by : (s : Step) → IsNext fs at to is_located.rows s → f ≡ first s → IsCommitLocated fs at to bytes
     by (Attempts a) next begins = absurd (omega (arith, kind, ap kind_of begins))
     by (RollsBack r) next begins = absurd (omega (arith, kind, ap kind_of begins))
-    by (TakesOver x) next begins = absurd (omega (arith, kind, ap kind_of begins))
+    by (Transfers x) next begins = absurd (omega (arith, kind, ap kind_of begins))
     by (Commits c) next begins =
         record {
-          said = c;
-          says = says_met has_commit_body commit_in bytes f (OfCommit c) c text begins (commit_again c next.right);
+          decoded = c;
+          says = says_located has_commit_body commit_in bytes f (OfCommit c) c text begins (commit_again c next.right);
           text = text ∙ ap frame_text begins;
           rest = next.rest;
           value = next.value;
         }
 
-rollback_met : (fs : List Frame) (at to : ℕ) (f : Frame) (bytes : List ℕ) → IsMet fs at to f → kind_of f ≡ 20
-    → bytes ≡ frame_text f → IsRollbackMet fs at to bytes
-rollback_met fs at to f bytes met kind text = by met.step met.is met.begins
+rollback_located : (fs : List Frame) (at to : ℕ) (f : Frame) (bytes : List ℕ) → IsLocated fs at to f → kind_of f ≡ 20
+    → bytes ≡ frame_text f → IsRollbackLocated fs at to bytes
+rollback_located fs at to f bytes is_located kind text = by is_located.step is_located.is is_located.begins
   where
-    by : (s : Step) → IsNext fs at to met.rows s → f ≡ first s → IsRollbackMet fs at to bytes
+    by : (s : Step) → IsNext fs at to is_located.rows s → f ≡ first s → IsRollbackLocated fs at to bytes
     by (Attempts a) next begins = absurd (omega (arith, kind, ap kind_of begins))
     by (Commits c) next begins = absurd (omega (arith, kind, ap kind_of begins))
-    by (TakesOver x) next begins = absurd (omega (arith, kind, ap kind_of begins))
+    by (Transfers x) next begins = absurd (omega (arith, kind, ap kind_of begins))
     by (RollsBack r) next begins = record {
-      said = r;
-      says = says_met has_rollback_body rollback_in bytes f (OfRollback r) r text begins
-          (rollback_again met.rows r next.right met.few);
+      decoded = r;
+      says = says_located has_rollback_body rollback_in bytes f (OfRollback r) r text begins
+          (rollback_again is_located.rows r next.right is_located.few);
       text = text ∙ ap frame_text begins;
       rest = next.rest;
       value = next.value;
     }
 
 -- a step of none of the other kinds
-transfer_met : (fs : List Frame) (at to : ℕ) (f : Frame) (bytes : List ℕ) → IsMet fs at to f → kind_of f ≢ 17
-    → kind_of f ≢ 19 → kind_of f ≢ 20 → bytes ≡ frame_text f → IsTransferMet fs at to bytes
-transfer_met fs at to f bytes met no_attempt no_commit no_rollback text = by met.step met.is met.begins
+transfer_located : (fs : List Frame) (at to : ℕ) (f : Frame) (bytes : List ℕ) → IsLocated fs at to f → kind_of f ≢ 17
+    → kind_of f ≢ 19 → kind_of f ≢ 20 → bytes ≡ frame_text f → IsTransferLocated fs at to bytes
+transfer_located fs at to f bytes is_located no_attempt no_commit no_rollback text =
+    by is_located.step is_located.is is_located.begins
   where
-    by : (s : Step) → IsNext fs at to met.rows s → f ≡ first s → IsTransferMet fs at to bytes
+    by : (s : Step) → IsNext fs at to is_located.rows s → f ≡ first s → IsTransferLocated fs at to bytes
     by (Attempts a) next begins = absurd (no_attempt (ap kind_of begins))
     by (Commits c) next begins = absurd (no_commit (ap kind_of begins))
     by (RollsBack r) next begins = absurd (no_rollback (ap kind_of begins))
-    by (TakesOver x) next begins = record {
-      said = x;
-      says = says_met has_transfer_body transfer_in bytes f (OfTransfer x) x text begins
-          (transfer_again met.rows x next.right);
+    by (Transfers x) next begins = record {
+      decoded = x;
+      says = says_located has_transfer_body transfer_in bytes f (OfTransfer x) x text begins
+          (transfer_again is_located.rows x next.right);
       text = text ∙ ap frame_text begins;
       rest = next.rest;
       value = next.value;
@@ -313,31 +317,32 @@ first_byte : (bytes : List ℕ) (f : Frame) → bytes ≡ frame_text f → kind_
 first_byte bytes f text = sym (ap (λ (b : List ℕ). slice_index b 0) text)
 
 pub attempt_here : (fs : List Frame) (at to : ℕ) (bytes : List ℕ) → AreSteps fs at to → at ≢ to → IsFrameAt fs at bytes
-    → slice_index bytes 0 ≡ 17 → IsAttemptMet fs at to bytes
+    → slice_index bytes 0 ≡ 17 → IsAttemptLocated fs at to bytes
 attempt_here fs at to bytes are more f kind =
-    attempt_met fs at to f.0 bytes (met_of fs at to f.0 are more f.1) (first_byte bytes f.0 f.2 ∙ kind) f.2
+    attempt_located fs at to f.0 bytes (located_of fs at to f.0 are more f.1) (first_byte bytes f.0 f.2 ∙ kind) f.2
 
 pub commit_here : (fs : List Frame) (at to : ℕ) (bytes : List ℕ) → AreSteps fs at to → at ≢ to → IsFrameAt fs at bytes
-    → slice_index bytes 0 ≡ 19 → IsCommitMet fs at to bytes
+    → slice_index bytes 0 ≡ 19 → IsCommitLocated fs at to bytes
 commit_here fs at to bytes are more f kind =
-    commit_met fs at to f.0 bytes (met_of fs at to f.0 are more f.1) (first_byte bytes f.0 f.2 ∙ kind) f.2
+    commit_located fs at to f.0 bytes (located_of fs at to f.0 are more f.1) (first_byte bytes f.0 f.2 ∙ kind) f.2
 
 pub rollback_here : (fs : List Frame) (at to : ℕ) (bytes : List ℕ) → AreSteps fs at to → at ≢ to → IsFrameAt fs at bytes
-    → slice_index bytes 0 ≡ 20 → IsRollbackMet fs at to bytes
+    → slice_index bytes 0 ≡ 20 → IsRollbackLocated fs at to bytes
 rollback_here fs at to bytes are more f kind =
-    rollback_met fs at to f.0 bytes (met_of fs at to f.0 are more f.1) (first_byte bytes f.0 f.2 ∙ kind) f.2
+    rollback_located fs at to f.0 bytes (located_of fs at to f.0 are more f.1) (first_byte bytes f.0 f.2 ∙ kind) f.2
 
 pub transfer_here : (fs : List Frame) (at to : ℕ) (bytes : List ℕ) → AreSteps fs at to → at ≢ to → IsFrameAt fs at bytes
-    → slice_index bytes 0 ≢ 17 → slice_index bytes 0 ≢ 19 → slice_index bytes 0 ≢ 20 → IsTransferMet fs at to bytes
+    → slice_index bytes 0 ≢ 17 → slice_index bytes 0 ≢ 19 → slice_index bytes 0 ≢ 20 → IsTransferLocated fs at to bytes
 transfer_here fs at to bytes are more f no_attempt no_commit no_rollback =
     let same = sym (first_byte bytes f.0 f.2) in
-    transfer_met fs at to f.0 bytes (met_of fs at to f.0 are more f.1)
+    transfer_located fs at to f.0 bytes (located_of fs at to f.0 are more f.1)
     (λ e. no_attempt (same ∙ e)) (λ e. no_commit (same ∙ e)) (λ e. no_rollback (same ∙ e)) f.2
 
 -- the place after the accesses of an attempt that is met, by how many a view of it counts
-pub after_accesses : (fs : List Frame) (at to : ℕ) (bytes own : List ℕ) (count : ℕ) (met : IsAttemptMet fs at to bytes)
+pub after_accesses : (fs : List Frame) (at to : ℕ) (bytes own : List ℕ) (count : ℕ)
+    (is_located : IsAttemptLocated fs at to bytes)
     → own ≡ bytes → count ≡ length (attempt_in own).certificate
-    → at + 1 + count ≡ at + 1 + length met.attempt.certificate
-after_accesses fs at to bytes own count met same is = ap (λ (n : ℕ). at + 1 + n)
+    → at + 1 + count ≡ at + 1 + length is_located.attempt.certificate
+after_accesses fs at to bytes own count is_located same is = ap (λ (n : ℕ). at + 1 + n)
     (is ∙ ap (λ (b : List ℕ). length (attempt_in b).certificate) same
-    ∙ ap (λ (a : Attempt). length a.certificate) met.says.1)
+    ∙ ap (λ (a : Attempt). length a.certificate) is_located.says.1)

@@ -5,16 +5,16 @@ use Rattle.std.specs.Prelude.{slice_get}
 use Rattle.std.proofs.lemmas.List.{length-append, take_all, take_at, drop_at}
 use Rattle.eve_grammar.specs.Trace.{Trace, head_of}
 use Rattle.eve_grammar.specs.Frames.{Frame, frames_of}
-use Rattle.eve_grammar.specs.Gathering.{trace_of}
+use Rattle.eve_grammar.specs.GatheredTraces.{trace_of}
 use Rattle.eve_grammar.specs.Spelling.{frame_text, frames_text, head_text}
 use Rattle.eve_views.specs.declared.fault.CheckFault.{CheckFault}
 use Rattle.eve_views.specs.declared.fault.CheckFault.TheVariants.{Found, Memory}
 use Rattle.eve_views.specs.declared.walk.Index.{Index}
 use Rattle.eve_views.specs.Form.{IfFound, IsLeast, StandsInForm, IsFaultOutside}
-use Rattle.eve_views.specs.Header.{IsHeader}
+use Rattle.eve_views.specs.inner.Header.{IsHeader}
 use Rattle.eve_views.specs.Walk.{frames_in}
-use Rattle.eve_views.specs.Indexing.{AreStarts, IsIndex, offsets_of}
-use Rattle.eve_views.specs.Held.{trace_in, IsHeldTrace}
+use Rattle.eve_views.specs.Indexes.{AreStarts, IsIndex, offsets_of}
+use Rattle.eve_views.specs.HeldTraces.{trace_in, IsHeldTrace}
 use Rattle.eve_grammar.proofs.Codec.{IsBytes}
 use Rattle.eve_views.proofs.FrameLaws.{length-frame_text}
 use Rattle.eve_views.proofs.WalkLaws.{run_read}
@@ -22,7 +22,7 @@ use Rattle.eve_views.proofs.HeaderLaws.{says_head, header_spelled, Sized-from}
 use Rattle.eve_grammar.proofs.HeaderParts.{length-head_text}
 use Rattle.eve_grammar.proofs.Rests.{head_of-trace_of, frames_of-trace_of}
 use Rattle.eve_grammar.specs.declared.head.Head.{Head}
-use Rattle.eve_grammar.specs.Following.{Spells}
+use Rattle.eve_grammar.specs.FrameOrder.{Spells}
 use Rattle.eve_views.proofs.WholeTraces.{SpellsFrames, spells_trace, spells_frames}
 use Rattle.eve_views.proofs.FormLaws.{refused_behind}
 
@@ -30,7 +30,7 @@ use Rattle.eve_views.proofs.FormLaws.{refused_behind}
 pub held_of : (bytes : List ℕ) (h : Head) (i : Index) → IsBytes bytes → IsHeader bytes h → IsIndex h bytes i
     → IsHeldTrace bytes h i (trace_in h bytes)
 held_of bytes h i fits is found =
-    let says = says_head bytes h fits is.said in
+    let says = says_head bytes h fits is.decoded in
     let same : frames_in h (drop 32 bytes) ≡ found.frames = ap (frames_in h) found.text
     ∙ run_read h found.frames says.limits found.run in
     let spells : SpellsFrames bytes h found.frames = record {
@@ -135,23 +135,23 @@ part_is bytes t i from to spells lt at_from at_to =
     let r = frame_of fs i lt in
     let a = r.1.1 in
     let head = head_text t.head (length bytes) in
-    let front = frames_text (take i fs) in
+    let prefix = frames_text (take i fs) in
     let next : to ≡ from + length (frame_text r.0) = at_to ∙ ap (λ (k : ℕ). 32 + length (frames_text (take k fs)))
     (add-one i) ∙ omega (arith, a.next, at_from) in
-    let whole : bytes ≡ (head ++ front) ++ (frame_text r.0 ++ r.1.0) = s.spelled
-    ∙ ap (λ (b : List ℕ). head ++ b) a.before ∙ sym (append_assoc head front (frame_text r.0 ++ r.1.0)) in
-    let before : length (head ++ front) ≡ from =
-    omega (arith, length-append head front, length-head_text t.head (length bytes), at_from) in
+    let whole : bytes ≡ (head ++ prefix) ++ (frame_text r.0 ++ r.1.0) = s.spelled
+    ∙ ap (λ (b : List ℕ). head ++ b) a.before ∙ sym (append_assoc head prefix (frame_text r.0 ++ r.1.0)) in
+    let before : length (head ++ prefix) ≡ from =
+    omega (arith, length-append head prefix, length-head_text t.head (length bytes), at_from) in
     let long : length bytes ≡ from + (length (frame_text r.0) + length r.1.0) =
     omega (
       arith,
       ap length whole,
       before,
-      length-append (head ++ front) (frame_text r.0 ++ r.1.0),
+      length-append (head ++ prefix) (frame_text r.0 ++ r.1.0),
       length-append (frame_text r.0) r.1.0,
     ) in
     let cut : drop from bytes ≡ frame_text r.0 ++ r.1.0 = ap (drop from) whole
-    ∙ drop_at (head ++ front) (frame_text r.0 ++ r.1.0) from before in
+    ∙ drop_at (head ++ prefix) (frame_text r.0 ++ r.1.0) from before in
     let wide : length (frame_text r.0) ≡ to - from = omega (arith, next) in
     record {
       frame = r.0;

@@ -8,31 +8,31 @@ use Rattle.std.proofs.lemmas.List.Concat.{flat_map-append}
 use Rattle.eve_grammar.specs.Frames.{Frame, start_place, next_place, kind_of}
 use Rattle.eve_grammar.specs.Spelling.{frame_text, frames_text}
 use Rattle.eve_grammar.specs.Limits.{is_head, FitsAt}
-use Rattle.eve_grammar.specs.Following.{Follow, after, AreAllFrames}
+use Rattle.eve_grammar.specs.FrameOrder.{Follow, after, AreAllFrames}
 use Rattle.eve_views.specs.declared.fault.Code.{Code}
 use Rattle.eve_views.specs.declared.fault.Code.TheVariants as code
 use Rattle.eve_views.specs.Walk.{frame_at, Walked, with_frame, walk_on, walk, frames_in}
 use Rattle.eve_grammar.proofs.Codec.{IsBytes}
 use Rattle.eve_views.proofs.Bytes.{IsBytes-behind}
 use Rattle.eve_views.proofs.FrameLaws.{StandsHere, frame_again, frame_stands, Framed-from, true_false}
-use Rattle.eve_grammar.proofs.Standing.{not_ended}
+use Rattle.eve_grammar.proofs.FramePlaces.{not_ended}
 use Rattle.eve_grammar.specs.declared.head.Head.{Head}
 use Rattle.eve_grammar.specs.declared.place.Place.{Place}
 
-abbrev pub with_front : List Frame → Walked → Walked
-with_front [] r = r
-with_front (f ∷ fs) r = with_frame f (with_front fs r)
+abbrev pub with_prefix : List Frame → Walked → Walked
+with_prefix [] r = r
+with_prefix (f ∷ fs) r = with_frame f (with_prefix fs r)
 
 walk_step : (n : ℕ) (h : Head) (p : Place) (bytes : List ℕ) → p.ended ≡ false → walk (suc n) h p bytes
     ≡ walk_on bytes (frame_at h p bytes) (λ f rest. walk n h (next_place p f) rest)
 unfolding walk
 walk_step n h p bytes is_open = rw is_open refl
 
-pub walk_front : (front : List Frame) (n : ℕ) (h : Head) (p : Place) (rest : List ℕ) → IsTrue (is_head h)
-    → Follow h p front
-    → walk (length front + n) h p (frames_text front ++ rest) ≡ with_front front (walk n h (after p front) rest)
-walk_front [] n h p rest right follow = ap (λ (m : ℕ). walk m h p rest) (zero-add n)
-walk_front (f ∷ fs) n h p rest right follow =
+pub walk_prefix : (prefix : List Frame) (n : ℕ) (h : Head) (p : Place) (rest : List ℕ) → IsTrue (is_head h)
+    → Follow h p prefix
+    → walk (length prefix + n) h p (frames_text prefix ++ rest) ≡ with_prefix prefix (walk n h (after p prefix) rest)
+walk_prefix [] n h p rest right follow = ap (λ (m : ℕ). walk m h p rest) (zero-add n)
+walk_prefix (f ∷ fs) n h p rest right follow =
     let fuel : suc (length fs) + n ≡ suc (length fs + n) = omega arith in
     let regrouped : frames_text (f ∷ fs) ++ rest ≡ frame_text f ++ (frames_text fs ++ rest) =
     append_assoc (frame_text f) (frames_text fs) rest in
@@ -46,18 +46,18 @@ walk_front (f ∷ fs) n h p rest right follow =
     (λ f rest. walk (length fs + n) h (next_place p f) rest)) read
     in
     ap (λ (m : ℕ). walk m h p (frames_text (f ∷ fs) ++ rest)) fuel ∙ ap (walk (suc (length fs + n)) h p) regrouped ∙ one
-    ∙ stepped ∙ ap (with_frame f) (walk_front fs n h (next_place p f) rest right follow.1)
+    ∙ stepped ∙ ap (with_frame f) (walk_prefix fs n h (next_place p f) rest right follow.1)
 
-front_ok : (front : List Frame) → with_front front (Ok []) ≡ Ok front
-front_ok [] = refl
-front_ok (f ∷ fs) = ap (with_frame f) (front_ok fs)
+prefix_ok : (prefix : List Frame) → with_prefix prefix (Ok []) ≡ Ok prefix
+prefix_ok [] = refl
+prefix_ok (f ∷ fs) = ap (with_frame f) (prefix_ok fs)
 
 abbrev pub stopped : Code → List ℕ → Walked
 stopped c rest = Err (c, rest)
 
-front_err : (front : List Frame) (c : Code) (rest : List ℕ) → with_front front (stopped c rest) ≡ stopped c rest
-front_err [] c rest = refl
-front_err (f ∷ fs) c rest = ap (with_frame f) (front_err fs c rest)
+prefix_err : (prefix : List Frame) (c : Code) (rest : List ℕ) → with_prefix prefix (stopped c rest) ≡ stopped c rest
+prefix_err [] c rest = refl
+prefix_err (f ∷ fs) c rest = ap (with_frame f) (prefix_err fs c rest)
 
 walk_end : (n : ℕ) (h : Head) (p : Place) → IsTrue p.ended → walk (suc n) h p [] ≡ Ok []
 unfolding walk
@@ -70,14 +70,14 @@ walk_again fs n h p right follow ended lt =
     let fuel : n ≡ length fs + suc (n - suc (length fs)) = omega arith in
     ap (λ (m : ℕ). walk m h p (frames_text fs)) fuel
     ∙ ap (walk (length fs + suc (n - suc (length fs))) h p) (sym (append-nil (frames_text fs)))
-    ∙ walk_front fs (suc (n - suc (length fs))) h p [] right follow
-    ∙ ap (with_front fs) (walk_end (n - suc (length fs)) h (after p fs) ended)
-    ∙ front_ok fs
+    ∙ walk_prefix fs (suc (n - suc (length fs))) h p [] right follow
+    ∙ ap (with_prefix fs) (walk_end (n - suc (length fs)) h (after p fs) ended)
+    ∙ prefix_ok fs
 
 -- each frame takes bytes
-pub front_short : (fs : List Frame) → length fs ≤ length (frames_text fs)
-front_short [] = omega arith
-front_short (f ∷ fs) = omega (arith, front_short fs, length-append (frame_text f) (frames_text fs))
+pub prefix_short : (fs : List Frame) → length fs ≤ length (frames_text fs)
+prefix_short [] = omega arith
+prefix_short (f ∷ fs) = omega (arith, prefix_short fs, length-append (frame_text f) (frames_text fs))
 
 -- the frames that the bytes spell are the ones that are found
 pub run_read : (h : Head) (fs : List Frame) → IsTrue (is_head h) → AreAllFrames h fs → frames_in h (frames_text fs) ≡ fs
@@ -85,7 +85,7 @@ unfolding frames_in
 run_read h fs right run =
     let e : walk (suc (length (frames_text fs))) h start_place (frames_text fs) ≡ Ok fs =
     walk_again fs (suc (length (frames_text fs))) h start_place right run.follow run.ended
-    (omega (arith, front_short fs))
+    (omega (arith, prefix_short fs))
     in
     rw e refl
 
@@ -113,27 +113,27 @@ walk_stop n c h p rest on e = rw (on, e) refl
 
 -- frames that may stand where they stand, and after them a fault
 pub record StandsBehind (c : Code) (h : Head) (bytes rest : List ℕ) : Type 0 where
-  pub front : List Frame
-  pub right : Follow h start_place front
-  pub before : bytes ≡ frames_text front ++ rest
-  pub here : StandsHere c h (after start_place front) rest
+  pub prefix : List Frame
+  pub right : Follow h start_place prefix
+  pub before : bytes ≡ frames_text prefix ++ rest
+  pub here : StandsHere c h (after start_place prefix) rest
 
 -- a fault that stands is found
 pub walk_fault : (c : Code) (n : ℕ) (h : Head) (bytes rest : List ℕ) → IsTrue (is_head h) → IsBytes bytes
     → length bytes < n → StandsBehind c h bytes rest → walk n h start_place bytes ≡ stopped c rest
 walk_fault c n h bytes rest right fits lt s =
-    let m = n - suc (length s.front) in
-    let short : length s.front < n =
-    omega (arith, front_short s.front, ap length s.before, length-append (frames_text s.front) rest) in
-    let fuel : n ≡ length s.front + suc m = omega arith in
-    let rest_fits : IsBytes rest = IsBytes-behind (frames_text s.front) rest (subst IsBytes s.before fits) in
-    let here = frame_stands c h (after start_place s.front) rest right rest_fits s.here in
+    let m = n - suc (length s.prefix) in
+    let short : length s.prefix < n =
+    omega (arith, prefix_short s.prefix, ap length s.before, length-append (frames_text s.prefix) rest) in
+    let fuel : n ≡ length s.prefix + suc m = omega arith in
+    let rest_fits : IsBytes rest = IsBytes-behind (frames_text s.prefix) rest (subst IsBytes s.before fits) in
+    let here = frame_stands c h (after start_place s.prefix) rest right rest_fits s.here in
     ap (λ (k : ℕ). walk k h start_place bytes) fuel
-    ∙ ap (walk (length s.front + suc m) h start_place) s.before
-    ∙ walk_front s.front (suc m) h start_place rest right s.right
-    ∙ ap (with_front s.front)
-    (walk_stop m c h (after start_place s.front) rest (goes_on c h (after start_place s.front) rest s.here) here)
-    ∙ front_err s.front c rest
+    ∙ ap (walk (length s.prefix + suc m) h start_place) s.before
+    ∙ walk_prefix s.prefix (suc m) h start_place rest right s.right
+    ∙ ap (with_prefix s.prefix)
+    (walk_stop m c h (after start_place s.prefix) rest (goes_on c h (after start_place s.prefix) rest s.here) here)
+    ∙ prefix_err s.prefix c rest
 
 -- ---- one more frame
 

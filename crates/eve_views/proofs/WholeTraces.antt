@@ -6,8 +6,8 @@ use Rattle.eve_grammar.specs.Trace.{Trace}
 use Rattle.eve_grammar.specs.Frames.{Frame, frames_of, start_place}
 use Rattle.eve_grammar.specs.Spelling.{frames_text, head_text, length_of, spelling}
 use Rattle.eve_grammar.specs.Limits.{is_head}
-use Rattle.eve_grammar.specs.Following.{AreAllFrames, Spells, Follow}
-use Rattle.eve_grammar.specs.Gathering.{trace_of}
+use Rattle.eve_grammar.specs.FrameOrder.{AreAllFrames, Spells, Follow}
+use Rattle.eve_grammar.specs.GatheredTraces.{trace_of}
 use Rattle.eve_grammar.proofs.Rests.{frames_of-trace_of}
 use Rattle.eve_grammar.proofs.HeaderParts.{length-head_text}
 use Rattle.eve_grammar.specs.declared.head.Head.{Head}

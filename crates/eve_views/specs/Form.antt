@@ -9,7 +9,7 @@ use Rattle.eve_grammar.specs.Spelling.{frame_text, frames_text, head_text}
 use Rattle.eve_grammar.specs.declared.limits.TheConstants.{MOST_BYTES}
 use Rattle.eve_grammar.specs.Limits.{is_head, FitsAt}
 use Rattle.eve_views.specs.Code.{code_number, phase_of}
-use Rattle.eve_grammar.specs.Following.{Follow, after}
+use Rattle.eve_grammar.specs.FrameOrder.{Follow, after}
 use Rattle.eve_grammar.specs.declared.head.Head.{Head}
 use Rattle.eve_grammar.specs.Trace.{Trace}
 use Rattle.eve_grammar.specs.declared.place.Place.{Place}
@@ -24,23 +24,26 @@ use Rattle.eve_grammar.specs.declared.head.TheConstants.{HEADER_LEN}
 -- ---- the header
 
 -- 32 bytes or more, no more than a trace may have, and as many as the header says
+-- F1 Length.
 abbrev pub is_sized : List ℕ → Bool
 is_sized bytes =
     nat_le HEADER_LEN (length bytes)
     && (nat_le (length bytes) MOST_BYTES && (big_number 8 (drop 24 bytes) == length bytes))
 
 -- the first six bytes are those of a trace
+-- F2 Magic.
 abbrev pub has_magic : List ℕ → Bool
 has_magic bytes = starts_with nat_eq bytes (codes "EVESBK")
 
 -- what a header says but for its magic bytes and the total length: bytes 6 to 23
-abbrev pub said_by : List ℕ → List ℕ
-said_by header = take 18 (drop 6 header)
+abbrev pub decoded_by : List ℕ → List ℕ
+decoded_by header = take 18 (drop 6 header)
 
 -- the header says a head within the limits
+-- F3 Head.
 pub record SaysHead (bytes : List ℕ) (h : Head) : Type 0 where
   pub limits : IsTrue (is_head h)
-  pub said : said_by bytes ≡ said_by (head_text h 0)
+  pub decoded : decoded_by bytes ≡ decoded_by (head_text h 0)
 
 -- ---- the frames
 
@@ -48,30 +51,32 @@ pub record SaysHead (bytes : List ℕ) (h : Head) : Type 0 where
 -- So at this offset the next frame is due, or the end was the last.
 pub record IsReached (bytes : List ℕ) (at : ℕ) : Type 0 where
   pub head : Head
-  pub front : List Frame
+  pub prefix : List Frame
   pub says : SaysHead bytes head
-  pub right : Follow head start_place front
-  pub at_is : at ≡ HEADER_LEN + length (frames_text front)
+  pub right : Follow head start_place prefix
+  pub at_is : at ≡ HEADER_LEN + length (frames_text prefix)
   pub within : at ≤ length bytes
-  pub before : take at bytes ≡ take HEADER_LEN bytes ++ frames_text front
+  pub before : take at bytes ≡ take HEADER_LEN bytes ++ frames_text prefix
 
 -- how far the frames before have come
 abbrev pub place_at : {bytes : List ℕ} {at : ℕ} → IsReached bytes at → Place
-place_at r = after start_place r.front
+place_at r = after start_place r.prefix
 
--- a frame of a kind that may stand there lies at the front of the bytes as a whole
+-- a frame of a kind that may stand there lies at the beginning of the bytes as a whole
 abbrev pub is_framed : Head → Place → List ℕ → Bool
 is_framed h p bytes =
     nat_le FRAME_HEAD_LEN (length bytes)
     && (is_allowed h p (slice_index bytes 0) && nat_le (FRAME_HEAD_LEN + big_number 4 (drop 1 bytes)) (length bytes))
 
 -- where a frame is due none of a kind that may stand there lies in the bytes as a whole, or a byte follows the end
+-- F4 Frame.
 pub record HasNoFrame (h : Head) (p : Place) (bytes : List ℕ) : Type 0 where
   pub unframed : IsFalse (is_framed h p bytes)
   pub more : IsTrue p.ended → bytes ≢ []
 
 -- a frame of a kind that may stand there lies in the bytes as a whole, and its body differs from all that such a frame
 -- can say
+-- F5 Body.
 pub record HasWrongBody (h : Head) (p : Place) (bytes : List ℕ) : Type 0 where
   pub framed : IsTrue (is_framed h p bytes)
   pub none : (f : Frame) (rest : List ℕ) → FitsAt h p f → bytes ≢ frame_text f ++ rest

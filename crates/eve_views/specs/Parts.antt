@@ -6,7 +6,7 @@ use Rattle.eve_grammar.specs.Trace.{Trace, Access, Step, Vote}
 use Rattle.eve_grammar.specs.Frames.{Frame, OfAccess, OfVote, step_frames}
 use Rattle.eve_grammar.specs.Spelling.{frame_text, frames_text, located, step_text, section_start}
 use Rattle.eve_grammar.specs.Limits.{is_access, is_step, is_vote}
-use Rattle.eve_grammar.specs.Gathering.{gathered}
+use Rattle.eve_grammar.specs.GatheredTraces.{gathered}
 use Rattle.eve_grammar.specs.declared.limits.TheConstants.{MOST_ROWS, MOST_BATCHES}
 use Rattle.eve_grammar.specs.declared.head.TheConstants.{HEADER_LEN}
 

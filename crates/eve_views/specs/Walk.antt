@@ -4,7 +4,7 @@ use Rattle.std.specs.Prelude.{◌≡◌, ℕ, zero, suc, ◌+◌, ◌≤◌, ◌
 use Rattle.std.specs.Prelude.{length, take, drop, slice_index, Option, Some, None, Result, Ok, Err}
 use Rattle.byteorder.specs.Endian.{big_number}
 use Rattle.eve_grammar.specs.Frames.{Frame, start_place, next_place}
-use Rattle.eve_grammar.specs.Reading.{body_of}
+use Rattle.eve_grammar.specs.Readers.{body_of}
 use Rattle.eve_grammar.specs.declared.head.Head.{Head}
 use Rattle.eve_grammar.specs.declared.place.Place.{Place}
 use Rattle.eve_views.specs.Form.{is_framed}
@@ -17,19 +17,19 @@ abbrev pub with_rest : List ℕ → Option Frame → Result (Frame × List ℕ) 
 with_rest rest (Some f) = Ok (f, rest)
 with_rest rest None = Err code.Body
 
--- the frame at the front of bytes in which one lies
+-- the frame at the beginning of bytes in which one lies
 abbrev pub inside : Head → Place → List ℕ → Result (Frame × List ℕ) Code
 inside h p bytes =
     let len = big_number 4 (drop 1 bytes) in
     with_rest (drop len (drop FRAME_HEAD_LEN bytes))
     (body_of h p (slice_index bytes 0) (take len (drop FRAME_HEAD_LEN bytes)))
 
--- the frame at the front of the bytes, or what is wrong there
+-- the frame at the beginning of the bytes, or what is wrong there
 unfoldable pub frame_at : Head → Place → List ℕ → Result (Frame × List ℕ) Code
 frame_at h p bytes = if is_framed h p bytes then inside h p bytes else Err code.Frame
 
--- a frame that begins with this byte and has this body lies at the front of bytes as a whole
-pub record IsFrontOf (bytes : List ℕ) (kind : ℕ) (body : List ℕ) : Type 0 where
+-- a frame that begins with this byte and has this body lies at the beginning of bytes as a whole
+pub record IsPrefixOf (bytes : List ℕ) (kind : ℕ) (body : List ℕ) : Type 0 where
   pub kind_is : slice_index bytes 0 ≡ kind
   pub len_is : big_number 4 (drop 1 bytes) ≡ length body
   pub body_is : take (length body) (drop FRAME_HEAD_LEN bytes) ≡ body

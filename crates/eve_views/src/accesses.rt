@@ -3,7 +3,7 @@
 ghost use Rattle.std.specs.Prelude.{◌≡◌, ◌<◌, ◌-◌, length, slice_get, Some};
 ghost use Rattle.eve_grammar.specs.Frames.{OfAccess, frames_of};
 ghost use Rattle.eve_grammar.specs.Spelling.{frame_text};
-ghost use Rattle.eve_frames.specs.Said.{access_said};
+ghost use Rattle.eve_frames.specs.Decoded.{access_decoded};
 ghost use Rattle.eve_views.specs.Parts.{accesses_between, AreAccesses};
 
 use crate::trace::Trace;
@@ -52,8 +52,8 @@ impl<'t, 'a> Accesses<'t, 'a> {
     /// An access frame, by its place from 0.
     pub fn get(&self, i: usize) -> AccessView<'a>
         requires { i < length self.now }
-        ensures says { slice_get self.now i ≡ Some (result.offset, access_said result) }
-        ensures text { result.bytes.now ≡ frame_text (OfAccess (access_said result)) }
+        ensures says { slice_get self.now i ≡ Some (result.offset, access_decoded result) }
+        ensures text { result.bytes.now ≡ frame_text (OfAccess (access_decoded result)) }
     {
         prove!(self.from <= self.to);
         let frame = self.trace.frame(self.from + i);

@@ -3,9 +3,9 @@
 ghost use Rattle.std.specs.Prelude.{◌≡◌, ◌≢◌, ◌≤◌, is_some};
 ghost use Rattle.std.specs.Option.{option_map};
 ghost use Rattle.eve_grammar.specs.Kinds.{kind_byte};
-ghost use Rattle.eve_grammar.specs.Reading.{body_of};
+ghost use Rattle.eve_grammar.specs.Readers.{body_of};
 ghost use Rattle.eve_grammar.specs.declared.frame_kind.FrameKind.TheVariants.{Attempt};
-ghost use Rattle.eve_views.specs.Places.{accesses_in};
+ghost use Rattle.eve_views.specs.inner.Places.{accesses_in};
 
 use crate::reached::Reached;
 use eve_grammar::{
@@ -14,7 +14,7 @@ use eve_grammar::{
 };
 
 /// Whether the body is right for a frame of this kind, other than an attempt, that stands here.
-#[tactic(auto, unfolding(eve_grammar::specs::Reading::body_of))]
+#[tactic(auto, unfolding(eve_grammar::specs::Readers::body_of))]
 fn is_body(at: &Reached, kind: FrameKind, body: &[u8]) -> bool
     requires kind { kind ≢ Attempt }
     requires customers { at.now.head.customers ≤ MOST_CUSTOMERS }
@@ -41,7 +41,7 @@ fn is_body(at: &Reached, kind: FrameKind, body: &[u8]) -> bool
 }
 
 /// How many access frames have to follow a frame of this kind that stands here; `None` where its body is wrong.
-#[tactic(auto, unfolding(eve_grammar::specs::Reading::body_of))]
+#[tactic(auto, unfolding(eve_grammar::specs::Readers::body_of))]
 pub fn accesses_behind(at: &Reached, kind: FrameKind, body: &[u8]) -> Option<usize>
     requires customers { at.now.head.customers ≤ MOST_CUSTOMERS }
     ensures { result ≡ option_map accesses_in (body_of at.now.head at.now.place (kind_byte kind) body.now) }

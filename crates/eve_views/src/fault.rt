@@ -37,7 +37,7 @@ pub enum Code {
     Commit,
     /// The rollback's number or view is not the one that is due.
     Rollback,
-    /// The number or the view of the state that is taken over is none that may be there.
+    /// The number or the view of the state that is transferred is none that may be there.
     Transfer,
     /// The record doesn't fit its request.
     Record,
@@ -57,11 +57,11 @@ pub enum Code {
     NoMajority,
     /// Too few verifiers voted for the rollback.
     RollbackNoMajority,
-    /// Too few verifiers voted for a commit of the state that is taken over.
+    /// Too few verifiers voted for a commit of the state that is transferred.
     TransferNoMajority,
     /// The balances or the replies differ from those of another replica.
     Outcome,
-    /// The state that is taken over is not the one that a replica committed.
+    /// The state that is transferred is not the one that a replica committed.
     TransferBalances,
     /// The replica gave no such reply in a committed batch.
     Reply,

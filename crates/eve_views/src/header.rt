@@ -2,13 +2,14 @@
 
 ghost use Rattle.std.specs.Prelude.{◌≡◌, IfOk, IfErr};
 ghost use Rattle.eve_views.specs.Form.{is_sized, has_magic};
-ghost use Rattle.eve_views.specs.Header.{IsHeader, StopsAtHeader};
+ghost use Rattle.eve_views.specs.inner.Header.{IsHeader, StopsAtHeader};
 
 use crate::fault::Code;
 use byteorder::{BigEndian, ByteOrder};
 use eve_grammar::{HEADER_LEN, Head, MOST_BYTES};
 
 /// Whether there are as many bytes as a trace may have and as the header says.
+/// F1 Length.
 fn is_sized(bytes: &[u8]) -> bool
     ensures { result ≡ is_sized bytes.now }
 {
@@ -18,6 +19,7 @@ fn is_sized(bytes: &[u8]) -> bool
 }
 
 /// Whether the bytes begin as those of a trace.
+/// F2 Magic.
 fn has_magic(bytes: &[u8]) -> bool
     ensures { result ≡ has_magic bytes.now }
 {

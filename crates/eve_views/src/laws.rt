@@ -4,10 +4,10 @@ ghost use Rattle.std.specs.Prelude.{◌≡◌, ◌≤◌, ◌+◌, ◌*◌, ◌�
 ghost use Rattle.eve_views.specs.Cut.{part_start};
 ghost use Rattle.eve_grammar.specs.Trace.{Trace};
 ghost use Rattle.eve_grammar.specs.Places.{IsBytes};
-ghost use Rattle.eve_grammar.specs.Following.{Spells};
+ghost use Rattle.eve_grammar.specs.FrameOrder.{Spells};
 ghost use Rattle.eve_views.specs.Form.{IsLeast, Precedes, StandsInForm, IsFaultOutside};
 ghost use Rattle.eve_views.specs.First.{first_of};
-ghost use Rattle.eve_views.specs.Standing.{StandInOrder};
+ghost use Rattle.eve_views.specs.inner.PartPlaces.{StandInOrder};
 ghost use Rattle.eve_views.specs.declared.fault.Fault.{Fault};
 
 /// Bytes have a first fault of form, or they spell a trace, and never both.

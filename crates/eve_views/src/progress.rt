@@ -6,12 +6,12 @@ ghost use Rattle.std.specs.Option.{option_map};
 ghost use Rattle.byteorder.specs.Endian.{big_number};
 ghost use Rattle.eve_grammar.specs.Kinds.{kind_byte};
 ghost use Rattle.eve_grammar.specs.Limits.{row_count};
-ghost use Rattle.eve_grammar.specs.Reading.{body_of};
+ghost use Rattle.eve_grammar.specs.Readers.{body_of};
 ghost use Rattle.eve_views.specs.Form.{SaysHead};
-ghost use Rattle.eve_views.specs.Places.{accesses_in};
-ghost use Rattle.eve_views.specs.Indexing.{kept_in, IsIndex};
-ghost use Rattle.eve_views.specs.SideBySide.{is_right_body, AreRightFrames, IsFramedUnjudged};
-ghost use Rattle.eve_views.specs.SideBySide.{access_kept, FindsUnjudged, IsWalkedUnjudged, WalksOn};
+ghost use Rattle.eve_views.specs.inner.Places.{accesses_in};
+ghost use Rattle.eve_views.specs.Indexes.{kept_in, IsIndex};
+ghost use Rattle.eve_views.specs.inner.SideBySide.{is_right_body, AreRightFrames, IsFramedUnjudged};
+ghost use Rattle.eve_views.specs.inner.SideBySide.{access_kept, FindsUnjudged, IsWalkedUnjudged, WalksOn};
 
 use crate::body::accesses_behind;
 use crate::reached::Reached;
@@ -36,7 +36,7 @@ pub struct Progress {
 
 /// How many access frames the body of an attempt says to follow it. The rest of the body isn't judged.
 #[inline(always)]
-fn accesses_said(body: &[u8]) -> Option<usize>
+fn accesses_decoded(body: &[u8]) -> Option<usize>
     ensures { IfSome result (λ n. n ≡ big_number 2 (drop 9 body.now)) }
 {
     if body.len() < 11 {
@@ -63,7 +63,7 @@ fn accesses_unjudged(at: &Reached, kind: FrameKind, body: &[u8]) -> Option<usize
 {
     match kind {
         FrameKind::Access | FrameKind::Transfer => Some(0),
-        FrameKind::Attempt => accesses_said(body),
+        FrameKind::Attempt => accesses_decoded(body),
         FrameKind::Batch => {
             if at.place.batches < u32::MAX && says_number(body, at.place.batches + 1) {
                 Some(0)
@@ -75,7 +75,7 @@ fn accesses_unjudged(at: &Reached, kind: FrameKind, body: &[u8]) -> Option<usize
     }
 }
 
-/// The frame at the front of the bytes, where nothing is wrong with it but for the body of a batch, an attempt, an
+/// The frame at the beginning of the bytes, where nothing is wrong with it but for the body of a batch, an attempt, an
 /// access record or a transfer, which isn't judged.
 #[inline(always)]
 fn frame_unjudged(at: &Reached, bytes: &[u8]) -> Option<Framed>
@@ -94,7 +94,8 @@ fn frame_unjudged(at: &Reached, bytes: &[u8]) -> Option<Framed>
     })
 }
 
-/// The length of the access frame at the front of the bytes, where one lies there as a whole. Its body isn't judged.
+/// The length of the access frame at the beginning of the bytes, where one lies there as a whole. Its body isn't
+/// judged.
 #[inline(always)]
 fn access_unjudged(bytes: &[u8]) -> Option<usize>
     ensures { IfSome result (λ len. FindsUnjudged bytes.now (access_kept len)) }

@@ -3,7 +3,7 @@
 ghost use Rattle.std.specs.Prelude.{◌≡◌, IsTrue};
 ghost use Rattle.eve_grammar.specs.Kinds.{kind_byte};
 ghost use Rattle.eve_grammar.specs.Frames.{start_place, is_allowed, is_allowed_in_sections, is_allowed_behind_sections};
-ghost use Rattle.eve_views.specs.Places.{place_after};
+ghost use Rattle.eve_views.specs.inner.Places.{place_after};
 
 use eve_grammar::{FrameKind, Head, Place};
 
@@ -50,6 +50,7 @@ impl Reached {
     }
 
     /// Whether a frame of the kind may stand here, after the first verifier.
+    /// F4 Frame.
     fn allows_behind_sections(&self, kind: FrameKind) -> bool
         ensures { result ≡ is_allowed_behind_sections self.now.head self.now.place (kind_byte kind) }
     {

@@ -5,9 +5,9 @@ ghost use denote.Param.Send.{IsSync};
 ghost use Rattle.eve_grammar.specs.Kinds.{kind_byte};
 ghost use Rattle.eve_grammar.specs.Limits.{row_count};
 ghost use Rattle.eve_views.specs.Form.{SaysHead, IfFound, StandsInForm, IsFaultOutside};
-ghost use Rattle.eve_views.specs.Indexing.{IsIndex};
-ghost use Rattle.eve_views.specs.SideBySide.{is_right_body, IsRightFrame, AreRightFrames};
-ghost use Rattle.eve_views.specs.SideBySide.{IsWalkedUnjudged, WalksOn};
+ghost use Rattle.eve_views.specs.Indexes.{IsIndex};
+ghost use Rattle.eve_views.specs.inner.SideBySide.{is_right_body, IsRightFrame, AreRightFrames};
+ghost use Rattle.eve_views.specs.inner.SideBySide.{IsWalkedUnjudged, WalksOn};
 
 use crate::cut::{part_at, part_size};
 use crate::fault::CheckFault;
@@ -39,7 +39,7 @@ fn is_right_body(rows: u32, kind: FrameKind, body: &[u8]) -> bool
     }
 }
 
-/// The same of the body of the frame at the front of the bytes; no, where there is none.
+/// The same of the body of the frame at the beginning of the bytes; no, where there is none.
 fn is_right_frame(rows: u32, bytes: &[u8]) -> bool
     requires { rows ≤ MOST_ROWS }
     ensures { IsTrue result → IsRightFrame rows bytes.now }
@@ -82,13 +82,13 @@ fn are_right<R: Threads + Sync>(
     let fewer = threads / 2;
     let others = threads - fewer;
     let size = part_size(offsets.len(), threads, 1);
-    let (front, back) = offsets.split_at(part_at(offsets.len(), size, fewer).from);
+    let (prefix, back) = offsets.split_at(part_at(offsets.len(), size, fewer).from);
     let (first, second) = thread::join(
         rt,
         || -> bool
             requires { IsSync R.row × (rows ≤ MOST_ROWS) }
-            ensures { IsTrue result → AreRightFrames rows bytes.entry.now front.entry.now }
-        { are_right(rt, rows, bytes, front, fewer) },
+            ensures { IsTrue result → AreRightFrames rows bytes.entry.now prefix.entry.now }
+        { are_right(rt, rows, bytes, prefix, fewer) },
         || -> bool
             requires { IsSync R.row × (rows ≤ MOST_ROWS) }
             ensures { IsTrue result → AreRightFrames rows bytes.entry.now back.entry.now }

@@ -3,7 +3,7 @@
 ghost use Rattle.std.specs.Prelude.{◌≡◌, ◌<◌};
 ghost use Rattle.eve_grammar.specs.Kinds.{kind_byte};
 ghost use Rattle.eve_grammar.specs.declared.frame_kind.FrameKind.TheVariants.{Replica, Verifier};
-ghost use Rattle.eve_views.specs.Starting.{no_starts, noted};
+ghost use Rattle.eve_views.specs.inner.PartStarts.{no_starts, noted};
 
 use eve_grammar::{FrameKind, MOST_REPLICAS, MOST_VERIFIERS, Place};
 

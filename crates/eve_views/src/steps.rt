@@ -22,7 +22,7 @@ pub enum Step<'t, 'a> {
     Commit(CommitView<'a>),
     /// The open attempts are discarded.
     Rollback(RollbackView<'a>),
-    /// A state is taken over, and the open attempts are discarded.
+    /// A state is transferred, and the open attempts are discarded.
     Transfer(TransferView<'a>),
 }
 

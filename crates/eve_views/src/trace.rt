@@ -7,13 +7,13 @@ ghost use Rattle.eve_grammar.specs.Spelling.{frame_text, frames_text, frames_at,
 ghost use Rattle.eve_grammar.specs.Spelling.{batches_at, steps_at, votes_at, sent_at};
 ghost use Rattle.eve_grammar.specs.Trace.{Trace as TraceValue, head_of};
 ghost use Rattle.eve_grammar.specs.Limits.{HasLimits};
-ghost use Rattle.eve_grammar.specs.Following.{Spells};
+ghost use Rattle.eve_grammar.specs.FrameOrder.{Spells};
 ghost use Rattle.eve_grammar.specs.declared.head.TheConstants.{HEADER_LEN};
-ghost use Rattle.eve_frames.specs.Said.{batch_said, customer_said, sent_said};
+ghost use Rattle.eve_frames.specs.Decoded.{batch_decoded, customer_decoded, sent_decoded};
 ghost use Rattle.eve_views.specs.Form.{SaysHead, IfFound, IsLeast, HasNone, StandsInForm, IsFaultOutside};
-ghost use Rattle.eve_views.specs.Header.{IsHeader};
-ghost use Rattle.eve_views.specs.Indexing.{IsIndex};
-ghost use Rattle.eve_views.specs.Fronts.{before_section, before_verifier, before_sent};
+ghost use Rattle.eve_views.specs.inner.Header.{IsHeader};
+ghost use Rattle.eve_views.specs.Indexes.{IsIndex};
+ghost use Rattle.eve_views.specs.inner.FramesBefore.{before_section, before_verifier, before_sent};
 ghost use Rattle.eve_views.specs.Parts.{is_in_section};
 ghost use Rattle.eve_views.specs.Lent.{HasBytesAt};
 
@@ -43,7 +43,7 @@ pub struct Trace<'a> {
 
 impl<'a> Model for Trace<'a> {
     ghost use Rattle.eve_grammar.specs.Trace.{Trace as TraceValue};
-    ghost use Rattle.eve_views.specs.Held.{trace_held, IsTrace};
+    ghost use Rattle.eve_views.specs.HeldTraces.{trace_held, IsTrace};
 
     ghost Value = { TraceValue };
 
@@ -217,8 +217,8 @@ impl<'a> Trace<'a> {
     /// A customer, by number from 0.
     pub fn customer(&self, i: u32) -> CustomerView<'a>
         requires { i < length self.now.customers }
-        ensures says { slice_get (customers_at self.now) i ≡ Some (result.offset, customer_said result) }
-        ensures text { result.bytes.now ≡ frame_text (OfCustomer (customer_said result)) }
+        ensures says { slice_get (customers_at self.now) i ≡ Some (result.offset, customer_decoded result) }
+        ensures text { result.bytes.now ≡ frame_text (OfCustomer (customer_decoded result)) }
         ensures stands { HasBytesAt self.now result.offset result.bytes.now }
     {
         self.recall_limits();
@@ -230,9 +230,9 @@ impl<'a> Trace<'a> {
     pub fn batch(&self, n: u32) -> BatchView<'a>
         requires from_one { 1 ≤ n }
         requires there { n ≤ length self.now.batches }
-        ensures says { slice_get (batches_at self.now) (n - 1) ≡ Some (result.offset, batch_said result) }
+        ensures says { slice_get (batches_at self.now) (n - 1) ≡ Some (result.offset, batch_decoded result) }
         ensures text { result.bytes.now
-            ≡ frame_text (OfBatch (batch_said result).0 (batch_said result).1) }
+            ≡ frame_text (OfBatch (batch_decoded result).0 (batch_decoded result).1) }
         ensures stands { HasBytesAt self.now result.offset result.bytes.now }
     {
         let frame = self.frame(self.head.customers as usize + n as usize - 1);
@@ -328,8 +328,8 @@ impl<'a> Trace<'a> {
     /// A reply sent, by its place from 0.
     pub fn sent(&self, i: usize) -> SentView<'a>
         requires { i < length self.now.sent }
-        ensures says { slice_get (sent_at self.now) i ≡ Some (result.offset, sent_said result) }
-        ensures text { result.bytes.now ≡ frame_text (OfSent (sent_said result)) }
+        ensures says { slice_get (sent_at self.now) i ≡ Some (result.offset, sent_decoded result) }
+        ensures text { result.bytes.now ≡ frame_text (OfSent (sent_decoded result)) }
         ensures stands { HasBytesAt self.now result.offset result.bytes.now }
     {
         self.recall_limits();

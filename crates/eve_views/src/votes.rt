@@ -3,7 +3,7 @@
 ghost use Rattle.std.specs.Prelude.{◌≡◌, ◌<◌, ◌-◌, length, slice_get, Some};
 ghost use Rattle.eve_grammar.specs.Frames.{OfVote, frames_of};
 ghost use Rattle.eve_grammar.specs.Spelling.{frame_text};
-ghost use Rattle.eve_frames.specs.Said.{vote_said};
+ghost use Rattle.eve_frames.specs.Decoded.{vote_decoded};
 ghost use Rattle.eve_views.specs.Parts.{votes_between, AreVotes};
 
 use crate::trace::Trace;
@@ -52,8 +52,8 @@ impl<'t, 'a> Votes<'t, 'a> {
     /// A vote, by its place from 0.
     pub fn get(&self, i: usize) -> VoteView<'a>
         requires { i < length self.now }
-        ensures says { slice_get self.now i ≡ Some (result.offset, vote_said result) }
-        ensures text { result.bytes.now ≡ frame_text (OfVote (vote_said result)) }
+        ensures says { slice_get self.now i ≡ Some (result.offset, vote_decoded result) }
+        ensures text { result.bytes.now ≡ frame_text (OfVote (vote_decoded result)) }
     {
         prove!(self.from <= self.to);
         let frame = self.trace.frame(self.from + i);

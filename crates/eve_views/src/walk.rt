@@ -5,8 +5,8 @@ ghost use Rattle.eve_grammar.specs.declared.head.Head.{Head as HeadValue};
 ghost use Rattle.eve_grammar.specs.declared.place.Place.{Place as PlaceValue};
 ghost use Rattle.eve_grammar.specs.Kinds.{kind_byte};
 ghost use Rattle.eve_views.specs.Form.{is_framed, SaysHead, IfFound, StandsInForm, IsFaultOutside};
-ghost use Rattle.eve_views.specs.Walk.{frame_at, IsFrontOf};
-ghost use Rattle.eve_views.specs.Indexing.{answer_in, kept, IsIndex};
+ghost use Rattle.eve_views.specs.Walk.{frame_at, IsPrefixOf};
+ghost use Rattle.eve_views.specs.Indexes.{answer_in, kept, IsIndex};
 
 use crate::body::accesses_behind;
 use crate::fault::{CheckFault, Code, Fault};
@@ -17,7 +17,7 @@ use eve_grammar::{
 };
 use std::alloc::Global;
 
-/// A whole frame at the front of bytes.
+/// A whole frame at the beginning of bytes.
 #[derive(Clone, Copy)]
 pub struct Framed {
     /// The kind.
@@ -28,10 +28,10 @@ pub struct Framed {
     pub accesses: usize,
 }
 
-/// The kind and the body of the frame at the front of the bytes, where one of some kind lies there as a whole.
+/// The kind and the body of the frame at the beginning of the bytes, where one of some kind lies there as a whole.
 #[inline(always)]
 pub fn kind_and_body(bytes: &[u8]) -> Option<(FrameKind, &[u8])>
-    ensures some { IfSome result (λ f. IsFrontOf bytes.now (kind_byte f.0) f.1.now) }
+    ensures some { IfSome result (λ f. IsPrefixOf bytes.now (kind_byte f.0) f.1.now) }
     ensures none { IfNone result ((h : HeadValue) (p : PlaceValue) → IsFalse (is_framed h p bytes.now)) }
 {
     let (first, rest) = u8_at(bytes)?;
@@ -44,9 +44,10 @@ pub fn kind_and_body(bytes: &[u8]) -> Option<(FrameKind, &[u8])>
     Some((kind, &rest[..len]))
 }
 
-/// The frame at the front of the bytes, or what is wrong there.
+/// The frame at the beginning of the bytes, or what is wrong there.
+/// F4 Frame and F5 Body.
 #[tactic(auto, unfolding(crate::specs::Walk::frame_at))]
-fn frame_in_front(at: &Reached, bytes: &[u8]) -> Result<Framed, Code>
+fn frame_in_prefix(at: &Reached, bytes: &[u8]) -> Result<Framed, Code>
     requires { at.now.head.customers ≤ MOST_CUSTOMERS }
     ensures { answer_in result ≡ kept bytes.now (frame_at at.now.head at.now.place bytes.now) }
 {
@@ -88,7 +89,7 @@ pub fn index_of(alloc: Global, head: Head, bytes: &[u8]) -> Result<Index, CheckF
     let mut reached = Reached::start(head);
     let mut at: usize = HEADER_LEN;
     'frames: while !reached.place.ended || at < bytes.len() {
-        match frame_in_front(&reached, &bytes[at..]) {
+        match frame_in_prefix(&reached, &bytes[at..]) {
             Err(code) => {
                 return Err(CheckFault::Found(Fault {
                     code,

@@ -11,13 +11,13 @@ use Rattle.eve_grammar.specs.Limits.{HasLimits}
 use Rattle.eve_grammar.proofs.Lists.{item_within}
 use Rattle.eve_views.specs.Form.{HasNone, IsFaultOutside}
 use Rattle.eve_views.specs.declared.fault.Code.TheVariants as code
-use Rattle.eve_views.proofs.Locating.{length-located}
+use Rattle.eve_views.proofs.FrameOffsets.{length-located}
 use Rattle.eve_votes.specs.Votes.{IsDecided}
 use Rattle.eve_votes.specs.Faults.{HasTwoDecisions, outside, AreVotesSound, StandsInVotes}
-use Rattle.eve_votes.specs.VotedFor.{IsVotedFor}
-use Rattle.eve_votes.proofs.Counting.{decided_backs, one_token}
-use Rattle.eve_votes.proofs.Deciding.{quorum_limits, decided_within, decisions_stand}
-use Rattle.eve_votes.proofs.Tallying.{votes_once}
+use Rattle.eve_votes.specs.inner.VotedFor.{IsVotedFor}
+use Rattle.eve_votes.proofs.Backers.{decided_backs, one_token}
+use Rattle.eve_votes.proofs.DecisionLaws.{quorum_limits, decided_within, decisions_stand}
+use Rattle.eve_votes.proofs.TallyLaws.{votes_once}
 
 -- ---- faults
 

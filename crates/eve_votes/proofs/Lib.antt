@@ -1,12 +1,12 @@
 pub mod Places
-pub mod Counting
-pub mod Casting
-pub mod Deciding
-pub mod Tallying
-pub mod InOrder
-pub mod Backing
-pub mod Leading
-pub mod Undecided
-pub mod Gathered
-pub mod Sifting
+pub mod Backers
+pub mod VoteOffsets
+pub mod DecisionLaws
+pub mod TallyLaws
+pub mod VoteOrder
+pub mod OnlyVotes
+pub mod LeadingTokens
+pub mod UndecidedBatches
+pub mod AllVotes
+pub mod SiftedVotes
 mod Faultless

@@ -10,12 +10,12 @@ use Rattle.eve_votes.specs.Faults.{StandsInVotes}
 use Rattle.eve_views.specs.Least.{IsBelow}
 use Rattle.eve_votes.specs.declared.decisions.Decision.{Decision}
 
-abbrev pub decision_said : Decision → ℕ × List ℕ
-decision_said d = (d.view, d.token.now)
+abbrev pub decision_decoded : Decision → ℕ × List ℕ
+decision_decoded d = (d.view, d.token.now)
 
 -- the view and the token in which the batch is decided, as far as it was found
 unfoldable pub decision_on : List (Option Decision) → ℕ → Option (ℕ × List ℕ)
-decision_on ds n = option_map decision_said (slice_index_or ds n None)
+decision_on ds n = option_map decision_decoded (slice_index_or ds n None)
 
 -- what was found is decided, with a token of 32 bytes
 pub record IsKnown (t : Trace) (n : ℕ) (d : ℕ × List ℕ) : Type 0 where

@@ -5,7 +5,7 @@ ghost use Rattle.std.specs.Option.{option_map};
 ghost use Rattle.eve_grammar.specs.Trace.{Choice as ChoiceValue};
 ghost use Rattle.eve_grammar.specs.Bodies.{borrowed_choice as choice_of};
 ghost use Rattle.eve_grammar.specs.Spelling.{votes_at, votes_of};
-ghost use Rattle.eve_frames.specs.Said.{vote_said};
+ghost use Rattle.eve_frames.specs.Decoded.{vote_decoded};
 ghost use Rattle.eve_votes.specs.Votes.{same_choice, is_vote_on, is_only, backers};
 ghost use Rattle.eve_views.specs.Order.{AreInOrder};
 ghost use Rattle.eve_votes.specs.Ballots.{is_alike, is_fellow, is_at, is_lower, is_for, IsBefore, IsStart};
@@ -57,7 +57,7 @@ pub(crate) fn vote_at<'a>(trace: &Trace<'a>, ballot: Ballot) -> VoteView<'a>
     requires verifier { ballot.verifier < length trace.now.verifiers }
     requires place { ballot.place < length (votes_of trace.now ballot.verifier) }
     ensures { slice_get (votes_at trace.now ballot.verifier) ballot.place
-        ≡ Some (result.offset, vote_said result) }
+        ≡ Some (result.offset, vote_decoded result) }
 {
     trace.votes(ballot.verifier).get(ballot.place as usize)
 }

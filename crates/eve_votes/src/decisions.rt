@@ -6,7 +6,7 @@ ghost use Rattle.eve_views.specs.declared.fault.Code.TheVariants.{TwoDecisions};
 ghost use Rattle.eve_votes.specs.Votes.{IsDecided};
 ghost use Rattle.eve_votes.specs.Faults.{StandsInVotes};
 ghost use Rattle.eve_views.specs.Least.{Lowers};
-ghost use Rattle.eve_votes.specs.Least.{IsLowest};
+ghost use Rattle.eve_votes.specs.inner.Least.{IsLowest};
 ghost use Rattle.eve_votes.specs.Ballots.{IsStart, HasCast};
 ghost use Rattle.eve_votes.specs.Decisions.{Judging, IsUnnoted, Notes, IsFound, Agrees, AreDecisions};
 
@@ -23,6 +23,7 @@ pub(crate) struct Decision<'a> {
 
 /// Notes a decision, where none was noted for the batch. Gives the least offset of those found so far and of the
 /// batch, where one was noted: that is another view's, since each view is judged once.
+/// F71 TwoDecisions.
 fn note<'a>(
     trace: &Trace<'a>,
     decisions: &mut Vec<Option<Decision<'a>>>,

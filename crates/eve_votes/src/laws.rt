@@ -6,7 +6,7 @@ ghost use Rattle.eve_grammar.specs.Limits.{HasLimits};
 ghost use Rattle.eve_views.specs.Form.{HasNone, IsFaultOutside};
 ghost use Rattle.eve_votes.specs.Votes.{IsDecided};
 ghost use Rattle.eve_votes.specs.Faults.{AreVotesSound, StandsInVotes};
-ghost use Rattle.eve_votes.specs.VotedFor.{IsVotedFor};
+ghost use Rattle.eve_votes.specs.inner.VotedFor.{IsVotedFor};
 
 /// Where no fault of votes stands, the votes are sound: each verifier votes at most once on a batch in a view, and a
 /// batch is decided in one view, with one token.

@@ -5,7 +5,7 @@ ghost use Rattle.std.specs.Option.{option_map};
 ghost use Rattle.eve_grammar.specs.Trace.{ForCommit};
 ghost use Rattle.eve_votes.specs.Votes.{backers, IsDecided};
 ghost use Rattle.eve_votes.specs.Ballots.{IsStart, HasCast};
-ghost use Rattle.eve_votes.specs.Majority.{HasLead, IsOneMore};
+ghost use Rattle.eve_votes.specs.inner.Majority.{HasLead, IsOneMore};
 
 use crate::ballots::{Ballot, backers_from, next_choice};
 use eve_grammar::Choice;

@@ -34,7 +34,7 @@ impl<'t, 'a> Model for Tally<'t, 'a> {
 
     ghost Value = { Trace };
 
-    ghost use Rattle.eve_votes.specs.Held.{IsTally};
+    ghost use Rattle.eve_votes.specs.HeldTallies.{IsTally};
 
     ghost view = { λ x. x.trace.now };
 

@@ -4,7 +4,7 @@ ghost use Rattle.std.specs.Prelude.{◌≡◌, ◌↔◌, ◌<◌, ◌++◌, [],
 ghost use Rattle.eve_views.specs.declared.fault.Code.TheVariants.{TwoVotes};
 ghost use Rattle.eve_grammar.specs.Spelling.{votes_of};
 ghost use Rattle.eve_votes.specs.Faults.{StandsInVotes};
-ghost use Rattle.eve_votes.specs.Least.{IsLowest};
+ghost use Rattle.eve_votes.specs.inner.Least.{IsLowest};
 ghost use Rattle.eve_votes.specs.Ballots.{ballots_from, ballots_of, FollowsAlike, HasVotes, HasCast};
 
 use crate::ballots::{Ballot, is_alike, vote_at};
@@ -53,6 +53,7 @@ fn cast(alloc: Global, trace: &Trace<'_>) -> Result<Vec<Ballot>, AllocError>
 }
 
 /// Whether the vote at this place is of the verifier that has the one before it, on the same batch in the same view.
+/// F70 TwoVotes.
 fn follows(ballots: &[Ballot], i: usize) -> bool
     ensures { IsTrue result ↔ FollowsAlike ballots.now i }
 {
@@ -61,6 +62,7 @@ fn follows(ballots: &[Ballot], i: usize) -> bool
 
 /// Finds the votes that are a verifier's only ones on their batch in their view. Gives the least offset of the others,
 /// the first of each kind left out.
+/// F70 TwoVotes.
 fn sift(
     trace: &Trace<'_>,
     ballots: &[Ballot],

@@ -12,7 +12,7 @@ use Rattle.eve_write.specs.declared.request.RequestData.{RequestData}
 use Rattle.eve_workload.specs.Batches.{asked_lists, push_last}
 use Rattle.eve_workload.specs.Lines.{Line, HeadLine, CustomerLine, BatchLine, RequestLine}
 use Rattle.eve_workload.specs.Steps.{requests_in, batches_in, may_follow, AreRightLines}
-use Rattle.eve_workload.specs.Drafts.{listed_in}
+use Rattle.eve_workload.specs.inner.Drafts.{listed_in}
 
 flat-push_last : (parts : List (List Asked)) (a : Asked) → requests_of (push_last parts a) ≡ requests_of parts ++ a ∷ []
 flat-push_last [] a = refl

@@ -8,8 +8,8 @@ use Rattle.std.proofs.lemmas.List.Elements.{All-nil, All-cons, All-head, All-tai
 use Rattle.std.proofs.lemmas.List.Sorted.{IsPermutation-refl, IsPermutation-sym, IsPermutation-trans}
 use Rattle.std.proofs.lemmas.List.Sorted.{IsPermutation-middle, IsPermutation-append_left, IsPermutation-append_right}
 use Rattle.std.proofs.lemmas.List.Sums.{sum_by-cons}
-use Rattle.eve_workload.specs.Mixing.{placed, first_fit}
-use Rattle.eve_workload.specs.Groups.{AreGroups}
+use Rattle.eve_workload.specs.Mixers.{placed, first_fit}
+use Rattle.eve_workload.specs.inner.Groups.{AreGroups}
 
 -- items of one group after another
 abbrev flat : {A : Type 0} → List (List A) → List A

@@ -15,7 +15,7 @@ use Rattle.eve_write.specs.declared.request.RequestData.{RequestData}
 use Rattle.eve_grammar.specs.Trace.{Asked, RequestId, request_id}
 use Rattle.eve_workload.specs.Batches.{asked_lists}
 use Rattle.eve_workload.specs.Workload.{requests_of}
-use Rattle.eve_workload.specs.RequestIds.{same_id, ids_of, ids_in, at_place, Follows, ReachesNumber, IsUpToLast}
+use Rattle.eve_workload.specs.inner.RequestIds.{same_id, ids_of, ids_in, at_place, Follows, ReachesNumber, IsUpToLast}
 
 -- ---- ids that are the same
 
@@ -40,9 +40,9 @@ below (Some last) number other follows reached = omega (arith, follows, reached)
 module _ (last : List (Option ℕ)) (id : RequestId) (there : id.0 % 256 < length last)
     (follows : Follows (at_place last id.0) id.1) where
   -- of the ids that were met, those of its place are below it
-  met_below : (other : RequestId) → IsUpToLast last other → other.0 % 256 ≡ id.0 % 256
+  seen_below : (other : RequestId) → IsUpToLast last other → other.0 % 256 ≡ id.0 % 256
       → other.1 < id.1
-  met_below other reached same =
+  seen_below other reached same =
       below (at_place last id.0) id.1 other.1 follows
       (subst (λ (place : ℕ). ReachesNumber (slice_index_or last place None) other.1) same reached)
 
@@ -51,13 +51,13 @@ module _ (last : List (Option ℕ)) (id : RequestId) (there : id.0 % 256 < lengt
       elim (cases_Bool (same_id id other)) [
         | inl same ↦
             let is : id ≡ other = same_id-true id other same in
-            let under = met_below other reached (ap (λ (r : RequestId). r.0 % 256) (sym is)) in
+            let under = seen_below other reached (ap (λ (r : RequestId). r.0 % 256) (sym is)) in
             absurd (omega (arith, under, ap (λ (r : RequestId). r.1) is))
         | inr other ↦ other
       ]
 
-  pub is_new : (met : List RequestId) → All (IsUpToLast last) met → list_any (same_id id) met ≡ false
-  is_new met all = list_any_none (same_id id) met (λ k d within. is_other _ (all k d within))
+  pub is_new : (seen : List RequestId) → All (IsUpToLast last) seen → list_any (same_id id) seen ≡ false
+  is_new seen all = list_any_none (same_id id) seen (λ k d within. is_other _ (all k d within))
 
   abbrev pub risen : List (Option ℕ)
   risen = slice_set last (id.0 % 256) (Some id.1)
@@ -69,7 +69,7 @@ module _ (last : List (Option ℕ)) (id : RequestId) (there : id.0 % 256 < lengt
   stays other reached =
       elim (cases_eq (other.0 % 256) (id.0 % 256)) [
         | inl same ↦
-            let under = met_below other reached same in
+            let under = seen_below other reached same in
             let here : at_place risen other.0 ≡ Some id.1 =
             ap (λ (place : ℕ). slice_index_or risen place None) same ∙ itself in
             subst (λ (o : Option ℕ). ReachesNumber o other.1) (sym here) (omega (arith, under))
@@ -78,9 +78,9 @@ module _ (last : List (Option ℕ)) (id : RequestId) (there : id.0 % 256 < lengt
             (sym (get_or-set_other last (id.0 % 256) (other.0 % 256) (Some id.1) None apart)) reached
       ]
 
-  pub still_reached : (met : List RequestId) → All (IsUpToLast last) met → All (IsUpToLast risen) (met ++ id ∷ [])
-  still_reached met all =
-      All-push (IsUpToLast risen) met id (λ k d within. stays _ (all k d within))
+  pub still_reached : (seen : List RequestId) → All (IsUpToLast last) seen → All (IsUpToLast risen) (seen ++ id ∷ [])
+  still_reached seen all =
+      All-push (IsUpToLast risen) seen id (λ k d within. stays _ (all k d within))
       (subst (λ (o : Option ℕ). ReachesNumber o id.1) (sym itself) (omega arith))
 
 -- ---- the ids of requests

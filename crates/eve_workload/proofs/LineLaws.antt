@@ -18,10 +18,10 @@ use Rattle.eve_grammar.specs.Limits.{is_number, is_customer, is_request, is_aske
 use Rattle.eve_workload.specs.Lines.{Line, HeadLine, CustomerLine, BatchLine, RequestLine, line_words, line_text}
 use Rattle.eve_workload.specs.Lines.{request_words, text_of_words}
 use Rattle.eve_workload.specs.Steps.{is_line}
-use Rattle.eve_workload.specs.Words.{is_inside, IsFirstLine}
+use Rattle.eve_workload.specs.inner.Words.{is_inside, IsFirstLine}
 use Rattle.eve_workload.proofs.Decimals.{same_balance, saving_balance, amount_balance}
 use Rattle.eve_workload.proofs.Deployments.{word_at, deployment_small, same_deployment}
-use Rattle.eve_workload.proofs.Splitting.{spaced, IsSplit}
+use Rattle.eve_workload.proofs.SplitLines.{spaced, IsSplit}
 
 -- ---- words without spaces
 
@@ -388,8 +388,8 @@ no_line_here text words len first none line behind is right =
 pub line_here : (text : List ℕ) (words : List (List ℕ)) (len : ℕ) (l : Line) → IsFirstLine text words len → line_words l
     ≡ words → IsTrue (is_line l) → (line : Line) (behind : List ℕ) → text ≡ line_text line ++ behind
     → IsTrue (is_line line) → line ≡ l
-line_here text words len l first said right_l line behind is right =
-    same_line line l right right_l (words_here text words len line behind first is right ∙ sym said)
+line_here text words len l first decoded right_l line behind is right =
+    same_line line l right right_l (words_here text words len line behind first is right ∙ sym decoded)
 
 -- a line has some bytes
 pub some_bytes : (len : ℕ) (text : List ℕ) (line : Line) → take len text ≡ line_text line → 0 < len

@@ -22,9 +22,9 @@ use Rattle.eve_grammar.specs.Trace.{Asked}
 use Rattle.eve_grammar.specs.Limits.{is_asked, is_batch}
 use Rattle.eve_workload.specs.declared.mixer.Mixer.{Mixer}
 use Rattle.eve_workload.specs.declared.mixer.Mixer.TheVariants.{First, Whole}
-use Rattle.eve_workload.specs.Mixing.{collide, share, rows_touched, conflict, first_fit, cut, batch_with, AreApart}
-use Rattle.eve_workload.specs.Mixed.{touched_by}
-use Rattle.eve_workload.specs.Groups.{rows_at, share_at, refused_request, listed, AreGroups}
+use Rattle.eve_workload.specs.Mixers.{collide, share, rows_touched, conflict, first_fit, cut, batch_with, AreApart}
+use Rattle.eve_workload.specs.inner.Mixed.{touched_by}
+use Rattle.eve_workload.specs.inner.Groups.{rows_at, share_at, refused_request, listed, AreGroups}
 use Rattle.eve_workload.proofs.Cuts.{first_fit_keeps, all_first_fit, first_fit_same, groups_same, sum_of_lengths}
 
 -- ---- each request once

@@ -25,10 +25,10 @@ same_lines f g [] [] s t right right' count same = (refl, same)
 same_lines f g [] (m ∷ c) s t right right' count same = absurd (omega arith)
 same_lines f g (l ∷ b) [] s t right right' count same = absurd (omega arith)
 same_lines f g (l ∷ b) (m ∷ c) s t right right' count same =
-    let front = same_lines f g b c (line_text l ++ s) (line_text m ++ t) right.1 right'.1 (omega arith)
+    let prefix = same_lines f g b c (line_text l ++ s) (line_text m ++ t) right.1 right'.1 (omega arith)
     (sym (append_assoc (text_before b) (line_text l) s) ∙ same ∙ append_assoc (text_before c) (line_text m) t) in
-    let last = first_line l m s t right.0.ranges right'.0.ranges front.1 in
-    ((λ i. last.0 i ∷ front.0 i), last.1)
+    let last = first_line l m s t right.0.ranges right'.0.ranges prefix.1 in
+    ((λ i. last.0 i ∷ prefix.0 i), last.1)
 
 -- where more lines stand in front of the same text, a line that may stand there follows the fewer
 pub follows_fewer : (format : ℕ) (b c : List Line) (s t : List ℕ) → AreRightLines format b → AreRightLines format c

@@ -10,7 +10,7 @@ use Rattle.eve_workload.specs.Lines.{Line, HeadLine, CustomerLine, BatchLine, Re
 use Rattle.eve_workload.specs.Lines.{lines_of, workload_text}
 use Rattle.eve_workload.specs.Steps.{customers_in, AreRightLines}
 use Rattle.eve_workload.specs.Batches.{push_last}
-use Rattle.eve_workload.specs.Drafts.{listed_in, deployment_in}
+use Rattle.eve_workload.specs.inner.Drafts.{listed_in, deployment_in}
 use Rattle.eve_workload.proofs.OneAnswer.{same_lines, follows_fewer}
 use Rattle.eve_workload.proofs.WholeLines.{onto, onto-append, line_long, lines_back, back_right, back_text}
 
@@ -71,25 +71,25 @@ batches_listed before (part ∷ parts) =
 
 module _ (w : Workload) where
   -- the head's line and the customers'
-  abbrev front : List Line
-  front = onto (HeadLine w.deployment ∷ []) (map CustomerLine w.customers)
+  abbrev prefix : List Line
+  prefix = onto (HeadLine w.deployment ∷ []) (map CustomerLine w.customers)
 
-  all_lines : onto [] (lines_of w) ≡ onto front (flat_map batch_lines w.batches)
+  all_lines : onto [] (lines_of w) ≡ onto prefix (flat_map batch_lines w.batches)
   all_lines = onto-append (HeadLine w.deployment ∷ []) (map CustomerLine w.customers) (flat_map batch_lines w.batches)
 
   deployment_is : deployment_in (onto [] (lines_of w)) ≡ Some w.deployment
   deployment_is =
-      ap deployment_in all_lines ∙ past_batches deployment_in (λ before. refl) (λ a before. refl) front w.batches
+      ap deployment_in all_lines ∙ past_batches deployment_in (λ before. refl) (λ a before. refl) prefix w.batches
       ∙ past_customers deployment_in (λ c before. refl) (HeadLine w.deployment ∷ []) w.customers
 
   customers_are : customers_in (onto [] (lines_of w)) ≡ w.customers
   customers_are =
-      ap customers_in all_lines ∙ past_batches customers_in (λ before. refl) (λ a before. refl) front w.batches
+      ap customers_in all_lines ∙ past_batches customers_in (λ before. refl) (λ a before. refl) prefix w.batches
       ∙ customers_listed (HeadLine w.deployment ∷ []) w.customers
 
   batches_are : listed_in (onto [] (lines_of w)) ≡ w.batches
   batches_are =
-      ap listed_in all_lines ∙ batches_listed front w.batches
+      ap listed_in all_lines ∙ batches_listed prefix w.batches
       ∙ ap (λ ps. ps ++ w.batches)
       (past_customers listed_in (λ c before. refl) (HeadLine w.deployment ∷ []) w.customers)
 

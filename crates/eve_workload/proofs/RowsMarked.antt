@@ -11,10 +11,10 @@ use Rattle.eve_smallbank.specs.Access.{is_write}
 use Rattle.eve_grammar.proofs.Lists.{get_set_same}
 use Rattle.eve_workload.specs.declared.marks.Marks.{Marks}
 use Rattle.eve_workload.specs.declared.marks.RowMarks.{RowMarks}
-use Rattle.eve_workload.specs.GroupSets.{has}
-use Rattle.eve_workload.specs.Mixing.{collide}
-use Rattle.eve_workload.specs.Marks.{groups_barred, bars, place_of, is_barred, HasMarksAt}
-use Rattle.eve_workload.proofs.Gets.{get_behind, get_set_other}
+use Rattle.eve_workload.specs.inner.GroupSets.{has}
+use Rattle.eve_workload.specs.Mixers.{collide}
+use Rattle.eve_workload.specs.inner.Marks.{groups_barred, bars, place_of, is_barred, HasMarksAt}
+use Rattle.eve_workload.proofs.ListReads.{get_behind, get_set_other}
 
 own : (it : Marks) (row : ℕ × Kind) (group : ℕ) → it.row ≡ row.0
     → bars (Some it) row group ≡ has (groups_barred it row.1) group
@@ -78,13 +78,13 @@ more_marks (m ∷ ms) added zero row group apart = refl
 more_marks (m ∷ ms) added (suc k) row group apart = more_marks ms added k row group apart
 
 -- the marks of no group, for a row that had none, leave what all marks say
-pub met_more : (old new : RowMarks) (none : Marks) → new.marks.items ≡ old.marks.items ++ none ∷ []
+pub seen_more : (old new : RowMarks) (none : Marks) → new.marks.items ≡ old.marks.items ++ none ∷ []
     → ((g : ℕ) → has none.touched g ≡ false) → ((g : ℕ) → has none.written g ≡ false)
     → ((kind : Kind) (group : ℕ) → is_barred old (none.row, kind) group ≡ false)
     → place_of new none.row ≡ length old.marks.items
     → ((other : ℕ) → other ≢ none.row → place_of new other ≡ place_of old other)
     → (row : ℕ × Kind) (group : ℕ) → is_barred new row group ≡ is_barred old row group
-met_more old new none pushed touched written absent at_end stay row group =
+seen_more old new none pushed touched written absent at_end stay row group =
     elim (cases_eq row.0 none.row) [
       | inl same ↦
           (λ i. bars (slice_get (pushed i) (place_of new (same i))) row group)

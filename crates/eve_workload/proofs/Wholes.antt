@@ -19,12 +19,12 @@ use Rattle.eve_workload.specs.Lines.{Line, HeadLine, CustomerLine, BatchLine, Re
 use Rattle.eve_workload.specs.Lines.{workload_text}
 use Rattle.eve_workload.specs.Steps.{customers_in, requests_in, last_requests, may_follow, may_end}
 use Rattle.eve_workload.specs.Steps.{AreRightLines, text_before}
-use Rattle.eve_workload.specs.Held.{workload_of, IsHeldWorkload}
+use Rattle.eve_workload.specs.HeldWorkloads.{workload_of, IsHeldWorkload}
 use Rattle.eve_workload.specs.declared.workload.Workload.TheInside.{Inside}
 use Rattle.eve_workload.specs.declared.draft.Draft.{Draft}
 use Rattle.eve_workload.specs.Batches.{push_last}
-use Rattle.eve_workload.specs.Drafts.{listed_in, deployment_in, Keeps}
-use Rattle.eve_workload.proofs.Reading.{in_batch, request_in_batch, customers_few, batches_few}
+use Rattle.eve_workload.specs.inner.Drafts.{listed_in, deployment_in, Keeps}
+use Rattle.eve_workload.proofs.TextLines.{in_batch, request_in_batch, customers_few, batches_few}
 use Rattle.eve_workload.proofs.BatchLists.{batches_flat, push_last_some, batch_there, batches_counted}
 
 lines-push_last : (part : List Asked) (parts : List (List Asked)) (a : Asked)
@@ -71,18 +71,18 @@ customer_lines d before c none =
 batch_line_so : (d : Deployment) (before : List Line) → lines_so d (BatchLine ∷ before)
     ≡ lines_so d before ++ BatchLine ∷ []
 batch_line_so d before =
-    let front = map CustomerLine (customers_in before) in
-    ap (λ lines. HeadLine d ∷ (front ++ lines)) (flat_map-append batch_lines (listed_in before) ([] ∷ []))
+    let prefix = map CustomerLine (customers_in before) in
+    ap (λ lines. HeadLine d ∷ (prefix ++ lines)) (flat_map-append batch_lines (listed_in before) ([] ∷ []))
     ∙ ap (λ lines. HeadLine d ∷ lines)
-    (sym (append_assoc front (flat_map batch_lines (listed_in before)) (BatchLine ∷ [])))
+    (sym (append_assoc prefix (flat_map batch_lines (listed_in before)) (BatchLine ∷ [])))
 
 request_line_so : (d : Deployment) (before : List Line) (a : Asked) → 1 ≤ length (listed_in before)
     → lines_so d (RequestLine a ∷ before) ≡ lines_so d before ++ RequestLine a ∷ []
 request_line_so d before a some =
-    let front = map CustomerLine (customers_in before) in
-    ap (λ lines. HeadLine d ∷ (front ++ lines)) (lines_push (listed_in before) a some)
+    let prefix = map CustomerLine (customers_in before) in
+    ap (λ lines. HeadLine d ∷ (prefix ++ lines)) (lines_push (listed_in before) a some)
     ∙ ap (λ lines. HeadLine d ∷ lines)
-    (sym (append_assoc front (flat_map batch_lines (listed_in before)) (RequestLine a ∷ [])))
+    (sym (append_assoc prefix (flat_map batch_lines (listed_in before)) (RequestLine a ∷ [])))
 
 text_more : (text : List ℕ) (lines more : List Line) (line : Line) → text ≡ flat_map line_text lines
     → more ≡ lines ++ line ∷ [] → text ++ line_text line ≡ flat_map line_text more

@@ -2,9 +2,9 @@
 
 ghost use Rattle.std.specs.Prelude.{◌≡◌, ◌+◌, ◌<◌, ◌≤◌, ℕ, List, [], IfOk, OnOk, length, slice_index};
 ghost use Rattle.eve_smallbank.specs.Access.{RowKinds};
-ghost use Rattle.eve_workload.specs.Mixing.{placed};
-ghost use Rattle.eve_workload.specs.Groups.{share_at};
-ghost use Rattle.eve_workload.specs.Cut.{one_more, IsCut};
+ghost use Rattle.eve_workload.specs.Mixers.{placed};
+ghost use Rattle.eve_workload.specs.inner.Groups.{share_at};
+ghost use Rattle.eve_workload.specs.inner.Cut.{one_more, IsCut};
 
 use crate::marks::RowMarks;
 use crate::seats::Seat;

@@ -10,10 +10,10 @@ ghost use Rattle.eve_workload.specs.declared.deployment.Deployment.{Deployment a
 ghost use Rattle.eve_workload.specs.Lines.{Line as LineValue, HeadLine, CustomerLine, BatchLine, RequestLine};
 ghost use Rattle.eve_workload.specs.Workload.{is_deployment};
 ghost use Rattle.eve_workload.specs.Steps.{may_follow, may_end, is_line};
-ghost use Rattle.eve_workload.specs.Said.{borrowed_customer, line_said};
-ghost use Rattle.eve_workload.specs.Drafts.{last_in, next_of, has_name, IsSmall, Keeps, Takes};
-ghost use Rattle.eve_workload.specs.Drafts.{TakesLine};
-ghost use Rattle.eve_workload.specs.Words.{HasLineFeed};
+ghost use Rattle.eve_workload.specs.inner.Decoded.{borrowed_customer, line_decoded};
+ghost use Rattle.eve_workload.specs.inner.Drafts.{last_in, next_of, has_name, IsSmall, Keeps, Takes};
+ghost use Rattle.eve_workload.specs.inner.Drafts.{TakesLine};
+ghost use Rattle.eve_workload.specs.inner.Words.{HasLineFeed};
 ghost use Rattle.eve_workload.specs.declared.words.TheConstants.{MOST_WORDS};
 
 use crate::deployment::Deployment;
@@ -90,8 +90,8 @@ impl<'a> Draft<'a> {
         requires keeps { (before : List LineValue) × Keeps self.old before }
         requires feed { HasLineFeed text.now 0 }
         requires room { MOST_WORDS ≤ vec_capacity words.old }
-        ensures taken { IfOk result (λ taken. (before : List LineValue) → Keeps self.old before
-            → TakesLine self.new before text.entry.now taken) }
+        ensures accepted { IfOk result (λ accepted. (before : List LineValue) → Keeps self.old before
+            → TakesLine self.new before text.entry.now accepted) }
         ensures format { OnOk result (self.new.format ≡ self.old.format) }
         ensures room { vec_capacity words.new ≡ vec_capacity words.old }
     {
@@ -101,16 +101,16 @@ impl<'a> Draft<'a> {
         let Some(line) = line_of(words.as_slice()) else {
             return Ok(None);
         };
-        let taken = self.take(alloc, &line)?;
-        Ok(if taken { Some(len) } else { None })
+        let accepted = self.take(alloc, &line)?;
+        Ok(if accepted { Some(len) } else { None })
     }
 
     /// Takes a line, or says that it may not stand here.
     fn take(&mut self, alloc: Global, line: &Line<'a>) -> Result<bool, AllocError>
         requires keeps { (before : List LineValue) × Keeps self.old before }
-        requires right { IsTrue (is_line (line_said line.now)) }
-        ensures taken { IfOk result (λ taken. (before : List LineValue) → Keeps self.old before
-            → Takes self.new before (line_said line.now) taken) }
+        requires right { IsTrue (is_line (line_decoded line.now)) }
+        ensures accepted { IfOk result (λ accepted. (before : List LineValue) → Keeps self.old before
+            → Takes self.new before (line_decoded line.now) accepted) }
         ensures format { OnOk result (self.new.format ≡ self.old.format) }
     {
         match line {
@@ -123,7 +123,7 @@ impl<'a> Draft<'a> {
 
     fn take_head(&mut self, deployment: Deployment) -> bool
         requires { IsTrue (is_deployment deployment) }
-        ensures taken { (before : List LineValue) → Keeps self.old before
+        ensures accepted { (before : List LineValue) → Keeps self.old before
             → Takes self.new before (HeadLine deployment) result }
         ensures format { self.new.format ≡ self.old.format }
     {
@@ -137,8 +137,8 @@ impl<'a> Draft<'a> {
 
     fn take_customer(&mut self, customer: &CustomerFields<'a>) -> Result<bool, AllocError>
         requires { IsTrue (is_customer (borrowed_customer customer.now)) }
-        ensures taken { IfOk result (λ taken. (before : List LineValue) → Keeps self.old before
-            → Takes self.new before (CustomerLine (borrowed_customer customer.now)) taken) }
+        ensures accepted { IfOk result (λ accepted. (before : List LineValue) → Keeps self.old before
+            → Takes self.new before (CustomerLine (borrowed_customer customer.now)) accepted) }
         ensures format { OnOk result (self.new.format ≡ self.old.format) }
     {
         if !self.last.takes_customer() {
@@ -161,8 +161,8 @@ impl<'a> Draft<'a> {
     }
 
     fn take_batch(&mut self, alloc: Global) -> Result<bool, AllocError>
-        ensures taken { IfOk result (λ taken. (before : List LineValue) → Keeps self.old before
-            → Takes self.new before BatchLine taken) }
+        ensures accepted { IfOk result (λ accepted. (before : List LineValue) → Keeps self.old before
+            → Takes self.new before BatchLine accepted) }
         ensures format { OnOk result (self.new.format ≡ self.old.format) }
     {
         if !self.last.takes_batch() {
@@ -180,8 +180,8 @@ impl<'a> Draft<'a> {
     fn take_request(&mut self, asked: &Asked<'a>) -> Result<bool, AllocError>
         requires keeps { (before : List LineValue) × Keeps self.old before }
         requires right { IsTrue (is_asked (borrowed_asked asked.now)) }
-        ensures taken { IfOk result (λ taken. (before : List LineValue) → Keeps self.old before
-            → Takes self.new before (RequestLine (borrowed_asked asked.now)) taken) }
+        ensures accepted { IfOk result (λ accepted. (before : List LineValue) → Keeps self.old before
+            → Takes self.new before (RequestLine (borrowed_asked asked.now)) accepted) }
         ensures format { OnOk result (self.new.format ≡ self.old.format) }
     {
         if !self.last.takes_request() {

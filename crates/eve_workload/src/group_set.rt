@@ -1,7 +1,7 @@
 //! Sets of groups.
 
 ghost use Rattle.std.specs.Prelude.{◌≡◌, ◌<◌, ◌==◌, ◌||◌, ℕ, true, false};
-ghost use Rattle.eve_workload.specs.GroupSets.{has};
+ghost use Rattle.eve_workload.specs.inner.GroupSets.{has};
 
 use eve_grammar::MOST_REQUESTS;
 

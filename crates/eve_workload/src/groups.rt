@@ -2,8 +2,8 @@
 
 ghost use Rattle.std.specs.Prelude.{◌<◌, ◌≤◌, [], All, IfOk, length};
 ghost use Rattle.std.specs.List.{range_with_len};
-ghost use Rattle.eve_workload.specs.Mixing.{first_fit};
-ghost use Rattle.eve_workload.specs.Groups.{rows_at, share_at, AreGroups};
+ghost use Rattle.eve_workload.specs.Mixers.{first_fit};
+ghost use Rattle.eve_workload.specs.inner.Groups.{rows_at, share_at, AreGroups};
 
 use crate::cut::Cut;
 use crate::seats::in_order;

@@ -5,7 +5,7 @@ ghost use Rattle.std.specs.Prelude.{◌≡◌, List, ℕ, All, IsPermutation};
 ghost use Rattle.eve_grammar.specs.Trace.{Asked};
 ghost use Rattle.eve_workload.specs.declared.mixer.Mixer.{Mixer};
 ghost use Rattle.eve_workload.specs.declared.mixer.Mixer.TheVariants.{First};
-ghost use Rattle.eve_workload.specs.Mixing.{cut, batch_with, AreApart};
+ghost use Rattle.eve_workload.specs.Mixers.{cut, batch_with, AreApart};
 ghost use Rattle.eve_workload.specs.Workload.{Workload, IsWorkload};
 ghost use Rattle.eve_workload.specs.Lines.{workload_text};
 ghost use Rattle.eve_workload.specs.Steps.{IsBadLine};

@@ -9,8 +9,8 @@ ghost use Rattle.eve_workload.specs.Lines.{Line as LineValue, HeadLine, Customer
 ghost use Rattle.eve_workload.specs.Lines.{line_words};
 ghost use Rattle.eve_workload.specs.Workload.{is_deployment};
 ghost use Rattle.eve_workload.specs.Steps.{is_line};
-ghost use Rattle.eve_workload.specs.Words.{bytes_of};
-ghost use Rattle.eve_workload.specs.Said.{line_said};
+ghost use Rattle.eve_workload.specs.inner.Words.{bytes_of};
+ghost use Rattle.eve_workload.specs.inner.Decoded.{line_decoded};
 
 use crate::deployment::Deployment;
 use crate::numbers::{amount, balance, byte_number, number, saving, small_number};
@@ -27,7 +27,7 @@ pub(crate) struct CustomerFields<'a> {
     pub checking: Cents,
 }
 
-/// What a line says. Contracts see it by `line_said`.
+/// What a line says. Contracts see it by `line_decoded`.
 #[derive(Clone, Copy)]
 pub(crate) enum Line<'a> {
     Head(Deployment),
@@ -38,8 +38,8 @@ pub(crate) enum Line<'a> {
 
 /// What a line of these words says; `None` where it is no line that may stand in a workload.
 pub(crate) fn line_of<'a>(words: &[&'a [u8]]) -> Option<Line<'a>>
-    ensures some { IfSome result (λ l. (line_words (line_said l) ≡ bytes_of words.now)
-        × IsTrue (is_line (line_said l))) }
+    ensures some { IfSome result (λ l. (line_words (line_decoded l) ≡ bytes_of words.now)
+        × IsTrue (is_line (line_decoded l))) }
     ensures none { IfNone result ((l : LineValue) → IsTrue (is_line l) → line_words l ≢ bytes_of words.now) }
 {
     match words.len() {
@@ -53,8 +53,8 @@ pub(crate) fn line_of<'a>(words: &[&'a [u8]]) -> Option<Line<'a>>
 
 fn line_of_four<'a>(words: &[&'a [u8]]) -> Option<Line<'a>>
     requires { length words.now ≡ 4 }
-    ensures some { IfSome result (λ l. (line_words (line_said l) ≡ bytes_of words.now)
-        × IsTrue (is_line (line_said l))) }
+    ensures some { IfSome result (λ l. (line_words (line_decoded l) ≡ bytes_of words.now)
+        × IsTrue (is_line (line_decoded l))) }
     ensures none { IfNone result ((l : LineValue) → IsTrue (is_line l) → line_words l ≢ bytes_of words.now) }
 {
     let four = four_of(words);
@@ -88,8 +88,8 @@ fn four_of<'a>(words: &[&'a [u8]]) -> Four<'a>
 
 fn line_of_five<'a>(words: &[&'a [u8]]) -> Option<Line<'a>>
     requires { length words.now ≡ 5 }
-    ensures some { IfSome result (λ l. (line_words (line_said l) ≡ bytes_of words.now)
-        × IsTrue (is_line (line_said l))) }
+    ensures some { IfSome result (λ l. (line_words (line_decoded l) ≡ bytes_of words.now)
+        × IsTrue (is_line (line_decoded l))) }
     ensures none { IfNone result ((a : AskedValue) → IsTrue (is_asked a)
         → line_words (RequestLine a) ≢ bytes_of words.now) }
 {
@@ -123,8 +123,8 @@ fn five_of<'a>(words: &[&'a [u8]]) -> Five<'a>
 
 fn line_of_six<'a>(words: &[&'a [u8]]) -> Option<Line<'a>>
     requires { length words.now ≡ 6 }
-    ensures some { IfSome result (λ l. (line_words (line_said l) ≡ bytes_of words.now)
-        × IsTrue (is_line (line_said l))) }
+    ensures some { IfSome result (λ l. (line_words (line_decoded l) ≡ bytes_of words.now)
+        × IsTrue (is_line (line_decoded l))) }
     ensures none { IfNone result ((d : DeploymentValue) → IsTrue (is_deployment d)
         → line_words (HeadLine d) ≢ bytes_of words.now) }
 {
@@ -166,7 +166,8 @@ fn six_of<'a>(words: &[&'a [u8]]) -> Six<'a>
 }
 
 fn batch_line<'a>(kind: &[u8]) -> Option<Line<'a>>
-    ensures some { IfSome result (λ l. (line_words (line_said l) ≡ kind.now ∷ []) × IsTrue (is_line (line_said l))) }
+    ensures some
+    { IfSome result (λ l. (line_words (line_decoded l) ≡ kind.now ∷ []) × IsTrue (is_line (line_decoded l))) }
     ensures none { IfNone result (codes "batch" ≢ kind.now) }
 {
     if says(kind, b"batch") {
@@ -185,9 +186,9 @@ fn head_line<'a>(
     workers: &[u8],
 ) -> Option<Line<'a>>
     ensures some { IfSome result (λ l.
-        (line_words (line_said l) ≡ kind.now ∷ replicas.now ∷ verifiers.now ∷ quorum.now ∷ window.now ∷ workers.now
+        (line_words (line_decoded l) ≡ kind.now ∷ replicas.now ∷ verifiers.now ∷ quorum.now ∷ window.now ∷ workers.now
         ∷ [])
-        × IsTrue (is_line (line_said l))) }
+        × IsTrue (is_line (line_decoded l))) }
     ensures none { IfNone result ((d : DeploymentValue) → IsTrue (is_deployment d) →
         line_words (HeadLine d) ≢ kind.now ∷ replicas.now ∷ verifiers.now ∷ quorum.now ∷ window.now
         ∷ workers.now ∷ []) }
@@ -211,8 +212,8 @@ fn head_line<'a>(
 
 fn customer_line<'a>(name: &'a [u8], saved: &[u8], checked: &[u8]) -> Option<Line<'a>>
     ensures some { IfSome result (λ l.
-        (line_words (line_said l) ≡ codes "customer" ∷ name.entry.now ∷ saved.now ∷ checked.now ∷ [])
-        × IsTrue (is_line (line_said l))) }
+        (line_words (line_decoded l) ≡ codes "customer" ∷ name.entry.now ∷ saved.now ∷ checked.now ∷ [])
+        × IsTrue (is_line (line_decoded l))) }
     ensures none { IfNone result ((c : Customer) → IsTrue (is_customer c) →
         line_words (CustomerLine c) ≢ codes "customer" ∷ name.entry.now ∷ saved.now ∷ checked.now ∷ []) }
 {
@@ -229,8 +230,8 @@ fn customer_line<'a>(name: &'a [u8], saved: &[u8], checked: &[u8]) -> Option<Lin
 /// The request with one name and no amount.
 fn short_line<'a>(kind: &[u8], client: &[u8], count: &[u8], name: &'a [u8]) -> Option<Line<'a>>
     ensures some { IfSome result (λ l.
-        (line_words (line_said l) ≡ kind.now ∷ client.now ∷ count.now ∷ name.entry.now ∷ [])
-        × IsTrue (is_line (line_said l))) }
+        (line_words (line_decoded l) ≡ kind.now ∷ client.now ∷ count.now ∷ name.entry.now ∷ [])
+        × IsTrue (is_line (line_decoded l))) }
     ensures none { IfNone result ((a : AskedValue) → IsTrue (is_asked a) →
         line_words (RequestLine a) ≢ kind.now ∷ client.now ∷ count.now ∷ name.entry.now ∷ []) }
 {
@@ -253,8 +254,8 @@ fn long_line<'a>(
     last: &'a [u8],
 ) -> Option<Line<'a>>
     ensures some { IfSome result (λ l.
-        (line_words (line_said l) ≡ kind.now ∷ client.now ∷ count.now ∷ name.entry.now ∷ last.entry.now ∷ [])
-        × IsTrue (is_line (line_said l))) }
+        (line_words (line_decoded l) ≡ kind.now ∷ client.now ∷ count.now ∷ name.entry.now ∷ last.entry.now ∷ [])
+        × IsTrue (is_line (line_decoded l))) }
     ensures none { IfNone result ((a : AskedValue) → IsTrue (is_asked a) →
         line_words (RequestLine a) ≢ kind.now ∷ client.now ∷ count.now ∷ name.entry.now ∷ last.entry.now ∷ []) }
 {

@@ -4,9 +4,9 @@ ghost use Rattle.std.specs.Prelude.{◌≡◌, ◌≤◌, ◌+◌, ◌*◌, ◌<
 ghost use Rattle.std.specs.Prelude.{IfSome, IfNone};
 ghost use Rattle.std.specs.List.{list_any};
 ghost use Rattle.eve_smallbank.specs.declared.entry.Kind.{Kind as KindValue};
-ghost use Rattle.eve_workload.specs.GroupSets.{has};
-ghost use Rattle.eve_workload.specs.Mixing.{collide};
-ghost use Rattle.eve_workload.specs.Marks.{is_barred, HasMarksAt};
+ghost use Rattle.eve_workload.specs.inner.GroupSets.{has};
+ghost use Rattle.eve_workload.specs.Mixers.{collide};
+ghost use Rattle.eve_workload.specs.inner.Marks.{is_barred, HasMarksAt};
 
 use crate::group_set::GroupSet;
 use eve_accounts::Row;

@@ -6,8 +6,8 @@ ghost use Rattle.eve_smallbank.specs.Touch.{touched_of};
 ghost use Rattle.eve_grammar.specs.Limits.{is_asked, is_batch};
 ghost use Rattle.eve_write.specs.Data.{asked, batch};
 ghost use Rattle.eve_workload.specs.declared.mixer.Mixer.TheVariants.{First};
-ghost use Rattle.eve_workload.specs.Mixing.{cut, batch_with, mixer_named};
-ghost use Rattle.eve_workload.specs.Mixed.{touched_by, IsMixed};
+ghost use Rattle.eve_workload.specs.Mixers.{cut, batch_with, mixer_named};
+ghost use Rattle.eve_workload.specs.inner.Mixed.{touched_by, IsMixed};
 
 use crate::cut::Cut;
 use crate::groups::first_fit;

@@ -3,7 +3,7 @@
 ghost use Rattle.std.specs.Prelude.{◌≡◌, ◌≢◌, ◌↔◌, ℕ, ℤ, pos, negsuc, ◌+◌, ◌-◌, ◌*◌, ◌^◌, ◌<◌, ◌<ℤ◌, ◌≤◌, [], ◌∷◌};
 ghost use Rattle.std.specs.Prelude.{slice_index, IfSome, IfNone, IsTrue};
 ghost use Rattle.std.specs.Fmt.{decimal, signed_decimal};
-ghost use Rattle.eve_workload.specs.Words.{BeginsAsNumber};
+ghost use Rattle.eve_workload.specs.inner.Words.{BeginsAsNumber};
 ghost use Rattle.eve_accounts.specs.Money.{is_balance, is_saving, is_amount};
 
 use eve_accounts::{Amount, Cents, MOST_BALANCE};

@@ -4,7 +4,8 @@ ghost use Rattle.std.specs.Prelude.{◌≡◌, List, [], ◌∷◌, ◌++◌, no
 ghost use Rattle.std.specs.Prelude.{OnOk, IsTrue, IsFalse};
 ghost use Rattle.std.specs.List.{list_any};
 ghost use Rattle.eve_grammar.specs.Trace.{RequestId};
-ghost use Rattle.eve_workload.specs.RequestIds.{has_id, same_id, ids_of, ids_in, Follows, IsUpToLast, Lists, AreMet};
+ghost use Rattle.eve_workload.specs.inner.RequestIds.{has_id, same_id, ids_of, ids_in, Follows, IsUpToLast, Lists};
+ghost use Rattle.eve_workload.specs.inner.RequestIds.{AreSeen};
 
 use eve_write::RequestData;
 use std::alloc::{AllocError, Global};
@@ -33,7 +34,7 @@ pub(crate) struct RequestIds {
 impl RequestIds {
     /// No id.
     pub(crate) fn new(alloc: Global) -> RequestIds
-        ensures { AreMet result [] }
+        ensures { AreSeen result [] }
     {
         RequestIds {
             rises: true,
@@ -48,10 +49,10 @@ impl RequestIds {
         id: RequestId,
         batches: &[Vec<RequestData>],
     ) -> Result<bool, AllocError>
-        ensures new { IfOk result (λ new. AreMet self.old (ids_in batches.now)
+        ensures new { IfOk result (λ new. AreSeen self.old (ids_in batches.now)
             → new ≡ not (list_any (same_id id) (ids_in batches.now))) }
-        ensures met { IfOk result (λ new. AreMet self.old (ids_in batches.now) → IsTrue new
-            → AreMet self.new (ids_in batches.now ++ id ∷ [])) }
+        ensures seen { IfOk result (λ new. AreSeen self.old (ids_in batches.now) → IsTrue new
+            → AreSeen self.new (ids_in batches.now ++ id ∷ [])) }
     {
         if self.rises && self.rise(id) {
             return Ok(true);
@@ -65,10 +66,10 @@ impl RequestIds {
         ensures refused { IsFalse result → self.new ≡ self.old }
         ensures rises { self.new.rises ≡ self.old.rises }
         ensures table { self.new.table ≡ self.old.table }
-        ensures new { IsTrue result → (met : List RequestId) → All (IsUpToLast self.old.last) met
-            → list_any (same_id id) met ≡ false }
-        ensures reached { IsTrue result → (met : List RequestId) → All (IsUpToLast self.old.last) met
-            → All (IsUpToLast self.new.last) (met ++ id ∷ []) }
+        ensures new { IsTrue result → (seen : List RequestId) → All (IsUpToLast self.old.last) seen
+            → list_any (same_id id) seen ≡ false }
+        ensures reached { IsTrue result → (seen : List RequestId) → All (IsUpToLast self.old.last) seen
+            → All (IsUpToLast self.new.last) (seen ++ id ∷ []) }
     {
         let (client, number) = id;
         let place = client as usize % PLACES;
@@ -82,7 +83,7 @@ impl RequestIds {
     /// Puts the ids of these batches' requests into the table, if they aren't there yet.
     fn list(&mut self, batches: &[Vec<RequestData>]) -> Result<(), AllocError>
         ensures rises { OnOk result (IsFalse self.new.rises) }
-        ensures listed { OnOk result (AreMet self.old (ids_in batches.now)
+        ensures listed { OnOk result (AreSeen self.old (ids_in batches.now)
             → Lists self.new.table (ids_in batches.now)) }
     {
         if self.rises {
@@ -96,8 +97,8 @@ impl RequestIds {
     fn add_listed(&mut self, id: RequestId) -> Result<bool, AllocError>
         ensures rises { OnOk result (self.new.rises ≡ self.old.rises) }
         ensures new { IfOk result (λ new. new ≡ not (has_id self.old.table.keys id)) }
-        ensures listed { IfOk result (λ new. (met : List RequestId) → Lists self.old.table met
-            → Lists self.new.table (met ++ id ∷ [])) }
+        ensures listed { IfOk result (λ new. (seen : List RequestId) → Lists self.old.table seen
+            → Lists self.new.table (seen ++ id ∷ [])) }
     {
         add_id(&mut self.table, id)
     }
@@ -118,8 +119,8 @@ fn add_batches(
     table: &mut BTreeSet<RequestId>,
     batches: &[Vec<RequestData>],
 ) -> Result<(), AllocError>
-    ensures { OnOk result ((met : List RequestId) → Lists table.old met
-        → Lists table.new (met ++ ids_in batches.now)) }
+    ensures { OnOk result ((seen : List RequestId) → Lists table.old seen
+        → Lists table.new (seen ++ ids_in batches.now)) }
 {
     for batch in batches {
         add_all(table, batch.as_slice())?;
@@ -129,8 +130,8 @@ fn add_batches(
 
 /// Adds the ids of these requests.
 fn add_all(table: &mut BTreeSet<RequestId>, requests: &[RequestData]) -> Result<(), AllocError>
-    ensures { OnOk result ((met : List RequestId) → Lists table.old met
-        → Lists table.new (met ++ ids_of requests.now)) }
+    ensures { OnOk result ((seen : List RequestId) → Lists table.old seen
+        → Lists table.new (seen ++ ids_of requests.now)) }
 {
     for request in requests {
         let id = (request.client, request.number);

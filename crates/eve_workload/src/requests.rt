@@ -2,10 +2,10 @@
 
 ghost use Rattle.std.specs.Prelude.{◌≡◌, ◌<◌, ◌≤◌, [], ◌∷◌, ◌++◌, All, IfOk, OnOk, IsTrue, length, map};
 ghost use Rattle.eve_smallbank.specs.SmallBank.{plain};
-ghost use Rattle.eve_grammar.specs.Bodies.{borrowed_asked as said};
+ghost use Rattle.eve_grammar.specs.Bodies.{borrowed_asked as decoded};
 ghost use Rattle.eve_grammar.specs.Limits.{is_asked, is_request};
 ghost use Rattle.eve_workload.specs.Batches.{asked_lists, push_last};
-ghost use Rattle.eve_workload.specs.Groups.{listed};
+ghost use Rattle.eve_workload.specs.inner.Groups.{listed};
 ghost use Rattle.eve_write.specs.Data.{asked, transaction};
 
 use eve_accounts::Name;
@@ -32,8 +32,8 @@ pub(crate) fn listed(
 
 /// Adds the request with names of its own.
 fn add_owned(requests: &mut Vec<RequestData>, listed: &Asked<'_>) -> Result<(), AllocError>
-    requires { IsTrue (is_asked (said listed.now)) }
-    ensures { OnOk result (map asked requests.new.items ≡ map asked requests.old.items ++ said listed.now ∷ []) }
+    requires { IsTrue (is_asked (decoded listed.now)) }
+    ensures { OnOk result (map asked requests.new.items ≡ map asked requests.old.items ++ decoded listed.now ∷ []) }
 {
     requests.reserve(1)?;
     requests.push_reserved(RequestData {
@@ -50,9 +50,9 @@ pub(crate) fn add_to_last(
     listed: &Asked<'_>,
 ) -> Result<(), AllocError>
     requires some { 1 ≤ length batches.old.items }
-    requires right { IsTrue (is_asked (said listed.now)) }
+    requires right { IsTrue (is_asked (decoded listed.now)) }
     ensures { OnOk result (asked_lists batches.new.items
-        ≡ push_last (asked_lists batches.old.items) (said listed.now)) }
+        ≡ push_last (asked_lists batches.old.items) (decoded listed.now)) }
 {
     let place = batches.len() - 1;
     add_owned(&mut batches[place], listed)?;

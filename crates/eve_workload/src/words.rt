@@ -4,7 +4,7 @@ ghost use Rattle.std.specs.Prelude.{◌≡◌, ◌≢◌, ◌↔◌, ℕ, ◌-�
 ghost use Rattle.std.specs.Prelude.{IfSome, IfNone, IsTrue, vec_capacity};
 ghost use Rattle.std.specs.List.{list_all};
 ghost use Rattle.eve_workload.specs.Lines.{text_of_words};
-ghost use Rattle.eve_workload.specs.Words.{is_inside, bytes_of, HasLineFeed, IsFirstLine};
+ghost use Rattle.eve_workload.specs.inner.Words.{is_inside, bytes_of, HasLineFeed, IsFirstLine};
 
 const SPACE: u8 = b' ';
 

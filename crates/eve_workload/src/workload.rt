@@ -9,7 +9,7 @@ ghost use Rattle.eve_workload.specs.Workload.{IsWorkload, head_asked, customer_n
 ghost use Rattle.eve_workload.specs.Batches.{asked_lists};
 ghost use Rattle.eve_workload.specs.Lines.{Line, workload_text};
 ghost use Rattle.eve_workload.specs.Steps.{text_before, may_end, IsBadLine};
-ghost use Rattle.eve_workload.specs.Drafts.{Keeps, KeepsAll};
+ghost use Rattle.eve_workload.specs.inner.Drafts.{Keeps, KeepsAll};
 
 use crate::deployment::Deployment;
 use crate::draft::Draft;
@@ -39,7 +39,7 @@ impl Model for Workload {
 
     ghost Value = { Workload };
 
-    ghost use Rattle.eve_workload.specs.Held.{workload_of, IsHeldWorkload};
+    ghost use Rattle.eve_workload.specs.HeldWorkloads.{workload_of, IsHeldWorkload};
 
     ghost view = { workload_of };
 

@@ -17,7 +17,7 @@ use Rattle.eve_grammar.specs.Limits.{is_number, is_entry, is_access}
 use Rattle.eve_grammar.proofs.Scans.{text_length}
 use Rattle.eve_write.specs.declared.access_list.AccessNote.{AccessNote}
 use Rattle.eve_write.specs.AccessLists.{noted_access, accesses_listed, ShareEntries, access_text, note_text, is_note}
-use Rattle.eve_write.proofs.Judged.{and_true}
+use Rattle.eve_write.proofs.PartTests.{and_true}
 
 -- how many entries notes have together
 abbrev pub counted : List AccessNote → ℕ
@@ -133,15 +133,15 @@ accesses-within rows (n ∷ ns) entries are fits =
     let within = first_within n ns entries are.all in
     let p = and_parts (is_note n) (list_all is_note ns) fits in
     let few = and_parts (leb n.count 3) (list_all (λ x. leb x.count 3) ns) are.few in
-    let front = take n.count entries in
+    let prefix = take n.count entries in
     let back = drop n.count entries in
-    let one = access-within rows n front p.0
+    let one = access-within rows n prefix p.0
     (omega (arith, length-take-le n.count entries within, leb-true n.count 3 few.0)) in
     let rest = accesses-within rows ns back (record { all = others_counted n ns entries are.all; few = few.1 }) p.1 in
     ap (list_all (is_entry rows)) (sym (take-append-drop n.count entries))
-    ∙ list_all-append (is_entry rows) front back
+    ∙ list_all-append (is_entry rows) prefix back
     ∙ ap (λ b. b && list_all (is_entry rows) back) one
-    ∙ ap (λ b. is_access rows (noted n front) && b) rest
+    ∙ ap (λ b. is_access rows (noted n prefix) && b) rest
 
 -- a note and its entries are the frame
 pub noted_text : (n : AccessNote) (entries : List Entry) → length entries ≡ n.count

@@ -1,10 +1,10 @@
 pub mod AccessLists
-pub mod Gathered
-pub mod Joined
+pub mod GatheredTexts
+pub mod JoinedWrites
 pub mod Lengths
 pub mod Votes
-pub mod Rising
-pub mod Judged
-pub mod Numbered
+pub mod RisingRestores
+pub mod PartTests
+pub mod NumberedItems
 pub mod Totals
-pub mod Sound
+pub mod RightParts

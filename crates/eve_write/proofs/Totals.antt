@@ -15,8 +15,8 @@ use Rattle.eve_write.specs.Data.{customer, batch, section, votes, step, vote, se
 use Rattle.eve_write.specs.declared.step.Step as code
 use Rattle.eve_write.specs.declared.vote.VoteData.{VoteData}
 use Rattle.eve_write.specs.declared.parts.Parts.{Parts}
-use Rattle.eve_write.specs.Passes.{front_text, rest_text, step_size, vote_size}
-use Rattle.eve_write.proofs.Joined.{flat_map-flat_map}
+use Rattle.eve_write.specs.Passes.{prefix_text, rest_text, step_size, vote_size}
+use Rattle.eve_write.proofs.JoinedWrites.{flat_map-flat_map}
 
 -- what stands after the header, part by part
 pub parts_text : Trace → List ℕ
@@ -55,8 +55,8 @@ frames_are t =
     (flat_map section_frames sections ++ (flat_map verifier_frames verifiers ++ (map OfSent t.sent ++ End ∷ [])))))
     (flat_map-map f OfCustomer t.customers) ∙ ap (λ x. flat_map customer_text t.customers ++ x) batched
 
--- the front and the rest are the spelling
-pub spelling_is : (p : Parts) → front_text p (length_of (trace p)) ++ rest_text p ≡ spelling (trace p)
+-- the prefix and the rest are the spelling
+pub spelling_is : (p : Parts) → prefix_text p (length_of (trace p)) ++ rest_text p ≡ spelling (trace p)
 unfolding spelling parts_text
 spelling_is p =
     let t = trace p in

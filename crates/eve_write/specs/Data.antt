@@ -5,7 +5,7 @@ use Rattle.std.specs.Arc.{arc_value}
 use Rattle.std.specs.declared.alloc.Global.{Global}
 use Rattle.eve_smallbank.specs.SmallBank.{Request, Balance, DepositChecking, TransactSaving, Amalgamate, WriteCheck}
 use Rattle.eve_grammar.specs.Trace.{Customer, Asked, Batch, Access, Attempt, Commit, Rollback, Step, Attempts, Commits}
-use Rattle.eve_grammar.specs.Trace.{RollsBack, TakesOver, Choice, ForRollback, ForCommit, Vote, Sent, Trace}
+use Rattle.eve_grammar.specs.Trace.{RollsBack, Transfers, Choice, ForRollback, ForCommit, Vote, Sent, Trace}
 use Rattle.eve_grammar.specs.Bodies.{transfer}
 use Rattle.eve_grammar.specs.declared.head.Head.{Head}
 use Rattle.eve_write.specs.declared.customer.CustomerData.{CustomerData}
@@ -66,7 +66,7 @@ abbrev pub step : code.Step → Step
 step (does.Attempt a) = Attempts (attempt a)
 step (does.Commit c) = Commits (commit c)
 step (does.Rollback r) = RollsBack (rollback r)
-step (does.Transfer x) = TakesOver (transfer (arc_value x))
+step (does.Transfer x) = Transfers (transfer (arc_value x))
 
 -- the choice, with the token of a commit
 abbrev pub choice : ChoiceData → List ℕ → Choice

@@ -1,5 +1,5 @@
 pub mod AccessLists
-pub mod Writing
+pub mod Writes
 pub mod Data
 pub mod Writable
 pub mod Passes

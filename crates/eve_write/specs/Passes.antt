@@ -49,8 +49,8 @@ are_right_parts h p =
     && list_all (λ s. is_sent h.replicas h.batches (sent s)) p.sent.items)))
 
 -- the header with this length, customers and batches
-abbrev pub front_text : Parts → ℕ → List ℕ
-front_text p total =
+abbrev pub prefix_text : Parts → ℕ → List ℕ
+prefix_text p total =
     head_text (trace p).head total ++
     (flat_map customer_text (trace p).customers ++ flat_map batch_text (batches_of (trace p)))
 

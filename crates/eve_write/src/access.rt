@@ -3,7 +3,7 @@
 ghost use Rattle.eve_grammar.specs.Frames.{OfAccess};
 ghost use Rattle.eve_grammar.specs.Spelling.{frame_text};
 ghost use Rattle.eve_write.specs.Data.{access as plain};
-ghost use Rattle.eve_write.specs.Writing.{Writes};
+ghost use Rattle.eve_write.specs.Writes.{Writes};
 
 use crate::access_list::{AccessNote, put_note};
 use crate::fields::put_entries;
@@ -28,7 +28,7 @@ pub struct AccessData {
 
 /// Writes an Access frame.
 ///
-/// docs/TRACE.md, "Frames". After a fault a front of the frame has been taken, and not all of it.
+/// docs/TRACE.md, "Frames". After a fault a prefix of the frame has been taken, and not all of it.
 pub fn write_access<W: Sink>(out: &mut W, access: &AccessData) -> Result<(), SendFault>
     ensures { Writes W.written W.failures out.old out.new result (frame_text (OfAccess (plain access.now))) }
 {

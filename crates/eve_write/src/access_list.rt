@@ -6,7 +6,7 @@ ghost use Rattle.std.specs.List.{flat_map, list_all};
 ghost use Rattle.arrayvec.specs.ArrayVec.{array_vec_len};
 ghost use Rattle.eve_grammar.specs.Limits.{is_access};
 ghost use Rattle.eve_write.specs.AccessLists.{noted_access, access_text, note_text, is_note};
-ghost use Rattle.eve_write.specs.Writing.{Puts, Writes};
+ghost use Rattle.eve_write.specs.Writes.{Puts, Writes};
 
 use crate::entries::each_entry_fits;
 use crate::fields::{byte, put_few_entries};
@@ -151,7 +151,7 @@ fn push_all(list: &mut Vec<Entry>, entries: &UpToThree<Entry>)
 
 /// Writes the Access frames, one after another.
 ///
-/// docs/TRACE.md, "Frames". After a fault a front of the frames has been taken, and not all of it.
+/// docs/TRACE.md, "Frames". After a fault a prefix of the frames has been taken, and not all of it.
 pub fn write_accesses<W: Sink>(out: &mut W, list: &AccessList) -> Result<(), SendFault>
     ensures { Writes W.written W.failures out.old out.new result (flat_map access_text list.now) }
 {

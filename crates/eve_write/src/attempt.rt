@@ -10,7 +10,7 @@ ghost use Rattle.eve_grammar.specs.Frames.{attempt_frames, OfAttempt};
 ghost use Rattle.eve_grammar.specs.Spelling.{frames_text, body_text, frame_text};
 ghost use Rattle.eve_grammar.specs.Limits.{row_count, is_access, is_whole_attempt, is_attempt};
 ghost use Rattle.eve_write.specs.Data.{attempt as plain};
-ghost use Rattle.eve_write.specs.Writing.{Puts, Writes};
+ghost use Rattle.eve_write.specs.Writes.{Puts, Writes};
 
 use crate::access_list::{AccessList, write_accesses};
 use crate::fields::{byte, indexes_fit, put_indexes, put_replies};
@@ -56,7 +56,7 @@ impl AttemptData {
     }
 
     /// Appends what stands before the certificate.
-    fn put_front<const N: usize>(&self, frame: &mut ArrayVec<u8, N>)
+    fn put_prefix<const N: usize>(&self, frame: &mut ArrayVec<u8, N>)
         requires right { IsTrue (is_attempt (plain self.now)) }
         requires room { array_vec_len frame.old + 16 ≤ N }
         ensures puts { Puts frame.old.items frame.new.items
@@ -93,13 +93,13 @@ const LONGEST_ATTEMPT: usize = 48 + 11 * MOST_REQUESTS;
 
 /// Writes an Attempt frame, without the frames of its accesses, of an attempt within the limits but for those.
 ///
-/// docs/TRACE.md, "Frames". After a fault a front of the frame has been taken, and not all of it.
+/// docs/TRACE.md, "Frames". After a fault a prefix of the frame has been taken, and not all of it.
 pub fn write_attempt<W: Sink>(out: &mut W, attempt: &AttemptData) -> Result<(), SendFault>
     requires { IsTrue (is_attempt (plain attempt.now)) }
     ensures { Writes W.written W.failures out.old out.new result (frame_text (OfAttempt (plain attempt.now))) }
 {
     let mut frame = ArrayVec::<u8, LONGEST_ATTEMPT>::new();
-    attempt.put_front(&mut frame);
+    attempt.put_prefix(&mut frame);
     attempt.put_results(&mut frame);
     send(out, frame.as_slice())
 }

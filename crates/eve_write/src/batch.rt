@@ -7,7 +7,7 @@ ghost use Rattle.eve_grammar.specs.Frames.{OfBatch};
 ghost use Rattle.eve_grammar.specs.Spelling.{body_text, frame_text};
 ghost use Rattle.eve_grammar.specs.Limits.{is_batch};
 ghost use Rattle.eve_write.specs.Data.{batch as plain};
-ghost use Rattle.eve_write.specs.Writing.{Writes};
+ghost use Rattle.eve_write.specs.Writes.{Writes};
 
 use crate::measure::Measure;
 use crate::request::{RequestData, len_of_requests};
@@ -37,7 +37,7 @@ impl BatchData {
     }
 
     /// Writes what stands before the sizes.
-    fn write_front<W: Sink>(&self, out: &mut W, number: u32) -> Result<(), SendFault>
+    fn write_prefix<W: Sink>(&self, out: &mut W, number: u32) -> Result<(), SendFault>
         requires { IsTrue (is_batch (plain self.now)) }
         ensures { Writes W.written W.failures out.old out.new result
             (BATCH_FRAME ∷ (big_bytes 4 (length (body_text (OfBatch number (plain self.now))))
@@ -52,13 +52,13 @@ impl BatchData {
 
 /// Writes a Batch frame with this number, of a batch within the limits.
 ///
-/// docs/TRACE.md, "Frames". After a fault a front of the frame has been taken, and not all of it.
+/// docs/TRACE.md, "Frames". After a fault a prefix of the frame has been taken, and not all of it.
 pub fn write_batch<W: Sink>(out: &mut W, number: u32, batch: &BatchData) -> Result<(), SendFault>
     requires { IsTrue (is_batch (plain batch.now)) }
     ensures { Writes W.written W.failures out.old out.new result
         (frame_text (OfBatch number (plain batch.now))) }
 {
-    batch.write_front(out, number)?;
+    batch.write_prefix(out, number)?;
     write_each(out, batch.sizes.as_slice())?;
     write_short(out, batch.requests.as_slice())
 }

@@ -5,7 +5,7 @@ ghost use Rattle.eve_grammar.specs.Frames.{OfCommit};
 ghost use Rattle.eve_grammar.specs.Spelling.{body_text, frame_text};
 ghost use Rattle.eve_grammar.specs.Limits.{is_commit};
 ghost use Rattle.eve_write.specs.Data.{commit as plain};
-ghost use Rattle.eve_write.specs.Writing.{Writes};
+ghost use Rattle.eve_write.specs.Writes.{Writes};
 
 use crate::spell::send_texts;
 use eve_grammar::{COMMIT_FRAME, token_fits};
@@ -33,7 +33,7 @@ impl CommitData {
 
 /// Writes a Commit frame.
 ///
-/// docs/TRACE.md, "Frames". After a fault a front of the frame has been taken, and not all of it.
+/// docs/TRACE.md, "Frames". After a fault a prefix of the frame has been taken, and not all of it.
 pub fn write_commit<W: Sink>(out: &mut W, commit: &CommitData) -> Result<(), SendFault>
     ensures { Writes W.written W.failures out.old out.new result (frame_text (OfCommit (plain commit.now))) }
 {

@@ -5,7 +5,7 @@ ghost use Rattle.eve_grammar.specs.Frames.{OfCustomer};
 ghost use Rattle.eve_grammar.specs.Spelling.{body_text, customer_text};
 ghost use Rattle.eve_grammar.specs.Limits.{is_customer};
 ghost use Rattle.eve_write.specs.Data.{customer as plain};
-ghost use Rattle.eve_write.specs.Writing.{Writes};
+ghost use Rattle.eve_write.specs.Writes.{Writes};
 
 use crate::fields::{cents_bytes, name_len};
 use crate::measure::Measure;
@@ -63,7 +63,7 @@ impl Spell for CustomerData {
 
 /// Writes a Customer frame, of a customer within the limits.
 ///
-/// docs/TRACE.md, "Frames". After a fault a front of the frame has been taken, and not all of it.
+/// docs/TRACE.md, "Frames". After a fault a prefix of the frame has been taken, and not all of it.
 pub fn write_customer<W: Sink>(out: &mut W, customer: &CustomerData) -> Result<(), SendFault>
     requires { IsTrue (is_customer (plain customer.now)) }
     ensures { Writes W.written W.failures out.old out.new result (customer_text (plain customer.now)) }

@@ -11,7 +11,7 @@ ghost use Rattle.eve_smallbank.specs.SmallBank.{plain};
 ghost use Rattle.eve_smallbank.specs.Access.{is_write};
 ghost use Rattle.eve_grammar.specs.Spelling.{name_text, request_text, entry_text, restore_text, versioned_text};
 ghost use Rattle.eve_grammar.specs.Limits.{is_number, is_request};
-ghost use Rattle.eve_write.specs.Writing.{Puts};
+ghost use Rattle.eve_write.specs.Writes.{Puts};
 
 use crate::pieces::put;
 use crate::short::{MOST_GATHERED, Short};

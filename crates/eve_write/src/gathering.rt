@@ -5,8 +5,8 @@ ghost use Rattle.eve_grammar.specs.Trace.{head_of};
 ghost use Rattle.eve_grammar.specs.Spelling.{length_of, spelling};
 ghost use Rattle.eve_write.specs.Data.{trace};
 ghost use Rattle.eve_write.specs.Writable.{HasSpelling};
-ghost use Rattle.eve_write.specs.Passes.{front_text, rest_text};
-ghost use Rattle.eve_write.specs.Writing.{Writes, Wrote, Stopped};
+ghost use Rattle.eve_write.specs.Passes.{prefix_text, rest_text};
+ghost use Rattle.eve_write.specs.Writes.{Writes, Wrote, Stopped};
 
 use crate::head::write_header;
 use crate::marks::write_end;
@@ -28,7 +28,7 @@ pub enum GatherFault {
     Shape,
 }
 
-fn write_front<W: Sink>(
+fn write_prefix<W: Sink>(
     out: &mut W,
     parts: &Parts,
     head: &Head,
@@ -36,7 +36,7 @@ fn write_front<W: Sink>(
 ) -> Result<(), SendFault>
     requires right { HasSpelling parts.now }
     requires head { head.now ≡ head_of (trace parts.now) }
-    ensures { Writes W.written W.failures out.old out.new result (front_text parts.now total) }
+    ensures { Writes W.written W.failures out.old out.new result (prefix_text parts.now total) }
 {
     write_header(out, head, total)?;
     write_each(out, parts.customers.as_slice())?;
@@ -64,15 +64,14 @@ fn write_parts<W: Sink>(
     requires total { total ≡ length_of (trace parts.now) }
     ensures { Writes W.written W.failures out.old out.new result (spelling (trace parts.now)) }
 {
-    write_front(out, parts, head, total)?;
+    write_prefix(out, parts, head, total)?;
     write_rest(out, parts)
 }
 
 /// Writes the trace of the parts and answers how many bytes it has, at most `limit`.
 ///
-/// docs/TRACE.md. `Shape` comes before `TooLong`, and both before the first byte is written. After
-/// `Write` a front of the trace has been taken, and not all of it. The sink gets many small sends:
-/// `eve_streams::Buffered` gathers them.
+/// docs/TRACE.md. `Shape` comes before `TooLong`, and both before the first byte is written. After `Write` a prefix of
+/// the trace has been taken, and not all of it. The sink gets many small sends: `eve_streams::Buffered` gathers them.
 pub fn gather<W: Sink>(parts: &Parts, limit: u64, out: &mut W) -> Result<u64, GatherFault>
     requires { limit ≤ MOST_BYTES }
     ensures length { IfOk result (λ n. (n ≡ length_of (trace parts.now)) × (n ≤ limit)) }
@@ -95,7 +94,7 @@ pub fn gather<W: Sink>(parts: &Parts, limit: u64, out: &mut W) -> Result<u64, Ga
 /// Writes the trace of parts that have a spelling, and answers how many bytes it has, at most `limit`.
 ///
 /// docs/TRACE.md. As `gather`, but that the parts aren't tested: who knows of them saves a pass over them, and never
-/// gets `Shape`. `TooLong` comes before the first byte is written. After `Write` a front of the trace has been taken,
+/// gets `Shape`. `TooLong` comes before the first byte is written. After `Write` a prefix of the trace has been taken,
 /// and not all of it.
 pub fn gather_spelled<W: Sink>(parts: &Parts, limit: u64, out: &mut W) -> Result<u64, GatherFault>
     requires limit { limit ≤ MOST_BYTES }

@@ -1,7 +1,7 @@
 //! The header.
 
 ghost use Rattle.eve_grammar.specs.Spelling.{head_text};
-ghost use Rattle.eve_write.specs.Writing.{Writes};
+ghost use Rattle.eve_write.specs.Writes.{Writes};
 
 use crate::fields::byte;
 use crate::spell::send_texts;
@@ -10,7 +10,7 @@ use eve_streams::{SendFault, Sink};
 
 /// Writes the header of a trace of this many bytes, the header's own 32 included.
 ///
-/// docs/TRACE.md, "Header". After a fault a front of the header has been taken, and not all of it.
+/// docs/TRACE.md, "Header". After a fault a prefix of the header has been taken, and not all of it.
 #[tactic(auto, unfolding(eve_grammar::specs::Spelling::head_text))]
 pub fn write_header<W: Sink>(out: &mut W, head: &Head, total: u64) -> Result<(), SendFault>
     ensures { Writes W.written W.failures out.old out.new result (head_text head.now total) }

@@ -4,7 +4,7 @@ ghost use Rattle.std.specs.Prelude.{◌≡◌, ◌≤◌};
 ghost use Rattle.eve_grammar.specs.Trace.{Trace, head_of};
 ghost use Rattle.eve_grammar.specs.Frames.{frames_of};
 ghost use Rattle.eve_grammar.specs.Spelling.{length_of, spelling};
-ghost use Rattle.eve_grammar.specs.Following.{AreAllFrames, Spells};
+ghost use Rattle.eve_grammar.specs.FrameOrder.{AreAllFrames, Spells};
 ghost use Rattle.eve_write.specs.Data.{trace};
 ghost use Rattle.eve_write.specs.Writable.{HasSpelling};
 ghost use Rattle.eve_write.specs.declared.parts.Parts.{Parts};

@@ -2,7 +2,7 @@
 
 ghost use Rattle.eve_grammar.specs.Frames.{OfReplica, OfVerifier, End};
 ghost use Rattle.eve_grammar.specs.Spelling.{frame_text};
-ghost use Rattle.eve_write.specs.Writing.{Writes};
+ghost use Rattle.eve_write.specs.Writes.{Writes};
 
 use crate::fields::byte;
 use crate::spell::send_texts;
@@ -11,7 +11,7 @@ use eve_streams::{SendFault, Sink};
 
 /// Writes a Replica frame.
 ///
-/// docs/TRACE.md, "Frames". After a fault a front of the frame has been taken, and not all of it.
+/// docs/TRACE.md, "Frames". After a fault a prefix of the frame has been taken, and not all of it.
 pub fn write_replica<W: Sink>(out: &mut W, number: u8) -> Result<(), SendFault>
     ensures { Writes W.written W.failures out.old out.new result (frame_text (OfReplica number)) }
 {
@@ -20,7 +20,7 @@ pub fn write_replica<W: Sink>(out: &mut W, number: u8) -> Result<(), SendFault>
 
 /// Writes a Verifier frame.
 ///
-/// docs/TRACE.md, "Frames". After a fault a front of the frame has been taken, and not all of it.
+/// docs/TRACE.md, "Frames". After a fault a prefix of the frame has been taken, and not all of it.
 pub fn write_verifier<W: Sink>(out: &mut W, number: u8) -> Result<(), SendFault>
     ensures { Writes W.written W.failures out.old out.new result (frame_text (OfVerifier number)) }
 {
@@ -29,7 +29,7 @@ pub fn write_verifier<W: Sink>(out: &mut W, number: u8) -> Result<(), SendFault>
 
 /// Writes the End frame.
 ///
-/// docs/TRACE.md, "Frames". After a fault a front of the frame has been taken, and not all of it.
+/// docs/TRACE.md, "Frames". After a fault a prefix of the frame has been taken, and not all of it.
 pub fn write_end<W: Sink>(out: &mut W) -> Result<(), SendFault>
     ensures { Writes W.written W.failures out.old out.new result (frame_text End) }
 {

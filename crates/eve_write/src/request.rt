@@ -7,7 +7,7 @@ ghost use Rattle.eve_smallbank.specs.SmallBank.{plain};
 ghost use Rattle.eve_grammar.specs.Spelling.{asked_text};
 ghost use Rattle.eve_grammar.specs.Limits.{is_asked, is_request};
 ghost use Rattle.eve_write.specs.Data.{transaction, asked};
-ghost use Rattle.eve_write.specs.Writing.{Puts};
+ghost use Rattle.eve_write.specs.Writes.{Puts};
 
 use crate::fields::put_request;
 use crate::pieces::put;

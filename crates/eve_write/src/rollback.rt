@@ -6,7 +6,7 @@ ghost use Rattle.eve_grammar.specs.Frames.{OfRollback};
 ghost use Rattle.eve_grammar.specs.Spelling.{body_text, frame_text};
 ghost use Rattle.eve_grammar.specs.Limits.{row_count, is_rising, is_rollback};
 ghost use Rattle.eve_write.specs.Data.{rollback as plain};
-ghost use Rattle.eve_write.specs.Writing.{Writes};
+ghost use Rattle.eve_write.specs.Writes.{Writes};
 
 use crate::right::all_right;
 use crate::short::write_short;
@@ -35,7 +35,7 @@ impl RollbackData {
     }
 
     /// Writes what stands before the restores.
-    fn write_front<W: Sink>(&self, out: &mut W) -> Result<(), SendFault>
+    fn write_prefix<W: Sink>(&self, out: &mut W) -> Result<(), SendFault>
         requires { length self.now.restores.items ≤ MOST_ROWS }
         ensures { Writes W.written W.failures out.old out.new result
             (ROLLBACK_FRAME ∷ (big_bytes 4 (length (body_text (OfRollback (plain self.now))))
@@ -52,12 +52,12 @@ impl RollbackData {
 
 /// Writes a Rollback frame with at most one restore for each row that there can be.
 ///
-/// docs/TRACE.md, "Frames". After a fault a front of the frame has been taken, and not all of it.
+/// docs/TRACE.md, "Frames". After a fault a prefix of the frame has been taken, and not all of it.
 pub fn write_rollback<W: Sink>(out: &mut W, rollback: &RollbackData) -> Result<(), SendFault>
     requires { length rollback.now.restores.items ≤ MOST_ROWS }
     ensures { Writes W.written W.failures out.old out.new result (frame_text (OfRollback (plain rollback.now))) }
 {
-    rollback.write_front(out)?;
+    rollback.write_prefix(out)?;
     write_short(out, rollback.restores.as_slice())
 }
 

@@ -9,7 +9,7 @@ ghost use Rattle.eve_grammar.specs.Limits.{is_batch};
 ghost use Rattle.eve_write.specs.Data.{batch, step, vote, section, votes};
 ghost use Rattle.eve_write.specs.Writable.{fits_vote};
 ghost use Rattle.eve_write.specs.Passes.{fits_step, right_step, right_vote, step_size, vote_size};
-ghost use Rattle.eve_write.specs.Writing.{Writes};
+ghost use Rattle.eve_write.specs.Writes.{Writes};
 
 use crate::batch::{BatchData, write_batch};
 use crate::marks::{write_replica, write_verifier};

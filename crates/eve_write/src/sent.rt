@@ -6,7 +6,7 @@ ghost use Rattle.eve_grammar.specs.Frames.{OfSent};
 ghost use Rattle.eve_grammar.specs.Spelling.{frame_text};
 ghost use Rattle.eve_grammar.specs.Limits.{is_sent};
 ghost use Rattle.eve_write.specs.Data.{sent as plain};
-ghost use Rattle.eve_write.specs.Writing.{Puts, Writes};
+ghost use Rattle.eve_write.specs.Writes.{Puts, Writes};
 
 use crate::fields::{byte, put_reply};
 use crate::measure::Measure;
@@ -51,7 +51,7 @@ fn put_sent<const N: usize>(frame: &mut ArrayVec<u8, N>, sent: &SentData)
 
 /// Writes a Sent frame.
 ///
-/// docs/TRACE.md, "Frames". After a fault a front of the frame has been taken, and not all of it.
+/// docs/TRACE.md, "Frames". After a fault a prefix of the frame has been taken, and not all of it.
 pub fn write_sent<W: Sink>(out: &mut W, sent: &SentData) -> Result<(), SendFault>
     ensures { Writes W.written W.failures out.old out.new result (frame_text (OfSent (plain sent.now))) }
 {

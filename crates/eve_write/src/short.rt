@@ -3,7 +3,7 @@
 ghost use Rattle.std.specs.Prelude.{◌+◌, ◌≤◌, ℕ, List, Bool, IsTrue};
 ghost use Rattle.std.specs.List.{flat_map, list_all};
 ghost use Rattle.arrayvec.specs.ArrayVec.{array_vec_len};
-ghost use Rattle.eve_write.specs.Writing.{Puts, Writes};
+ghost use Rattle.eve_write.specs.Writes.{Puts, Writes};
 
 use crate::pieces::send;
 use arrayvec::ArrayVec;

@@ -2,7 +2,7 @@
 
 ghost use Rattle.std.specs.Prelude.{ℕ, List, Bool, IsTrue};
 ghost use Rattle.std.specs.List.{flat_map, list_all};
-ghost use Rattle.eve_write.specs.Writing.{Writes, joined};
+ghost use Rattle.eve_write.specs.Writes.{Writes, joined};
 
 use eve_streams::{SendFault, Sink, send_all};
 

@@ -24,7 +24,7 @@ pub enum Step {
     Commit(CommitData),
     /// It rolled back.
     Rollback(RollbackData),
-    /// It took over a state, which is shared with whoever else took it over.
+    /// It had a state transferred, which is shared with whoever else had it transferred.
     Transfer(Arc<TransferData>),
 }
 

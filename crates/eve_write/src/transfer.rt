@@ -6,7 +6,7 @@ ghost use Rattle.eve_grammar.specs.Bodies.{transfer as plain};
 ghost use Rattle.eve_grammar.specs.Frames.{OfTransfer, has_transfers};
 ghost use Rattle.eve_grammar.specs.Limits.{row_count, is_no_debt, are_no_debts, is_transfer, is_versioned};
 ghost use Rattle.eve_grammar.specs.Spelling.{frame_text, transfer_text};
-ghost use Rattle.eve_write.specs.Writing.{Writes};
+ghost use Rattle.eve_write.specs.Writes.{Writes};
 
 use crate::right::{Judge, all_right, row_count};
 use crate::short::write_short;
@@ -24,7 +24,7 @@ pub(crate) fn body_len(transfer: &TransferData) -> u32
 }
 
 /// Writes what stands before the rows.
-fn write_front<W: Sink>(out: &mut W, transfer: &TransferData) -> Result<(), SendFault>
+fn write_prefix<W: Sink>(out: &mut W, transfer: &TransferData) -> Result<(), SendFault>
     requires { length transfer.now.rows.items ≤ MOST_ROWS }
     ensures { Writes W.written W.failures out.old out.new result
         (TRANSFER_FRAME ∷ (big_bytes 4 (length (transfer_text (plain transfer.now)))
@@ -38,12 +38,12 @@ fn write_front<W: Sink>(out: &mut W, transfer: &TransferData) -> Result<(), Send
 
 /// Writes a Transfer frame with at most as many rows as there can be.
 ///
-/// docs/TRACE.md, "Version 2". After a fault a front of the frame has been taken, and not all of it.
+/// docs/TRACE.md, "Version 2". After a fault a prefix of the frame has been taken, and not all of it.
 pub fn write_transfer<W: Sink>(out: &mut W, transfer: &TransferData) -> Result<(), SendFault>
     requires { length transfer.now.rows.items ≤ MOST_ROWS }
     ensures { Writes W.written W.failures out.old out.new result (frame_text (OfTransfer (plain transfer.now))) }
 {
-    write_front(out, transfer)?;
+    write_prefix(out, transfer)?;
     write_short(out, transfer.rows.as_slice())
 }
 
@@ -75,8 +75,8 @@ fn are_no_debts(rows: &[Versioned]) -> bool
     true
 }
 
-/// Whether the state may be taken over in a trace with this header: the version has transfers, and each row has what it
-/// may have.
+/// Whether the state may be transferred in a trace with this header: the version has transfers, and each row has what
+/// it may have.
 ///
 /// docs/TRACE.md, "Version 2". One look at each row.
 pub fn is_right_transfer(head: &Head, transfer: &TransferData) -> bool

@@ -6,7 +6,7 @@ ghost use Rattle.eve_grammar.specs.Spelling.{frame_text};
 ghost use Rattle.eve_write.specs.Data.{vote as plain, choice_code, has_due_token};
 ghost use Rattle.eve_write.specs.Writable.{fits_vote};
 ghost use Rattle.eve_write.specs.Passes.{vote_size, right_vote};
-ghost use Rattle.eve_write.specs.Writing.{Writes};
+ghost use Rattle.eve_write.specs.Writes.{Writes};
 
 use crate::fields::token_len;
 use crate::measure::Measure;
@@ -48,7 +48,7 @@ fn choice_code(choice: ChoiceData) -> u8
 
 /// Writes a Vote frame. A vote for a rollback has zeros for its token.
 ///
-/// docs/TRACE.md, "Frames". After a fault a front of the frame has been taken, and not all of it.
+/// docs/TRACE.md, "Frames". After a fault a prefix of the frame has been taken, and not all of it.
 pub fn write_vote<W: Sink>(out: &mut W, vote: &VoteData) -> Result<(), SendFault>
     requires { IsTrue (has_due_token vote.now.choice vote.now.token) }
     ensures { Writes W.written W.failures out.old out.new result (frame_text (OfVote (plain vote.now))) }

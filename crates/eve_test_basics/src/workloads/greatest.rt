@@ -6,11 +6,11 @@ use eve_workload::{Mixer, Workload, mix};
 use std::alloc::Global;
 use std::hash::RandomState;
 
-/// A text, and how it is made: between a front and an end `count` times the same with another number.
+/// A text, and how it is made: between a prefix and an end `count` times the same with another number.
 struct Made {
     name: &'static str,
     format: u16,
-    front: &'static str,
+    prefix: &'static str,
     count: u32,
     before_number: &'static str,
     behind_number: &'static str,
@@ -23,7 +23,7 @@ static MADE: [Made; 11] = [
     Made {
         name: "4096 customers",
         format: 1,
-        front: "eve 1 1 1 1 1\n",
+        prefix: "eve 1 1 1 1 1\n",
         count: 4096,
         before_number: "customer c",
         behind_number: " 0 0\n",
@@ -33,7 +33,7 @@ static MADE: [Made; 11] = [
     Made {
         name: "4097 customers",
         format: 1,
-        front: "eve 1 1 1 1 1\n",
+        prefix: "eve 1 1 1 1 1\n",
         count: 4097,
         before_number: "customer c",
         behind_number: " 0 0\n",
@@ -43,7 +43,7 @@ static MADE: [Made; 11] = [
     Made {
         name: "4097 customers in format 2",
         format: 2,
-        front: "eve 1 1 1 1 1\n",
+        prefix: "eve 1 1 1 1 1\n",
         count: 4097,
         before_number: "customer c",
         behind_number: " 0 0\n",
@@ -53,7 +53,7 @@ static MADE: [Made; 11] = [
     Made {
         name: "65536 customers in format 2",
         format: 2,
-        front: "eve 1 1 1 1 1\n",
+        prefix: "eve 1 1 1 1 1\n",
         count: 65536,
         before_number: "customer c",
         behind_number: " 0 0\n",
@@ -63,7 +63,7 @@ static MADE: [Made; 11] = [
     Made {
         name: "65537 customers in format 2",
         format: 2,
-        front: "eve 1 1 1 1 1\n",
+        prefix: "eve 1 1 1 1 1\n",
         count: 65537,
         before_number: "customer c",
         behind_number: " 0 0\n",
@@ -73,7 +73,7 @@ static MADE: [Made; 11] = [
     Made {
         name: "256 requests",
         format: 1,
-        front: ONE_BATCH,
+        prefix: ONE_BATCH,
         count: 256,
         before_number: "balance 7 ",
         behind_number: " ann\n",
@@ -83,7 +83,7 @@ static MADE: [Made; 11] = [
     Made {
         name: "65535 batches",
         format: 1,
-        front: ONE_CUSTOMER,
+        prefix: ONE_CUSTOMER,
         count: 65535,
         before_number: BATCH,
         behind_number: " ann\n",
@@ -93,7 +93,7 @@ static MADE: [Made; 11] = [
     Made {
         name: "65536 batches",
         format: 1,
-        front: ONE_CUSTOMER,
+        prefix: ONE_CUSTOMER,
         count: 65535,
         before_number: BATCH,
         behind_number: " ann\n",
@@ -103,7 +103,7 @@ static MADE: [Made; 11] = [
     Made {
         name: "65535 batches and the first request again",
         format: 1,
-        front: ONE_CUSTOMER,
+        prefix: ONE_CUSTOMER,
         count: 65535,
         before_number: BATCH,
         behind_number: " ann\n",
@@ -113,7 +113,7 @@ static MADE: [Made; 11] = [
     Made {
         name: "256 deposits of one customer",
         format: 1,
-        front: ONE_BATCH,
+        prefix: ONE_BATCH,
         count: 256,
         before_number: "deposit 7 ",
         behind_number: " ann 5\n",
@@ -123,7 +123,7 @@ static MADE: [Made; 11] = [
     Made {
         name: "256 balances of one customer",
         format: 1,
-        front: ONE_BATCH,
+        prefix: ONE_BATCH,
         count: 256,
         before_number: "balance 7 ",
         behind_number: " ann\n",
@@ -164,7 +164,7 @@ fn tell(alloc: Global, keys: RandomState, made: &Made, said: &mut Text) {
 
 fn text_of(alloc: Global, made: &Made) -> Text {
     let mut text = Text::new(alloc);
-    text.words(made.front);
+    text.words(made.prefix);
     for number in 0..made.count {
         text.value(made.before_number, number);
         text.words(made.behind_number);

@@ -72,25 +72,25 @@ fn tell_wrong(wrong: Option<u32>, said: &mut Text) {
     }
 }
 
-/// Says what each front of the text comes to; fronts of one answer that follow one another stand on one line.
+/// Says what each prefix of the text comes to; prefixes of one answer that follow one another stand on one line.
 pub fn cut(alloc: Global, name: &str, text: &[u8], said: &mut Text) {
     let mut from = 0;
     let mut wrong = wrong_line(alloc, &text[..0], 1, said);
     for len in 0..text.len() {
         let next = wrong_line(alloc, &text[..len + 1], 1, said);
         if next != wrong {
-            tell_fronts(name, from, len, said);
+            tell_prefixes(name, from, len, said);
             tell_wrong(wrong, said);
             from = len + 1;
             wrong = next;
         }
     }
-    tell_fronts(name, from, text.len(), said);
+    tell_prefixes(name, from, text.len(), said);
     tell_wrong(wrong, said);
 }
 
-/// Says of which fronts something is told.
-fn tell_fronts(name: &str, from: usize, to: usize, said: &mut Text) {
+/// Says of which prefixes something is told.
+fn tell_prefixes(name: &str, from: usize, to: usize, said: &mut Text) {
     said.words(name);
     said.value(", ", from);
     said.value(" to ", to);

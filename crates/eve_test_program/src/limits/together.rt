@@ -2,7 +2,7 @@
 
 ghost use Rattle.std.specs.Prelude.{◌≡◌, ℕ, IfOk};
 ghost use Rattle.eve_history.specs.SectionHistory.{section_histories, IsRightSection};
-ghost use Rattle.eve_chains.specs.Settling.{settlings};
+ghost use Rattle.eve_chains.specs.CommittedValues.{settlings};
 
 use eve_agree::{equal_balances, replies};
 use eve_chains::Settled;

@@ -77,8 +77,8 @@ pub(crate) fn tell<R: AllocGlobal + RandomSource + Threads + Wait + Sync>(
 /// Writes the line of an audit, with the word `there` where it ends with this place.
 fn tell_line(page: &mut Bytes, line: &[u8], place: &[u8]) {
     match line.strip_suffix(place) {
-        Some(front) => {
-            page.append(front);
+        Some(prefix) => {
+            page.append(prefix);
             page.words(" there\n");
         }
         None => page.append(line),

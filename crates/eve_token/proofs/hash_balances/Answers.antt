@@ -10,7 +10,7 @@ returns c =
     let head = c.update.ensures [] c.new-hasher.ensures in
     let numbered = c.update-2.ensures _ head in
     let with_balances = c.hash_all.ensures _ numbered in
-    let said : codes "EVESB1" ++ (c.to_be_bytes.result ++ flat_map money_text c.as_slice.result.now)
+    let decoded : codes "EVESB1" ++ (c.to_be_bytes.result ++ flat_map money_text c.as_slice.result.now)
     ≡ codes "EVESB1" ++ (big_bytes 4 c.args.seq ++ flat_map money_text c.args.balances.now)
     = rw (c.to_be_bytes.ensures, c.as_slice.ensures) refl in
-    subst (λ (m : List ℕ). Holds256 c.hash_all.new.hasher m) said with_balances
+    subst (λ (m : List ℕ). Holds256 c.hash_all.new.hasher m) decoded with_balances

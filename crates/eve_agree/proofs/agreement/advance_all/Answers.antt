@@ -1,6 +1,6 @@
 use Rattle.std.proofs.Common.{◌<◌, length, refl, arith}
 use Rattle.std.proofs.lemmas.Option.{slice_get_read}
-use Rattle.eve_agree.proofs.Reaching.{reached_start, reached_here, reached_more, reached_all}
+use Rattle.eve_agree.proofs.AllBalances.{reached_start, reached_here, reached_more, reached_all}
 use Rattle.eve_agree.proofs.agreement.advance_all.Goals as goal
 
 pub loop-e-init : goal.loop-e-init

@@ -1,4 +1,4 @@
-use Rattle.eve_agree.proofs.Reaching.{Reached}
+use Rattle.eve_agree.proofs.AllBalances.{Reached}
 use Rattle.eve_agree.proofs.agreement.advance_all.Given as goal
 
 abbrev pub invariant-loop-e : goal.invariant-loop-e

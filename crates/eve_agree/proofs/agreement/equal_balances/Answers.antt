@@ -1,7 +1,7 @@
 use Rattle.std.proofs.Common.{◌+◌, ◌-◌, Some, None, subst, arith, ◌≡◌, sym}
-use Rattle.eve_agree.proofs.Agreeing.{judged_start, all_agree, they_agree, none_stands, is_least, alone_agrees}
-use Rattle.eve_agree.specs.Judging.{AreAfter, JudgedTo}
-use Rattle.eve_chains.specs.Settling.{settlings}
+use Rattle.eve_agree.proofs.AgreementFaults.{judged_start, all_agree, they_agree, none_stands, is_least, alone_agrees}
+use Rattle.eve_agree.specs.inner.NumbersJudged.{AreAfter, JudgedTo}
+use Rattle.eve_chains.specs.CommittedValues.{settlings}
 use Rattle.eve_agree.proofs.agreement.equal_balances.Goals as goal
 
 pub returns-then-is_alone-clause-agree : goal.returns-then-is_alone-clause-agree

@@ -1,5 +1,5 @@
-use Rattle.eve_chains.specs.Settling.{settlings}
-use Rattle.eve_agree.specs.Judging.{AreAfter, JudgedTo}
+use Rattle.eve_chains.specs.CommittedValues.{settlings}
+use Rattle.eve_agree.specs.inner.NumbersJudged.{AreAfter, JudgedTo}
 use Rattle.eve_agree.proofs.agreement.equal_balances.Given as goal
 
 abbrev pub invariant-loop-n : goal.invariant-loop-n

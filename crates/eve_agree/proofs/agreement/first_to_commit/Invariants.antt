@@ -1,4 +1,4 @@
-use Rattle.eve_agree.specs.Judging.{NoneBefore}
+use Rattle.eve_agree.specs.inner.NumbersJudged.{NoneBefore}
 use Rattle.eve_agree.proofs.agreement.first_to_commit.Given as goal
 
 abbrev pub invariant-loop-e : goal.invariant-loop-e

@@ -1,7 +1,7 @@
 use Rattle.std.proofs.Common.{◌≡◌, ℕ, ◌<◌, [], Option, IfSome, length, get_or, sym, ap, subst, ◌∙◌}
 use Rattle.std.proofs.lemmas.Bool.{false≢true}
 use Rattle.std.proofs.lemmas.Option.{same_Some}
-use Rattle.eve_chains.proofs.Linked.{none≢some}
+use Rattle.eve_chains.proofs.LinkedPaths.{none≢some}
 use Rattle.eve_agree.proofs.Outcomes.{read_default}
 use Rattle.eve_agree.proofs.agreement.has_balances_of.Goals as goal
 

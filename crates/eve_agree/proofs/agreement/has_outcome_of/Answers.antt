@@ -3,12 +3,12 @@ use Rattle.std.specs.Prelude.{Option}
 use Rattle.eve_frames.specs.Views.{attempt_in}
 use Rattle.eve_grammar.specs.Trace.{Trace}
 use Rattle.eve_history.specs.SectionHistory.{committed_at}
-use Rattle.eve_chains.specs.Settling.{Settling}
+use Rattle.eve_chains.specs.CommittedValues.{Settling}
 use Rattle.eve_agree.specs.Agreement.{first_to_commit, HasCommitted, HaveSameOutcome}
-use Rattle.eve_agree.specs.Judging.{IsAfter}
+use Rattle.eve_agree.specs.inner.NumbersJudged.{IsAfter}
 use Rattle.eve_agree.proofs.ByNumber.{some_there, there_some, told_same, replica_there, committed_settled}
 use Rattle.eve_agree.proofs.Outcomes.{outcome_of, same_outcome, outcome_same, first_committed, first_low}
-use Rattle.eve_agree.proofs.SameBefore.{before_next}
+use Rattle.eve_agree.proofs.EqualBalances.{before_next}
 use Rattle.eve_agree.proofs.AtNumber.{as_many_histories, as_many_settled, as_many_balances, history_here, settled_here}
 use Rattle.eve_agree.proofs.AtNumber.{after_here, balances_here}
 use Rattle.eve_agree.proofs.agreement.has_outcome_of.Goals as goal

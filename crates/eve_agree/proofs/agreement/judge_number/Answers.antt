@@ -1,9 +1,9 @@
 use Rattle.std.proofs.Common.{◌≡◌, ℕ, ◌-◌, length, subst, ap, inl, inr, arith}
 use Rattle.std.proofs.lemmas.Bool.{cases_lt}
-use Rattle.eve_agree.specs.Judging.{AgreesIn, bound_of}
-use Rattle.eve_agree.proofs.Agreeing.{bound_low, judged_on, judged_apart}
+use Rattle.eve_agree.specs.inner.NumbersJudged.{AgreesIn, bound_of}
+use Rattle.eve_agree.proofs.AgreementFaults.{bound_low, judged_on, judged_apart}
 use Rattle.eve_agree.proofs.AtNumber.{as_many_histories}
-use Rattle.eve_agree.proofs.SameBefore.{all_have_same}
+use Rattle.eve_agree.proofs.EqualBalances.{all_have_same}
 use Rattle.eve_agree.proofs.agreement.judge_number.Goals as goal
 
 pub wrong_in-requires-clause-there : goal.wrong_in-requires-clause-there

@@ -1,5 +1,5 @@
 use Rattle.std.proofs.Common.{ℕ, ◌<◌}
-use Rattle.eve_agree.specs.Judging.{AgreesIn}
+use Rattle.eve_agree.specs.inner.NumbersJudged.{AgreesIn}
 use Rattle.eve_agree.proofs.agreement.judge_number.Given as goal
 
 abbrev pub invariant-loop-e : goal.invariant-loop-e

@@ -1,7 +1,7 @@
 use Rattle.std.proofs.Common.{rules}
 use Rattle.eve_grammar.specs.Places.{IsBytes}
 use Rattle.eve_frames.specs.Views.{attempt_in}
-use Rattle.eve_agree.proofs.Answering.{replies_fit}
+use Rattle.eve_agree.proofs.AnsweredRequests.{replies_fit}
 use Rattle.eve_agree.proofs.agreement.recall_replies.Goals as goal
 
 pub returns : goal.returns

@@ -3,13 +3,13 @@ use Rattle.std.proofs.Common.{rules}
 use Rattle.std.proofs.lemmas.Bool.{false≢true}
 use Rattle.eve_frames.specs.Views.{attempt_in, transfer_in}
 use Rattle.eve_history.specs.Section.{ByAttempt, ByTransfer}
-use Rattle.eve_history.specs.SectionHistory.{landing_at, committed_at}
-use Rattle.eve_chains.proofs.Linked.{landing_by, none≢some}
+use Rattle.eve_history.specs.SectionHistory.{how_reached_at, committed_at}
+use Rattle.eve_chains.proofs.LinkedPaths.{how_reached_by, none≢some}
 use Rattle.eve_agree.specs.Agreement.{HasCommitted}
-use Rattle.eve_agree.specs.Judging.{IsApart}
+use Rattle.eve_agree.specs.inner.NumbersJudged.{IsApart}
 use Rattle.eve_agree.proofs.AtNumber.{as_many_histories, as_many_balances, history_here, first_within, state_is}
 use Rattle.eve_agree.proofs.AtNumber.{is_state}
-use Rattle.eve_agree.proofs.Agreeing.{agrees_by_attempt, agrees_by_state, agrees_without}
+use Rattle.eve_agree.proofs.AgreementFaults.{agrees_by_attempt, agrees_by_state, agrees_without}
 use Rattle.eve_agree.proofs.Outcomes.{outcome_of, replica_told}
 use Rattle.eve_agree.proofs.ByNumber.{some_there, not_there, told_same, told_none, state_told, told_state_there}
 use Rattle.eve_agree.proofs.agreement.wrong_in.Goals as goal
@@ -45,7 +45,7 @@ returns-then-has_outcome_of-clause-agrees c =
     c.requires.there h c.index-histories-e.is in
     let p = some_there (committed_at t e n)
     (sym (told_same t e h n told) ∙ sym c.has_committed.ensures ∙ c.if-has_committed.true) in
-    agrees_by_attempt t e n p.0 (landing_by (landing_at t e n) p.0 p.1)
+    agrees_by_attempt t e n p.0 (how_reached_by (how_reached_at t e n) p.0 p.1)
     (c.has_outcome_of.ensures.0 c.if-has_outcome_of.true)
 
 pub returns-then-has_committed-clause-apart : goal.returns-then-has_committed-clause-apart
@@ -63,8 +63,8 @@ returns-then-has_committed-clause-apart c =
     let no : c.has_outcome_of.result ≡ false = c.if-has_outcome_of.false in
     subst (IsApart t e n) (sym c.fault_at.ensures)
     (record {
-      landing = ByAttempt own.item;
-      at = landing_by (landing_at t e n) own.item own.at;
+      how_reached = ByAttempt own.item;
+      at = how_reached_by (how_reached_at t e n) own.item own.at;
       code = refl;
       offset = ap (λ (o : ℕ). Some o) (sym own.offset_is ∙ sym c.offset.ensures);
       inside = ap (λ (r : ℕ). Some r) (c.replica.ensures ∙ replica_told t e h told);
@@ -128,7 +128,7 @@ returns-clause-apart c =
     let no : c.has_balances_of-same.result ≡ false = c.if-same.false in
     subst (IsApart t e n) (sym c.fault_at-2.ensures)
     (record {
-      landing = ByTransfer at x;
+      how_reached = ByTransfer at x;
       at = is;
       code = refl;
       offset = ap (λ (o : ℕ). Some o) (sym c.offset-2.ensures);

@@ -3,7 +3,7 @@ use Rattle.std.specs.Prelude.{IsTrue}
 use Rattle.std.specs.List.{list_all}
 use Rattle.eve_grammar.specs.Limits.{is_reply}
 use Rattle.eve_frames.specs.Views.{attempt_in}
-use Rattle.eve_agree.proofs.Answering.{spelled_none, spelled_some}
+use Rattle.eve_agree.proofs.AnsweredRequests.{spelled_none, spelled_some}
 use Rattle.eve_agree.proofs.batch_replies.committed_replies.Goals as goal
 
 pub returns-then-not-has_committed : goal.returns-then-not-has_committed

@@ -1,7 +1,7 @@
 use Rattle.std.proofs.Common.{length, subst}
 use Rattle.eve_agree.specs.DueTokens.{IsFirstWrong}
 use Rattle.eve_agree.proofs.TokensInOrder.{no_token_fault}
-use Rattle.eve_agree.proofs.Stretched.{all_due, first_is_least}
+use Rattle.eve_agree.proofs.JoinedStretches.{all_due, first_is_least}
 use Rattle.eve_agree.proofs.due_tokens.answer.Goals as goal
 
 pub returns-in-Some-clause-least : goal.returns-in-Some-clause-least

@@ -1,11 +1,11 @@
 use Rattle.std.proofs.Common.{List, IsTrue, sym, subst, refl}
 use Rattle.std.proofs.lemmas.List.Elements.{All-push}
 use Rattle.eve_grammar.specs.declared.head.Head.{Head}
-use Rattle.eve_agree.specs.HashedRows.{can_hash}
-use Rattle.eve_agree.specs.Judging.{IsAfter}
-use Rattle.eve_agree.specs.Stretches.{IsReadyStretch, AreReadyStretches}
+use Rattle.eve_agree.specs.inner.HashedRows.{can_hash}
+use Rattle.eve_agree.specs.inner.NumbersJudged.{IsAfter}
+use Rattle.eve_agree.specs.inner.Stretches.{IsReadyStretch, AreReadyStretches}
 use Rattle.eve_agree.specs.declared.due_tokens.Stretch.{Stretch}
-use Rattle.eve_agree.proofs.Stretched.{reaches_more}
+use Rattle.eve_agree.proofs.JoinedStretches.{reaches_more}
 use Rattle.eve_agree.proofs.due_tokens.append.Goals as goal
 
 pub returns : goal.returns

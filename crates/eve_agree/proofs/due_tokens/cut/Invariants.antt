@@ -1,5 +1,5 @@
 use Rattle.std.proofs.Common.{◌≡◌, length}
-use Rattle.eve_agree.specs.Stretches.{IsComingStretch, AreReadyStretches}
+use Rattle.eve_agree.specs.inner.Stretches.{IsComingStretch, AreReadyStretches}
 use Rattle.eve_agree.proofs.due_tokens.cut.Given as goal
 
 abbrev pub invariant-loop : goal.invariant-loop

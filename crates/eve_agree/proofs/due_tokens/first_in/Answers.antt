@@ -2,11 +2,11 @@ use Rattle.std.proofs.Common.{◌≡◌, ◌<◌, ℕ, List, length, get_or, Opt
 use Rattle.std.proofs.Common.{arith}
 use Rattle.eve_grammar.specs.Trace.{Trace, head_of}
 use Rattle.eve_grammar.proofs.Lists.{whole_slice}
-use Rattle.eve_chains.specs.Settling.{Settling}
+use Rattle.eve_chains.specs.CommittedValues.{Settling}
 use Rattle.eve_agree.specs.DueTokens.{IsFirstWrong}
-use Rattle.eve_agree.specs.Stretches.{IsJudgedStretch, AreReadyStretches, first_found}
+use Rattle.eve_agree.specs.inner.Stretches.{IsJudgedStretch, AreReadyStretches, first_found}
 use Rattle.eve_agree.specs.declared.due_tokens.Stretch.{Stretch}
-use Rattle.eve_agree.proofs.Stretched.{some_rows, all_judged}
+use Rattle.eve_agree.proofs.JoinedStretches.{some_rows, all_judged}
 use Rattle.eve_agree.proofs.due_tokens.first_in.Goals as goal
 
 -- what was found in all of them

@@ -1,6 +1,6 @@
 use Rattle.std.proofs.Common.{sym, ap, ◌∙◌, arith}
 use Rattle.std.proofs.lemmas.List.{drop_all}
-use Rattle.eve_agree.specs.Stretches.{first_found}
+use Rattle.eve_agree.specs.inner.Stretches.{first_found}
 use Rattle.eve_agree.proofs.due_tokens.first_of_all.Goals as goal
 
 pub returns : goal.returns

@@ -1,6 +1,6 @@
 use Rattle.std.proofs.Common.{None, IsTrue}
-use Rattle.eve_agree.specs.HashedRows.{balances_in, can_hash}
-use Rattle.eve_agree.specs.Judging.{IsAfter}
+use Rattle.eve_agree.specs.inner.HashedRows.{balances_in, can_hash}
+use Rattle.eve_agree.specs.inner.NumbersJudged.{IsAfter}
 use Rattle.eve_agree.specs.DueTokens.{IsFirstWrong}
 use Rattle.eve_agree.proofs.due_tokens.first_wrong.Given as goal
 

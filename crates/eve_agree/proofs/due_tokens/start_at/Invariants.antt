@@ -1,6 +1,6 @@
 use Rattle.std.proofs.Common.{◌≡◌}
-use Rattle.eve_agree.specs.HashedRows.{balances_in}
-use Rattle.eve_agree.specs.Judging.{IsAfter}
+use Rattle.eve_agree.specs.inner.HashedRows.{balances_in}
+use Rattle.eve_agree.specs.inner.NumbersJudged.{IsAfter}
 use Rattle.eve_agree.proofs.due_tokens.start_at.Given as goal
 
 abbrev pub invariant-loop-n : goal.invariant-loop-n

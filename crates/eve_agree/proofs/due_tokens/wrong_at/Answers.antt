@@ -1,5 +1,5 @@
 use Rattle.std.proofs.Common.{sym, ◌∙◌}
-use Rattle.eve_agree.proofs.Stretched.{none_judged}
+use Rattle.eve_agree.proofs.JoinedStretches.{none_judged}
 use Rattle.eve_agree.proofs.due_tokens.wrong_at.Goals as goal
 
 pub returns-then-not-has_committed-clause-wrong : goal.returns-then-not-has_committed-clause-wrong

@@ -1,4 +1,4 @@
-use Rattle.eve_agree.proofs.Restoring.{restored_after}
+use Rattle.eve_agree.proofs.RightRestores.{restored_after}
 use Rattle.eve_agree.proofs.laws.rollbacks_restore_what_is_committed.Goals as goal
 
 pub returns : goal.returns

@@ -1,11 +1,11 @@
 use Rattle.eve_frames.specs.Views.{transfer_in}
-use Rattle.eve_agree.proofs.Backing.{some_decided_with, some_decided_nowhere}
+use Rattle.eve_agree.proofs.Majorities.{some_decided_with, some_decided_nowhere}
 use Rattle.eve_agree.proofs.majority.is_some_decided.Goals as goal
 
 pub returns : goal.returns
 returns c =
     let x = transfer_in c.args.transfer.now.bytes.now in
-    some_decided_with c.args.tally.now c.seq.result x.seq c.view.result x.view c.decided.result c.in-Some.said
+    some_decided_with c.args.tally.now c.seq.result x.seq c.view.result x.view c.decided.result c.in-Some.decision
     c.seq.ensures c.view.ensures c.decided.ensures c.in-Some.is
 
 pub returns-in_default : goal.returns-in_default

@@ -10,8 +10,8 @@ use Rattle.eve_views.specs.Form.{IfFound, IsLeast, IsFaultIn}
 use Rattle.eve_views.specs.declared.fault.CheckFault.{CheckFault}
 use Rattle.eve_views.specs.declared.fault.CheckFault.TheVariants.{Found}
 use Rattle.eve_views.specs.declared.fault.Code.TheVariants as code
-use Rattle.eve_agree.specs.Marking.{marking_of}
-use Rattle.eve_agree.proofs.Marking.{none_marked}
+use Rattle.eve_agree.specs.Marks.{marking_of}
+use Rattle.eve_agree.proofs.MarkLaws.{none_marked}
 use Rattle.eve_agree.proofs.RestoresInOrder.{HasJudged, judged_start, on_attempt, on_commit, on_transfer}
 use Rattle.eve_agree.proofs.RestoresInOrder.{on_rollback, judged_rollback, restores_fit, wrong_is_least, judged_end}
 use Rattle.eve_agree.proofs.RestoresInOrder.{right_told, section_told, within_told, attempt_told}
@@ -99,7 +99,7 @@ is_right-requires-clause-there c =
     c.loop-step.end c.in-Some.step c.in-Rollback.rollback c.in-Some.ensures.some c.in-Rollback.is
     c.loop-step.invariant.judged in
     there_told t c.args.history.now c.requires.history c.in-Rollback.rollback.offset
-    (rollback_in c.in-Rollback.rollback.bytes.now) here.front c.next.new.self c.loop-step.first c.loop-step.end
+    (rollback_in c.in-Rollback.rollback.bytes.now) here.prefix c.next.new.self c.loop-step.first c.loop-step.end
     here.come
 
 pub is_right-requires-clause-within : goal.is_right-requires-clause-within
@@ -114,7 +114,7 @@ is_right-requires-clause-rows c =
     c.loop-step.end c.in-Some.step c.in-Rollback.rollback c.in-Some.ensures.some c.in-Rollback.is
     c.loop-step.invariant.judged in
     subst (λ (n : ℕ). IsTrue (list_all (is_restore n) r.restores)) (sym c.loop-step.invariant.many)
-    (restores_fit t c.args.history.now.replica c.in-Rollback.rollback.offset r here.front c.next.new.self
+    (restores_fit t c.args.history.now.replica c.in-Rollback.rollback.offset r here.prefix c.next.new.self
     c.loop-step.first c.loop-step.end here.come c.recall_limits.ensures).0
 
 pub is_right-requires-clause-restores : goal.is_right-requires-clause-restores
@@ -124,7 +124,7 @@ is_right-requires-clause-restores c =
     let here = on_rollback t c.args.history.now.replica c.loop-step.steps c.next.new.self c.loop-step.first
     c.loop-step.end c.in-Some.step c.in-Rollback.rollback c.in-Some.ensures.some c.in-Rollback.is
     c.loop-step.invariant.judged in
-    (restores_fit t c.args.history.now.replica c.in-Rollback.rollback.offset r here.front c.next.new.self
+    (restores_fit t c.args.history.now.replica c.in-Rollback.rollback.offset r here.prefix c.next.new.self
     c.loop-step.first c.loop-step.end here.come c.recall_limits.ensures).1
 
 pub returns-then-not-is_right-clause-least : goal.returns-then-not-is_right-clause-least
@@ -137,7 +137,7 @@ returns-then-not-is_right-clause-least c = λ sound.
     let here = on_rollback t c.args.history.now.replica c.loop-step.steps c.next.new.self c.loop-step.first
     c.loop-step.end c.in-Some.step c.in-Rollback.rollback c.in-Some.ensures.some c.in-Rollback.is
     c.loop-step.invariant.judged in
-    let found = found_told t h c.requires.history o r here.front c.next.new.self c.loop-step.first c.loop-step.end
+    let found = found_told t h c.requires.history o r here.prefix c.next.new.self c.loop-step.first c.loop-step.end
     here.come c.is_right.result c.recall_limits.ensures c.requires.right sound c.is_right.ensures.right in
     let least = wrong_is_least t h.replica o r c.next.new.self c.loop-step.first c.loop-step.end here sound
     (sym found ∙ no) in
@@ -162,7 +162,7 @@ loop-step-preserved-in-Rollback c =
     c.loop-step.invariant.judged in
     record {
       judged = judged_rollback t h.replica o r c.next.new.self c.loop-step.first c.loop-step.end here (λ sound.
-          sym (found_told t h c.requires.history o r here.front c.next.new.self c.loop-step.first c.loop-step.end
+          sym (found_told t h c.requires.history o r here.prefix c.next.new.self c.loop-step.first c.loop-step.end
           here.come c.is_right.result c.recall_limits.ensures c.requires.right sound c.is_right.ensures.right) ∙ yes);
       many = c.is_right.ensures.as_many ∙ c.loop-step.invariant.many;
       none = c.is_right.ensures.none yes;

@@ -1,5 +1,5 @@
 use Rattle.std.proofs.Common.{◌≡◌, ◌*◌, length}
-use Rattle.eve_agree.specs.Marking.{marking_of, unmarked}
+use Rattle.eve_agree.specs.Marks.{marking_of, unmarked}
 use Rattle.eve_agree.proofs.RestoresInOrder.{HasJudged}
 use Rattle.eve_agree.proofs.restores.judge.Given as goal
 

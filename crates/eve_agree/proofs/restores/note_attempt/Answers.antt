@@ -3,20 +3,20 @@ use Rattle.std.proofs.lemmas.List.{take_all}
 use Rattle.std.proofs.lemmas.Option.{same_Some}
 use Rattle.eve_grammar.specs.Trace.{Access, Attempt}
 use Rattle.eve_history.specs.SectionHistory.{ExecutedAttempt}
-use Rattle.eve_chains.specs.Along.{said_at, entries_along}
-use Rattle.eve_agree.specs.Marking.{marking_of, marked}
-use Rattle.eve_chains.proofs.AlongLaws.{IsMet, met_within, after_more}
-use Rattle.eve_agree.proofs.Marking.{marked-append}
-use Rattle.eve_agree.proofs.Noting.{executed_attempt_within}
+use Rattle.eve_chains.specs.Along.{decoded_at, entries_along}
+use Rattle.eve_agree.specs.Marks.{marking_of, marked}
+use Rattle.eve_chains.proofs.AlongLaws.{IsCheckedRecord, checked_within, after_more}
+use Rattle.eve_agree.proofs.MarkLaws.{marked-append}
+use Rattle.eve_agree.proofs.NotedAttempts.{executed_attempt_within}
 use Rattle.eve_agree.proofs.restores.note_attempt.Goals as goal
 
 pub note-requires : goal.note-requires
 note-requires c =
     let rows = length c.args.marks.now in
     let says = c.ordered.ensures.says in
-    let met : IsMet says.0.ordered c.loop-place.place (said_at c.ordered.result) c.entries.result =
+    let checked : IsCheckedRecord says.0.ordered c.loop-place.place (decoded_at c.ordered.result) c.entries.result =
     record { there = says.2; entries = c.entries.ensures } in
-    met_within rows (length c.loop-place.marks) met
+    checked_within rows (length c.loop-place.marks) checked
     (executed_attempt_within rows c.args.history.now.attempts c.args.i says.0 c.requires.within says.1)
     c.loop-place.invariant.as_many
 
@@ -26,12 +26,13 @@ loop-place-preserved c = record {
   marks = λ r at.
       let says = c.ordered.ensures.says in
       let same = same_Some says.0 r (sym says.1 ∙ at) in
-      let met : IsMet r.ordered c.loop-place.place (said_at c.ordered.result) c.entries.result = record {
+      let checked : IsCheckedRecord r.ordered c.loop-place.place (decoded_at c.ordered.result) c.entries.result =
+      record {
         there = ap (λ (q : ExecutedAttempt). slice_get q.ordered c.loop-place.place) (sym same) ∙ says.2;
         entries = c.entries.ensures;
       } in
       after_more marked marked-append (marking_of c.args.marks.now) (marking_of c.loop-place.marks)
-      (marking_of c.note.new.self) met (c.loop-place.invariant.marks r at) c.note.ensures.marks;
+      (marking_of c.note.new.self) checked (c.loop-place.invariant.marks r at) c.note.ensures.marks;
 }
 
 pub returns-clause-marks : goal.returns-clause-marks

@@ -2,7 +2,7 @@ use Rattle.std.proofs.Common.{◌≡◌, Some, length, take}
 use Rattle.std.specs.Prelude.{slice_get}
 use Rattle.eve_history.specs.SectionHistory.{ExecutedAttempt}
 use Rattle.eve_chains.specs.Along.{entries_along}
-use Rattle.eve_agree.specs.Marking.{marking_of, marked}
+use Rattle.eve_agree.specs.Marks.{marking_of, marked}
 use Rattle.eve_agree.proofs.restores.note_attempt.Given as goal
 
 abbrev pub invariant-loop-place : goal.invariant-loop-place

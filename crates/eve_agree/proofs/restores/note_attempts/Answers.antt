@@ -1,6 +1,6 @@
 use Rattle.std.proofs.Common.{◌∙◌, arith}
-use Rattle.eve_agree.specs.Marking.{marking_of}
-use Rattle.eve_agree.proofs.Noting.{noted_more}
+use Rattle.eve_agree.specs.Marks.{marking_of}
+use Rattle.eve_agree.proofs.NotedAttempts.{noted_more}
 use Rattle.eve_agree.proofs.restores.note_attempts.Goals as goal
 use Rattle.eve_grammar.proofs.Lists.{item_within}
 

@@ -1,5 +1,5 @@
 use Rattle.std.proofs.Common.{◌≡◌, length}
-use Rattle.eve_agree.specs.Marking.{marking_of, marked, noted_between}
+use Rattle.eve_agree.specs.Marks.{marking_of, marked, noted_between}
 use Rattle.eve_agree.proofs.restores.note_attempts.Given as goal
 
 abbrev pub invariant-loop-i : goal.invariant-loop-i

@@ -2,7 +2,7 @@ use Rattle.std.proofs.Common.{◌≡◌, ℕ, ◌+◌, ◌*◌, ◌<◌, ◌≤�
 use Rattle.std.specs.Prelude.{IsTrue}
 use Rattle.eve_views.specs.Cut.{part_start}
 use Rattle.eve_agree.specs.SentReplies.{AreReplied}
-use Rattle.eve_agree.proofs.Sending.{all_replied, parts_replied}
+use Rattle.eve_agree.proofs.RepliesSent.{all_replied, parts_replied}
 use Rattle.eve_agree.proofs.sent_replies.are_all_replied.Goals as goal
 
 pub returns-in-Ok : goal.returns-in-Ok

@@ -4,7 +4,7 @@ use Rattle.std.proofs.lemmas.Option.{same_Some}
 use Rattle.eve_grammar.specs.Trace.{Sent}
 use Rattle.eve_frames.specs.Views.{sent_in}
 use Rattle.eve_agree.specs.SentReplies.{IsReplied}
-use Rattle.eve_agree.proofs.Sending.{sent_there, sent_fits, none_yet, replied_more}
+use Rattle.eve_agree.proofs.RepliesSent.{sent_there, sent_fits, none_yet, replied_more}
 use Rattle.eve_agree.proofs.sent_replies.first_unreplied.Goals as goal
 
 pub loop-i-init : goal.loop-i-init

@@ -1,5 +1,5 @@
 use Rattle.eve_agree.specs.SentReplies.{AreReplied}
-use Rattle.eve_agree.specs.Keeping.{AreRepliesOf}
+use Rattle.eve_agree.specs.inner.KeptRequests.{AreRepliesOf}
 use Rattle.eve_agree.proofs.sent_replies.first_unreplied.Given as goal
 
 abbrev pub invariant-loop-i : goal.invariant-loop-i

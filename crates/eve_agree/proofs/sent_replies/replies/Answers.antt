@@ -2,7 +2,7 @@ use Rattle.std.proofs.Common.{◌≡◌, ℕ, slice_get, Some, sym, ap, ◌∙�
 use Rattle.eve_grammar.specs.Trace.{Sent}
 use Rattle.eve_grammar.specs.Spelling.{sent_at}
 use Rattle.eve_frames.specs.Views.{sent_in}
-use Rattle.eve_agree.proofs.Sending.{sent_there, all_replied, no_fault, first_fault}
+use Rattle.eve_agree.proofs.RepliesSent.{sent_there, all_replied, no_fault, first_fault}
 use Rattle.eve_agree.proofs.sent_replies.replies.Goals as goal
 
 pub returns-in-Some-clause-least : goal.returns-in-Some-clause-least

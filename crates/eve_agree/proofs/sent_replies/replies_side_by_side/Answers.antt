@@ -1,4 +1,4 @@
-use Rattle.eve_agree.proofs.Sending.{no_fault}
+use Rattle.eve_agree.proofs.RepliesSent.{no_fault}
 use Rattle.eve_agree.proofs.sent_replies.replies_side_by_side.Goals as goal
 
 pub returns-then-are_all_replied-clause-none : goal.returns-then-are_all_replied-clause-none

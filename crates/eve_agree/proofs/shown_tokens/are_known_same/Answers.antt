@@ -1,4 +1,4 @@
-use Rattle.eve_agree.proofs.SameBefore.{same_lists_after}
+use Rattle.eve_agree.proofs.EqualBalances.{same_lists_after}
 use Rattle.eve_agree.proofs.shown_tokens.are_known_same.Goals as goal
 
 pub returns : goal.returns

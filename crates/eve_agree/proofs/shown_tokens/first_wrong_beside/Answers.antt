@@ -1,6 +1,6 @@
 use Rattle.std.proofs.Common.{◌≡◌, ◌+◌, ◌-◌, ℕ, IsTrue, subst, arith}
-use Rattle.eve_chains.specs.Settling.{HaveSameBalances}
-use Rattle.eve_agree.proofs.SameBefore.{same_opening}
+use Rattle.eve_chains.specs.CommittedValues.{HaveSameBalances}
+use Rattle.eve_agree.proofs.EqualBalances.{same_opening}
 use Rattle.eve_agree.proofs.shown_tokens.first_wrong_beside.Goals as goal
 
 pub loop-n-init : goal.loop-n-init

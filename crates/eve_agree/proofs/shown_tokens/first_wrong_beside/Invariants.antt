@@ -1,7 +1,7 @@
 use Rattle.std.proofs.Common.{None, IsTrue}
-use Rattle.eve_chains.specs.Settling.{HaveSameBalances}
-use Rattle.eve_agree.specs.HashedRows.{balances_in}
-use Rattle.eve_agree.specs.Judging.{IsAfter}
+use Rattle.eve_chains.specs.CommittedValues.{HaveSameBalances}
+use Rattle.eve_agree.specs.inner.HashedRows.{balances_in}
+use Rattle.eve_agree.specs.inner.NumbersJudged.{IsAfter}
 use Rattle.eve_agree.specs.DueTokens.{IsFirstWrong}
 use Rattle.eve_agree.proofs.shown_tokens.first_wrong_beside.Given as goal
 

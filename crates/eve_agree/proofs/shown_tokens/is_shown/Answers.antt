@@ -1,7 +1,7 @@
 use Rattle.eve_frames.specs.Views.{attempt_in}
 use Rattle.eve_agree.proofs.ByNumber.{told_item, committed_settled}
-use Rattle.eve_agree.proofs.Shown.{read_of, shown}
-use Rattle.eve_agree.proofs.SameBefore.{same_lists_after}
+use Rattle.eve_agree.proofs.ShownTokens.{read_of, shown}
+use Rattle.eve_agree.proofs.EqualBalances.{same_lists_after}
 use Rattle.eve_agree.proofs.shown_tokens.is_shown.Goals as goal
 
 pub is_alike-requires-clause-there : goal.is_alike-requires-clause-there

@@ -1,9 +1,9 @@
 use Rattle.std.proofs.Common.{IsTrue, sym, subst, ◌∙◌, arith}
 use Rattle.eve_grammar.specs.Trace.{head_of}
 use Rattle.eve_grammar.specs.declared.head.Head.{Head}
-use Rattle.eve_agree.specs.HashedRows.{can_hash}
-use Rattle.eve_agree.specs.Judging.{IsAfter}
-use Rattle.eve_agree.proofs.Stretched.{some_rows, none_judged}
+use Rattle.eve_agree.specs.inner.HashedRows.{can_hash}
+use Rattle.eve_agree.specs.inner.NumbersJudged.{IsAfter}
+use Rattle.eve_agree.proofs.JoinedStretches.{some_rows, none_judged}
 use Rattle.eve_agree.proofs.shown_tokens.wrong_beside.Goals as goal
 
 pub returns-then-not-has_committed-clause-wrong : goal.returns-then-not-has_committed-clause-wrong

@@ -1,5 +1,5 @@
 use Rattle.std.proofs.Common.{◌≡◌, ◌<◌, ℕ}
-use Rattle.eve_agree.specs.Marking.{marking_of}
+use Rattle.eve_agree.specs.Marks.{marking_of}
 use Rattle.eve_agree.proofs.wrong_restore.first_apart.Given as goal
 
 abbrev pub invariant-loop-i : goal.invariant-loop-i

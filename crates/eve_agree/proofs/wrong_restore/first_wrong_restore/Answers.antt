@@ -67,7 +67,7 @@ wrong_at-requires-clause-there c =
     c.loop-step.first c.loop-step.end c.in-Some.step c.in-Rollback.rollback c.in-Some.ensures.some c.in-Rollback.is
     c.loop-step.invariant in
     there_told t c.args.history.now c.requires.history c.in-Rollback.rollback.offset
-    (rollback_in c.in-Rollback.rollback.bytes.now) here.front c.next.new.self c.loop-step.first c.loop-step.end
+    (rollback_in c.in-Rollback.rollback.bytes.now) here.prefix c.next.new.self c.loop-step.first c.loop-step.end
     here.come
 
 pub wrong_at-requires-clause-within : goal.wrong_at-requires-clause-within
@@ -81,7 +81,7 @@ wrong_at-requires-clause-rows c =
     let here = seek_rollback t c.args.history.now.replica c.args.at c.loop-step.steps c.next.new.self
     c.loop-step.first c.loop-step.end c.in-Some.step c.in-Rollback.rollback c.in-Some.ensures.some c.in-Rollback.is
     c.loop-step.invariant in
-    (restores_fit t c.args.history.now.replica c.in-Rollback.rollback.offset r here.front c.next.new.self
+    (restores_fit t c.args.history.now.replica c.in-Rollback.rollback.offset r here.prefix c.next.new.self
     c.loop-step.first c.loop-step.end here.come c.recall_limits.ensures).0
 
 pub returns-in-Some-2 : goal.returns-in-Some-2
@@ -114,7 +114,7 @@ loop-step-preserved-in-Rollback c =
     } in
     let here = seek_rollback t h.replica c.args.at c.loop-step.steps c.next.new.self c.loop-step.first c.loop-step.end
     c.in-Some.step c.in-Rollback.rollback c.in-Some.ensures.some c.in-Rollback.is c.loop-step.invariant in
-    let rising = (restores_fit t h.replica c.in-Rollback.rollback.offset r here.front c.next.new.self c.loop-step.first
+    let rising = (restores_fit t h.replica c.in-Rollback.rollback.offset r here.prefix c.next.new.self c.loop-step.first
     c.loop-step.end here.come c.recall_limits.ensures).1 in
     let same = rw c.in_default-2.is at c.in_ok-wrong-in-Rollback.ensures.none in
     seek_further t h c.requires.history laws c.recall_limits.ensures
@@ -124,5 +124,5 @@ loop-step-preserved-in-Rollback c =
 pub unreachable-requires : goal.unreachable-requires
 unreachable-requires c =
     let none : c.loop-step.steps ≡ [] = search rules in
-    let ahead = At c.args.at (IsWrong c.args.trace.now (state_after start c.loop-step.invariant.front)) in
+    let ahead = At c.args.at (IsWrong c.args.trace.now (state_after start c.loop-step.invariant.prefix)) in
     no_place ahead (subst (λ (xs : List (ℕ × Step)). SomePlace xs ahead) none c.loop-step.invariant.ahead)

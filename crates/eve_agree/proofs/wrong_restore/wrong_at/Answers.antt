@@ -1,13 +1,13 @@
 use Rattle.std.proofs.Common.{◌≡◌, sym, ◌∙◌}
-use Rattle.eve_frames.specs.Said.{rollback_said}
-use Rattle.eve_agree.specs.Marking.{marking_of, unmarked, marked, noted_between}
+use Rattle.eve_frames.specs.Decoded.{rollback_decoded}
+use Rattle.eve_agree.specs.Marks.{marking_of, unmarked, marked, noted_between}
 use Rattle.eve_agree.specs.Restores.{restores_by_row}
 use Rattle.eve_agree.proofs.WrongRestores.{found_marked, due_marked, wrong_marked, none_wrong_marked}
 use Rattle.eve_agree.proofs.wrong_restore.wrong_at.Goals as goal
 
 pub returns-clause-some : goal.returns-clause-some
 returns-clause-some c =
-    let rs = (rollback_said c.args.rollback.now).restores in
+    let rs = (rollback_decoded c.args.rollback.now).restores in
     let es = noted_between c.args.history.now.attempts c.args.first c.args.end in
     let own : marking_of c.note_restores.new.self ≡ restores_by_row rs =
     found_marked c.in_ok-found.found c.note_restores.new.self _ c.restores.result rs c.in_ok-found.ensures
@@ -20,7 +20,7 @@ returns-clause-some c =
 
 pub returns-clause-none : goal.returns-clause-none
 returns-clause-none c =
-    let rs = (rollback_said c.args.rollback.now).restores in
+    let rs = (rollback_decoded c.args.rollback.now).restores in
     let es = noted_between c.args.history.now.attempts c.args.first c.args.end in
     let own : marking_of c.note_restores.new.self ≡ restores_by_row rs =
     found_marked c.in_ok-found.found c.note_restores.new.self _ c.restores.result rs c.in_ok-found.ensures

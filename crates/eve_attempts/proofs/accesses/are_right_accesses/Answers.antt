@@ -1,6 +1,7 @@
 use Rattle.std.proofs.Common.{◌≡◌, ℕ, ◌<◌, ◌≤◌, false, true, get_or, sym, subst, ap, ◌∙◌, arith}
-use Rattle.eve_attempts.proofs.Marking.{marking_start, marking_end, stop_worker, stop_index, stop_again, stop_place}
-use Rattle.eve_attempts.proofs.Marking.{marking_more, place_room}
+use Rattle.eve_attempts.proofs.MarkedRecords.{marking_start, marking_end, stop_worker, stop_index, stop_again}
+use Rattle.eve_attempts.proofs.MarkedRecords.{stop_place}
+use Rattle.eve_attempts.proofs.MarkedRecords.{marking_more, place_room}
 use Rattle.eve_attempts.proofs.accesses.are_right_accesses.Goals as goal
 
 pub loop-record-init : goal.loop-record-init

@@ -1,4 +1,4 @@
-use Rattle.eve_attempts.proofs.Marking.{Marking}
+use Rattle.eve_attempts.proofs.MarkedRecords.{Marking}
 use Rattle.eve_attempts.proofs.accesses.are_right_accesses.Given as goal
 
 abbrev pub invariant-loop-record : goal.invariant-loop-record

@@ -1,5 +1,5 @@
 use Rattle.eve_write.specs.Data.{batch as plain}
-use Rattle.eve_grammar.proofs.Grouping.{Grouping}
+use Rattle.eve_grammar.proofs.GroupOrder.{Grouping}
 use Rattle.eve_attempts.proofs.groups.groups_of.Given as goal
 
 abbrev pub invariant-loop-index : goal.invariant-loop-index

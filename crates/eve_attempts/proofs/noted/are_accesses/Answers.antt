@@ -5,7 +5,7 @@ use Rattle.std.proofs.lemmas.Bool.{and_from}
 use Rattle.std.specs.List.{list_all}
 use Rattle.eve_grammar.specs.Limits.{is_access}
 use Rattle.eve_stamps.specs.Applied.{Applied}
-use Rattle.eve_attempts.specs.Closing.{access_noted}
+use Rattle.eve_attempts.specs.ClosedAttempts.{access_noted}
 use Rattle.eve_attempts.proofs.noted.are_accesses.Goals as goal
 
 pub returns-then-not-is_access : goal.returns-then-not-is_access

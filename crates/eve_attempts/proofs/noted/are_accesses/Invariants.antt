@@ -2,7 +2,7 @@
 use Rattle.std.proofs.Common.{◌≡◌, true, take}
 use Rattle.std.specs.List.{list_all}
 use Rattle.eve_grammar.specs.Limits.{is_access}
-use Rattle.eve_attempts.specs.Closing.{access_noted}
+use Rattle.eve_attempts.specs.ClosedAttempts.{access_noted}
 use Rattle.eve_attempts.proofs.noted.are_accesses.Given as goal
 
 abbrev pub invariant-loop-record : goal.invariant-loop-record

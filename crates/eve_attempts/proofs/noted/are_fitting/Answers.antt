@@ -3,9 +3,9 @@ use Rattle.eve_smallbank.specs.Access.{Fits}
 use Rattle.eve_grammar.proofs.Lists.{all-get_or}
 use Rattle.eve_write.specs.Data.{batch as plain}
 use Rattle.eve_stamps.specs.Applied.{Applied}
-use Rattle.eve_attempts.specs.Closing.{executed}
-use Rattle.eve_attempts.proofs.Listing.{drop_read, goes_start, goes_more, goes_stop, goes_end, fails_by}
-use Rattle.eve_attempts.proofs.Listing.{decides_mapped}
+use Rattle.eve_attempts.specs.ClosedAttempts.{executed}
+use Rattle.eve_attempts.proofs.Lists.{drop_read, goes_start, goes_more, goes_stop, goes_end, fails_by}
+use Rattle.eve_attempts.proofs.Lists.{decides_mapped}
 use Rattle.eve_attempts.proofs.noted.are_fitting.Goals as goal
 
 pub is_fitting-requires-clause-index : goal.is_fitting-requires-clause-index

@@ -1,8 +1,8 @@
 use Rattle.std.proofs.Common.{◌≡◌, ℕ, List}
 use Rattle.eve_smallbank.specs.Access.{Fits}
 use Rattle.eve_write.specs.Data.{batch as plain}
-use Rattle.eve_attempts.specs.Closing.{touched_in_batch, executed}
-use Rattle.eve_attempts.proofs.Listing.{Goes}
+use Rattle.eve_attempts.specs.ClosedAttempts.{touched_in_batch, executed}
+use Rattle.eve_attempts.proofs.Lists.{Goes}
 use Rattle.eve_attempts.proofs.noted.are_fitting.Given as goal
 
 abbrev pub invariant-loop-record : goal.invariant-loop-record

@@ -2,8 +2,8 @@ use Rattle.std.proofs.Common.{ℕ, Bool, [], map, length, sym, ap, subst, ◌∙
 use Rattle.std.specs.Bool.{Decides}
 use Rattle.std.proofs.lemmas.Bool.{false≢true}
 use Rattle.eve_write.specs.Data.{batch as plain}
-use Rattle.eve_attempts.specs.Closing.{access_noted, are_right_records, AreNoted}
-use Rattle.eve_attempts.proofs.Noting.{accesses_below, decides_noted, not_noted}
+use Rattle.eve_attempts.specs.ClosedAttempts.{access_noted, are_right_records, AreNoted}
+use Rattle.eve_attempts.proofs.NotedRecords.{accesses_below, decides_noted, not_noted}
 use Rattle.eve_attempts.proofs.noted.are_noted.Goals as goal
 
 pub are_fitting-requires-clause-indexes : goal.are_fitting-requires-clause-indexes

@@ -7,9 +7,9 @@ use Rattle.eve_smallbank.specs.SmallBank.{Request, plain as plain_request}
 use Rattle.eve_smallbank.specs.Access.{Executed, Fits}
 use Rattle.eve_smallbank.specs.Touch.{touched_of}
 use Rattle.eve_write.specs.Data.{batch as plain, asked}
-use Rattle.eve_attempts.specs.Closing.{executed}
+use Rattle.eve_attempts.specs.ClosedAttempts.{executed}
 use Rattle.eve_grammar.specs.Trace.{request_with}
-use Rattle.eve_attempts.proofs.Noting.{request_found, touched_found}
+use Rattle.eve_attempts.proofs.NotedRecords.{request_found, touched_found}
 use Rattle.eve_attempts.proofs.noted.is_fitting.Goals as goal
 
 pub fits-requires : goal.fits-requires

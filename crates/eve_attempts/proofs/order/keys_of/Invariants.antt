@@ -1,5 +1,5 @@
 use Rattle.std.proofs.Common.{◌≡◌, ◌++◌, length, drop, vec_len, vec_capacity}
-use Rattle.eve_attempts.specs.Ordering.{keys_from}
+use Rattle.eve_attempts.specs.inner.RecordKeys.{keys_from}
 use Rattle.eve_attempts.proofs.order.keys_of.Given as goal
 
 abbrev pub invariant-loop-place : goal.invariant-loop-place

@@ -4,8 +4,8 @@ use Rattle.std.specs.List.Sorted.{IsPermutation}
 use Rattle.std.proofs.lemmas.List.Sorted.{IsPermutation-map}
 use Rattle.eve_grammar.proofs.Lists.{whole_slice}
 use Rattle.eve_stamps.specs.Applied.{Applied}
-use Rattle.eve_attempts.specs.Ordering.{Key, keys_from, record_of, records_in, IsKeyOf, TicksDontFall}
-use Rattle.eve_attempts.proofs.Ordered.{all_moved}
+use Rattle.eve_attempts.specs.inner.RecordKeys.{Key, keys_from, record_of, records_in, IsKeyOf, TicksDontFall}
+use Rattle.eve_attempts.proofs.TickOrder.{all_moved}
 use Rattle.eve_attempts.proofs.Keys.{records_of_keys, are_keys, sorted_keys, ticks_dont_fall}
 use Rattle.eve_attempts.proofs.order.order_of.Goals as goal
 

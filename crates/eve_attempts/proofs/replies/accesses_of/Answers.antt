@@ -1,7 +1,7 @@
 use Rattle.std.proofs.Common.{◌++◌, ◌∷◌, [], map, take, sym, ap, ◌∙◌}
 use Rattle.std.proofs.lemmas.List.{map_more}
 use Rattle.eve_write.specs.AccessLists.{noted_access}
-use Rattle.eve_attempts.specs.Closing.{access_noted}
+use Rattle.eve_attempts.specs.ClosedAttempts.{access_noted}
 use Rattle.eve_attempts.proofs.replies.accesses_of.Goals as goal
 
 pub loop-record-preserved : goal.loop-record-preserved

@@ -1,5 +1,5 @@
 use Rattle.std.proofs.Common.{◌≡◌, map, take}
-use Rattle.eve_attempts.specs.Closing.{access_noted}
+use Rattle.eve_attempts.specs.ClosedAttempts.{access_noted}
 use Rattle.eve_attempts.proofs.replies.accesses_of.Given as goal
 
 abbrev pub invariant-loop-record : goal.invariant-loop-record

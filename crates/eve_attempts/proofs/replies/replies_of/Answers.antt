@@ -3,9 +3,9 @@ use Rattle.std.specs.List.{list_all}
 use Rattle.eve_smallbank.specs.declared.request.Reply.{Reply}
 use Rattle.eve_smallbank.specs.declared.request.Reply.TheVariants.{Done}
 use Rattle.eve_grammar.specs.Limits.{is_reply}
-use Rattle.eve_attempts.specs.Ordering.{replies_placed}
-use Rattle.eve_attempts.proofs.Listing.{drop_read, list_all-set, list_all-replicate}
-use Rattle.eve_attempts.proofs.Noting.{filled}
+use Rattle.eve_attempts.specs.inner.RecordKeys.{replies_placed}
+use Rattle.eve_attempts.proofs.Lists.{drop_read, list_all-set, list_all-replicate}
+use Rattle.eve_attempts.proofs.NotedRecords.{filled}
 use Rattle.eve_attempts.proofs.replies.replies_of.Goals as goal
 
 pub loop-record-init : goal.loop-record-init

@@ -2,7 +2,7 @@ use Rattle.std.proofs.Common.{◌≡◌, IsTrue, length, drop, replicate, vec_le
 use Rattle.std.specs.List.{list_all}
 use Rattle.eve_smallbank.specs.declared.request.Reply.TheVariants.{Done}
 use Rattle.eve_grammar.specs.Limits.{is_reply}
-use Rattle.eve_attempts.specs.Ordering.{replies_placed}
+use Rattle.eve_attempts.specs.inner.RecordKeys.{replies_placed}
 use Rattle.eve_attempts.proofs.replies.replies_of.Given as goal
 
 abbrev pub invariant-loop-record : goal.invariant-loop-record

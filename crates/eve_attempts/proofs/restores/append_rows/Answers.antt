@@ -2,8 +2,8 @@ use Rattle.std.proofs.Common.{ℕ, ◌+◌, ◌<◌, List, [], ◌∷◌, ◌++�
 use Rattle.std.specs.List.{AllByRecursion}
 use Rattle.eve_smallbank.specs.declared.entry.Entry.{Entry}
 use Rattle.eve_grammar.proofs.Lists.{all-push}
-use Rattle.eve_attempts.specs.Restoring.{entry_rows}
-use Rattle.eve_attempts.proofs.Listing.{drop_read}
+use Rattle.eve_attempts.specs.inner.RestoredRows.{entry_rows}
+use Rattle.eve_attempts.proofs.Lists.{drop_read}
 use Rattle.eve_attempts.proofs.restores.append_rows.Goals as goal
 
 pub loop-entry-preserved : goal.loop-entry-preserved

@@ -1,6 +1,6 @@
 use Rattle.std.proofs.Common.{◌≡◌, ◌++◌, ◌+◌, ◌<◌, drop, vec_len, vec_capacity}
 use Rattle.std.specs.List.{AllByRecursion}
-use Rattle.eve_attempts.specs.Restoring.{entry_rows}
+use Rattle.eve_attempts.specs.inner.RestoredRows.{entry_rows}
 use Rattle.eve_attempts.proofs.restores.append_rows.Given as goal
 
 abbrev pub invariant-loop-entry : goal.invariant-loop-entry

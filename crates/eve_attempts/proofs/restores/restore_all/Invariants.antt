@@ -1,7 +1,7 @@
 use Rattle.std.proofs.Common.{◌≡◌, ◌≤◌, ◌++◌, map, drop, vec_len, vec_capacity}
 use Rattle.eve_attempts.specs.Ledgers.{table_of_rows}
-use Rattle.eve_attempts.specs.Discarding.{restore_in}
-use Rattle.eve_attempts.specs.Restoring.{rising_from}
+use Rattle.eve_attempts.specs.CommitsAndRollbacks.{restore_in}
+use Rattle.eve_attempts.specs.inner.RestoredRows.{rising_from}
 use Rattle.eve_attempts.proofs.restores.restore_all.Given as goal
 
 abbrev pub invariant-loop-number : goal.invariant-loop-number

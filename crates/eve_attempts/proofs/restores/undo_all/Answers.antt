@@ -3,7 +3,7 @@ use Rattle.std.specs.List.{list_all}
 use Rattle.std.proofs.lemmas.List.{drop_all}
 use Rattle.eve_smallbank.specs.Chain.{Table}
 use Rattle.eve_attempts.specs.Ledgers.{Opened, table_of_rows, values_before, writes_in, is_write_in}
-use Rattle.eve_attempts.proofs.Listing.{drop_before}
+use Rattle.eve_attempts.proofs.Lists.{drop_before}
 use Rattle.eve_attempts.proofs.TableLaws.{values_before-append, writes_of_one}
 use Rattle.eve_attempts.proofs.restores.undo_all.Goals as goal
 

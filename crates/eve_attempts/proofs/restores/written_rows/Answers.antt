@@ -7,9 +7,9 @@ use Rattle.std.proofs.lemmas.List.Sorted.{IsNonDecreasingBy-from_sort}
 use Rattle.eve_smallbank.specs.declared.entry.Entry.{Entry}
 use Rattle.eve_grammar.proofs.Lists.{whole_slice}
 use Rattle.eve_attempts.specs.Ledgers.{Opened, writes_in}
-use Rattle.eve_attempts.specs.Restoring.{entry_rows}
-use Rattle.eve_attempts.proofs.Listing.{drop_read}
-use Rattle.eve_attempts.proofs.Ordered.{all_moved}
+use Rattle.eve_attempts.specs.inner.RestoredRows.{entry_rows}
+use Rattle.eve_attempts.proofs.Lists.{drop_read}
+use Rattle.eve_attempts.proofs.TickOrder.{all_moved}
 use Rattle.eve_attempts.proofs.restores.written_rows.Goals as goal
 
 -- what the sorted vector holds

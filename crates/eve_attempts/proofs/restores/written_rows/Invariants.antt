@@ -1,7 +1,7 @@
 use Rattle.std.proofs.Common.{◌≡◌, ◌++◌, ◌<◌, drop}
 use Rattle.std.specs.List.{AllByRecursion}
 use Rattle.eve_attempts.specs.Ledgers.{writes_in}
-use Rattle.eve_attempts.specs.Restoring.{entry_rows}
+use Rattle.eve_attempts.specs.inner.RestoredRows.{entry_rows}
 use Rattle.eve_attempts.proofs.restores.written_rows.Given as goal
 
 abbrev pub invariant-loop-open : goal.invariant-loop-open

@@ -1,6 +1,6 @@
 use Rattle.std.proofs.Common.{List, map, ap, ◌∙◌, arith}
-use Rattle.eve_attempts.specs.Ordering.{Key}
-use Rattle.eve_attempts.proofs.Takings.{indexes_are}
+use Rattle.eve_attempts.specs.inner.RecordKeys.{Key}
+use Rattle.eve_attempts.proofs.PartLaws.{indexes_are}
 use Rattle.eve_attempts.proofs.taken.gather.Goals as goal
 
 pub returns : goal.returns

@@ -1,7 +1,7 @@
 use Rattle.std.proofs.Common.{◌≡◌, ℕ, List, length, sym, ap, ◌∙◌, arith}
 use Rattle.eve_grammar.specs.Certificate.{is_certificate}
 use Rattle.eve_write.specs.Data.{batch as plain}
-use Rattle.eve_attempts.proofs.Takings.{few_records, small_indexes, length_certificate, no_certificate}
+use Rattle.eve_attempts.proofs.PartLaws.{few_records, small_indexes, length_certificate, no_certificate}
 use Rattle.eve_attempts.proofs.taken.take.Goals as goal
 
 pub gather-requires-clause-few : goal.gather-requires-clause-few

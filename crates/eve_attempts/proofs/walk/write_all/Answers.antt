@@ -5,12 +5,12 @@ use Rattle.eve_smallbank.specs.declared.entry.Entry.{Entry}
 use Rattle.eve_smallbank.specs.Access.{is_write}
 use Rattle.eve_smallbank.specs.Chain.{Table, table_after}
 use Rattle.eve_grammar.specs.Limits.{is_entry}
-use Rattle.eve_grammar.proofs.Grouping.{all_at}
+use Rattle.eve_grammar.proofs.GroupOrder.{all_at}
 use Rattle.eve_grammar.proofs.Lists.{drop_here}
 use Rattle.eve_attempts.specs.Ledgers.{table_of_rows}
 use Rattle.std.proofs.lemmas.List.Elements.{filter-append}
 use Rattle.eve_attempts.proofs.TableLaws.{writes_among}
-use Rattle.eve_attempts.specs.KeptRows.{KeptRows}
+use Rattle.eve_attempts.specs.inner.KeptRows.{KeptRows}
 use Rattle.eve_attempts.proofs.walk.write_all.Goals.{then-place-count, else-place-count}
 use Rattle.eve_attempts.proofs.walk.write_all.Goals as goal
 

@@ -7,11 +7,11 @@ use Rattle.eve_smallbank.specs.Chain.{Sees, table_after}
 use Rattle.eve_grammar.specs.Limits.{is_entry}
 use Rattle.eve_stamps.specs.Applied.{Applied}
 use Rattle.eve_attempts.specs.Ledgers.{table_of_rows, values_before, is_write_in}
-use Rattle.eve_attempts.specs.Ordering.{records_in}
-use Rattle.eve_attempts.proofs.Listing.{fails_by}
+use Rattle.eve_attempts.specs.inner.RecordKeys.{records_in}
+use Rattle.eve_attempts.proofs.Lists.{fails_by}
 use Rattle.eve_attempts.proofs.TableLaws.{same_rows, same_kept, writes_among}
-use Rattle.eve_attempts.proofs.Walking.{Walking, walking_start, walking_more, walking_stop, walking_at, limits_in}
-use Rattle.eve_attempts.proofs.Walking.{written_more}
+use Rattle.eve_attempts.proofs.RecordWalks.{Walking, walking_start, walking_more, walking_stop, walking_at, limits_in}
+use Rattle.eve_attempts.proofs.RecordWalks.{written_more}
 use Rattle.eve_attempts.proofs.walk.write_along.Goals as goal
 
 pub are_seen-requires : goal.are_seen-requires

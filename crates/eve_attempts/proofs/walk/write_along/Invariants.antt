@@ -1,8 +1,8 @@
 use Rattle.std.proofs.Common.{◌≡◌, IsTrue, ◌≤◌, ◌*◌, length, drop, vec_len, vec_capacity}
 use Rattle.eve_attempts.specs.Ledgers.{table_of_rows, is_write_in}
 use Rattle.std.specs.List.{list_all}
-use Rattle.eve_attempts.specs.Ordering.{records_in}
-use Rattle.eve_attempts.proofs.Walking.{Walking}
+use Rattle.eve_attempts.specs.inner.RecordKeys.{records_in}
+use Rattle.eve_attempts.proofs.RecordWalks.{Walking}
 use Rattle.eve_attempts.proofs.walk.write_along.Given as goal
 
 abbrev pub invariant-loop-key : goal.invariant-loop-key

@@ -2,7 +2,7 @@ use Rattle.std.proofs.Common.{◌≤◌, length, sym, subst, ◌∙◌}
 use Rattle.eve_audit.specs.Verdict.{IsVerdict}
 use Rattle.eve_audit.specs.Answer.{verdict_of}
 use Rattle.eve_audit.specs.Where.{NamesItsSection}
-use Rattle.eve_audit.proofs.Answering.{yes_from, no_from}
+use Rattle.eve_audit.proofs.AnswerLaws.{yes_from, no_from}
 use Rattle.eve_audit.proofs.auditing.audit_one.Goals as goal
 
 pub returns-clause-verdict : goal.returns-clause-verdict

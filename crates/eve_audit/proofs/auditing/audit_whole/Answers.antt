@@ -1,6 +1,6 @@
 use Rattle.std.proofs.Common.{◌≡◌, ◌≤◌, length}
 use Rattle.std.proofs.lemmas.Result.{IfOk-weaker}
-use Rattle.eve_grammar.specs.Following.{Spells}
+use Rattle.eve_grammar.specs.FrameOrder.{Spells}
 use Rattle.eve_views.specs.declared.fault.Fault.{Fault}
 use Rattle.eve_history.specs.SectionHistory.{section_histories}
 use Rattle.eve_audit.specs.declared.verdict.Summary.{Summary}
@@ -8,7 +8,7 @@ use Rattle.eve_audit.specs.declared.verdict.Verdict.TheVariants.{Yes, No}
 use Rattle.eve_audit.specs.Answer.{IfAccepted, verdict_of}
 use Rattle.eve_audit.specs.Verdict.{IsVerdict, SpellsAudited}
 use Rattle.eve_audit.specs.Where.{NamesItsSection}
-use Rattle.eve_audit.proofs.Answering.{yes_from, no_from}
+use Rattle.eve_audit.proofs.AnswerLaws.{yes_from, no_from}
 use Rattle.eve_audit.proofs.auditing.audit_whole.Goals as goal
 
 pub returns-in-Ok-judge_side_by_side-clause-verdict : goal.returns-in-Ok-judge_side_by_side-clause-verdict

@@ -3,8 +3,8 @@ use Rattle.std.proofs.lemmas.Result.{IfOk-weaker, IfErr-weaker}
 use Rattle.eve_views.specs.Form.{IfFound, IsLeast, HasNone, IsFaultSomewhere, IsFaultOutside}
 use Rattle.eve_audit.specs.Verdict.{IsCommonFault}
 use Rattle.eve_audit.specs.Reports.{IsFirstOf}
-use Rattle.eve_audit.proofs.Firsts.{found_weaker, vote_first, majority_first, outcome_first, reply_first}
-use Rattle.eve_audit.proofs.Firsts.{none_common}
+use Rattle.eve_audit.proofs.FirstFaults.{found_weaker, vote_first, majority_first, outcome_first, reply_first}
+use Rattle.eve_audit.proofs.FirstFaults.{none_common}
 use Rattle.eve_agree.specs.Agreement.{StandsInAgreement}
 use Rattle.eve_agree.specs.Majority.{StandsInMajorities}
 use Rattle.eve_votes.specs.Faults.{StandsInVotes}

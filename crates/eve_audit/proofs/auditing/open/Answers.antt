@@ -1,8 +1,8 @@
 use Rattle.eve_views.specs.Form.{IsLeast, IsFaultOutside}
 use Rattle.eve_audit.specs.declared.verdict.Verdict.TheVariants.{No}
 use Rattle.eve_audit.specs.Answer.{IsAnswer}
-use Rattle.eve_audit.proofs.Answering.{form_for, no_for}
-use Rattle.eve_audit.proofs.Firsts.{found_weaker, order_first}
+use Rattle.eve_audit.proofs.AnswerLaws.{form_for, no_for}
+use Rattle.eve_audit.proofs.FirstFaults.{found_weaker, order_first}
 use Rattle.eve_history.specs.Order.{StandsInOrders}
 use Rattle.eve_audit.proofs.auditing.open.Goals as goal
 
@@ -19,7 +19,7 @@ returns-clause-fault g c =
       parts = c.parts_stand_in_order.ensures t;
       committed = c.outcomes_come_of_steps.ensures.committed t;
       each_settled = c.outcomes_come_of_steps.ensures.settled t;
-      taken_over = c.outcomes_come_of_steps.ensures.taken_over t;
+      transferred = c.outcomes_come_of_steps.ensures.transferred t;
     }) f (order_first t f least))
     c.in-Err-orders.ensures.least
 

@@ -1,6 +1,6 @@
 use Rattle.std.proofs.Common.{sym, subst}
 use Rattle.std.proofs.lemmas.List.Elements.{All-set}
-use Rattle.eve_audit.specs.Findings.{IsAnswerOf}
+use Rattle.eve_audit.specs.inner.Findings.{IsAnswerOf}
 use Rattle.eve_audit.specs.declared.findings.Finding.{Finding}
 use Rattle.eve_audit.proofs.findings.judge_all_tokens.Goals as goal
 

@@ -1,4 +1,4 @@
-use Rattle.eve_audit.specs.Findings.{AreTrueSoFar}
+use Rattle.eve_audit.specs.inner.Findings.{AreTrueSoFar}
 use Rattle.eve_audit.proofs.findings.judge_in_turn.Given as goal
 
 abbrev pub invariant-loop-e : goal.invariant-loop-e

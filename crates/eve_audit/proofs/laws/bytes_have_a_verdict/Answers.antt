@@ -1,5 +1,5 @@
 use Rattle.eve_audit.proofs.FittingRecords.{fits_decided}
-use Rattle.eve_audit.proofs.Existing.{some_verdict}
+use Rattle.eve_audit.proofs.SomeVerdict.{some_verdict}
 use Rattle.eve_audit.proofs.laws.bytes_have_a_verdict.Goals as goal
 
 pub returns : goal.returns
@@ -13,7 +13,7 @@ returns c = λ bytes all_bytes.
       parts = c.parts_stand_in_order.ensures t;
       committed = c.outcomes_come_of_steps.ensures.committed t;
       each_settled = c.outcomes_come_of_steps.ensures.settled t;
-      taken_over = c.outcomes_come_of_steps.ensures.taken_over t;
+      transferred = c.outcomes_come_of_steps.ensures.transferred t;
     }) bytes
     (c.form_is_decided.ensures.decided bytes all_bytes)
     (λ f t is. c.form_is_decided.ensures.apart bytes f t all_bytes is)

@@ -1,4 +1,4 @@
-use Rattle.eve_audit.proofs.Within.{stands_within}
+use Rattle.eve_audit.proofs.FaultOffsets.{stands_within}
 use Rattle.eve_audit.proofs.laws.standing_faults_lie_within.Goals as goal
 
 pub returns : goal.returns
@@ -8,5 +8,5 @@ returns c =
       parts = c.parts_stand_in_order.ensures t;
       committed = c.outcomes_come_of_steps.ensures.committed t;
       each_settled = c.outcomes_come_of_steps.ensures.settled t;
-      taken_over = c.outcomes_come_of_steps.ensures.taken_over t;
+      transferred = c.outcomes_come_of_steps.ensures.transferred t;
     })

@@ -2,7 +2,7 @@ use Rattle.std.proofs.Common.{◌≡◌, ℕ, ◌+◌, ◌<◌, length, ap, Opti
 use Rattle.eve_views.specs.declared.fault.Fault.{Fault}
 use Rattle.eve_views.specs.Form.{HasNone}
 use Rattle.eve_audit.specs.Reports.{IsFirstOf, IsFoundBelow, AreKept, IsJudgedBelow, IsFaultBelow}
-use Rattle.eve_audit.proofs.Kept.{sound_more, judged_more, all_told, all_settled, all_sound}
+use Rattle.eve_audit.proofs.KeptReplicas.{sound_more, judged_more, all_told, all_settled, all_sound}
 use Rattle.eve_audit.proofs.replicas.all_reports.Goals.{in-Ok+in_ok-keep-in-Ok, in-Err-Found}
 use Rattle.eve_audit.proofs.replicas.all_reports.Goals as goal
 

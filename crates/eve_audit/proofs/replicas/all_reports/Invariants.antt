@@ -1,5 +1,5 @@
 -- What was found in the replicas so far, and what was kept of them; and what was found is true.
-use Rattle.eve_audit.specs.Findings.{AreTrue}
+use Rattle.eve_audit.specs.inner.Findings.{AreTrue}
 use Rattle.eve_audit.specs.Reports.{IsJudgedBelow}
 use Rattle.eve_audit.proofs.replicas.all_reports.Given as goal
 

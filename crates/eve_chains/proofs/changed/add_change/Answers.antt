@@ -1,7 +1,7 @@
 use Rattle.std.proofs.Common.{◌≡◌, ℕ, suc, ◌-◌, false, [], ◌∷◌, ◌++◌, length, get_or, sym, ap, ◌∙◌, arith, rules}
 use Rattle.std.proofs.lemmas.List.{get_or_default}
 use Rattle.eve_chains.specs.declared.changed.Changed.{Changed}
-use Rattle.eve_chains.proofs.Changing.{is_of_same, changed_again, changed_anew}
+use Rattle.eve_chains.proofs.ChangeLists.{is_of_same, changed_again, changed_anew}
 use Rattle.eve_chains.proofs.changed.add_change.Goals as goal
 use Rattle.eve_chains.proofs.changed.add_change.Goals.{else-count-gt0-via-then-count-gt0+else-is_of_same}
 use Rattle.eve_chains.proofs.changed.add_change.Goals.{else-count-gt0-via-else-count-gt0}

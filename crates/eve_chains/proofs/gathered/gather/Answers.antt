@@ -4,12 +4,12 @@ use Rattle.std.proofs.lemmas.List.Elements.{All-nil}
 use Rattle.eve_grammar.specs.Limits.{row_count}
 use Rattle.eve_grammar.specs.Trace.{head_of}
 use Rattle.eve_grammar.proofs.Lists.{item_within, all-append}
-use Rattle.eve_chains.specs.Gathered.{with_taken, as_noted, noted_if_settled, notes_between, HasGathered}
+use Rattle.eve_chains.specs.inner.Gathered.{with_transferred, as_noted, noted_if_settled, notes_between, HasGathered}
 use Rattle.eve_chains.specs.Rows.{Noted}
 use Rattle.eve_chains.specs.declared.note.Note.{Note}
-use Rattle.eve_chains.proofs.Gathering.{none_gathered, notes_more, gathered_whole, below_noted, noted_below}
+use Rattle.eve_chains.proofs.GatheredEntries.{none_gathered, notes_more, gathered_whole, below_noted, noted_below}
 use Rattle.eve_chains.proofs.Stretches.{none_between, one_between, between_joined}
-use Rattle.eve_chains.proofs.Told.{IsRowBelow, as_many_taken, taken_at, within_told, below_settled}
+use Rattle.eve_chains.proofs.ToldAttempts.{IsRowBelow, as_many_transferred, transferred_at, within_told, below_settled}
 use Rattle.eve_chains.proofs.gathered.gather.Goals as goal
 
 none_left : (notes : List Note) → length notes < 1 → notes ≡ []
@@ -26,7 +26,7 @@ loop-i-init c =
       below = subst (λ (ns : List Note). All (λ n. n.row < rows) ns) (sym c.new-notes.ensures.items)
           (All-nil (λ (n : Note). n.row < rows));
       gathered = subst (λ (ns : List Noted). HasGathered rows ns parts notes)
-          (sym (none_between noted_if_settled (with_taken h.attempts h.taken) h.fates c.args.stretch.from))
+          (sym (none_between noted_if_settled (with_transferred h.attempts h.transferred) h.fates c.args.stretch.from))
           (none_gathered rows parts notes c.new-parts.ensures.items c.new-notes.ensures.items);
     }
 
@@ -44,23 +44,23 @@ put_by_row-requires-clause-below c =
     let r = item_within h.attempts i
     (omega (arith, c.loop-i-test.true, c.if-prove.false, c.attempts.ensures.attempts)) in
     let fate = item_within h.fates i (omega (arith, c.loop-i-test.true, c.if-prove.false, c.attempts.ensures.fates)) in
-    let taken = item_within h.taken i
+    let transferred = item_within h.transferred i
     (omega (
       arith,
       c.loop-i-test.true,
       c.if-prove.false,
       c.attempts.ensures.attempts,
-      as_many_taken t h.replica h
+      as_many_transferred t h.replica h
           c.requires.history,
     )) in
-    let more = noted_if_settled (r.0, taken.0) fate.0 in
+    let more = noted_if_settled (r.0, transferred.0) fate.0 in
     let within = within_told t h.replica h i r.0 c.recall_limits.ensures c.requires.history r.1 in
     noted_below c.args.rows c.note_attempt.new.notes.items
     (subst (AllByRecursion (IsRowBelow c.args.rows))
-    (sym (c.in_ok-note_attempt.ensures r.0 taken.0 fate.0 r.1 taken.1 fate.1))
+    (sym (c.in_ok-note_attempt.ensures r.0 transferred.0 fate.0 r.1 transferred.1 fate.1))
     (all-append (IsRowBelow c.args.rows) (map as_noted old) more (below_noted c.args.rows old c.loop-i.invariant.below)
     (subst (λ (n : ℕ). AllByRecursion (IsRowBelow n) more) (sym c.requires.rows)
-    (below_settled (row_count (head_of t)) r.0 taken.0 fate.0 within))))
+    (below_settled (row_count (head_of t)) r.0 transferred.0 fate.0 within))))
 
 pub loop-i-preserved : goal.loop-i-preserved
 loop-i-preserved c =
@@ -71,21 +71,21 @@ loop-i-preserved c =
     let r = item_within h.attempts i
     (omega (arith, c.loop-i-test.true, c.if-prove.false, c.attempts.ensures.attempts)) in
     let fate = item_within h.fates i (omega (arith, c.loop-i-test.true, c.if-prove.false, c.attempts.ensures.fates)) in
-    let taken = item_within h.taken i
+    let transferred = item_within h.transferred i
     (omega (
       arith,
       c.loop-i-test.true,
       c.if-prove.false,
       c.attempts.ensures.attempts,
-      as_many_taken t h.replica h
+      as_many_transferred t h.replica h
           c.requires.history,
     )) in
-    let xs = with_taken h.attempts h.taken in
-    let more = noted_if_settled (r.0, taken.0) fate.0 in
+    let xs = with_transferred h.attempts h.transferred in
+    let more = noted_if_settled (r.0, transferred.0) fate.0 in
     let joined : notes_between h from i ++ more ≡ notes_between h from (i + 1) =
     ap (λ (ms : List Noted). notes_between h from i ++ ms)
-    (one_between noted_if_settled xs h.fates i (r.0, taken.0) fate.0
-    (taken_at h.attempts h.taken i r.0 taken.0 r.1 taken.1) fate.1)
+    (one_between noted_if_settled xs h.fates i (r.0, transferred.0) fate.0
+    (transferred_at h.attempts h.transferred i r.0 transferred.0 r.1 transferred.1) fate.1)
     ∙ between_joined noted_if_settled xs h.fates from i (i + 1) c.loop-i.auto.i (omega arith) in
     record {
       below = c.in_ok-put_by_row.ensures.below;
@@ -93,7 +93,8 @@ loop-i-preserved c =
           (subst (λ (ns : List Noted). HasGathered c.args.rows ns c.loop-i.parts.items c.note_attempt.new.notes.items)
           joined
           (notes_more c.args.rows (notes_between h from i) more c.loop-i.parts.items c.loop-i.notes.items
-          c.note_attempt.new.notes.items (c.in_ok-note_attempt.ensures r.0 taken.0 fate.0 r.1 taken.1 fate.1)
+          c.note_attempt.new.notes.items
+          (c.in_ok-note_attempt.ensures r.0 transferred.0 fate.0 r.1 transferred.1 fate.1)
           c.loop-i.invariant.gathered));
     }
 

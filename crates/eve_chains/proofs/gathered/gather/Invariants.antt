@@ -1,5 +1,5 @@
 use Rattle.std.proofs.Common.{◌<◌, All}
-use Rattle.eve_chains.specs.Gathered.{notes_between, HasGathered}
+use Rattle.eve_chains.specs.inner.Gathered.{notes_between, HasGathered}
 use Rattle.eve_chains.proofs.gathered.gather.Given as goal
 
 abbrev pub invariant-loop-i : goal.invariant-loop-i

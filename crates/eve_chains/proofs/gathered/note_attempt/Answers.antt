@@ -8,12 +8,12 @@ use Rattle.eve_grammar.specs.Frames.{OfAccess}
 use Rattle.eve_grammar.specs.Limits.{row_count}
 use Rattle.eve_grammar.specs.Trace.{Attempt, head_of}
 use Rattle.eve_views.specs.Lent.{HasBytesAt}
-use Rattle.eve_frames.specs.Said.{access_said}
+use Rattle.eve_frames.specs.Decoded.{access_decoded}
 use Rattle.eve_history.specs.SectionHistory.{ExecutedAttempt, is_committed}
-use Rattle.eve_chains.specs.Along.{said_at}
+use Rattle.eve_chains.specs.Along.{decoded_at}
 use Rattle.eve_chains.specs.Rows.{Noted, noted_by}
 use Rattle.eve_chains.specs.Records.{is_settled}
-use Rattle.eve_chains.specs.Gathered.{as_noted, noted_along}
+use Rattle.eve_chains.specs.inner.Gathered.{as_noted, noted_along}
 use Rattle.eve_chains.proofs.ByRow.{record_within, list_more, offset_small}
 use Rattle.eve_chains.proofs.gathered.note_attempt.Goals as goal
 
@@ -22,7 +22,7 @@ loop-place-init c = λ r at. sym (append-nil (map as_noted c.args.notes.now.item
 
 pub note_record-requires-clause-offset : goal.note_record-requires-clause-offset
 note_record-requires-clause-offset c =
-    offset_small _ c.args.trace.now c.ordered-access.result.offset (OfAccess (access_said c.ordered-access.result))
+    offset_small _ c.args.trace.now c.ordered-access.result.offset (OfAccess (access_decoded c.ordered-access.result))
     c.bytes-bytes.ensures
     (subst (HasBytesAt c.args.trace.now c.ordered-access.result.offset) c.ordered-access.ensures.text
     (c.ordered-access.ensures.stands c.args.trace.now c.args.history.now.replica c.requires.history))
@@ -32,7 +32,7 @@ note_record-requires-clause-within c =
     let says = c.ordered-access.ensures.says in
     let rows = row_count (head_of c.args.trace.now) in (
       rows,
-      record_within rows says.0.ordered c.loop-place.place (said_at c.ordered-access.result)
+      record_within rows says.0.ordered c.loop-place.place (decoded_at c.ordered-access.result)
           (c.requires.within says.0 says.1) says.2,
     )
 
@@ -40,22 +40,23 @@ pub loop-place-preserved : goal.loop-place-preserved
 loop-place-preserved c = λ r at.
     let says = c.ordered-access.ensures.says in
     let own : says.0 ≡ r = same_Some says.0 r (sym says.1 ∙ at) in
-    let f = noted_by c.taken_before.result c.view.result c.seq.result c.is_committed.result in
+    let f = noted_by c.transferred_before.result c.view.result c.seq.result c.is_committed.result in
     c.in_ok-note_record.ensures
-    ∙ ap (λ (ms : List Noted). ms ++ f (said_at c.ordered-access.result)) (c.loop-place.invariant r at)
-    ∙ list_more f (map as_noted c.args.notes.now.items) r.ordered c.loop-place.place (said_at c.ordered-access.result)
+    ∙ ap (λ (ms : List Noted). ms ++ f (decoded_at c.ordered-access.result)) (c.loop-place.invariant r at)
+    ∙ list_more f (map as_noted c.args.notes.now.items) r.ordered c.loop-place.place
+    (decoded_at c.ordered-access.result)
     (ap (λ (q : ExecutedAttempt). slice_get q.ordered c.loop-place.place) (sym own) ∙ says.2)
 
 pub returns : goal.returns
-returns c = λ r taken fate at as_many its.
+returns c = λ r transferred fate at as_many its.
     let says = c.attempt-attempt.ensures.says in
     let own : says.0 ≡ r = same_Some says.0 r (sym says.1 ∙ at) in
     let view : c.view.result ≡ r.attempt.view = c.view.ensures ∙ ap (λ (a : Attempt). a.view) says.3
     ∙ ap (λ (q : ExecutedAttempt). q.attempt.view) own in
     let number : c.seq.result ≡ r.attempt.seq = c.seq.ensures ∙ ap (λ (a : Attempt). a.seq) says.3
     ∙ ap (λ (q : ExecutedAttempt). q.attempt.seq) own in
-    let before : c.taken_before.result ≡ taken =
-    same_Some c.taken_before.result taken (sym c.taken_before.ensures ∙ as_many) in
+    let before : c.transferred_before.result ≡ transferred =
+    same_Some c.transferred_before.result transferred (sym c.transferred_before.ensures ∙ as_many) in
     let same : c.fate-fate.result ≡ fate = same_Some c.fate-fate.result fate (sym c.fate-fate.ensures ∙ its) in
     let commits : c.is_committed.result ≡ is_committed fate = c.is_committed.ensures ∙ ap is_committed same in
     let passes : is_settled fate ≡ true = ap is_settled (sym same) ∙ sym c.is_settled.ensures
@@ -71,4 +72,4 @@ returns c = λ r taken fate at as_many its.
     ∙ ap (λ (ms : List Noted). map as_noted c.args.notes.now.items ++ ms)
     ((λ i. flat_map (noted_by (before i) (view i) (number i) (commits i))
     (take_all c.loop-place.place r.ordered over i))
-    ∙ sym (cond-true (is_settled fate) (noted_along (r, taken) fate) [] passes))
+    ∙ sym (cond-true (is_settled fate) (noted_along (r, transferred) fate) [] passes))

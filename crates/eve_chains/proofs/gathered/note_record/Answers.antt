@@ -1,8 +1,8 @@
 use Rattle.std.proofs.Common.{◌≡◌, ◌++◌, ◌∷◌, [], ℕ, List, map, sym, ap, ◌∙◌, append-nil, arith}
 use Rattle.std.proofs.lemmas.List.{take_all, map-append}
 use Rattle.eve_smallbank.specs.declared.entry.Entry.{Entry}
-use Rattle.eve_frames.specs.Said.{access_said}
-use Rattle.eve_chains.specs.Gathered.{as_noted, noted_of_entry}
+use Rattle.eve_frames.specs.Decoded.{access_decoded}
+use Rattle.eve_chains.specs.inner.Gathered.{as_noted, noted_of_entry}
 use Rattle.eve_chains.proofs.ByRow.{entry_within, one_more}
 use Rattle.eve_chains.proofs.gathered.note_record.Goals as goal
 
@@ -12,14 +12,14 @@ loop-place-init c = sym (append-nil (map as_noted c.args.notes.now.items))
 pub note_of-requires : goal.note_of-requires
 note_of-requires c = (
   c.requires.within.0,
-  entry_within c.requires.within.0 (access_said c.args.access.now).entries c.loop-place.place c.entry.result
+  entry_within c.requires.within.0 (access_decoded c.args.access.now).entries c.loop-place.place c.entry.result
       c.requires.within.1 c.entry.ensures,
 )
 
 pub loop-place-preserved : goal.loop-place-preserved
 loop-place-preserved c =
     let old = map as_noted c.args.notes.now.items in
-    let es = (access_said c.args.access.now).entries in
+    let es = (access_decoded c.args.access.now).entries in
     let f = noted_of_entry c.args.noting c.args.access.now.offset in
     let k = c.loop-place.place in
     let new : as_noted c.note_of.result ≡ f c.entry.result =
@@ -33,5 +33,5 @@ pub returns : goal.returns
 returns c = c.loop-place.invariant
     ∙ ap (λ (es : List Entry). map as_noted c.args.notes.now.items
     ++ map (noted_of_entry c.args.noting c.args.access.now.offset) es)
-    (take_all c.loop-place.place (access_said c.args.access.now).entries
+    (take_all c.loop-place.place (access_decoded c.args.access.now).entries
     (omega (arith, c.loop-place-test.false, c.len-place-end.ensures.len)))

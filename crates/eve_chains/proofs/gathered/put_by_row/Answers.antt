@@ -1,10 +1,10 @@
 use Rattle.std.proofs.Common.{◌++◌, ◌∷◌, ◌<◌, [], List, All, length, sym, subst, ap, ◌∙◌, arith}
 use Rattle.std.proofs.lemmas.List.Elements.{All-nil}
-use Rattle.eve_chains.specs.Gathered.{HasGathered}
-use Rattle.eve_chains.specs.Grouped.{with_key}
+use Rattle.eve_chains.specs.inner.Gathered.{HasGathered}
+use Rattle.eve_chains.specs.inner.Grouped.{with_key}
 use Rattle.eve_chains.specs.declared.note.Note.{Note}
 use Rattle.eve_chains.specs.declared.grouped.Grouped.{Grouped}
-use Rattle.eve_chains.proofs.Gathering.{put_behind}
+use Rattle.eve_chains.proofs.GatheredEntries.{put_behind}
 use Rattle.eve_chains.proofs.gathered.put_by_row.Goals as goal
 
 pub of-requires-clause-keys : goal.of-requires-clause-keys

@@ -1,7 +1,7 @@
 use Rattle.std.proofs.Common.{subst, arith}
 use Rattle.eve_grammar.specs.Limits.{row_count}
 use Rattle.eve_grammar.specs.Trace.{head_of}
-use Rattle.eve_chains.specs.Walked.{IsFirstOnRows}
+use Rattle.eve_chains.specs.inner.Walked.{IsFirstOnRows}
 use Rattle.eve_chains.proofs.JudgedRows.{each_row_sees, wrong_below}
 use Rattle.eve_chains.proofs.judgement.chains.Goals as goal
 

@@ -4,22 +4,22 @@ use Rattle.eve_grammar.specs.Trace.{head_of}
 use Rattle.eve_views.specs.First.{first_of}
 use Rattle.eve_views.specs.declared.fault.Fault.{Fault}
 use Rattle.eve_history.specs.SectionHistory.{names_of}
-use Rattle.eve_chains.specs.Gathered.{notes_between, AreGathered}
-use Rattle.eve_chains.specs.Records.{records_between, IsLeastUnfit, lesser}
-use Rattle.eve_chains.specs.Walked.{IsFirstOnRows, AreOfRanges}
+use Rattle.eve_chains.specs.inner.Gathered.{notes_between, AreGathered}
+use Rattle.eve_chains.specs.Records.{records_between, IsLeastMismatch, lesser}
+use Rattle.eve_chains.specs.inner.Walked.{IsFirstOnRows, AreOfRanges}
 use Rattle.eve_chains.specs.declared.side_by_side.Judged.{Judged}
 use Rattle.eve_chains.specs.declared.numbered.Numbered.{Numbered}
 use Rattle.eve_chains.specs.declared.rows.WalkedRange.{WalkedRange}
-use Rattle.eve_chains.proofs.Joined.{least_of_stretches, parts_of_stretches, first_of_walked, ranges_of_walked}
+use Rattle.eve_chains.proofs.JoinedStretches.{least_of_stretches, parts_of_stretches, first_of_walked, ranges_of_walked}
 use Rattle.eve_chains.proofs.judgement.check.Goals as goal
 
 pub records-requires-clause-least : goal.records-requires-clause-least
 records-requires-clause-least g c =
     let t = c.args.trace.now in
     let h = c.args.history.now in
-    subst (IsLeastUnfit (names_of t) (records_between t h 0 (length h.attempts)))
-    (sym (c.least_unfit.ensures
-    ∙ ap (λ (js : List Judged). fold (λ (least : Option ℕ) (one : Judged). lesser least one.unfit) None js)
+    subst (IsLeastMismatch (names_of t) (records_between t h 0 (length h.attempts)))
+    (sym (c.least_mismatch.ensures
+    ∙ ap (λ (js : List Judged). fold (λ (least : Option ℕ) (one : Judged). lesser least one.mismatch) None js)
     c.deref.ensures.value))
     (least_of_stretches t h c.in_ok-judged.judged.items c.in_ok-judged.ensures)
 

@@ -1,8 +1,8 @@
 use Rattle.std.proofs.Common.{ℕ, List, subst}
 use Rattle.std.specs.List.{AllZip}
 use Rattle.rayon.proofs.ListFacts.{IfOk-then}
-use Rattle.eve_chains.specs.Judged.{IsFoundIn}
-use Rattle.eve_chains.specs.Stretches.{AreBetween}
+use Rattle.eve_chains.specs.inner.Judged.{IsFoundIn}
+use Rattle.eve_chains.specs.inner.Stretches.{AreBetween}
 use Rattle.eve_chains.specs.declared.stretch.Stretch.{Stretch}
 use Rattle.eve_chains.proofs.judgement.judge_attempts.Goals as goal
 

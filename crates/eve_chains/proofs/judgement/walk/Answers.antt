@@ -4,8 +4,8 @@ use Rattle.rayon.proofs.ListFacts.{IfOk-then}
 use Rattle.eve_grammar.specs.Limits.{row_count}
 use Rattle.eve_grammar.specs.Trace.{head_of}
 use Rattle.eve_grammar.proofs.OpeningRows.{length-opening_rows}
-use Rattle.eve_chains.specs.Stretches.{AreBetween, IsWithin}
-use Rattle.eve_chains.specs.Walked.{IsWalkedRange}
+use Rattle.eve_chains.specs.inner.Stretches.{AreBetween, IsWithin}
+use Rattle.eve_chains.specs.inner.Walked.{IsWalkedRange}
 use Rattle.eve_chains.specs.declared.stretch.Stretch.{Stretch}
 use Rattle.eve_chains.proofs.judgement.walk.Goals as goal
 

@@ -1,4 +1,4 @@
-use Rattle.eve_chains.proofs.Advancing.{advance_along}
+use Rattle.eve_chains.proofs.BalanceSteps.{advance_along}
 use Rattle.eve_chains.proofs.laws.balances_advance_along_the_records.Goals as goal
 
 pub returns : goal.returns

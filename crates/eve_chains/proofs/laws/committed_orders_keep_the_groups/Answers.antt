@@ -1,4 +1,4 @@
-use Rattle.eve_chains.proofs.Once.{certificate_keeps_groups}
+use Rattle.eve_chains.proofs.DistinctRequests.{certificate_keeps_groups}
 use Rattle.eve_chains.proofs.laws.committed_orders_keep_the_groups.Goals as goal
 
 pub returns : goal.returns

@@ -1,4 +1,4 @@
-use Rattle.eve_chains.proofs.Once.{once}
+use Rattle.eve_chains.proofs.DistinctRequests.{once}
 use Rattle.eve_chains.proofs.Arrivals.{request_ids_apart}
 use Rattle.eve_chains.proofs.laws.requests_take_effect_once.Goals as goal
 

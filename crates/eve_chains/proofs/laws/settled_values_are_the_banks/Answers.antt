@@ -1,4 +1,4 @@
-use Rattle.eve_chains.proofs.AdvancingBanks.{settled_values}
+use Rattle.eve_chains.proofs.BankSteps.{settled_values}
 use Rattle.eve_chains.proofs.laws.settled_values_are_the_banks.Goals as goal
 
 pub returns : goal.returns

@@ -6,8 +6,8 @@ use Rattle.eve_smallbank.specs.SmallBank.{plain}
 use Rattle.eve_grammar.specs.Trace.{Attempt, Batch}
 use Rattle.eve_frames.specs.Views.{batch_in}
 use Rattle.eve_history.specs.SectionHistory.{ExecutedAttempt}
-use Rattle.eve_chains.specs.Records.{is_settled, records_along, HasRequests, IsLeastUnfit}
-use Rattle.eve_chains.proofs.Judged.{ready_told, as_many, as_recorded}
+use Rattle.eve_chains.specs.Records.{is_settled, records_along, HasRequests, IsLeastMismatch}
+use Rattle.eve_chains.proofs.JudgedRecords.{ready_told, as_many, as_recorded}
 use Rattle.eve_chains.proofs.records.judge_attempt.Goals as goal
 
 pub batch-batch-requires-clause-from_one : goal.batch-batch-requires-clause-from_one
@@ -40,11 +40,11 @@ judge_records-requires-clause-requests c r at =
     at c.fate.ensures (sym c.is_settled.ensures ∙ c.if-not-is_settled.false) in
     let seq : c.seq.result ≡ r.attempt.seq = c.seq.ensures ∙ ap (λ (a : Attempt). a.seq) c.attempt.ensures.says.3
     ∙ ap (λ (q : ExecutedAttempt). q.attempt.seq) own in
-    let said : ℕ × (ℕ × Batch) = (c.batch-batch.result.offset, batch_in c.batch-batch.result.bytes.now) in
+    let decoded : ℕ × (ℕ × Batch) = (c.batch-batch.result.offset, batch_in c.batch-batch.result.bytes.now) in
     let lent : c.deref.result.now ≡ c.in_ok-requests.requests.items = search rules in
     let read = ap (map plain) lent ∙ c.in_ok-requests.ensures in
     subst (λ (n : ℕ). HasRequests n r)
-    (as_many t r c.seq.result said c.deref.result.now c.batch-batch.ensures.says seq read) ready.requests
+    (as_many t r c.seq.result decoded c.deref.result.now c.batch-batch.ensures.says seq read) ready.requests
 
 pub returns : goal.returns
 returns c r fate at its =
@@ -53,11 +53,11 @@ returns c r fate at its =
     (sym c.attempt.ensures.says.1 ∙ at) in
     let seq : c.seq.result ≡ r.attempt.seq = c.seq.ensures ∙ ap (λ (a : Attempt). a.seq) c.attempt.ensures.says.3
     ∙ ap (λ (q : ExecutedAttempt). q.attempt.seq) own in
-    let said : ℕ × (ℕ × Batch) = (c.batch-batch.result.offset, batch_in c.batch-batch.result.bytes.now) in
+    let decoded : ℕ × (ℕ × Batch) = (c.batch-batch.result.offset, batch_in c.batch-batch.result.bytes.now) in
     let lent : c.deref.result.now ≡ c.in_ok-requests.requests.items = search rules in
     let read = ap (map plain) lent ∙ c.in_ok-requests.ensures in
     let passes = ap is_settled (same_Some fate c.fate.result (sym its ∙ c.fate.ensures)) ∙ sym c.is_settled.ensures
     ∙ c.if-not-is_settled.false in
-    subst (λ (xs : List (ℕ × Executed)). IsLeastUnfit c.args.names.now.items xs c.judge_records.result)
-    (as_recorded t r c.seq.result said c.deref.result.now c.batch-batch.ensures.says seq read
+    subst (λ (xs : List (ℕ × Executed)). IsLeastMismatch c.args.names.now.items xs c.judge_records.result)
+    (as_recorded t r c.seq.result decoded c.deref.result.now c.batch-batch.ensures.says seq read
     ∙ sym (cond-true (is_settled fate) (records_along t r) [] passes)) (c.judge_records.ensures r at)

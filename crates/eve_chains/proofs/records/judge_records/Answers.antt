@@ -7,7 +7,7 @@ use Rattle.eve_grammar.specs.Trace.{Access, Attempt}
 use Rattle.eve_frames.specs.Views.{access_in, attempt_in}
 use Rattle.eve_history.specs.SectionHistory.{ExecutedAttempt}
 use Rattle.eve_grammar.proofs.Lists.{all-slice_get}
-use Rattle.eve_chains.specs.Records.{recorded, recorded_of, IsLeastUnfit}
+use Rattle.eve_chains.specs.Records.{recorded, recorded_of, IsLeastMismatch}
 use Rattle.eve_chains.proofs.Least.{least_next, recorded_at}
 use Rattle.eve_chains.proofs.records.judge_records.Goals as goal
 
@@ -25,7 +25,7 @@ loop-place-preserved c r at =
     (sym c.ordered-access.ensures.says.1 ∙ at) in
     let its : c.attempt-attempt.ensures.says.0 ≡ r = same_Some c.attempt-attempt.ensures.says.0 r
     (sym c.attempt-attempt.ensures.says.1 ∙ at) in
-    let said : attempt_in c.attempt-attempt.result.bytes.now ≡ r.attempt = c.attempt-attempt.ensures.says.3
+    let decoded : attempt_in c.attempt-attempt.result.bytes.now ≡ r.attempt = c.attempt-attempt.ensures.says.3
     ∙ ap (λ (q : ExecutedAttempt). q.attempt) its in
     let listed : slice_get r.ordered place ≡ Some x =
     ap (λ (q : ExecutedAttempt). slice_get q.ordered place) (sym own) ∙ c.ordered-access.ensures.says.2 in
@@ -38,8 +38,8 @@ loop-place-preserved c r at =
     ≡ Some reply → of x ≡ y reply = λ reply replied.
     recorded_at requests r.attempt.replies x c.index-index.result c.index-requests-index.result reply
     c.index-index.ensures within c.index-requests-index.is
-    (ap (λ (a : Attempt). slice_get a.replies c.index-index.result) (sym said) ∙ replied) in
-    let more : Option ℕ → Type 0 = λ least. IsLeastUnfit names (map of (take (place + 1) r.ordered)) least in
+    (ap (λ (a : Attempt). slice_get a.replies c.index-index.result) (sym decoded) ∙ replied) in
+    let more : Option ℕ → Type 0 = λ least. IsLeastMismatch names (map of (take (place + 1) r.ordered)) least in
     subst more (sym c.lesser-least.ensures)
     (least_next names of r.ordered place x (y c.reply.result) c.loop-place.least c.judge_record-found.result listed
     (is c.reply.result c.reply.ensures) (c.loop-place.invariant r at) c.judge_record-found.ensures)

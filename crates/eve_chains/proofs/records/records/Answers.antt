@@ -1,7 +1,7 @@
 use Rattle.eve_views.specs.Form.{IsLeast, IsFaultIn}
 use Rattle.std.proofs.Common.{ℕ, sym, subst}
-use Rattle.eve_chains.specs.Records.{IsLeastUnfit}
-use Rattle.eve_chains.proofs.Judged.{judged_of, record_fault, all_fit, no_fault, least_fault, as_told}
+use Rattle.eve_chains.specs.Records.{IsLeastMismatch}
+use Rattle.eve_chains.proofs.JudgedRecords.{judged_of, record_fault, all_fit, no_fault, least_fault, as_told}
 use Rattle.eve_chains.specs.Faults.{StandsInRecords}
 use Rattle.eve_chains.proofs.records.records.Goals as goal
 
@@ -11,7 +11,7 @@ returns-in-None-clause-fit c =
     let h = c.args.history.now in
     all_fit t h.replica c.recall_limits.ensures
     (c.recall_right.ensures.section t h.replica c.requires.history)
-    (subst (IsLeastUnfit _ (judged_of t h.replica)) c.in-None.is
+    (subst (IsLeastMismatch _ (judged_of t h.replica)) c.in-None.is
     (as_told t h c.args.least c.requires.history c.requires.least))
 
 pub returns-in-None-clause-none : goal.returns-in-None-clause-none
@@ -20,7 +20,7 @@ returns-in-None-clause-none c =
     let h = c.args.history.now in
     no_fault t h.replica c.recall_limits.ensures
     (c.recall_right.ensures.section t h.replica c.requires.history)
-    (subst (IsLeastUnfit _ (judged_of t h.replica)) c.in-None.is
+    (subst (IsLeastMismatch _ (judged_of t h.replica)) c.in-None.is
     (as_told t h c.args.least c.requires.history c.requires.least))
 
 pub returns-in-Some-clause-least : goal.returns-in-Some-clause-least
@@ -29,7 +29,7 @@ returns-in-Some-clause-least c =
     let h = c.args.history.now in
     let least = least_fault t h.replica c.recall_limits.ensures
     (c.recall_right.ensures.section t h.replica c.requires.history)
-    c.in-Some.offset (subst (IsLeastUnfit _ (judged_of t h.replica)) c.in-Some.is
+    c.in-Some.offset (subst (IsLeastMismatch _ (judged_of t h.replica)) c.in-Some.is
     (as_told t h c.args.least c.requires.history c.requires.least)) in
     subst (λ (e : ℕ). IsLeast (IsFaultIn StandsInRecords t h.replica) (record_fault e c.in-Some.offset))
     (sym c.replica.ensures)

@@ -1,20 +1,20 @@
 use Rattle.std.proofs.Common.{◌≡◌, ◌+◌, ◌++◌, ℕ, List, map, take, refl, sym, subst, ap, ◌∙◌, arith}
 use Rattle.std.proofs.lemmas.List.{take_all}
-use Rattle.eve_chains.specs.Bases.{base_at}
+use Rattle.eve_chains.specs.inner.Bases.{base_at}
 use Rattle.eve_chains.specs.Changes.{changes_along}
-use Rattle.eve_chains.specs.Gathered.{as_noted, own_in, own_along}
-use Rattle.eve_chains.specs.Grouped.{standing_at}
+use Rattle.eve_chains.specs.inner.Gathered.{as_noted, own_in, own_along}
+use Rattle.eve_chains.specs.inner.Grouped.{standing_at}
 use Rattle.eve_chains.specs.Rows.{Noted}
-use Rattle.eve_chains.specs.Walked.{HasMet, IsFirstOnRow}
+use Rattle.eve_chains.specs.inner.Walked.{HasChecked, IsFirstOnRow}
 use Rattle.eve_chains.specs.declared.note.Note.{Note}
 use Rattle.eve_chains.specs.declared.grouped.Grouped.{Grouped}
-use Rattle.eve_chains.proofs.Gathering.{along_more}
+use Rattle.eve_chains.proofs.GatheredEntries.{along_more}
 use Rattle.eve_chains.proofs.WalkedRows.{changes_more}
 use Rattle.eve_chains.proofs.row_walk.walk_row.Goals as goal
 
 pub loop-part-init : goal.loop-part-init
 loop-part-init c = record {
-  met = c.new-walk.ensures c.args.replica (base_at c.args.bases.now c.args.row) (sym c.requires.opening);
+  checked = c.new-walk.ensures c.args.replica (base_at c.args.bases.now c.args.row) (sym c.requires.opening);
   changes = refl;
 }
 
@@ -32,8 +32,9 @@ loop-part-preserved c =
     ap (λ (ns : List Noted). before ++ ns) own
     ∙ sym (along_more row parts k p c.loop-part-test.true (sym c.part-item.is)) in
     record {
-      met = subst (λ (ns : List Noted). HasMet c.args.replica (base_at c.args.bases.now row) ns c.walk_part.new.walk)
-          more (c.in_ok-walk_part.ensures.met before c.loop-part.invariant.met);
+      checked = subst (λ (ns : List Noted). HasChecked c.args.replica (base_at c.args.bases.now row) ns
+          c.walk_part.new.walk)
+          more (c.in_ok-walk_part.ensures.checked before c.loop-part.invariant.checked);
       changes = c.in_ok-walk_part.ensures.changes
           ∙ changes_more c.args.changes.now.items before (map as_noted c.group.result.now) c.loop-part.changes.items
           c.loop-part.invariant.changes
@@ -45,4 +46,4 @@ returns-clause-first c =
     subst (λ (ps : List (Grouped Note)). IsFirstOnRow c.args.replica (base_at c.args.bases.now c.args.row)
     (own_along c.args.row ps) c.loop-part.walk.first)
     (take_all c.loop-part.part-index c.args.entries.parts.now (omega (arith, c.loop-part-test.false)))
-    c.loop-part.invariant.met.first
+    c.loop-part.invariant.checked.first

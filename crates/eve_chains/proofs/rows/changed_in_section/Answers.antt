@@ -2,8 +2,8 @@ use Rattle.std.proofs.Common.{◌≡◌, ◌∷◌, ◌++◌, [], ℕ, List, len
 use Rattle.eve_grammar.specs.Limits.{row_count}
 use Rattle.eve_grammar.specs.Trace.{head_of}
 use Rattle.eve_grammar.proofs.OpeningRows.{length-opening_rows}
-use Rattle.eve_chains.specs.Gathered.{notes_between, AreGathered}
-use Rattle.eve_chains.specs.Walked.{AreOfRanges}
+use Rattle.eve_chains.specs.inner.Gathered.{notes_between, AreGathered}
+use Rattle.eve_chains.specs.inner.Walked.{AreOfRanges}
 use Rattle.eve_chains.specs.declared.numbered.Numbered.{Numbered}
 use Rattle.eve_chains.proofs.WalkedRows.{range_alone}
 use Rattle.eve_chains.proofs.rows.changed_in_section.Goals as goal

@@ -2,10 +2,10 @@ use Rattle.std.proofs.Common.{Result, IfOk, subst, ap, ◌∙◌}
 use Rattle.std.specs.List.{AllZip}
 use Rattle.std.specs.declared.alloc.AllocError.{AllocError}
 use Rattle.rayon.proofs.ToStd.{slice-AllZip}
-use Rattle.eve_chains.specs.Walked.{IsWalkedRange}
+use Rattle.eve_chains.specs.inner.Walked.{IsWalkedRange}
 use Rattle.eve_chains.specs.declared.rows.WalkedRange.{WalkedRange}
 use Rattle.eve_chains.specs.declared.stretch.Stretch.{Stretch}
-use Rattle.eve_chains.proofs.Collecting.{collected}
+use Rattle.eve_chains.proofs.CollectedParts.{collected}
 use Rattle.eve_chains.proofs.rows.walk_all.Goals as goal
 
 pub returns : goal.returns

@@ -2,13 +2,13 @@ use Rattle.std.proofs.Common.{◌≡◌, ◌+◌, ◌-◌, ◌<◌, ◌≤◌, �
 use Rattle.eve_smallbank.specs.declared.versioned.Versioned.{Versioned}
 use Rattle.eve_grammar.specs.Limits.{row_count}
 use Rattle.eve_grammar.specs.Trace.{head_of}
-use Rattle.eve_chains.specs.Bases.{base_at}
+use Rattle.eve_chains.specs.inner.Bases.{base_at}
 use Rattle.eve_chains.specs.Changes.{changes_along, changes_of_rows}
-use Rattle.eve_chains.specs.Gathered.{own_along}
+use Rattle.eve_chains.specs.inner.Gathered.{own_along}
 use Rattle.eve_chains.specs.Rows.{Noted, bases_of, told_of, all_noted, of_row}
-use Rattle.eve_chains.specs.Walked.{IsFirstOnRow, IsFirstOnRows, notes_on}
+use Rattle.eve_chains.specs.inner.Walked.{IsFirstOnRow, IsFirstOnRows, notes_on}
 use Rattle.eve_chains.specs.declared.bases.Bases.{Bases}
-use Rattle.eve_chains.proofs.Told.{all_told, are_bases}
+use Rattle.eve_chains.proofs.ToldAttempts.{all_told, are_bases}
 use Rattle.eve_chains.proofs.WalkedRows.{first_on_rows, one_on_rows}
 use Rattle.eve_chains.proofs.rows.walk_rows.Goals as goal
 

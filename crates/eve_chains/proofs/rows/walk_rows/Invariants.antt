@@ -1,7 +1,7 @@
 use Rattle.std.proofs.Common.{◌≡◌, ◌-◌, []}
 use Rattle.eve_chains.specs.Rows.{told_of, all_noted}
 use Rattle.eve_chains.specs.Changes.{changes_of_rows}
-use Rattle.eve_chains.specs.Walked.{IsFirstOnRows}
+use Rattle.eve_chains.specs.inner.Walked.{IsFirstOnRows}
 use Rattle.eve_chains.proofs.rows.walk_rows.Given as goal
 
 abbrev pub invariant-loop-number : goal.invariant-loop-number

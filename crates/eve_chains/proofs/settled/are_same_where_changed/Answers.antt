@@ -1,8 +1,8 @@
 use Rattle.std.proofs.Common.{◌-◌, length, map, sym, ◌∙◌}
 use Rattle.eve_chains.specs.Changes.{change_of}
 use Rattle.eve_chains.specs.Numbered.{HasNumbersTo}
-use Rattle.eve_chains.proofs.Grouping.{of_next}
-use Rattle.eve_chains.proofs.SettingRows.{range_same, range_other}
+use Rattle.eve_chains.proofs.NumberGroups.{of_next}
+use Rattle.eve_chains.proofs.SetRows.{range_same, range_other}
 use Rattle.eve_chains.proofs.settled.are_same_where_changed.Goals as goal
 
 pub changed_by-requires-clause-there : goal.changed_by-requires-clause-there

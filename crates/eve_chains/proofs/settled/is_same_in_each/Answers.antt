@@ -2,7 +2,7 @@ use Rattle.std.proofs.Common.{◌≡◌, true, false, sym, ◌∙◌, rules}
 use Rattle.std.specs.Ordering.{int_eq}
 use Rattle.eve_chains.specs.Changes.{change_of}
 use Rattle.eve_chains.specs.Numbered.{is_same_where_changed}
-use Rattle.eve_chains.proofs.SettingRows.{same_more, not_same, lent_is}
+use Rattle.eve_chains.proofs.SetRows.{same_more, not_same, lent_is}
 use Rattle.eve_chains.proofs.settled.is_same_in_each.Goals as goal
 
 pub returns-then-ne : goal.returns-then-ne

@@ -3,8 +3,8 @@ use Rattle.std.specs.Prelude.{All}
 use Rattle.eve_smallbank.specs.Access.{balance_of_row}
 use Rattle.eve_chains.specs.Changes.{change_of}
 use Rattle.eve_chains.specs.Numbered.{IsRowBelow, HasNumbersTo}
-use Rattle.eve_chains.proofs.Grouping.{of_next}
-use Rattle.eve_chains.proofs.SettingRows.{range_set}
+use Rattle.eve_chains.proofs.NumberGroups.{of_next}
+use Rattle.eve_chains.proofs.SetRows.{range_set}
 use Rattle.eve_chains.proofs.settled.set_all.Goals as goal
 
 pub changed_by-requires-clause-there : goal.changed_by-requires-clause-there

@@ -2,7 +2,7 @@ use Rattle.std.proofs.Common.{length, ap, subst, sym, ◌∙◌, arith}
 use Rattle.std.proofs.lemmas.List.{length-set}
 use Rattle.eve_smallbank.specs.Access.{balance_of_row}
 use Rattle.eve_chains.specs.Numbered.{IsRowBelow}
-use Rattle.eve_chains.proofs.SettingRows.{set_more}
+use Rattle.eve_chains.proofs.SetRows.{set_more}
 use Rattle.eve_chains.proofs.settled.set_each.Goals as goal
 
 pub set-requires : goal.set-requires

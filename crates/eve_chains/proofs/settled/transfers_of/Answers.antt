@@ -2,7 +2,7 @@ use Rattle.std.proofs.Common.{ℕ, ◌++◌, ◌∷◌, [], List, map, sym, ap, 
 use Rattle.std.proofs.lemmas.List.{map-append, take_all}
 use Rattle.eve_grammar.specs.Trace.{Transfer}
 use Rattle.eve_grammar.proofs.Lists.{take_one_more}
-use Rattle.eve_chains.specs.Landed.{transfer_at}
+use Rattle.eve_chains.specs.ReachedChanges.{transfer_at}
 use Rattle.eve_chains.proofs.settled.transfers_of.Goals as goal
 
 pub loop-i-preserved : goal.loop-i-preserved

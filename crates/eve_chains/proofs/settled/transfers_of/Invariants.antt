@@ -1,5 +1,5 @@
 use Rattle.std.proofs.Common.{◌≡◌, map, take}
-use Rattle.eve_chains.specs.Landed.{transfer_at}
+use Rattle.eve_chains.specs.ReachedChanges.{transfer_at}
 use Rattle.eve_chains.proofs.settled.transfers_of.Given as goal
 
 abbrev pub invariant-loop-i : goal.invariant-loop-i

@@ -2,10 +2,10 @@ use Rattle.std.proofs.Common.{Result, IfOk, subst, ap, ◌∙◌}
 use Rattle.std.specs.List.{AllZip}
 use Rattle.std.specs.declared.alloc.AllocError.{AllocError}
 use Rattle.rayon.proofs.ToStd.{slice-AllZip}
-use Rattle.eve_chains.specs.Judged.{IsFoundIn}
+use Rattle.eve_chains.specs.inner.Judged.{IsFoundIn}
 use Rattle.eve_chains.specs.declared.side_by_side.Judged.{Judged}
 use Rattle.eve_chains.specs.declared.stretch.Stretch.{Stretch}
-use Rattle.eve_chains.proofs.Collecting.{collected}
+use Rattle.eve_chains.proofs.CollectedParts.{collected}
 use Rattle.eve_chains.proofs.side_by_side.judge_all.Goals as goal
 
 pub returns : goal.returns

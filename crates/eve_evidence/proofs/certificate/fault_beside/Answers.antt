@@ -1,6 +1,6 @@
 use Rattle.std.proofs.Common.{◌≡◌, ℕ, List, length, take, slice_get, Some, subst, arith}
 use Rattle.std.proofs.lemmas.List.{take_all}
-use Rattle.eve_frames.specs.Said.{attempt_said, batch_said}
+use Rattle.eve_frames.specs.Decoded.{attempt_decoded, batch_decoded}
 use Rattle.eve_evidence.specs.Certificate.{AreRightPlaces, IsRightPlace, IsWrongPlace, IsCertificateFault}
 use Rattle.eve_evidence.proofs.CertificatePlaces.{right_more, all_right}
 use Rattle.eve_evidence.proofs.Lists.{item_there, place_at, if_some, if_none}
@@ -8,9 +8,9 @@ use Rattle.eve_evidence.proofs.certificate.fault_beside.Goals as goal
 
 pub returns-then-is_some-clause-told : goal.returns-then-is_some-clause-told
 returns-then-is_some-clause-told c =
-    let b = (batch_said c.args.batch.now).1 in
+    let b = (batch_decoded c.args.batch.now).1 in
     let r = length b.requests in
-    let a = attempt_said c.args.attempt.now in
+    let a = attempt_decoded c.args.attempt.now in
     let place = c.loop-place.place in
     let got = item_there a.certificate place c.len-place-end.result c.loop-place-test.true
     c.len-place-end.ensures.certificate in
@@ -24,9 +24,9 @@ returns-then-is_some-clause-told c =
 
 pub loop-place-preserved : goal.loop-place-preserved
 loop-place-preserved c =
-    let b = (batch_said c.args.batch.now).1 in
+    let b = (batch_decoded c.args.batch.now).1 in
     let r = length b.requests in
-    let a = attempt_said c.args.attempt.now in
+    let a = attempt_decoded c.args.attempt.now in
     let place = c.loop-place.place in
     let got = item_there a.certificate place c.len-place-end.result c.loop-place-test.true
     c.len-place-end.ensures.certificate in
@@ -38,9 +38,9 @@ loop-place-preserved c =
 
 pub returns-clause-right : goal.returns-clause-right
 returns-clause-right c = λ count.
-    let b = (batch_said c.args.batch.now).1 in
+    let b = (batch_decoded c.args.batch.now).1 in
     let r = length b.requests in
-    let a = attempt_said c.args.attempt.now in
+    let a = attempt_decoded c.args.attempt.now in
     let place = c.loop-place.place in
     let whole : take place a.certificate ≡ a.certificate =
     take_all place a.certificate (omega (arith, c.len-place-end.ensures.certificate, c.loop-place-test.false)) in

@@ -2,7 +2,7 @@ use Rattle.std.proofs.Common.{map, sym, ap, ◌∙◌}
 use Rattle.std.proofs.lemmas.Bool.{false≢true}
 use Rattle.eve_smallbank.specs.Access.{is_write}
 use Rattle.eve_smallbank.specs.Decide.{effect_in}
-use Rattle.eve_frames.specs.Said.{access_said}
+use Rattle.eve_frames.specs.Decoded.{access_decoded}
 use Rattle.eve_evidence.proofs.Lists.{same_more, get_mapped}
 use Rattle.eve_evidence.proofs.PartsRead.{same_beq, apart_beq}
 use Rattle.eve_evidence.proofs.DueRecords.{other_kind, other_after, same_kind}
@@ -10,14 +10,15 @@ use Rattle.eve_evidence.proofs.record.effect_fault.Goals as goal
 
 pub returns-then-writes-wanted-clause-told : goal.returns-then-writes-wanted-clause-told
 returns-then-writes-wanted-clause-told c = λ t names x due is due_is effects.
-    other_kind names x due (access_said c.args.access.now).entries c.args.effects.now c.loop-i.i c.entry-entry.result
+    other_kind names x due (access_decoded c.args.access.now).entries c.args.effects.now c.loop-i.i c.entry-entry.result
     c.at-due.result is due_is effects c.loop-i.invariant c.entry-entry.ensures c.at-due.ensures
     (λ e. apart_beq c.is_write-writes.result c.is_write-wanted.result c.if-writes-wanted.true
     (c.is_write-writes.ensures ∙ ap is_write e ∙ sym c.is_write-wanted.ensures))
 
 pub returns-then-not-is_same_value-clause-told : goal.returns-then-not-is_same_value-clause-told
 returns-then-not-is_same_value-clause-told c = λ t names x due is due_is effects.
-    other_after names x due (access_said c.args.access.now).entries c.args.effects.now c.loop-i.i c.entry-entry.result
+    other_after names x due (access_decoded c.args.access.now).entries c.args.effects.now c.loop-i.i
+    c.entry-entry.result
     c.at-due.result is due_is effects c.loop-i.invariant c.entry-entry.ensures c.at-due.ensures
     (same_kind c.entry-entry.result.kind c.at-due.result.kind
     (sym c.is_write-writes.ensures
@@ -26,7 +27,7 @@ returns-then-not-is_same_value-clause-told c = λ t names x due is due_is effect
 
 pub loop-i-preserved : goal.loop-i-preserved
 loop-i-preserved c =
-    let es = (access_said c.args.access.now).entries in
+    let es = (access_decoded c.args.access.now).entries in
     let kind = same_kind c.entry-entry.result.kind c.at-due.result.kind
     (sym c.is_write-writes.ensures
     ∙ same_beq c.is_write-writes.result c.is_write-wanted.result c.if-writes-wanted.false ∙

@@ -6,7 +6,7 @@ use Rattle.eve_smallbank.specs.SmallBank.{plain}
 use Rattle.eve_smallbank.specs.Access.{Executed}
 use Rattle.eve_smallbank.specs.Decide.{effect_in}
 use Rattle.eve_grammar.specs.Trace.{Trace}
-use Rattle.eve_frames.specs.Said.{access_said}
+use Rattle.eve_frames.specs.Decoded.{access_decoded}
 use Rattle.eve_chains.specs.Records.{recorded}
 use Rattle.eve_evidence.specs.declared.evidence.RecordFault.{RecordFault}
 use Rattle.eve_evidence.specs.Record.{rows_noted, IsDueRecord, IsRecordFault}
@@ -16,7 +16,7 @@ use Rattle.eve_evidence.proofs.record.record_fault.Goals as goal
 
 pub returns-then-is_some-2-clause-told : goal.returns-then-is_some-2-clause-told
 returns-then-is_some-2-clause-told c =
-    let es = (access_said c.args.access.now).entries in
+    let es = (access_decoded c.args.access.now).entries in
     let request = plain c.args.request.now in
     let names = c.args.names.now.items in
     let rows = c.rows-rows.result in
@@ -51,7 +51,7 @@ returns-then-is_some-2-clause-told c =
 
 pub returns-then-is_same-clause-fits : goal.returns-then-is_same-clause-fits
 returns-then-is_same-clause-fits c =
-    let es = (access_said c.args.access.now).entries in
+    let es = (access_decoded c.args.access.now).entries in
     let request = plain c.args.request.now in
     let names = c.args.names.now.items in
     let rows = c.rows-rows.result in
@@ -77,7 +77,7 @@ returns-then-is_same-clause-fits c =
 
 pub returns-clause-told : goal.returns-clause-told
 returns-clause-told c =
-    let es = (access_said c.args.access.now).entries in
+    let es = (access_decoded c.args.access.now).entries in
     let request = plain c.args.request.now in
     let names = c.args.names.now.items in
     let rows = c.rows-rows.result in

@@ -1,7 +1,7 @@
 use Rattle.std.proofs.Common.{sym, subst}
 use Rattle.std.specs.Prelude.{IfNone}
 use Rattle.eve_views.specs.declared.fault.Code.{Code}
-use Rattle.eve_evidence.specs.Places.{HasNoneWrong}
+use Rattle.eve_evidence.specs.inner.Places.{HasNoneWrong}
 use Rattle.eve_evidence.proofs.section.at_access.Goals as goal
 
 pub returns-in-Version-clause-none : goal.returns-in-Version-clause-none

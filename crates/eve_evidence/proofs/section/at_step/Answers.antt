@@ -1,4 +1,4 @@
-use Rattle.eve_evidence.specs.Places.{ToldAlong, NoneAlong, ToldAtStep, NoneAtStep}
+use Rattle.eve_evidence.specs.inner.Places.{ToldAlong, NoneAlong, ToldAtStep, NoneAtStep}
 use Rattle.eve_evidence.proofs.StepFrames.{told_at_step, none_at_step}
 use Rattle.eve_evidence.proofs.Lists.{if_some, if_none_weaker}
 use Rattle.eve_evidence.proofs.section.at_step.Goals as goal

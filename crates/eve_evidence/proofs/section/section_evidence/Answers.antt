@@ -38,7 +38,7 @@ seen_at-seen-requires-clause-look c =
     let some = c.in-Some.ensures.some in
     let goes = subst (λ (xs : List (ℕ × Step)). Goes c.args.code t c.args.e c.args.place xs c.loop-step.course) some.1
     c.loop-step.invariant in
-    (goes.front, some.0, c.next.new.self, goes.split, some.2, goes.is)
+    (goes.prefix, some.0, c.next.new.self, goes.split, some.2, goes.is)
 
 pub returns-in-Chain : goal.returns-in-Chain
 returns-in-Chain c =
@@ -46,16 +46,17 @@ returns-in-Chain c =
     let some = c.in-Some.ensures.some in
     let goes = subst (λ (xs : List (ℕ × Step)). Goes c.args.code t c.args.e c.args.place xs c.loop-step.course) some.1
     c.loop-step.invariant in
-    let s = state_after start goes.front in
+    let s = state_after start goes.prefix in
     record {
-      front = goes.front;
+      prefix = goes.prefix;
       step = some.0;
       behind = c.next.new.self;
       is = goes.split;
       told = told_again c.args.code t c.args.place s some.0 _ _ _ _ _ _
           (subst (TellsStep c.args.code t c.args.place s some.0) c.in-Chain.is
           (c.in-Some-at_step.ensures.told s some.0 goes.is some.2));
-      seen = c.seen_at-seen.ensures goes.front some.0 c.next.new.self goes.split some.2 goes.is _ _ _ _ _ c.in-Chain.is;
+      seen = c.seen_at-seen.ensures goes.prefix some.0 c.next.new.self goes.split some.2 goes.is _ _ _ _ _
+          c.in-Chain.is;
     }
 
 pub returns-in_default-found : goal.returns-in_default-found
@@ -64,12 +65,12 @@ returns-in_default-found c =
     let some = c.in-Some.ensures.some in
     let goes = subst (λ (xs : List (ℕ × Step)). Goes c.args.code t c.args.e c.args.place xs c.loop-step.course) some.1
     c.loop-step.invariant in
-    let s = state_after start goes.front in
+    let s = state_after start goes.prefix in
     record {
-      front = goes.front;
+      prefix = goes.prefix;
       step = some.0;
       behind = c.next.new.self;
       is = goes.split;
       told = c.in-Some-at_step.ensures.told s some.0 goes.is some.2;
-      seen = none_seen t goes.front some.0 c.next.new.self c.in-Some-at_step.found c.in_default-found.not-Chain;
+      seen = none_seen t goes.prefix some.0 c.next.new.self c.in-Some-at_step.found c.in_default-found.not-Chain;
     }

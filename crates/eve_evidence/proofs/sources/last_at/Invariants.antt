@@ -1,9 +1,9 @@
 use Rattle.std.proofs.Common.{◌-◌, take, drop}
-use Rattle.eve_frames.specs.Said.{attempt_said}
+use Rattle.eve_frames.specs.Decoded.{attempt_decoded}
 use Rattle.eve_evidence.specs.Sources.{passed, NoneWrites}
 use Rattle.eve_evidence.proofs.sources.last_at.Given as goal
 
 abbrev pub invariant-loop-back : goal.invariant-loop-back
 invariant-loop-back l =
-    NoneWrites l.row (passed (attempt_said l.attempt).seq l.accesses
-    (drop (l.places - l.back) (take l.places (attempt_said l.attempt).certificate)))
+    NoneWrites l.row (passed (attempt_decoded l.attempt).seq l.accesses
+    (drop (l.places - l.back) (take l.places (attempt_decoded l.attempt).certificate)))

@@ -2,7 +2,7 @@ use Rattle.std.proofs.Common.{◌≡◌, ℕ, ◌+◌, ◌-◌, ◌<◌, drop, l
 use Rattle.std.proofs.lemmas.Option.{slice_get_read}
 use Rattle.eve_evidence.specs.Course.{placed_on}
 use Rattle.eve_evidence.specs.Sources.{passed_in, NoneWrites}
-use Rattle.eve_evidence.specs.Lasts.{IsLast}
+use Rattle.eve_evidence.specs.inner.Lasts.{IsLast}
 use Rattle.eve_evidence.proofs.Lists.{if_none, if_some}
 use Rattle.eve_evidence.proofs.RecordLookups.{on_way, last_on, none_on}
 use Rattle.eve_evidence.proofs.sources.last_on_path.Goals as goal

@@ -2,20 +2,20 @@ use Rattle.std.proofs.Common.{◌≢◌, ℕ, List, sym, subst, ◌∙◌, arith
 use Rattle.std.specs.List.{AllByRecursion}
 use Rattle.std.proofs.lemmas.List.{take_all}
 use Rattle.eve_grammar.specs.Trace.{Access}
-use Rattle.eve_frames.specs.Said.{access_said}
+use Rattle.eve_frames.specs.Decoded.{access_decoded}
 use Rattle.eve_evidence.proofs.Lists.{all_more}
 use Rattle.eve_evidence.proofs.RecordLookups.{with_at, with_none}
 use Rattle.eve_evidence.proofs.sources.record_of.Goals as goal
 
 pub returns-then-index-clause-found : goal.returns-then-index-clause-found
 returns-then-index-clause-found c =
-    with_at c.args.accesses.now c.loop-i.i (c.get-access.result.offset, access_said c.get-access.result) c.args.index
+    with_at c.args.accesses.now c.loop-i.i (c.get-access.result.offset, access_decoded c.get-access.result) c.args.index
     c.get-access.ensures.says c.loop-i.invariant (sym c.index.ensures ∙ c.if-index.true)
 
 pub loop-i-preserved : goal.loop-i-preserved
 loop-i-preserved c =
     all_more (λ (z : ℕ × Access). z.1.index ≢ c.args.index) c.args.accesses.now c.loop-i.i
-    (c.get-access.result.offset, access_said c.get-access.result) c.get-access.ensures.says c.loop-i.invariant
+    (c.get-access.result.offset, access_decoded c.get-access.result) c.get-access.ensures.says c.loop-i.invariant
     (λ e. c.if-index.false (c.index.ensures ∙ e))
 
 pub returns-clause-none : goal.returns-clause-none

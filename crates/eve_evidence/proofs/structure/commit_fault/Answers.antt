@@ -1,7 +1,7 @@
 use Rattle.std.proofs.Common.{◌≡◌, ℕ, ◌+◌, ltb, get_or, List, length, Some, slice_get, true, refl, sym, ap, ◌∙◌, arith}
 use Rattle.std.proofs.lemmas.Bool.{ltb-true}
 use Rattle.std.proofs.lemmas.Option.{slice_get_read}
-use Rattle.eve_frames.specs.Said.{commit_said}
+use Rattle.eve_frames.specs.Decoded.{commit_decoded}
 use Rattle.eve_evidence.specs.declared.course.OnPath.{OnPath}
 use Rattle.eve_evidence.proofs.PartsRead.{other_view, other_token, right_commit, same_not, apart_not}
 use Rattle.eve_evidence.proofs.structure.commit_fault.Goals as goal
@@ -17,9 +17,9 @@ returns-then-view-due-clause-told c = λ s is.
     let o = c.in-Some.open.now in
     let got = there c.args.course.now.path.items c.deref.result.now c.args.course.now.committed o c.deref.ensures.value
     c.in-Some.ensures.lookup.0 c.in-Some.ensures.lookup.1 in
-    let next : (commit_said c.args.commit.now).seq ≡ s.last + 1 =
+    let next : (commit_decoded c.args.commit.now).seq ≡ s.last + 1 =
     omega (arith, c.commit_number-next.ensures s is, c.seq.ensures, c.from-seq.ensures, c.if-seq-next.false) in
-    other_view s c.args.course.now o is got (commit_said c.args.commit.now) next c.numbers-then-view-due.result
+    other_view s c.args.course.now o is got (commit_decoded c.args.commit.now) next c.numbers-then-view-due.result
     (c.numbers-then-view-due.ensures ∙ (λ i. record {
       found = (c.from.ensures ∙ c.view-view.ensures) i;
       due = (c.from-then-view-due.ensures ∙ c.view-due.ensures) i;
@@ -31,9 +31,9 @@ returns-then-ne-clause-told c = λ s is.
     let o = c.in-Some.open.now in
     let got = there c.args.course.now.path.items c.deref.result.now c.args.course.now.committed o c.deref.ensures.value
     c.in-Some.ensures.lookup.0 c.in-Some.ensures.lookup.1 in
-    let next : (commit_said c.args.commit.now).seq ≡ s.last + 1 =
+    let next : (commit_decoded c.args.commit.now).seq ≡ s.last + 1 =
     omega (arith, c.commit_number-next.ensures s is, c.seq.ensures, c.from-seq.ensures, c.if-seq-next.false) in
-    other_token s c.args.course.now o is got (commit_said c.args.commit.now) next c.token-found.result
+    other_token s c.args.course.now o is got (commit_decoded c.args.commit.now) next c.token-found.result
     c.token-due.result
     c.token-found.ensures c.token-due.ensures
     (sym c.view-view.ensures ∙ c.if-view-due.false ∙ c.view-due.ensures)
@@ -44,9 +44,9 @@ returns-clause-right c = λ s is.
     let o = c.in-Some.open.now in
     let got = there c.args.course.now.path.items c.deref.result.now c.args.course.now.committed o c.deref.ensures.value
     c.in-Some.ensures.lookup.0 c.in-Some.ensures.lookup.1 in
-    let next : (commit_said c.args.commit.now).seq ≡ s.last + 1 =
+    let next : (commit_decoded c.args.commit.now).seq ≡ s.last + 1 =
     omega (arith, c.commit_number-next.ensures s is, c.seq.ensures, c.from-seq.ensures, c.if-seq-next.false) in
-    right_commit s c.args.course.now o is got (commit_said c.args.commit.now) next
+    right_commit s c.args.course.now o is got (commit_decoded c.args.commit.now) next
     (sym c.view-view.ensures ∙ c.if-view-due.false ∙ c.view-due.ensures)
     (sym c.token-found.ensures ∙ same_not c.token-found.result.now c.token-due.result.now c.if-ne.ensures
     ∙ c.token-due.ensures)

@@ -1,6 +1,6 @@
 use Rattle.std.proofs.Common.{ℕ, ◌+◌, sym, ap, ◌∙◌, arith}
 use Rattle.eve_grammar.specs.Trace.{Access}
-use Rattle.eve_frames.specs.Said.{access_said}
+use Rattle.eve_frames.specs.Decoded.{access_decoded}
 use Rattle.eve_evidence.proofs.PartsRead.{count_more, count_same}
 use Rattle.eve_evidence.proofs.structure.place_fault.Goals.{then-worker, else-worker}
 use Rattle.eve_evidence.proofs.structure.place_fault.Goals as goal
@@ -8,7 +8,7 @@ use Rattle.eve_evidence.proofs.structure.place_fault.Goals as goal
 pub loop-k-preserved : goal.loop-k-preserved
 loop-k-preserved c =
     let xs = c.args.accesses.now in
-    let x : ℕ × Access = (c.get.result.offset, access_said c.get.result) in
+    let x : ℕ × Access = (c.get.result.offset, access_decoded c.get.result) in
     let k = c.loop-k.k in
     elim c.if-worker.branch [
       | then-worker w ↦

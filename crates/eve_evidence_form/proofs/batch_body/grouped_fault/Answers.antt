@@ -3,7 +3,7 @@ use Rattle.eve_evidence.specs.declared.evidence.BodyField.TheVariants as name
 use Rattle.eve_evidence_form.specs.Fields.{field, fields_of, first_wrong_there}
 use Rattle.eve_evidence_form.specs.BatchBody.{size_sum, size_fields, request_fields, request_place, batch_end}
 use Rattle.eve_evidence_form.specs.declared.fields.FieldThere.{FieldThere}
-use Rattle.eve_evidence_form.proofs.FirstWrongFields.{told_in_front, told_behind, wrong_told, end_told}
+use Rattle.eve_evidence_form.proofs.FirstWrongFields.{told_in_prefix, told_behind, wrong_told, end_told}
 use Rattle.eve_evidence_form.proofs.batch_body.grouped_fault.Goals as goal
 
 -- the requests behind the sizes of this many parallelBatches, where there are this many
@@ -15,7 +15,8 @@ unfolding requests
 returns-in-Err c =
     let g = c.args.groups in
     let body = c.args.body.now in
-    told_in_front (batch_end g body) (fields_of (size_fields body) g) (requests g body (size_sum g body)) c.in-Err.wrong
+    told_in_prefix (batch_end g body) (fields_of (size_fields body) g) (requests g body (size_sum g body))
+    c.in-Err.wrong
     c.in-Err.ensures.wrong
 
 pub returns-in-Err-requests_end : goal.returns-in-Err-requests_end

@@ -6,7 +6,7 @@ use Rattle.eve_grammar.specs.declared.head.Head.{Head}
 use Rattle.eve_grammar.specs.declared.place.Place.{Place}
 use Rattle.eve_grammar.proofs.HeadLimits.{few_customers}
 use Rattle.eve_views.specs.Form.{HasWrongBody}
-use Rattle.eve_evidence_form.specs.Body.{body_fault, body_in_front}
+use Rattle.eve_evidence_form.specs.Body.{body_fault, body_in_prefix}
 use Rattle.eve_evidence_form.proofs.body.wrong_body_at.Goals as goal
 
 -- what is sliced off is what stands there
@@ -16,16 +16,16 @@ sliced_off at bytes = take_all (length bytes - at) (drop at bytes) (omega (arith
 pub reached-requires : goal.reached-requires
 reached-requires c =
     let r = c.requires.wrong.0 in
-    (r, sym (c.head_said-head.ensures r.head r.says))
+    (r, sym (c.head_decoded-head.ensures r.head r.says))
 
 pub body_there-requires : goal.body_there-requires
 body_there-requires c =
     let r = c.requires.wrong.0 in
     let bytes = c.args.bytes.now in
     let at = c.args.at in
-    let head = c.head_said-head.ensures r.head r.says in
+    let head = c.head_decoded-head.ensures r.head r.says in
     let place = c.reached.ensures.place r (sym head) in
-    subst (λ (ys : List ℕ). HasWrongBody c.head_said-head.result c.reached.result.place ys)
+    subst (λ (ys : List ℕ). HasWrongBody c.head_decoded-head.result c.reached.result.place ys)
     (sym (sliced_off at bytes))
     (subst (λ (h : Head). HasWrongBody h c.reached.result.place (drop at bytes)) (sym head)
     (subst (λ (p : Place). HasWrongBody r.head p (drop at bytes)) (sym place) c.requires.wrong.1))
@@ -33,14 +33,14 @@ body_there-requires c =
 pub body_fault-own-requires-clause-few : goal.body_fault-own-requires-clause-few
 body_fault-own-requires-clause-few c =
     let r = c.requires.wrong.0 in
-    let head = c.head_said-head.ensures r.head r.says in
+    let head = c.head_decoded-head.ensures r.head r.says in
     omega (arith, few_customers r.head r.says.limits, ap (λ (h : Head). h.customers) head)
 
 pub body_fault-own-requires-clause-short : goal.body_fault-own-requires-clause-short
 body_fault-own-requires-clause-short c =
     let frame = drop c.args.at c.args.bytes.now in
     let n = big_number 4 (drop 1 frame) in
-    let is = ap length (c.body_there.ensures ∙ ap body_in_front (sliced_off c.args.at c.args.bytes.now)) in
+    let is = ap length (c.body_there.ensures ∙ ap body_in_prefix (sliced_off c.args.at c.args.bytes.now)) in
     omega (
       arith,
       is,
@@ -56,10 +56,10 @@ returns c =
     let bytes = c.args.bytes.now in
     let at = c.args.at in
     let kind = c.kind_there-kind.result in
-    let head = c.head_said-head.ensures r.head r.says in
+    let head = c.head_decoded-head.ensures r.head r.says in
     let place = c.reached.ensures.place r (sym head) in
     let whole = sliced_off at bytes in
-    let body = c.body_there.ensures ∙ ap body_in_front whole in (
+    let body = c.body_there.ensures ∙ ap body_in_prefix whole in (
       r,
       c.body_fault-own.result,
       c.kind_there-kind.ensures ∙ ap (λ (ys : List ℕ). slice_index ys 0) whole,

@@ -3,7 +3,7 @@ use Rattle.std.specs.List.{flat_map}
 use Rattle.std.proofs.lemmas.Option.{same_Some}
 use Rattle.eve_grammar.specs.Trace.{Batch}
 use Rattle.eve_grammar.specs.Spelling.{batches_at}
-use Rattle.eve_frames.specs.Said.{batch_said}
+use Rattle.eve_frames.specs.Decoded.{batch_decoded}
 use Rattle.eve_evidence.proofs.Lists.{if_none_weaker, if_some}
 use Rattle.eve_evidence_form.specs.declared.requests.AskedAgain.{AskedAgain}
 use Rattle.eve_evidence_form.specs.Requests.{requests_listed, NoneAgain, IsFirstAgain}
@@ -13,7 +13,7 @@ use Rattle.eve_evidence_form.proofs.requests.again_at.Goals as goal
 pub again_in-requires-clause-few : goal.again_in-requires-clause-few
 again_in-requires-clause-few c =
     let t = c.args.trace.now in
-    let own : ℕ × (ℕ × Batch) = (c.batch-batch.result.offset, batch_said c.batch-batch.result) in
+    let own : ℕ × (ℕ × Batch) = (c.batch-batch.result.offset, batch_decoded c.batch-batch.result) in
     let same : c.args.n + 1 - 1 ≡ c.args.n = omega arith in
     few_requests t c.args.n own c.recall_limits.ensures
     (subst (λ (k : ℕ). slice_get (batches_at t) k ≡ Some own) same c.batch-batch.ensures.says)
@@ -22,7 +22,7 @@ pub returns-clause-again : goal.returns-clause-again
 returns-clause-again c =
     let t = c.args.trace.now in
     let before = flat_map requests_listed (take c.args.n (batches_at t)) in
-    let own : ℕ × (ℕ × Batch) = (c.batch-batch.result.offset, batch_said c.batch-batch.result) in
+    let own : ℕ × (ℕ × Batch) = (c.batch-batch.result.offset, batch_decoded c.batch-batch.result) in
     let same : c.args.n + 1 - 1 ≡ c.args.n = omega arith in
     let there = subst (λ (k : ℕ). slice_get (batches_at t) k ≡ Some own) same c.batch-batch.ensures.says in
     let at : own.0 ≡ c.args.at = sym c.offset.ensures ∙ (search rules) in
@@ -37,7 +37,7 @@ pub returns-clause-none : goal.returns-clause-none
 returns-clause-none c =
     let t = c.args.trace.now in
     let before = flat_map requests_listed (take c.args.n (batches_at t)) in
-    let own : ℕ × (ℕ × Batch) = (c.batch-batch.result.offset, batch_said c.batch-batch.result) in
+    let own : ℕ × (ℕ × Batch) = (c.batch-batch.result.offset, batch_decoded c.batch-batch.result) in
     let same : c.args.n + 1 - 1 ≡ c.args.n = omega arith in
     let there = subst (λ (k : ℕ). slice_get (batches_at t) k ≡ Some own) same c.batch-batch.ensures.says in
     if_none_weaker c.again_in.result (NoneAgain before (requests_listed own)) _

@@ -5,7 +5,7 @@ use Rattle.std.proofs.lemmas.Option.{slice_get_within}
 use Rattle.eve_grammar.specs.Trace.{Batch, request_id}
 use Rattle.eve_grammar.specs.Bodies.{borrowed_asked}
 use Rattle.eve_grammar.specs.Spelling.{batches_at}
-use Rattle.eve_frames.specs.Said.{batch_said}
+use Rattle.eve_frames.specs.Decoded.{batch_decoded}
 use Rattle.eve_evidence.proofs.Lists.{place_at, no_place_more}
 use Rattle.eve_evidence_form.specs.Requests.{requests_listed, NoneAsked, NoneAgain}
 use Rattle.eve_history.proofs.Places.{no_place}
@@ -16,12 +16,12 @@ use Rattle.eve_evidence_form.proofs.requests.again_in.Goals as goal
 
 pub loop-asked-init : goal.loop-asked-init
 loop-asked-init c =
-    let items : c.into_iter-asked-iterator.result ≡ (batch_said c.args.batch.now).1.requests = search rules in
+    let items : c.into_iter-asked-iterator.result ≡ (batch_decoded c.args.batch.now).1.requests = search rules in
     (sym items, λ place. no_place _ place)
 
 pub overflow_add-index : goal.overflow_add-index
 overflow_add-index c =
-    let own = (batch_said c.args.batch.now).1.requests in
+    let own = (batch_decoded c.args.batch.now).1.requests in
     let first : c.loop-asked.asked-iterator ≡ borrowed_asked c.in-Some.asked ∷ c.next.new.self = search rules in
     let within = slice_get_within own c.loop-asked.index (borrowed_asked c.in-Some.asked)
     (dropped own c.loop-asked.index _ _ (c.loop-asked.invariant.0 ∙ first)).0 in
@@ -29,7 +29,7 @@ overflow_add-index c =
 
 pub earliest-requires-clause-unasked : goal.earliest-requires-clause-unasked
 earliest-requires-clause-unasked c =
-    let b : ℕ × (ℕ × Batch) = (c.args.batch.now.offset, batch_said c.args.batch.now) in
+    let b : ℕ × (ℕ × Batch) = (c.args.batch.now.offset, batch_decoded c.args.batch.now) in
     let i = c.loop-asked.index in
     let y = borrowed_asked c.in-Some.asked in
     let first : c.loop-asked.asked-iterator ≡ y ∷ c.next.new.self = search rules in
@@ -39,7 +39,7 @@ earliest-requires-clause-unasked c =
 
 pub returns-in-Some-earliest-clause-again : goal.returns-in-Some-earliest-clause-again
 returns-in-Some-earliest-clause-again c =
-    let b : ℕ × (ℕ × Batch) = (c.args.batch.now.offset, batch_said c.args.batch.now) in
+    let b : ℕ × (ℕ × Batch) = (c.args.batch.now.offset, batch_decoded c.args.batch.now) in
     let i = c.loop-asked.index in
     let y = borrowed_asked c.in-Some.asked in
     let first : c.loop-asked.asked-iterator ≡ y ∷ c.next.new.self = search rules in
@@ -49,7 +49,7 @@ returns-in-Some-earliest-clause-again c =
 
 pub loop-asked-preserved : goal.loop-asked-preserved
 loop-asked-preserved c =
-    let b : ℕ × (ℕ × Batch) = (c.args.batch.now.offset, batch_said c.args.batch.now) in
+    let b : ℕ × (ℕ × Batch) = (c.args.batch.now.offset, batch_decoded c.args.batch.now) in
     let before = flat_map requests_listed (take c.args.n (batches_at c.args.trace.now)) in
     let i = c.loop-asked.index in
     let y = borrowed_asked c.in-Some.asked in
@@ -63,7 +63,7 @@ loop-asked-preserved c =
 
 pub returns-clause-none : goal.returns-clause-none
 returns-clause-none c =
-    let b : ℕ × (ℕ × Batch) = (c.args.batch.now.offset, batch_said c.args.batch.now) in
+    let b : ℕ × (ℕ × Batch) = (c.args.batch.now.offset, batch_decoded c.args.batch.now) in
     let before = flat_map requests_listed (take c.args.n (batches_at c.args.trace.now)) in
     let none : c.loop-asked.asked-iterator ≡ [] = search rules in
     subst (NoneAgain before) (take_all c.loop-asked.index (requests_listed b)

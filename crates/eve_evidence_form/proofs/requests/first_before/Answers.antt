@@ -4,7 +4,7 @@ use Rattle.std.proofs.lemmas.List.{take_all}
 use Rattle.eve_grammar.specs.Trace.{Batch, request_id}
 use Rattle.eve_grammar.proofs.Lists.{all-append}
 use Rattle.eve_grammar.specs.Spelling.{batches_at}
-use Rattle.eve_frames.specs.Said.{batch_said}
+use Rattle.eve_frames.specs.Decoded.{batch_decoded}
 use Rattle.eve_evidence_form.specs.Requests.{Listed, requests_listed, NoneAsked, IsFirstAsked}
 use Rattle.eve_evidence_form.proofs.FrameCounts.{few_requests}
 use Rattle.eve_evidence_form.proofs.RequestSearches.{length-listed, one_batch_more, first_in_batch}
@@ -13,7 +13,7 @@ use Rattle.eve_evidence_form.proofs.requests.first_before.Goals as goal
 pub first_in-requires : goal.first_in-requires
 first_in-requires c =
     let t = c.args.trace.now in
-    let own : ℕ × (ℕ × Batch) = (c.batch-batch.result.offset, batch_said c.batch-batch.result) in
+    let own : ℕ × (ℕ × Batch) = (c.batch-batch.result.offset, batch_decoded c.batch-batch.result) in
     let same : c.loop-i.i + 1 - 1 ≡ c.loop-i.i = omega arith in
     few_requests t c.loop-i.i own c.recall_limits.ensures
     (subst (λ (k : ℕ). slice_get (batches_at t) k ≡ Some own) same c.batch-batch.ensures.says)
@@ -21,7 +21,7 @@ first_in-requires c =
 pub returns-in-Some-clause-first : goal.returns-in-Some-clause-first
 returns-in-Some-clause-first c =
     let t = c.args.trace.now in
-    let own : ℕ × (ℕ × Batch) = (c.batch-batch.result.offset, batch_said c.batch-batch.result) in
+    let own : ℕ × (ℕ × Batch) = (c.batch-batch.result.offset, batch_decoded c.batch-batch.result) in
     let same : c.loop-i.i + 1 - 1 ≡ c.loop-i.i = omega arith in
     let whole : take c.len.result (requests_listed own) ≡ requests_listed own =
     take_all c.len.result (requests_listed own) (omega (arith, length-listed own, c.len.ensures)) in
@@ -35,7 +35,7 @@ pub loop-i-preserved : goal.loop-i-preserved
 loop-i-preserved c =
     let t = c.args.trace.now in
     let id : ℕ × ℕ = (c.args.client, c.args.number) in
-    let own : ℕ × (ℕ × Batch) = (c.batch-batch.result.offset, batch_said c.batch-batch.result) in
+    let own : ℕ × (ℕ × Batch) = (c.batch-batch.result.offset, batch_decoded c.batch-batch.result) in
     let same : c.loop-i.i + 1 - 1 ≡ c.loop-i.i = omega arith in
     let whole : take c.len.result (requests_listed own) ≡ requests_listed own =
     take_all c.len.result (requests_listed own) (omega (arith, length-listed own, c.len.ensures)) in

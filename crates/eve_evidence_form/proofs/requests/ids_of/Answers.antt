@@ -1,13 +1,13 @@
 use Rattle.std.proofs.Common.{◌≡◌, ℕ, [], ◌∷◌, sym, subst, rules}
 use Rattle.eve_grammar.specs.Trace.{Batch, request_id}
 use Rattle.eve_grammar.specs.Bodies.{borrowed_asked}
-use Rattle.eve_frames.specs.Said.{batch_said}
+use Rattle.eve_frames.specs.Decoded.{batch_decoded}
 use Rattle.eve_evidence_form.proofs.UnaskedIds.{NoneOf, none_listed, put_in}
 use Rattle.eve_evidence_form.proofs.requests.ids_of.Goals as goal
 
 pub loop-asked-init : goal.loop-asked-init
 loop-asked-init c =
-    let items : c.into_iter-asked-iterator.result ≡ (batch_said c.args.batch.now).1.requests = search rules in
+    let items : c.into_iter-asked-iterator.result ≡ (batch_decoded c.args.batch.now).1.requests = search rules in
     λ id _ none. subst (NoneOf id) items none
 
 pub loop-asked-preserved : goal.loop-asked-preserved
@@ -20,6 +20,6 @@ loop-asked-preserved c =
 
 pub returns : goal.returns
 returns c =
-    let b : ℕ × (ℕ × Batch) = (c.args.batch.now.offset, batch_said c.args.batch.now) in
+    let b : ℕ × (ℕ × Batch) = (c.args.batch.now.offset, batch_decoded c.args.batch.now) in
     let end : c.loop-asked.asked-iterator ≡ [] = search rules in
     λ id lacks. (none_listed id b).0 (c.loop-asked.invariant id lacks (subst (NoneOf id) (sym end) tt))

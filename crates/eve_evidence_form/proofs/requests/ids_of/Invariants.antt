@@ -1,6 +1,6 @@
 use Rattle.std.specs.Prelude.{IsFalse}
 use Rattle.eve_grammar.specs.Trace.{RequestId}
-use Rattle.eve_frames.specs.Said.{batch_said}
+use Rattle.eve_frames.specs.Decoded.{batch_decoded}
 use Rattle.eve_evidence_form.specs.Requests.{is_in_set}
 use Rattle.eve_evidence_form.proofs.UnaskedIds.{NoneOf}
 use Rattle.eve_evidence_form.proofs.requests.ids_of.Given as goal
@@ -8,4 +8,4 @@ use Rattle.eve_evidence_form.proofs.requests.ids_of.Given as goal
 abbrev pub invariant-loop-asked : goal.invariant-loop-asked
 invariant-loop-asked l =
     (id : RequestId) → IsFalse (is_in_set l.ids id) → NoneOf id l.asked-iterator
-    → NoneOf id (batch_said l.batch).1.requests
+    → NoneOf id (batch_decoded l.batch).1.requests

@@ -2,7 +2,7 @@ use Rattle.std.proofs.Common.{◌≡◌, ℕ, ◌+◌, ◌-◌, List, take, slic
 use Rattle.std.specs.List.{flat_map}
 use Rattle.eve_grammar.specs.Trace.{Batch}
 use Rattle.eve_grammar.specs.Spelling.{batches_at}
-use Rattle.eve_frames.specs.Said.{batch_said}
+use Rattle.eve_frames.specs.Decoded.{batch_decoded}
 use Rattle.eve_evidence_form.specs.Requests.{Listed, requests_listed, LeavesUnasked}
 use Rattle.eve_evidence_form.proofs.RequestSearches.{one_batch_more}
 use Rattle.eve_evidence_form.proofs.UnaskedIds.{left_behind_both}
@@ -14,7 +14,7 @@ loop-i-init c = λ id. (λ has. (has, tt), λ had. had.0)
 pub loop-i-preserved : goal.loop-i-preserved
 loop-i-preserved c =
     let t = c.args.trace.now in
-    let own : ℕ × (ℕ × Batch) = (c.batch-batch.result.offset, batch_said c.batch-batch.result) in
+    let own : ℕ × (ℕ × Batch) = (c.batch-batch.result.offset, batch_decoded c.batch-batch.result) in
     let same : c.loop-i.i + 1 - 1 ≡ c.loop-i.i = omega arith in
     subst (λ (xs : List Listed). LeavesUnasked c.args.ids.now xs c.take_out.new.ids)
     (sym (one_batch_more (batches_at t) c.loop-i.i own

@@ -2,7 +2,7 @@ use Rattle.std.proofs.Common.{◌≡◌, ℕ, ◌-◌, sym, subst, ap, ◌∙◌
 use Rattle.std.proofs.lemmas.Option.{same_Some}
 use Rattle.eve_grammar.specs.Trace.{Batch}
 use Rattle.eve_grammar.specs.Spelling.{batches_at}
-use Rattle.eve_frames.specs.Said.{batch_said}
+use Rattle.eve_frames.specs.Decoded.{batch_decoded}
 use Rattle.eve_votes.specs.Faults.{HasTwoDecisions}
 use Rattle.eve_evidence.proofs.Lists.{place_at, if_some, if_none_weaker}
 use Rattle.eve_evidence_outcomes.specs.Decisions.{TellsDecisions, TellsTwoDecisions}
@@ -11,7 +11,7 @@ use Rattle.eve_evidence_outcomes.proofs.decisions.at_batch.Goals as goal
 pub returns-clause-told : goal.returns-clause-told
 returns-clause-told c =
     let t = c.args.trace.now in
-    let y : ℕ × (ℕ × Batch) = (c.batch-batch.result.offset, batch_said c.batch-batch.result) in
+    let y : ℕ × (ℕ × Batch) = (c.batch-batch.result.offset, batch_decoded c.batch-batch.result) in
     let here : y.0 ≡ c.args.place = omega (arith, c.if-offset-place.false, c.offset.ensures) in
     if_some c.first_decisions.result (TellsDecisions t c.seq.result) (TellsTwoDecisions t c.args.place)
     (λ x told.
@@ -22,7 +22,7 @@ returns-clause-told c =
 pub returns-clause-none : goal.returns-clause-none
 returns-clause-none c =
     let t = c.args.trace.now in
-    let y : ℕ × (ℕ × Batch) = (c.batch-batch.result.offset, batch_said c.batch-batch.result) in
+    let y : ℕ × (ℕ × Batch) = (c.batch-batch.result.offset, batch_decoded c.batch-batch.result) in
     if_none_weaker c.first_decisions.result (¬ HasTwoDecisions t c.seq.result) _
     (λ none b got wrong.
     let same : y ≡ b = same_Some y b (sym c.batch-batch.ensures.says ∙ got) in

@@ -3,7 +3,7 @@ use Rattle.std.specs.Prelude.{slice_index_or}
 use Rattle.std.proofs.lemmas.List.{length-map}
 use Rattle.eve_smallbank.specs.declared.request.Reply.{Reply}
 use Rattle.eve_smallbank.specs.declared.request.Reply.TheVariants.{Done}
-use Rattle.eve_frames.specs.Said.{attempt_said}
+use Rattle.eve_frames.specs.Decoded.{attempt_decoded}
 use Rattle.eve_frames.proofs.AttemptPlaces.{attempt_even, attempt_some}
 use Rattle.eve_evidence_outcomes.proofs.matched.token_match.Goals as goal
 
@@ -17,7 +17,7 @@ made_tokens-tokens-requires-clause-replies c =
 
 pub made_tokens-tokens-requires-clause-ordered : goal.made_tokens-tokens-requires-clause-ordered
 made_tokens-tokens-requires-clause-ordered c =
-    let a = attempt_said c.args.attempt.now in
+    let a = attempt_decoded c.args.attempt.now in
     let of : ℕ → Reply = λ i. slice_index_or a.replies i Done in
     omega (
       arith,

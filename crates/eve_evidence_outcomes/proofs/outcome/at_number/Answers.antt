@@ -1,8 +1,8 @@
 use Rattle.std.proofs.Common.{◌≡◌, refl, subst, arith}
 use Rattle.std.specs.Prelude.{IfSome, IfNone}
-use Rattle.eve_frames.specs.Said.{attempt_said}
+use Rattle.eve_frames.specs.Decoded.{attempt_decoded}
 use Rattle.eve_chains.specs.Committed.{balances_to}
-use Rattle.eve_chains.specs.Settling.{settling}
+use Rattle.eve_chains.specs.CommittedValues.{settling}
 use Rattle.eve_agree.proofs.ByNumber.{committed_settled}
 use Rattle.eve_evidence_outcomes.specs.Outcome.{TellsOutcomeFault}
 use Rattle.eve_evidence_outcomes.proofs.Differences.{none_there, elsewhere, some_first, same_outcome, other_outcome}
@@ -25,7 +25,8 @@ pub returns-in_default-first_committed-clause-none : goal.returns-in_default-fir
 returns-in_default-first_committed-clause-none c =
     let t = c.args.trace.now in
     let e = c.args.e in
-    absurd (some_first t e c.args.n c.args.place c.in-Some.own (c.in-Some.ensures.some t e c.history_at.ensures) c.requires.there
+    absurd (some_first t e c.args.n c.args.place c.in-Some.own (c.in-Some.ensures.some t e c.history_at.ensures)
+    c.requires.there
     (c.in_default-first_committed.ensures.none t c.requires.histories))
 
 pub outcome_fault-requires-clause-its_number : goal.outcome_fault-requires-clause-its_number
@@ -47,7 +48,7 @@ returns-in-Ok-Some-clause-told c =
     other_outcome t e c.args.n c.args.place a (c.in-Some.ensures.some t e c.history_at.ensures) f b its.1 its.2 at
     c.told_attempt.result c.told_attempt.ensures c.offset-in-Ok-Some.result c.offset-in-Ok-Some.ensures
     c.in-Ok-Some.wrong
-    (subst (λ o. IfSome o (TellsOutcomeFault t e f c.args.n (attempt_said a).replies (attempt_said b).replies))
+    (subst (λ o. IfSome o (TellsOutcomeFault t e f c.args.n (attempt_decoded a).replies (attempt_decoded b).replies))
     c.in-Ok-Some.field-0-is c.in-Ok-Some.ensures.told)
 
 pub returns-in-Ok-None-clause-none : goal.returns-in-Ok-None-clause-none
@@ -59,5 +60,6 @@ returns-in-Ok-None-clause-none c =
     let f = c.in-Some-first_committed.first in
     let its = c.in-Some-first_committed.ensures.some t c.requires.histories in
     let same = subst (λ o. IfNone o ((balances_to t e c.args.n ≡ balances_to t f c.args.n)
-    × ((attempt_said a).replies ≡ (attempt_said b).replies))) c.in-Ok-None.field-0-is c.in-Ok-None.ensures.none in
-    same_outcome t e c.args.n c.args.place a (c.in-Some.ensures.some t e c.history_at.ensures) f b its.1 its.2 same.0 same.1
+    × ((attempt_decoded a).replies ≡ (attempt_decoded b).replies))) c.in-Ok-None.field-0-is c.in-Ok-None.ensures.none in
+    same_outcome t e c.args.n c.args.place a (c.in-Some.ensures.some t e c.history_at.ensures) f b its.1 its.2 same.0
+    same.1

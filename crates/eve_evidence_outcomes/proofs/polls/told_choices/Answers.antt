@@ -8,7 +8,7 @@ use Rattle.eve_evidence_outcomes.proofs.polls.told_choices.Goals as goal
 
 pub loop-v-preserved : goal.loop-v-preserved
 loop-v-preserved c =
-    let said = λ (ws : List (ℕ × Vote)). TellsChoice (votes_on c.args.n c.args.view ws) c.told_choice.result in
+    let decoded = λ (ws : List (ℕ × Vote)). TellsChoice (votes_on c.args.n c.args.view ws) c.told_choice.result in
     let limits = head_has_limits (head_of c.args.trace.now) c.recall_limits.ensures.head in
     let there : c.loop-v.v < length c.loop-v.told =
     omega (
@@ -22,7 +22,7 @@ loop-v-preserved c =
       long = length-set c.loop-v.told c.loop-v.v c.told_choice.result ∙ c.loop-v.invariant.long;
       each = each_put (λ (u : ℕ). TellsChoice (votes_on c.args.n c.args.view (votes_at c.args.trace.now u)))
           c.loop-v.told c.loop-v.v c.told_choice.result there c.loop-v.invariant.each
-          (subst said c.votes.ensures c.told_choice.ensures);
+          (subst decoded c.votes.ensures c.told_choice.ensures);
     }
 
 pub returns : goal.returns

@@ -1,7 +1,7 @@
 use Rattle.std.proofs.Common.{◌<◌, List, length, refl, ap, arith}
 use Rattle.std.proofs.lemmas.Option.{slice_get_read}
 use Rattle.eve_history.specs.SectionHistory.{SectionHistory}
-use Rattle.eve_history.proofs.Rights.{as_many_told}
+use Rattle.eve_history.proofs.RightSections.{as_many_told}
 use Rattle.eve_evidence_outcomes.proofs.FirstReplicas.{history_as}
 use Rattle.eve_evidence_outcomes.proofs.replicas.history_at.Goals as goal
 

@@ -1,6 +1,6 @@
 use Rattle.std.proofs.Common.{◌<◌, List, length, refl, ap, arith}
 use Rattle.std.proofs.lemmas.Option.{slice_get_read}
-use Rattle.eve_chains.specs.Settling.{Settling}
+use Rattle.eve_chains.specs.CommittedValues.{Settling}
 use Rattle.eve_evidence_outcomes.proofs.FirstReplicas.{settled_as, settlings_count}
 use Rattle.eve_evidence_outcomes.proofs.replicas.settled_at.Goals as goal
 

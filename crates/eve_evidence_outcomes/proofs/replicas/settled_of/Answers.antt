@@ -2,7 +2,7 @@ use Rattle.std.proofs.Common.{rules, ◌≡◌, ◌<◌, ◌++◌, ◌∷◌, []
 use Rattle.std.proofs.lemmas.List.{take_all}
 use Rattle.eve_grammar.proofs.Lists.{take_one_more}
 use Rattle.eve_history.specs.SectionHistory.{section_history}
-use Rattle.eve_chains.specs.Settling.{settling, settlings}
+use Rattle.eve_chains.specs.CommittedValues.{settling, settlings}
 use Rattle.eve_evidence_outcomes.proofs.FirstReplicas.{replica_is, settling_at, settlings_count}
 use Rattle.eve_evidence_outcomes.proofs.replicas.settled_of.Goals as goal
 

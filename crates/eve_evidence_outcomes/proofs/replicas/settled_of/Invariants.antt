@@ -1,5 +1,5 @@
 use Rattle.std.proofs.Common.{◌≡◌, take}
-use Rattle.eve_chains.specs.Settling.{settlings}
+use Rattle.eve_chains.specs.CommittedValues.{settlings}
 use Rattle.eve_evidence_outcomes.proofs.replicas.settled_of.Given as goal
 
 abbrev pub invariant-loop-e : goal.invariant-loop-e

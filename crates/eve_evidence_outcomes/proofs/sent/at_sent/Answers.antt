@@ -4,8 +4,8 @@ use Rattle.eve_grammar.specs.Trace.{Sent}
 use Rattle.eve_grammar.specs.Spelling.{sent_at}
 use Rattle.eve_frames.specs.Views.{sent_in}
 use Rattle.eve_history.specs.SectionHistory.{SectionHistory}
-use Rattle.eve_history.proofs.Rights.{as_many_told}
-use Rattle.eve_agree.proofs.Sending.{sent_there, is_possible, told_as}
+use Rattle.eve_history.proofs.RightSections.{as_many_told}
+use Rattle.eve_agree.proofs.RepliesSent.{sent_there, is_possible, told_as}
 use Rattle.eve_agree.specs.SentReplies.{IsReplied}
 use Rattle.eve_evidence.proofs.Lists.{place_at, if_some, if_none_weaker}
 use Rattle.eve_evidence_outcomes.specs.Sent.{TellsSentIn, TellsReply}

@@ -1,14 +1,14 @@
 use Rattle.std.proofs.Common.{◌≡◌, List, ◌∷◌, subst}
 use Rattle.eve_grammar.specs.Trace.{Asked, RequestId}
 use Rattle.eve_grammar.specs.Bodies.{borrowed_asked}
-use Rattle.eve_frames.specs.Said.{batch_said}
+use Rattle.eve_frames.specs.Decoded.{batch_decoded}
 use Rattle.eve_evidence_outcomes.proofs.BatchRequests.{IsLooking, looking_found, looking_more}
 use Rattle.eve_evidence_outcomes.proofs.sent.request_with.Goals as goal
 
 pub returns-then-has_id-clause-found : goal.returns-then-has_id-clause-found
 returns-then-has_id-clause-found c =
     let id : RequestId = (c.args.client, c.args.number) in
-    let own = (batch_said c.args.batch.now).1.requests in
+    let own = (batch_decoded c.args.batch.now).1.requests in
     let x = borrowed_asked c.in-Some.asked in
     let split : c.loop-asked.asked-iterator ≡ x ∷ c.next.new.self = c.in-Some.ensures.steps in
     record {
@@ -20,7 +20,7 @@ returns-then-has_id-clause-found c =
 pub loop-asked-preserved : goal.loop-asked-preserved
 loop-asked-preserved c =
     let id : RequestId = (c.args.client, c.args.number) in
-    let own = (batch_said c.args.batch.now).1.requests in
+    let own = (batch_decoded c.args.batch.now).1.requests in
     let x = borrowed_asked c.in-Some.asked in
     let split : c.loop-asked.asked-iterator ≡ x ∷ c.next.new.self = c.in-Some.ensures.steps in
     looking_more id own c.loop-asked.index x c.next.new.self

@@ -2,7 +2,7 @@ use Rattle.std.proofs.Common.{◌≡◌, ℕ, sym, ap, subst, ◌∙◌, length,
 use Rattle.std.specs.Prelude.{IfOk}
 use Rattle.eve_history.specs.SectionHistory.{section_history}
 use Rattle.eve_chains.specs.Committed.{balances_to}
-use Rattle.eve_chains.specs.Settling.{Settling, settling}
+use Rattle.eve_chains.specs.CommittedValues.{Settling, settling}
 use Rattle.eve_evidence_outcomes.proofs.FirstReplicas.{replica_is}
 use Rattle.eve_evidence_outcomes.proofs.state.balances_of.Goals as goal
 

@@ -3,9 +3,9 @@ use Rattle.std.specs.Option.{is_some}
 use Rattle.std.proofs.lemmas.Bool.{cases_lt}
 use Rattle.std.proofs.lemmas.Option.{slice_get_read}
 use Rattle.eve_history.specs.SectionHistory.{SectionHistory, committed_at}
-use Rattle.eve_history.proofs.Rights.{as_many_told}
+use Rattle.eve_history.proofs.RightSections.{as_many_told}
 use Rattle.eve_agree.specs.Agreement.{first_to_commit}
-use Rattle.eve_evidence_outcomes.specs.Committed.{IsCommittedBy}
+use Rattle.eve_evidence_outcomes.specs.inner.Committed.{IsCommittedBy}
 use Rattle.eve_evidence_outcomes.proofs.FirstReplicas.{first_is, first_none, history_as, replica_is}
 use Rattle.eve_evidence_outcomes.proofs.state.first_committed.Goals as goal
 

@@ -1,5 +1,5 @@
 use Rattle.std.proofs.Common.{length, ap, arith}
-use Rattle.eve_chains.specs.Settling.{Settling}
+use Rattle.eve_chains.specs.CommittedValues.{Settling}
 use Rattle.eve_evidence_outcomes.proofs.TransferredStates.{none_apart}
 use Rattle.eve_evidence_outcomes.proofs.state.state_evidence.Goals as goal
 

@@ -1,5 +1,5 @@
 use Rattle.std.proofs.Common.{refl}
-use Rattle.eve_chains.specs.Settling.{settling}
+use Rattle.eve_chains.specs.CommittedValues.{settling}
 use Rattle.eve_agree.proofs.ByNumber.{committed_settled}
 use Rattle.eve_evidence_outcomes.proofs.state.state_fault.Goals as goal
 

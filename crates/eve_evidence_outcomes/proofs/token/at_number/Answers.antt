@@ -2,7 +2,7 @@ use Rattle.std.proofs.Common.{◌≡◌, List, length, sym, ap, subst, ◌∙◌
 use Rattle.eve_smallbank.specs.declared.request.Reply.{Reply}
 use Rattle.eve_grammar.specs.Trace.{head_of}
 use Rattle.eve_grammar.proofs.HeadLimits.{head_has_limits}
-use Rattle.eve_frames.specs.Said.{attempt_said}
+use Rattle.eve_frames.specs.Decoded.{attempt_decoded}
 use Rattle.eve_frames.proofs.AttemptPlaces.{attempt_some}
 use Rattle.eve_token.specs.Token.{token_of}
 use Rattle.eve_token.specs.TokenRows.{TokenRows}
@@ -52,7 +52,7 @@ returns-clause-told c =
     let t = c.args.trace.now in
     let e = c.args.history.now.replica in
     let n = c.args.n in
-    let a = attempt_said c.in-Some.attempt in
+    let a = attempt_decoded c.in-Some.attempt in
     let own = c.in-Some.ensures.some t e c.requires.section.history in
     let number = c.numbers_are_reached.ensures.numbers t e n own.placed
     (c.recall_right.ensures.section t e c.requires.section.history) own.committed in
@@ -61,7 +61,8 @@ returns-clause-told c =
     let replies = c.deref.ensures.value ∙ c.in_ok-replies.ensures in
     let due : c.token-due.result ≡ token_of t.head.version a.seq (balances_to t e n) a.replies =
     c.token-due.ensures.token
-    ∙ (λ i. token_of (c.in_ok-after.ensures i).version (c.seq.ensures i) (c.in_ok-after.ensures i).balances (replies i)) in
+    ∙ (λ i. token_of (c.in_ok-after.ensures i).version (c.seq.ensures i) (c.in_ok-after.ensures i).balances (replies i))
+    in
     let match = subst (λ (r : TokenRows). TellsMatch (made_tokens t.head.version n r.balances (balances_to t e n)
     a.replies (ordered_replies a)) a.token c.in_ok-matches.matches) c.in_ok-before.ensures
     (subst (λ (r : TokenRows). TellsMatch (made_tokens r.version n c.in_ok-before.before.balances r.balances

@@ -1,7 +1,7 @@
 use Rattle.std.proofs.Common.{ℕ, List, drop, is_some, sym, subst, ◌∙◌}
 use Rattle.std.specs.Prelude.{IsTrue}
 use Rattle.std.proofs.lemmas.List.{take_rest}
-use Rattle.eve_grammar.specs.Reading.{transfer_of}
+use Rattle.eve_grammar.specs.Readers.{transfer_of}
 use Rattle.eve_example_gather.proofs.transfers.view_of.Goals as goal
 
 pub new-requires : goal.new-requires

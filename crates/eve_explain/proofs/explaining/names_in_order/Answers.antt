@@ -6,7 +6,7 @@ use Rattle.eve_accounts.specs.Names.{NameList}
 use Rattle.eve_grammar.specs.Trace.{Customer, Trace}
 use Rattle.eve_grammar.specs.Spelling.{customers_at, customer_text}
 use Rattle.eve_grammar.specs.declared.head.TheConstants.{HEADER_LEN}
-use Rattle.eve_views.proofs.Locating.{located_get}
+use Rattle.eve_views.proofs.FrameOffsets.{located_get}
 use Rattle.eve_grammar.proofs.Lists.{take_one_more}
 use Rattle.eve_history.specs.SectionHistory.{names_of}
 use Rattle.eve_explain.proofs.explaining.names_in_order.Goals as goal

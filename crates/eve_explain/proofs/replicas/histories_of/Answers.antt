@@ -2,7 +2,7 @@ use Rattle.std.proofs.Common.{rules, ◌<◌, ◌++◌, ◌∷◌, [], length, s
 use Rattle.std.proofs.lemmas.List.{take_all}
 use Rattle.eve_grammar.proofs.Lists.{take_one_more}
 use Rattle.eve_history.specs.SectionHistory.{section_histories, section_history}
-use Rattle.eve_history.proofs.Rights.{as_many_told, section_history_at}
+use Rattle.eve_history.proofs.RightSections.{as_many_told, section_history_at}
 use Rattle.eve_explain.proofs.replicas.histories_of.Goals as goal
 
 pub loop-e-preserved : goal.loop-e-preserved

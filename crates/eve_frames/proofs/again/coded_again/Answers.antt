@@ -1,5 +1,5 @@
 use Rattle.std.proofs.Common.{rules}
-use Rattle.eve_grammar.specs.Reading.{coded_at}
+use Rattle.eve_grammar.specs.Readers.{coded_at}
 use Rattle.eve_frames.proofs.again.coded_again.Goals as goal
 
 pub returns-in-4 : goal.returns-in-4

@@ -1,5 +1,6 @@
-use Rattle.eve_frames.proofs.Fitting.{customer_fits, batch_fits, attempt_fits, access_fits, commit_fits, rollback_fits}
-use Rattle.eve_frames.proofs.Fitting.{transfer_fits, vote_fits, sent_fits}
+use Rattle.eve_frames.proofs.FrameLimits.{customer_fits, batch_fits, attempt_fits, access_fits, commit_fits}
+use Rattle.eve_frames.proofs.FrameLimits.{rollback_fits}
+use Rattle.eve_frames.proofs.FrameLimits.{transfer_fits, vote_fits, sent_fits}
 use Rattle.eve_frames.proofs.laws.frames_say_what_fits.Goals as goal
 
 pub returns : goal.returns

@@ -1,6 +1,6 @@
 use Rattle.std.proofs.Common.{◌≡◌, ◌-◌}
-use Rattle.eve_grammar.specs.Reading.{entry_at}
-use Rattle.eve_grammar.specs.Scanning.{rest_at}
+use Rattle.eve_grammar.specs.Readers.{entry_at}
+use Rattle.eve_grammar.specs.inner.Scans.{rest_at}
 use Rattle.eve_grammar.proofs.access.pass_each.Given as goal
 
 abbrev pub invariant-loop : goal.invariant-loop

@@ -1,7 +1,7 @@
 use Rattle.std.proofs.Common.{◌≡◌, ◌≤◌, ◌*◌, drop, Some, None, sym, ap, ◌∙◌, arith}
 use Rattle.eve_grammar.specs.Places.{bytes_from}
-use Rattle.eve_grammar.specs.Reading.{many_at, reply_at}
-use Rattle.eve_grammar.proofs.Passing.{certified_passed, certified_short, certified_none, certified_out}
+use Rattle.eve_grammar.specs.Readers.{many_at, reply_at}
+use Rattle.eve_grammar.proofs.PassedParts.{certified_passed, certified_short, certified_none, certified_out}
 use Rattle.eve_grammar.proofs.attempt.pass_certified.Goals as goal
 use Rattle.eve_grammar.proofs.attempt.pass_certified.Goals.{
   then-count-eq0-via-then-count-eq0,

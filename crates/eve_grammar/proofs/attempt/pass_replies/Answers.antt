@@ -1,7 +1,7 @@
-use Rattle.eve_grammar.specs.Reading.{reply_at}
-use Rattle.eve_grammar.specs.Scanning.{rest_at}
+use Rattle.eve_grammar.specs.Readers.{reply_at}
+use Rattle.eve_grammar.specs.inner.Scans.{rest_at}
 use Rattle.eve_grammar.proofs.Loops.{rest_more}
-use Rattle.eve_grammar.proofs.Passing.{all_passed, one_missing}
+use Rattle.eve_grammar.proofs.PassedParts.{all_passed, one_missing}
 use Rattle.eve_grammar.proofs.attempt.pass_replies.Goals as goal
 
 pub loop-preserved : goal.loop-preserved

@@ -1,6 +1,6 @@
 use Rattle.std.proofs.Common.{◌≡◌, ◌-◌}
-use Rattle.eve_grammar.specs.Reading.{reply_at}
-use Rattle.eve_grammar.specs.Scanning.{rest_at}
+use Rattle.eve_grammar.specs.Readers.{reply_at}
+use Rattle.eve_grammar.specs.inner.Scans.{rest_at}
 use Rattle.eve_grammar.proofs.attempt.pass_replies.Given as goal
 
 abbrev pub invariant-loop : goal.invariant-loop

@@ -1,8 +1,8 @@
-use Rattle.eve_grammar.specs.Reading.{asked_at}
-use Rattle.eve_grammar.specs.Scanning.{rest_at}
+use Rattle.eve_grammar.specs.Readers.{asked_at}
+use Rattle.eve_grammar.specs.inner.Scans.{rest_at}
 use Rattle.eve_grammar.specs.Bodies.{borrowed_asked}
 use Rattle.eve_grammar.proofs.Loops.{rest_more}
-use Rattle.eve_grammar.proofs.Passing.{all_passed, one_missing}
+use Rattle.eve_grammar.proofs.PassedParts.{all_passed, one_missing}
 use Rattle.eve_grammar.proofs.batch.pass_requests.Goals as goal
 
 pub loop-preserved : goal.loop-preserved

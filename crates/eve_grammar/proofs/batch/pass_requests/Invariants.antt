@@ -1,6 +1,6 @@
 use Rattle.std.proofs.Common.{◌≡◌, ◌-◌}
-use Rattle.eve_grammar.specs.Reading.{asked_at}
-use Rattle.eve_grammar.specs.Scanning.{rest_at}
+use Rattle.eve_grammar.specs.Readers.{asked_at}
+use Rattle.eve_grammar.specs.inner.Scans.{rest_at}
 use Rattle.eve_grammar.proofs.batch.pass_requests.Given as goal
 
 abbrev pub invariant-loop : goal.invariant-loop

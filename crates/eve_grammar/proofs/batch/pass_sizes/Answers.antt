@@ -1,7 +1,7 @@
 use Rattle.std.proofs.Common.{◌≡◌, ◌&&◌, ◌≤◌, false, leb, arith}
 use Rattle.std.proofs.lemmas.Bool.{lt-leb}
 use Rattle.std.proofs.lemmas.Bool.{and_left, and_right}
-use Rattle.eve_grammar.proofs.Passing.{sizes_passed, sizes_none, sizes_wrong}
+use Rattle.eve_grammar.proofs.PassedParts.{sizes_passed, sizes_none, sizes_wrong}
 use Rattle.eve_grammar.proofs.batch.pass_sizes.Goals as goal
 use Rattle.eve_grammar.proofs.batch.pass_sizes.Goals.{
   then-count-eq0-via-then-count-eq0,

@@ -1,5 +1,5 @@
 use Rattle.std.proofs.Common.{arith, rules}
-use Rattle.eve_grammar.specs.Scanning.{total_at}
+use Rattle.eve_grammar.specs.inner.Scans.{total_at}
 use Rattle.eve_grammar.proofs.Loops.{total_more}
 use Rattle.eve_grammar.proofs.batch.total_at.Goals as goal
 

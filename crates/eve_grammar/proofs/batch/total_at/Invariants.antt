@@ -1,5 +1,5 @@
 use Rattle.std.proofs.Common.{◌≡◌, ◌-◌, ◌*◌, ◌≤◌}
-use Rattle.eve_grammar.specs.Scanning.{total_at}
+use Rattle.eve_grammar.specs.inner.Scans.{total_at}
 use Rattle.eve_grammar.proofs.Loops.{plus}
 use Rattle.eve_grammar.proofs.batch.total_at.Given as goal
 

@@ -1,7 +1,7 @@
 use Rattle.std.proofs.Common.{◌≡◌, ℕ, true, false, ◌&&◌, Bool, cond, not, List, length, refl, sym}
 use Rattle.std.proofs.Common.{◌∙◌}
 use Rattle.eve_grammar.specs.Certificate.{is_permutation, is_grouped, counts_from, is_certificate}
-use Rattle.eve_grammar.proofs.Grouping.{small_all, groups_are}
+use Rattle.eve_grammar.proofs.GroupOrder.{small_all, groups_are}
 use Rattle.eve_grammar.proofs.certificate.is_certificate.Goals as goal
 
 -- what the three tests make together

@@ -1,5 +1,5 @@
 use Rattle.std.proofs.Common.{sym, arith, rules}
-use Rattle.eve_grammar.proofs.Grouping.{goes_on_from, goes_on_more, falls_back, goes_to_end}
+use Rattle.eve_grammar.proofs.GroupOrder.{goes_on_from, goes_on_more, falls_back, goes_to_end}
 use Rattle.eve_grammar.proofs.certificate.is_grouped.Goals as goal
 
 pub loop-index-init : goal.loop-index-init

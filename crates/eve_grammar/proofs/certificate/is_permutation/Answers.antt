@@ -1,5 +1,5 @@
 use Rattle.std.proofs.Common.{◌≡◌, ◌≤◌, ◌<◌, true, false, get_or, length, sym, arith, rules}
-use Rattle.eve_grammar.proofs.Counting.{marked_start, marked_more, marked_twice, marked_all, too_large}
+use Rattle.eve_grammar.proofs.Orders.{marked_start, marked_more, marked_twice, marked_all, too_large}
 use Rattle.eve_grammar.proofs.certificate.is_permutation.Goals as goal
 use Rattle.eve_grammar.proofs.certificate.is_permutation.Goals.{then-index-order-via-then-index-order}
 use Rattle.eve_grammar.proofs.certificate.is_permutation.Goals.{then-index-order-via-else-index-order+then-seen-index}

@@ -1,5 +1,5 @@
 use Rattle.std.proofs.Common.{length, take}
-use Rattle.eve_grammar.proofs.Counting.{Marked}
+use Rattle.eve_grammar.proofs.Orders.{Marked}
 use Rattle.eve_grammar.proofs.certificate.is_permutation.Given as goal
 
 abbrev pub invariant-loop-index : goal.invariant-loop-index

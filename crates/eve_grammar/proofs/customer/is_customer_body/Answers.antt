@@ -1,5 +1,5 @@
 use Rattle.std.proofs.Common.{rules}
-use Rattle.eve_grammar.specs.Reading.{customer_of}
+use Rattle.eve_grammar.specs.Readers.{customer_of}
 use Rattle.eve_grammar.proofs.customer.is_customer_body.Goals as goal
 
 pub returns : goal.returns

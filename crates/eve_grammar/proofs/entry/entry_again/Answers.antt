@@ -1,5 +1,5 @@
 use Rattle.std.proofs.Common.{refl, ◌∙◌, arith}
-use Rattle.eve_grammar.proofs.Again.{entry_stands, entry_known}
+use Rattle.eve_grammar.proofs.RereadEntries.{entry_stands, entry_known}
 use Rattle.eve_grammar.proofs.entry.entry_again.Goals as goal
 
 pub u32_in-requires : goal.u32_in-requires

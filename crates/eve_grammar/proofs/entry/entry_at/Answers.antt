@@ -1,5 +1,5 @@
 use Rattle.std.proofs.Common.{◌<◌, arith, rules}
-use Rattle.eve_grammar.proofs.Straight.{entry_is}
+use Rattle.eve_grammar.proofs.FixedFields.{entry_is}
 use Rattle.eve_grammar.proofs.entry.entry_at.Goals as goal
 
 pub returns-then-bytes-lt29 : goal.returns-then-bytes-lt29

@@ -1,7 +1,7 @@
 use Rattle.std.proofs.Common.{refl, arith}
 use Rattle.eve_grammar.specs.Frames.{frames_of}
 use Rattle.eve_grammar.specs.Spelling.{head_text, length_of, spelling}
-use Rattle.eve_grammar.specs.Cases.{empty_run, deposit_committed}
+use Rattle.eve_grammar.specs.inner.Cases.{empty_run, deposit_committed}
 use Rattle.eve_grammar.proofs.Spelled.{spelled_within}
 use Rattle.eve_grammar.proofs.laws.small_traces_are_spelled.Goals as goal
 

@@ -1,5 +1,5 @@
 use Rattle.std.proofs.Common.{arith, rules}
-use Rattle.eve_grammar.proofs.Straight.{reply_is}
+use Rattle.eve_grammar.proofs.FixedFields.{reply_is}
 use Rattle.eve_grammar.proofs.reply.reply_at.Goals as goal
 
 pub returns-then-bytes-lt9 : goal.returns-then-bytes-lt9

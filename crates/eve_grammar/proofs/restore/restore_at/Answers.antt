@@ -1,5 +1,5 @@
 use Rattle.std.proofs.Common.{arith, rules}
-use Rattle.eve_grammar.proofs.Straight.{restore_is}
+use Rattle.eve_grammar.proofs.FixedFields.{restore_is}
 use Rattle.eve_grammar.proofs.restore.restore_at.Goals as goal
 
 pub returns-then-bytes-lt20 : goal.returns-then-bytes-lt20

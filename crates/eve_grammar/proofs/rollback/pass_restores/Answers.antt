@@ -1,4 +1,4 @@
-use Rattle.eve_grammar.proofs.Passing.{restores_passed}
+use Rattle.eve_grammar.proofs.PassedParts.{restores_passed}
 use Rattle.eve_grammar.proofs.rollback.pass_restores.Goals as goal
 
 pub returns : goal.returns

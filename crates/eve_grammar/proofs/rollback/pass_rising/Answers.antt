@@ -1,5 +1,5 @@
 use Rattle.std.proofs.Common.{◌≤◌, arith}
-use Rattle.eve_grammar.specs.Scanning.{rising_at}
+use Rattle.eve_grammar.specs.inner.Scans.{rising_at}
 use Rattle.eve_grammar.proofs.Loops.{rising_more}
 use Rattle.eve_grammar.proofs.rollback.pass_rising.Goals as goal
 

@@ -1,5 +1,5 @@
 use Rattle.std.proofs.Common.{◌≡◌, ◌-◌}
-use Rattle.eve_grammar.specs.Scanning.{rising_at}
+use Rattle.eve_grammar.specs.inner.Scans.{rising_at}
 use Rattle.eve_grammar.proofs.rollback.pass_rising.Given as goal
 
 abbrev pub invariant-loop : goal.invariant-loop

@@ -1,5 +1,5 @@
 use Rattle.std.proofs.Common.{arith, rules}
-use Rattle.eve_grammar.proofs.Straight.{sent_is}
+use Rattle.eve_grammar.proofs.FixedFields.{sent_is}
 use Rattle.eve_grammar.proofs.sent.is_sent_body.Goals as goal
 
 pub returns-then-body-ne-SENT_LEN : goal.returns-then-body-ne-SENT_LEN

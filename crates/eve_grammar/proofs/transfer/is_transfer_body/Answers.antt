@@ -1,5 +1,5 @@
 use Rattle.std.proofs.Common.{rules}
-use Rattle.eve_grammar.specs.Reading.{transfer_of}
+use Rattle.eve_grammar.specs.Readers.{transfer_of}
 use Rattle.eve_grammar.proofs.transfer.is_transfer_body.Goals as goal
 
 pub returns-in_default-pass_rows : goal.returns-in_default-pass_rows

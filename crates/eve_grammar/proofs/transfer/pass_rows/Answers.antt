@@ -1,8 +1,8 @@
 use Rattle.std.proofs.Common.{◌≡◌, ℕ, true, false, List, None, Some, arith}
 use Rattle.eve_grammar.specs.Limits.{is_no_debt}
-use Rattle.eve_grammar.specs.Scanning.{saved_at}
+use Rattle.eve_grammar.specs.inner.Scans.{saved_at}
 use Rattle.eve_grammar.proofs.Loops.{saved_more, saved_none, saved_debt, saved_all}
-use Rattle.eve_grammar.proofs.Passing.{rows_passed}
+use Rattle.eve_grammar.proofs.PassedParts.{rows_passed}
 use Rattle.eve_grammar.proofs.transfer.pass_rows.Goals as goal
 
 pub returns-in_default : goal.returns-in_default

@@ -1,5 +1,5 @@
 use Rattle.std.proofs.Common.{◌≡◌, ◌-◌}
-use Rattle.eve_grammar.specs.Scanning.{saved_at}
+use Rattle.eve_grammar.specs.inner.Scans.{saved_at}
 use Rattle.eve_grammar.proofs.transfer.pass_rows.Given as goal
 
 abbrev pub invariant-loop-row : goal.invariant-loop-row

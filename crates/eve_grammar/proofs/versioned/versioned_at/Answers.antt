@@ -1,5 +1,5 @@
 use Rattle.std.proofs.Common.{arith, rules}
-use Rattle.eve_grammar.proofs.Straight.{versioned_is}
+use Rattle.eve_grammar.proofs.FixedFields.{versioned_is}
 use Rattle.eve_grammar.proofs.versioned.versioned_at.Goals as goal
 
 pub returns-then-bytes-lt16 : goal.returns-then-bytes-lt16

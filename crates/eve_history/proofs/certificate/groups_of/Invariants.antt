@@ -1,5 +1,5 @@
 use Rattle.eve_frames.specs.Views.{batch_in}
-use Rattle.eve_grammar.proofs.Grouping.{Grouping}
+use Rattle.eve_grammar.proofs.GroupOrder.{Grouping}
 use Rattle.eve_history.proofs.certificate.groups_of.Given as goal
 
 abbrev pub invariant-loop-index : goal.invariant-loop-index

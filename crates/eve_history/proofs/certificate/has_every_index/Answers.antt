@@ -1,7 +1,7 @@
 use Rattle.std.proofs.Common.{ℕ, ◌==◌, ◌∙◌}
 use Rattle.eve_grammar.specs.Trace.{Batch}
 use Rattle.eve_frames.specs.Views.{attempt_in, batch_in}
-use Rattle.eve_history.proofs.Finding.{named_batch, named_count}
+use Rattle.eve_history.proofs.Lookups.{named_batch, named_count}
 use Rattle.eve_history.proofs.certificate.has_every_index.Goals as goal
 
 pub returns : goal.returns

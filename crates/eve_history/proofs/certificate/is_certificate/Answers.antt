@@ -2,7 +2,7 @@ use Rattle.std.proofs.Common.{◌≡◌, ℕ, ◌≤◌, ◌<◌, List, length, 
 use Rattle.eve_grammar.specs.Trace.{Batch}
 use Rattle.eve_grammar.specs.Certificate.{is_certificate}
 use Rattle.eve_frames.specs.Views.{batch_in}
-use Rattle.eve_grammar.proofs.Grouping.{few_requests}
+use Rattle.eve_grammar.proofs.GroupOrder.{few_requests}
 use Rattle.eve_history.proofs.certificate.is_certificate.Goals as goal
 
 few : (b : Batch) (order : List ℕ) → (length b.requests ≡ sum b.sizes) × (sum b.sizes ≤ 256) → length order

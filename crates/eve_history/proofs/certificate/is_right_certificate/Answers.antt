@@ -3,7 +3,7 @@ use Rattle.eve_grammar.specs.Trace.{Batch}
 use Rattle.eve_frames.specs.Views.{attempt_in, batch_in}
 use Rattle.eve_grammar.specs.Certificate.{is_certificate}
 use Rattle.eve_history.specs.Section.{batch_at}
-use Rattle.eve_history.proofs.Finding.{named_batch, batch_fits, named_certificate}
+use Rattle.eve_history.proofs.Lookups.{named_batch, batch_fits, named_certificate}
 use Rattle.eve_history.proofs.certificate.is_right_certificate.Goals as goal
 
 pub is_certificate-requires-clause-whole : goal.is_certificate-requires-clause-whole

@@ -1,6 +1,6 @@
 use Rattle.std.proofs.Common.{length, refl, arith}
 use Rattle.std.proofs.lemmas.Option.{slice_get_read}
-use Rattle.eve_history.proofs.Rights.{right_more, all_right}
+use Rattle.eve_history.proofs.RightSections.{right_more, all_right}
 use Rattle.eve_history.proofs.history.recall_all_right.Goals as goal
 
 pub loop-history-preserved : goal.loop-history-preserved

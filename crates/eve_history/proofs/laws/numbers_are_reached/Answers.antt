@@ -1,12 +1,13 @@
-use Rattle.eve_history.proofs.LandingLaws.{landings_counted, committed_told, told_committed, committed_numbered}
-use Rattle.eve_history.proofs.LandingLaws.{committed_after_reached, attempts_numbered, landing_there, transfer_told}
-use Rattle.eve_history.proofs.LandingLaws.{told_transfer, told_skipped, transfer_numbered, transfer_lands}
+use Rattle.eve_history.proofs.ReachedNumbers.{each_reached_counted, committed_told, told_committed, committed_numbered}
+use Rattle.eve_history.proofs.ReachedNumbers.{committed_after_reached, attempts_numbered, how_reached_there}
+use Rattle.eve_history.proofs.ReachedNumbers.{transfer_told}
+use Rattle.eve_history.proofs.ReachedNumbers.{told_transfer, told_skipped, transfer_numbered, transfer_lands}
 use Rattle.eve_history.proofs.AttemptsAlone.{by_attempts_to}
 use Rattle.eve_history.proofs.laws.numbers_are_reached.Goals as goal
 
 pub returns : goal.returns
 returns c = record {
-  count = landings_counted;
+  count = each_reached_counted;
   told = committed_told;
   tells = told_committed;
   numbers = committed_numbered;
@@ -17,6 +18,6 @@ returns c = record {
   tells_skipped = told_skipped;
   transfers = transfer_numbered;
   lands = transfer_lands;
-  there = landing_there;
+  there = how_reached_there;
   by_attempts = by_attempts_to;
 }

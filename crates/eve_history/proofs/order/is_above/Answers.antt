@@ -1,7 +1,7 @@
 use Rattle.std.proofs.Common.{sym, ◌∙◌}
 use Rattle.std.proofs.lemmas.Bool.{ltb-true}
-use Rattle.eve_history.specs.Rising.{greatest_of}
-use Rattle.eve_history.proofs.Rising.{reached_more}
+use Rattle.eve_history.specs.inner.GreatestNumbers.{greatest_of}
+use Rattle.eve_history.proofs.GreatestNumbers.{reached_more}
 use Rattle.eve_history.proofs.order.is_above.Goals as goal
 
 pub returns-in-Ok-Some-clause-above : goal.returns-in-Ok-Some-clause-above

@@ -27,23 +27,25 @@ loop-i-init c =
 pub returns-in-Err-SameName-clause-fault : goal.returns-in-Err-SameName-clause-fault
 returns-in-Err-SameName-clause-fault c =
     let t = c.args.trace.now in
-    let said : ℕ × Customer = (c.customer-customer.result.offset, customer_in c.customer-customer.result.bytes.now) in
+    let decoded : ℕ × Customer = (c.customer-customer.result.offset, customer_in c.customer-customer.result.bytes.now)
+    in
     let there : Contains c.loop-i.names.items c.name.result.now =
     (c.in-Err-SameName.ensures.same_name.0 (ap Err c.in-Err-SameName.field-0-is)).1 in
-    let again : Contains c.loop-i.names.items (name_in said) =
+    let again : Contains c.loop-i.names.items (name_in decoded) =
     subst (λ (n : List ℕ). Contains c.loop-i.names.items n) c.name.ensures there in
     subst (λ (e : CheckFault). IfFound e (IsLeast (IsFaultOutside StandsInOrders t)))
     (sym (c.outside.ensures ∙ ap (λ (o : ℕ). Found (fault code.SameName o)) c.offset.ensures))
-    (named_again t c.loop-i.i c.loop-i.names said c.loop-i.invariant c.customer-customer.ensures.says again)
+    (named_again t c.loop-i.i c.loop-i.names decoded c.loop-i.invariant c.customer-customer.ensures.says again)
 
 pub unreachable-requires : goal.unreachable-requires
 unreachable-requires c =
     let t = c.args.trace.now in
-    let said : ℕ × Customer = (c.customer-customer.result.offset, customer_in c.customer-customer.result.bytes.now) in
+    let decoded : ℕ × Customer = (c.customer-customer.result.offset, customer_in c.customer-customer.result.bytes.now)
+    in
     let bad : is_name c.name.result.now ≡ false = c.in-Err-BadName.ensures.bad_name.0
     (ap Err c.in-Err-BadName.field-0-is) in
     let named : is_name c.name.result.now ≡ true = ap is_name c.name.ensures
-    ∙ is_named t c.loop-i.i said c.recall_limits.ensures c.customer-customer.ensures.says in
+    ∙ is_named t c.loop-i.i decoded c.recall_limits.ensures c.customer-customer.ensures.says in
     both_ways (is_name c.name.result.now) bad named
 
 pub unreachable-requires-in-Err-Full : goal.unreachable-requires-in-Err-Full
@@ -59,12 +61,14 @@ unreachable-requires-in-Err-Full c =
 pub loop-i-preserved : goal.loop-i-preserved
 loop-i-preserved c =
     let t = c.args.trace.now in
-    let said : ℕ × Customer = (c.customer-customer.result.offset, customer_in c.customer-customer.result.bytes.now) in
-    let new : ¬ Contains c.loop-i.names.items (name_in said) =
-    subst (λ (n : List ℕ). ¬ Contains c.loop-i.names.items n) c.name.ensures c.in-Ok.ensures.taken.new in
-    let added : c.add.new.self ≡ record c.loop-i.names { items = c.loop-i.names.items ++ name_in said ∷ [] } =
+    let decoded : ℕ × Customer = (c.customer-customer.result.offset, customer_in c.customer-customer.result.bytes.now)
+    in
+    let new : ¬ Contains c.loop-i.names.items (name_in decoded) =
+    subst (λ (n : List ℕ). ¬ Contains c.loop-i.names.items n) c.name.ensures c.in-Ok.ensures.transferred.new in
+    let added : c.add.new.self ≡ record c.loop-i.names { items = c.loop-i.names.items ++ name_in decoded ∷ [] } =
     c.in-Ok.ensures.added ∙ ap (λ (n : List ℕ). with_name c.loop-i.names n) c.name.ensures in
-    naming_more t c.loop-i.i c.loop-i.names c.add.new.self said c.loop-i.invariant c.customer-customer.ensures.says new
+    naming_more t c.loop-i.i c.loop-i.names c.add.new.self decoded c.loop-i.invariant c.customer-customer.ensures.says
+    new
     added
 
 pub returns-clause-names : goal.returns-clause-names

@@ -8,7 +8,7 @@ use Rattle.eve_views.specs.declared.fault.CheckFault.{CheckFault}
 use Rattle.eve_views.specs.declared.fault.CheckFault.TheVariants.{Found}
 use Rattle.eve_views.specs.Form.{IfFound, IsLeast, IsFaultOutside}
 use Rattle.eve_history.specs.Order.{request_ids_at, StandsInOrders}
-use Rattle.eve_history.specs.Repeats.{IsFirstRepeat}
+use Rattle.eve_history.specs.inner.Repeats.{IsFirstRepeat}
 use Rattle.eve_grammar.proofs.HeadLimits.{head_has_limits}
 use Rattle.eve_history.proofs.OrderLaws.{asked_again, fault}
 use Rattle.eve_history.proofs.order.requests_apart.Goals as goal
@@ -30,10 +30,10 @@ returns-in-Some-clause-fault c =
     let t = c.args.trace.now in
     let n = c.in-Some.n in
     let bs = batches_at t in
-    let said : ℕ × (ℕ × Batch) = (c.batch.result.offset, batch_in c.batch.result.bytes.now) in
+    let decoded : ℕ × (ℕ × Batch) = (c.batch.result.offset, batch_in c.batch.result.bytes.now) in
     let repeat : IsFirstRepeat t n = subst (λ (o : Option ℕ). IfSome o (IsFirstRepeat t)) c.in-Some.is
     c.in_ok-first_repeat.ensures.first in
     subst (λ (e : CheckFault). IfFound e (IsLeast (IsFaultOutside StandsInOrders t)))
     (sym (c.outside.ensures ∙ ap (λ (o : ℕ). Found (fault code.SameRequest o)) c.offset.ensures))
-    (asked_again t (n - 1) (flat_map request_ids_at (take (n - 1) bs)) said c.requires
-    (record { items = refl; apart = repeat.first }) c.batch.ensures.says (repeat.again said c.batch.ensures.says))
+    (asked_again t (n - 1) (flat_map request_ids_at (take (n - 1) bs)) decoded c.requires
+    (record { items = refl; apart = repeat.first }) c.batch.ensures.says (repeat.again decoded c.batch.ensures.says))

@@ -4,10 +4,10 @@ use Rattle.std.specs.List.Sorted.{IsPermutation}
 use Rattle.eve_grammar.specs.Trace.{Trace}
 use Rattle.eve_history.specs.Order.{HasDistinctRequests}
 use Rattle.eve_views.specs.Order.{AreInOrder}
-use Rattle.eve_history.specs.Repeats.{arrivals_of, IsNoLaterArrival, NoneOccursTwice, IsFirstTwice, IsFirstRepeat}
+use Rattle.eve_history.specs.inner.Repeats.{arrivals_of, IsNoLaterArrival, NoneOccursTwice, IsFirstTwice, IsFirstRepeat}
 use Rattle.eve_history.specs.declared.repeats.Arrival.{Arrival}
-use Rattle.eve_history.proofs.Sorting.{in_order}
-use Rattle.eve_history.proofs.Arriving.{none_twice_apart, first_twice_repeat}
+use Rattle.eve_history.proofs.SortedRequests.{in_order}
+use Rattle.eve_history.proofs.AllRequests.{none_twice_apart, first_twice_repeat}
 use Rattle.eve_history.proofs.repeats.first_repeat.Goals as goal
 
 pub first_twice-requires : goal.first_twice-requires

@@ -1,7 +1,7 @@
 use Rattle.std.proofs.Common.{◌+◌, ◌-◌, get_or, sym, subst, ◌∙◌, arith}
 use Rattle.std.proofs.lemmas.Option.{slice_get-get_or}
 use Rattle.eve_history.specs.declared.repeats.Arrival.{Arrival}
-use Rattle.eve_history.proofs.Sorting.{Seen, seen_same, seen_other, seen_none, seen_first}
+use Rattle.eve_history.proofs.SortedRequests.{Seen, seen_same, seen_other, seen_none, seen_first}
 use Rattle.eve_history.proofs.repeats.first_twice.Goals as goal
 use Rattle.eve_history.proofs.repeats.first_twice.Goals.{then-is_same, else-is_same}
 

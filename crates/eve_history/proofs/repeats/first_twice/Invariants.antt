@@ -1,4 +1,4 @@
-use Rattle.eve_history.proofs.Sorting.{Seen}
+use Rattle.eve_history.proofs.SortedRequests.{Seen}
 use Rattle.eve_history.proofs.repeats.first_twice.Given as goal
 
 abbrev pub invariant-loop-i : goal.invariant-loop-i

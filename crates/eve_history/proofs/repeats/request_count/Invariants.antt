@@ -1,7 +1,7 @@
 use Rattle.std.proofs.Common.{◌≡◌, ◌*◌, ◌≤◌, length, take}
 use Rattle.std.specs.List.{flat_map}
 use Rattle.eve_grammar.specs.Spelling.{batches_at}
-use Rattle.eve_history.specs.Repeats.{arrivals_at}
+use Rattle.eve_history.specs.inner.Repeats.{arrivals_at}
 use Rattle.eve_history.proofs.repeats.request_count.Given as goal
 
 abbrev pub invariant-loop-i : goal.invariant-loop-i

@@ -1,6 +1,6 @@
 use Rattle.std.proofs.Common.{arith}
 use Rattle.eve_frames.specs.Views.{access_in}
-use Rattle.eve_lines.proofs.Appending.{puts_entries}
+use Rattle.eve_lines.proofs.AppendedParts.{puts_entries}
 use Rattle.eve_lines.proofs.access.put_entries.Goals as goal
 
 pub returns : goal.returns

@@ -1,7 +1,7 @@
 use Rattle.std.proofs.Common.{arith}
 use Rattle.std.proofs.lemmas.Bool.{ne_eqb}
 use Rattle.eve_lines.specs.Rest.{words_of_kind}
-use Rattle.eve_lines.proofs.Appending.{none_left}
+use Rattle.eve_lines.proofs.AppendedParts.{none_left}
 use Rattle.eve_lines.proofs.frame.begin_kind.Goals as goal
 
 pub returns-in-17 : goal.returns-in-17

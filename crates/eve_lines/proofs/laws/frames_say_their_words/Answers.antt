@@ -1,4 +1,4 @@
-use Rattle.eve_lines.proofs.Saying.{says}
+use Rattle.eve_lines.proofs.WordsOfFrames.{says}
 use Rattle.eve_lines.proofs.laws.frames_say_their_words.Goals as goal
 
 pub returns : goal.returns

@@ -1,4 +1,4 @@
-use Rattle.eve_lines.proofs.Saying.{name_whole, token_whole}
+use Rattle.eve_lines.proofs.WordsOfFrames.{name_whole, token_whole}
 use Rattle.eve_lines.proofs.laws.names_and_tokens_stand_whole.Goals as goal
 
 pub returns-clause-names : goal.returns-clause-names

@@ -1,7 +1,7 @@
 use Rattle.std.proofs.Common.{◌∙◌, refl}
 use Rattle.std.proofs.lemmas.Option.{slice_get-get_or}
 use Rattle.eve_reasons.specs.Counts.{replica_line}
-use Rattle.eve_reasons.proofs.Items.{said_all, says_next}
+use Rattle.eve_reasons.proofs.Items.{decoded_all, says_next}
 use Rattle.eve_reasons.proofs.counts.say_counts.Goals as goal
 
 pub replicas-preserved : goal.replicas-preserved
@@ -11,5 +11,6 @@ replicas-preserved c =
 
 pub returns : goal.returns
 returns c =
-    said_all replica_line c.args.counts.now.replicas _ _ _ _ _ c.min.ensures c.replicas-test.false c.replicas.invariant
+    decoded_all replica_line c.args.counts.now.replicas _ _ _ _ _ c.min.ensures c.replicas-test.false
+    c.replicas.invariant
     ∙ rw c.say.ensures refl

@@ -1,7 +1,7 @@
 use Rattle.std.proofs.Common.{◌∙◌, refl}
 use Rattle.std.proofs.lemmas.Option.{slice_get-get_or}
 use Rattle.eve_reasons.specs.Polls.{vote_line}
-use Rattle.eve_reasons.proofs.Items.{said_all, says_next}
+use Rattle.eve_reasons.proofs.Items.{decoded_all, says_next}
 use Rattle.eve_reasons.proofs.polls.say_poll.Goals as goal
 
 pub votes-preserved : goal.votes-preserved
@@ -10,5 +10,5 @@ votes-preserved c =
 
 pub returns : goal.returns
 returns c =
-    said_all vote_line c.args.poll.now.votes _ _ _ _ _ c.min.ensures c.votes-test.false c.votes.invariant
+    decoded_all vote_line c.args.poll.now.votes _ _ _ _ _ c.min.ensures c.votes-test.false c.votes.invariant
     ∙ rw (c.say_found.ensures, c.say_asked.ensures) refl

@@ -1,6 +1,6 @@
 use Rattle.std.proofs.Common.{ap, arith}
 use Rattle.eve_recorder.specs.declared.passes.Knowledge.{Knowledge}
-use Rattle.eve_recorder.proofs.Keeps.{forks, forks_absent}
+use Rattle.eve_recorder.proofs.QueueSteps.{forks, forks_absent}
 use Rattle.eve_recorder.proofs.recorder.cut.Goals as goal
 
 pub another-requires-clause-rule : goal.another-requires-clause-rule

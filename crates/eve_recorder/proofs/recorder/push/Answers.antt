@@ -1,4 +1,4 @@
-use Rattle.eve_recorder.proofs.Keeps.{notes, learns_some}
+use Rattle.eve_recorder.proofs.QueueSteps.{notes, learns_some}
 use Rattle.eve_recorder.proofs.recorder.push.Goals as goal
 
 pub push_as-requires-clause-rule : goal.push_as-requires-clause-rule

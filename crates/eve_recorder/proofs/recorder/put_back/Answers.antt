@@ -1,8 +1,8 @@
 use Rattle.std.proofs.Common.{◌≡◌, false, [], min, ap, ◌∙◌, subst, arith, Option, IfSome}
 use Rattle.crossbeam_queue.specs.Passes.{view}
-use Rattle.eve_recorder.specs.Kept.{knowledge, IsWorkers}
-use Rattle.eve_recorder.specs.Seen.{RecorderId, recorder_id, Noter, IsNoterOf}
-use Rattle.eve_recorder.proofs.Ending.{put_step}
+use Rattle.eve_recorder.specs.QueueRule.{knowledge, IsWorkers}
+use Rattle.eve_recorder.specs.RecorderViews.{RecorderId, recorder_id, Noter, IsNoterOf}
+use Rattle.eve_recorder.proofs.JoinedPass.{put_step}
 use Rattle.eve_recorder.proofs.recorder.put_back.Goals as goal
 
 pub absorb-requires-clause-rule : goal.absorb-requires-clause-rule

@@ -9,9 +9,9 @@ use Rattle.eve_write.specs.Data.{asked, batch}
 use Rattle.eve_write.specs.declared.request.RequestData.{RequestData}
 use Rattle.eve_workload.specs.declared.mixer.MixedBatch.{MixedBatch}
 use Rattle.eve_workload.specs.Batches.{asked_lists}
-use Rattle.eve_workload.specs.Mixing.{cut, batch_with}
+use Rattle.eve_workload.specs.Mixers.{cut, batch_with}
 use Rattle.eve_workload.specs.Workload.{is_listed}
-use Rattle.eve_replica.specs.Serving.{IsRightMixed}
+use Rattle.eve_replica.specs.inner.RunInvariant.{IsRightMixed}
 use Rattle.eve_replica.proofs.opening.batches_of.Goals as goal
 
 -- the first of lists that are right, and those behind it

@@ -2,9 +2,9 @@ use Rattle.std.proofs.Common.{◌≡◌, ◌≤◌, ◌+◌, All, IsTrue, length
 use Rattle.std.specs.List.{list_all}
 use Rattle.eve_write.specs.Data.{batch}
 use Rattle.eve_workload.specs.Batches.{asked_lists}
-use Rattle.eve_workload.specs.Mixing.{cut, batch_with}
+use Rattle.eve_workload.specs.Mixers.{cut, batch_with}
 use Rattle.eve_workload.specs.Workload.{is_listed}
-use Rattle.eve_replica.specs.Serving.{IsRightMixed}
+use Rattle.eve_replica.specs.inner.RunInvariant.{IsRightMixed}
 use Rattle.eve_replica.proofs.opening.batches_of.Given as goal
 
 abbrev pub invariant-loop-requests : goal.invariant-loop-requests

@@ -1,7 +1,7 @@
 use Rattle.std.proofs.Common.{rules, ◌≡◌, IfOk, List, map, subst}
 use Rattle.eve_write.specs.declared.request.RequestData.{RequestData}
 use Rattle.eve_write.specs.Data.{asked, batch}
-use Rattle.eve_workload.specs.Mixing.{cut, batch_with}
+use Rattle.eve_workload.specs.Mixers.{cut, batch_with}
 use Rattle.eve_replica.proofs.opening.cut_batch.Goals as goal
 
 pub returns-clause-cut : goal.returns-clause-cut

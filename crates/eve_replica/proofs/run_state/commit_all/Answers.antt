@@ -1,13 +1,13 @@
 use Rattle.std.proofs.Common.{◌≡◌, length, get_or, ap, ◌∙◌, arith}
 use Rattle.eve_replica.specs.declared.standing.Standing.{Standing}
-use Rattle.eve_replica.specs.Deciding.{is_some_of}
-use Rattle.eve_replica.specs.Serving.{Serves, GoesOn, commit_move, next_token}
-use Rattle.eve_replica.proofs.Committing.{CommitsOrStops, all_commit, commit_grows}
-use Rattle.eve_replica.proofs.ByMost.{one_more_by_most}
-use Rattle.eve_replica.proofs.Each.{none_on, one_on, all_on, all_so, still}
-use Rattle.eve_replica.proofs.Going.{open_there, serve_on, live_on}
-use Rattle.eve_replica.proofs.OneStep.{some_open}
-use Rattle.eve_replica.proofs.Undecided.{still_undecided}
+use Rattle.eve_replica.specs.Decisions.{is_some_of}
+use Rattle.eve_replica.specs.inner.RunInvariant.{Serves, GoesOn, commit_move, next_token}
+use Rattle.eve_replica.proofs.CommonCommits.{CommitsOrStops, all_commit, commit_grows}
+use Rattle.eve_replica.proofs.MostReplicas.{one_more_by_most}
+use Rattle.eve_replica.proofs.ReplicaLists.{none_on, one_on, all_on, all_so, still}
+use Rattle.eve_replica.proofs.Moves.{open_there, serve_on, live_on}
+use Rattle.eve_replica.proofs.Steps.{some_open}
+use Rattle.eve_replica.proofs.UndecidedBatches.{still_undecided}
 use Rattle.eve_replica.proofs.Windows.{window_committed}
 use Rattle.eve_replica.proofs.run_state.commit_all.Goals as goal
 
@@ -83,8 +83,8 @@ returns-clause-committed c = λ most before.
     (all_so (CommitsOrStops c.args.token) _ c.args.servers.now c.loop-server.servers (λ old new m. m.commits) all))
     most before
 
-pub returns-clause-taken : goal.returns-clause-taken
-returns-clause-taken c = λ p at votes serve right.
+pub returns-clause-transferred : goal.returns-clause-transferred
+returns-clause-transferred c = λ p at votes serve right.
     let all = all_on (CommitsOrStops c.args.token) c.args.servers.now c.loop-server.server-index c.loop-server.servers
     (omega arith) c.loop-server.invariant in
     commit_grows p at votes c.args.token c.args.servers.now c.loop-server.servers serve all right

@@ -1,5 +1,5 @@
-use Rattle.eve_replica.proofs.Committing.{CommitsOrStops}
-use Rattle.eve_replica.proofs.Each.{AreOn}
+use Rattle.eve_replica.proofs.CommonCommits.{CommitsOrStops}
+use Rattle.eve_replica.proofs.ReplicaLists.{AreOn}
 use Rattle.eve_replica.proofs.run_state.commit_all.Given as goal
 
 abbrev pub invariant-loop-server : goal.invariant-loop-server

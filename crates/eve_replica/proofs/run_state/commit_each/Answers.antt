@@ -1,7 +1,7 @@
 use Rattle.std.proofs.Common.{◌≡◌, ◌≢◌, ◌⊎◌, ℕ, ◌+◌, ◌-◌, ◌*◌, ◌<◌, ◌≤◌, length, ◌∙◌, inl, inr, arith}
 use Rattle.std.proofs.lemmas.Result.{on_ok_weaker}
-use Rattle.eve_replica.specs.Serving.{count_with, live_in, sections_in}
-use Rattle.eve_replica.specs.Taken.{states_in}
+use Rattle.eve_replica.specs.inner.RunInvariant.{count_with, live_in, sections_in}
+use Rattle.eve_replica.specs.Transfers.{states_in}
 use Rattle.eve_replica.proofs.States.{room_spent}
 use Rattle.eve_replica.proofs.run_state.commit_each.Goals as goal
 
@@ -14,8 +14,8 @@ pub commit_all-requires : goal.commit_all-requires
 commit_all-requires c =
     let r = c.requires.serve in (r.0, r.1, r.2, r.3, r.4 ∙ c.if-head-eq1.true, r.6, r.7)
 
-pub commit_or_take_over-requires-clause-serve : goal.commit_or_take_over-requires-clause-serve
-commit_or_take_over-requires-clause-serve c =
+pub commit_or_transfer-requires-clause-serve : goal.commit_or_transfer-requires-clause-serve
+commit_or_transfer-requires-clause-serve c =
     let r = c.requires.serve in
     (r.0, r.1, r.2, r.3, r.4 ∙ second c.args.head.now.version c.requires.version c.if-head-eq1.false, r.5, r.6, r.7)
 
@@ -30,26 +30,27 @@ returns-then-head-eq1-clause-majority c =
 pub returns-then-head-eq1-clause-committed : goal.returns-then-head-eq1-clause-committed
 returns-then-head-eq1-clause-committed c = c.in_ok-commit_all.ensures.committed c.requires.decided
 
-pub returns-then-head-eq1-clause-taken : goal.returns-then-head-eq1-clause-taken
-returns-then-head-eq1-clause-taken c = λ p at votes serve left. c.in_ok-commit_all.ensures.taken p at votes serve
+pub returns-then-head-eq1-clause-transferred : goal.returns-then-head-eq1-clause-transferred
+returns-then-head-eq1-clause-transferred c = λ p at votes serve left. c.in_ok-commit_all.ensures.transferred p at votes
+    serve
 
 pub returns-then-head-eq1-clause-undecided : goal.returns-then-head-eq1-clause-undecided
 returns-then-head-eq1-clause-undecided c = c.in_ok-commit_all.ensures.undecided
 
 pub returns-clause-majority : goal.returns-clause-majority
 returns-clause-majority c =
-    on_ok_weaker c.commit_or_take_over.result
-    (λ (same : live_in c.commit_or_take_over.new.servers ≡ live_in c.args.servers.now).
-    omega (arith, c.requires.majority, c.commit_or_take_over.auto.servers, same))
-    c.commit_or_take_over.ensures.live
+    on_ok_weaker c.commit_or_transfer.result
+    (λ (same : live_in c.commit_or_transfer.new.servers ≡ live_in c.args.servers.now).
+    omega (arith, c.requires.majority, c.commit_or_transfer.auto.servers, same))
+    c.commit_or_transfer.ensures.live
 
 pub returns-clause-spent : goal.returns-clause-spent
 returns-clause-spent c = λ two.
     let customers = c.args.head.now.customers in
     let was = states_in (sections_in c.args.servers.now) in
-    let all = states_in (sections_in c.commit_or_take_over.new.servers) in
+    let all = states_in (sections_in c.commit_or_transfer.new.servers) in
     let others = length c.args.servers.now - count_with c.args.token c.args.servers.now in
-    on_ok_weaker c.commit_or_take_over.result
+    on_ok_weaker c.commit_or_transfer.result
     (λ (more : was + others ≤ all).
     room_spent customers c.args.room.now c.spend.new.room was others all c.in_ok-spend.ensures.spent more)
-    c.commit_or_take_over.ensures.states
+    c.commit_or_transfer.ensures.states

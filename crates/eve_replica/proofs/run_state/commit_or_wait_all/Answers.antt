@@ -1,7 +1,7 @@
 use Rattle.std.proofs.Common.{◌≡◌, ℕ, ◌+◌, false, arith}
 use Rattle.eve_replica.specs.declared.server.Server.{Server}
-use Rattle.eve_replica.specs.Handing.{CommitsOrWaits}
-use Rattle.eve_replica.proofs.Each.{none_on, one_on, all_on, pairs_of, still}
+use Rattle.eve_replica.specs.inner.Commits.{CommitsOrWaits}
+use Rattle.eve_replica.proofs.ReplicaLists.{none_on, one_on, all_on, pairs_of, still}
 use Rattle.eve_replica.proofs.run_state.commit_or_wait_all.Goals as goal
 
 -- it isn't broken, and the batch with this number is its next

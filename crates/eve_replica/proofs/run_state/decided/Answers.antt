@@ -1,6 +1,6 @@
 use Rattle.std.proofs.Common.{ℕ, ◌<◌, ◌*◌, length, sym, subst, ◌∙◌, below_more, arith}
 use Rattle.std.proofs.lemmas.List.Elements.{at_read}
-use Rattle.eve_replica.proofs.Counting.{IsNoMajority, bound, none_decided}
+use Rattle.eve_replica.proofs.TokenCounts.{IsNoMajority, bound, none_decided}
 use Rattle.eve_replica.proofs.run_state.decided.Goals as goal
 use Rattle.eve_replica.proofs.run_state.decided.Goals.{in-Some+else-count_with-half, in_default}
 

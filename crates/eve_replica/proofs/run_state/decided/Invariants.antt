@@ -1,6 +1,6 @@
 use Rattle.std.proofs.Common.{ℕ, ◌<◌, get_or}
 use Rattle.eve_replica.specs.declared.server.Server.{Server}
-use Rattle.eve_replica.proofs.Counting.{IsNoMajority}
+use Rattle.eve_replica.proofs.TokenCounts.{IsNoMajority}
 use Rattle.eve_replica.proofs.run_state.decided.Given as goal
 
 abbrev pub invariant-loop-server : goal.invariant-loop-server

@@ -1,7 +1,7 @@
 use Rattle.std.proofs.Common.{ap, arith}
 use Rattle.eve_replica.specs.declared.standing.Standing.{Standing}
-use Rattle.eve_replica.specs.Serving.{Discards, Serves}
-use Rattle.eve_replica.proofs.Each.{none_on, one_on, all_on, still}
+use Rattle.eve_replica.specs.inner.RunInvariant.{Discards, Serves}
+use Rattle.eve_replica.proofs.ReplicaLists.{none_on, one_on, all_on, still}
 use Rattle.eve_replica.proofs.run_state.roll_back_all.Goals as goal
 
 pub roll_back-requires-clause-view : goal.roll_back-requires-clause-view

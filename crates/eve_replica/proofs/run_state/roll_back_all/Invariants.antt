@@ -1,5 +1,5 @@
-use Rattle.eve_replica.specs.Serving.{Discards}
-use Rattle.eve_replica.proofs.Each.{AreOn}
+use Rattle.eve_replica.specs.inner.RunInvariant.{Discards}
+use Rattle.eve_replica.proofs.ReplicaLists.{AreOn}
 use Rattle.eve_replica.proofs.run_state.roll_back_all.Given as goal
 
 abbrev pub invariant-loop-server : goal.invariant-loop-server

@@ -3,9 +3,9 @@ use Rattle.std.specs.Arc.{arc_value}
 use Rattle.std.proofs.lemmas.List.Elements.{at_read}
 use Rattle.std.proofs.lemmas.Result.{IfOk-weaker}
 use Rattle.eve_grammar.specs.Bodies.{transfer}
-use Rattle.eve_replica.specs.Serving.{IsLentBy}
-use Rattle.eve_replica.specs.Handing.{IsLentByFirst}
-use Rattle.eve_replica.proofs.Committing.{lent_by_first, not_none}
+use Rattle.eve_replica.specs.inner.RunInvariant.{IsLentBy}
+use Rattle.eve_replica.specs.inner.Commits.{IsLentByFirst}
+use Rattle.eve_replica.proofs.CommonCommits.{lent_by_first, not_none}
 use Rattle.eve_replica.proofs.run_state.state_committed.Goals as goal
 
 pub loop-server-preserved : goal.loop-server-preserved

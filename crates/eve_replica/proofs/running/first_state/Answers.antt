@@ -4,10 +4,10 @@ use Rattle.eve_grammar.specs.Trace.{opening_rows}
 use Rattle.eve_grammar.proofs.OpeningRows.{length-opening_rows}
 use Rattle.eve_write.specs.Data.{customer}
 use Rattle.eve_attempts.specs.Ledgers.{opening}
-use Rattle.eve_replica.specs.Serving.{plan_with}
-use Rattle.eve_replica.proofs.Beginning.{plan_begun, none_led, none_voted, begun_taken}
-use Rattle.eve_replica.proofs.Counting.{counted_all}
-use Rattle.eve_replica.proofs.Undecided.{begun_undecided}
+use Rattle.eve_replica.specs.inner.RunInvariant.{plan_with}
+use Rattle.eve_replica.proofs.FirstStates.{plan_begun, none_led, none_voted, begun_transferred}
+use Rattle.eve_replica.proofs.TokenCounts.{counted_all}
+use Rattle.eve_replica.proofs.UndecidedBatches.{begun_undecided}
 use Rattle.eve_replica.proofs.running.first_state.Goals as goal
 
 pub servers_of-requires-clause-rows : goal.servers_of-requires-clause-rows
@@ -55,7 +55,7 @@ returns-clause-under_way c =
         c.requires.replicas,
       );
       committed = λ n some few. absurd (omega arith);
-      taken = begun_taken p servers.items refl serve;
+      transferred = begun_transferred p servers.items refl serve;
       undecided = begun_undecided p servers.items begun serve;
       spent = λ two. omega arith;
       votes = none_voted (length c.args.batches.now) c.new.result.items c.new.ensures.items;

@@ -14,17 +14,17 @@ use Rattle.eve_write.specs.Data.{batch, customer, section, trace, vote}
 use Rattle.eve_workload.specs.declared.mixer.MixedBatch.{MixedBatch}
 use Rattle.eve_replica.specs.declared.server.Server.{Server}
 use Rattle.eve_replica.specs.declared.run_state.RunState.{RunState}
-use Rattle.eve_replica.specs.Serving.{IsRightMixed, AreVotesOn, AreReplies, IsUnderWay, plan_with}
-use Rattle.eve_workload.specs.Mixing.{cut, batch_with}
+use Rattle.eve_replica.specs.inner.RunInvariant.{IsRightMixed, AreVotesOn, AreReplies, IsUnderWay, plan_with}
+use Rattle.eve_workload.specs.Mixers.{cut, batch_with}
 use Rattle.eve_workload.specs.Workload.{customer_names, head_asked, is_listed}
 use Rattle.eve_replica.specs.Run.{batches_cut, run_plan}
 use Rattle.eve_replica.specs.RunFaults.{EndsSoFar}
 use Rattle.eve_replica.specs.Sections.{RunPlan}
-use Rattle.eve_replica.specs.Sending.{sent_from_on}
+use Rattle.eve_replica.specs.SentReplies.{sent_from_on}
 use Rattle.eve_grammar.proofs.HeadLimits.{head_has_limits, few_customers}
-use Rattle.eve_replica.proofs.Parts.{same_head, spelled}
-use Rattle.eve_replica.proofs.Sectioned.{run_of, plan_is, copies_gave}
-use Rattle.eve_replica.proofs.WhereWell.{at_err}
+use Rattle.eve_replica.proofs.RunLimits.{same_head, spelled}
+use Rattle.eve_replica.proofs.RunSections.{run_of, plan_is, copies_gave}
+use Rattle.eve_replica.proofs.Endings.{at_err}
 use Rattle.eve_replica.proofs.running.run_named.Goals as goal
 
 -- what is the number of a format
@@ -119,7 +119,7 @@ returns-clause-run g c =
             ap length c.in_ok-state.ensures.batches,
             length-map slice (λ m. batch m.batch),
           )) under.majority
-          (copies_gave given p.verifiers.items gave.each) under.committed under.taken under.undecided sent_all;
+          (copies_gave given p.verifiers.items gave.each) under.committed under.transferred under.undecided sent_all;
     }
 
 pub first_state-requires-clause-named : goal.first_state-requires-clause-named

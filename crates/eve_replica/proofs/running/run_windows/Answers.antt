@@ -2,10 +2,10 @@ use Rattle.std.proofs.Common.{length, refl, ap, ◌∙◌, subst, arith}
 use Rattle.eve_grammar.specs.declared.head.Head.{Head}
 use Rattle.eve_replica.specs.RunFaults.{EndsSoFar, StopsAmid}
 use Rattle.eve_replica.specs.Sections.{RunPlan}
-use Rattle.eve_replica.specs.Serving.{IsUnderWay}
+use Rattle.eve_replica.specs.inner.RunInvariant.{IsUnderWay}
 use Rattle.eve_replica.specs.declared.standing.Standing.{Standing}
-use Rattle.eve_replica.proofs.CameSoFar.{amid}
-use Rattle.eve_replica.proofs.WhereWell.{at_err}
+use Rattle.eve_replica.proofs.RunProgress.{amid}
+use Rattle.eve_replica.proofs.Endings.{at_err}
 use Rattle.eve_replica.proofs.running.run_windows.Goals as goal
 
 pub loop-turn-init : goal.loop-turn-init

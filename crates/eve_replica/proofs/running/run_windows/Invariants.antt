@@ -1,6 +1,6 @@
 use Rattle.std.proofs.Common.{◌≡◌, ◌≤◌, ◌+◌}
 use Rattle.eve_replica.specs.Sections.{RunPlan}
-use Rattle.eve_replica.specs.Serving.{IsSameRun, IsUnderWay}
+use Rattle.eve_replica.specs.inner.RunInvariant.{IsSameRun, IsUnderWay}
 use Rattle.eve_replica.proofs.running.run_windows.Given as goal
 
 abbrev pub invariant-loop-turn : goal.invariant-loop-turn

@@ -2,8 +2,8 @@ use Rattle.std.proofs.Common.{◌≡◌, true, [], All, List, ap, map, refl, sym
 use Rattle.std.proofs.lemmas.List.Elements.{All-push}
 use Rattle.eve_write.specs.Data.{step}
 use Rattle.eve_replica.specs.declared.server.Server.{Server}
-use Rattle.eve_replica.specs.Serving.{Serves, first_standing}
-use Rattle.eve_replica.proofs.Beginning.{begins}
+use Rattle.eve_replica.specs.inner.RunInvariant.{Serves, first_standing}
+use Rattle.eve_replica.proofs.FirstStates.{begins}
 use Rattle.eve_replica.proofs.running.servers_of.Goals as goal
 
 pub loop-number-preserved : goal.loop-number-preserved

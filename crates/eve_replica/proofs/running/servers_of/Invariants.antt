@@ -1,6 +1,6 @@
 use Rattle.std.proofs.Common.{◌≡◌, ◌≤◌, true, [], All, vec_len, vec_capacity}
 use Rattle.eve_replica.specs.Sections.{RunPlan}
-use Rattle.eve_replica.specs.Serving.{IsPlanFor, Serves, first_standing}
+use Rattle.eve_replica.specs.inner.RunInvariant.{IsPlanFor, Serves, first_standing}
 use Rattle.eve_replica.proofs.running.servers_of.Given as goal
 
 abbrev pub invariant-loop-number : goal.invariant-loop-number

@@ -5,8 +5,8 @@ use Rattle.std.proofs.lemmas.Option.{slice_get-map, slice_get_read}
 use Rattle.eve_grammar.specs.Trace.{Batch, Step}
 use Rattle.eve_write.specs.Data.{batch, section, sent, step}
 use Rattle.eve_replica.specs.declared.server.Server.{Server}
-use Rattle.eve_replica.specs.Sending.{sent_along}
-use Rattle.eve_replica.proofs.Answering.{replica_sent, replicas_sent}
+use Rattle.eve_replica.specs.SentReplies.{sent_along}
+use Rattle.eve_replica.proofs.SentReplies.{replica_sent, replicas_sent}
 use Rattle.eve_replica.proofs.sending.replies_of.Goals as goal
 
 pub loop-place-preserved : goal.loop-place-preserved

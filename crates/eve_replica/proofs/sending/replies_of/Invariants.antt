@@ -1,7 +1,7 @@
 use Rattle.std.proofs.Common.{◌≡◌, ◌++◌, length, map, drop}
 use Rattle.eve_write.specs.Data.{batch, section, sent}
-use Rattle.eve_replica.specs.Sending.{sent_from_on}
-use Rattle.eve_replica.specs.Serving.{AreReplies}
+use Rattle.eve_replica.specs.SentReplies.{sent_from_on}
+use Rattle.eve_replica.specs.inner.RunInvariant.{AreReplies}
 use Rattle.eve_replica.proofs.sending.replies_of.Given as goal
 
 abbrev pub invariant-loop-place : goal.invariant-loop-place

@@ -2,7 +2,7 @@ use Rattle.std.proofs.Common.{map, length, option_map, refl, ap, ◌∙◌, arit
 use Rattle.std.proofs.lemmas.List.{length-map}
 use Rattle.std.proofs.lemmas.Option.{slice_get-map, slice_get-get_or, slice_get_read}
 use Rattle.eve_write.specs.Data.{asked, sent}
-use Rattle.eve_replica.proofs.Answering.{answered_more, all_answered, one_ends}
+use Rattle.eve_replica.proofs.SentReplies.{answered_more, all_answered, one_ends}
 use Rattle.eve_replica.proofs.sending.send_answers.Goals as goal
 
 pub loop-index-preserved : goal.loop-index-preserved

@@ -1,7 +1,7 @@
 use Rattle.std.proofs.Common.{◌≡◌, ◌+◌, ◌≤◌, ◌++◌, length, map, drop, vec_len, vec_capacity}
 use Rattle.eve_write.specs.Data.{asked, sent}
-use Rattle.eve_replica.specs.Sending.{answered}
-use Rattle.eve_replica.specs.Serving.{AreReplies}
+use Rattle.eve_replica.specs.SentReplies.{answered}
+use Rattle.eve_replica.specs.inner.RunInvariant.{AreReplies}
 use Rattle.eve_replica.proofs.sending.send_answers.Given as goal
 
 abbrev pub invariant-loop-index : goal.invariant-loop-index

@@ -6,8 +6,8 @@ use Rattle.eve_smallbank.specs.declared.request.Reply.{Reply}
 use Rattle.eve_grammar.specs.Trace.{Asked, Batch}
 use Rattle.eve_write.specs.Data.{asked, attempt, batch, sent}
 use Rattle.eve_workload.specs.declared.mixer.MixedBatch.{MixedBatch}
-use Rattle.eve_replica.specs.Sending.{answered, requests_numbered}
-use Rattle.eve_replica.proofs.Answering.{none_asked, asked_there}
+use Rattle.eve_replica.specs.SentReplies.{answered, requests_numbered}
+use Rattle.eve_replica.proofs.SentReplies.{none_asked, asked_there}
 use Rattle.std.proofs.lemmas.Result.{on_ok_weaker}
 use Rattle.eve_replica.proofs.sending.send_attempt.Goals as goal
 use Rattle.eve_replica.proofs.sending.send_attempt.Goals.{then-seq-lt1-via-then-seq-lt1}

@@ -4,12 +4,12 @@ use Rattle.std.proofs.Common.{sym, ap, ◌∙◌, subst, arith}
 use Rattle.std.proofs.lemmas.List.{map-append, length-map, nil_from_length}
 use Rattle.std.specs.Arc.{arc_value}
 use Rattle.eve_grammar.specs.Bodies.{transfer}
-use Rattle.eve_grammar.specs.Trace.{Batch, Attempts, Commits, RollsBack, TakesOver}
+use Rattle.eve_grammar.specs.Trace.{Batch, Attempts, Commits, RollsBack, Transfers}
 use Rattle.eve_write.specs.Data.{attempt, batch, commit, rollback, sent, step}
-use Rattle.eve_replica.specs.Serving.{AreReplies}
-use Rattle.eve_replica.proofs.Answering.{attempt_sent, commit_sent, empty_commit_sent, rollback_sent, section_sent}
-use Rattle.eve_replica.proofs.Answering.{transfer_sent}
-use Rattle.eve_replica.proofs.Answering.{along_is, step_at, first_removed}
+use Rattle.eve_replica.specs.inner.RunInvariant.{AreReplies}
+use Rattle.eve_replica.proofs.SentReplies.{attempt_sent, commit_sent, empty_commit_sent, rollback_sent, section_sent}
+use Rattle.eve_replica.proofs.SentReplies.{transfer_sent}
+use Rattle.eve_replica.proofs.SentReplies.{along_is, step_at, first_removed}
 use Rattle.eve_replica.proofs.sending.send_section.Goals as goal
 use Rattle.eve_replica.proofs.sending.send_section.Goals.{in-Attempt+in_ok-push-in-Attempt}
 use Rattle.eve_replica.proofs.sending.send_section.Goals.{in-Commit+then-not-is_empty+in_ok-send_attempt-in-Commit}
@@ -104,7 +104,7 @@ loop-step-preserved c =
                 (ap (map (λ x. attempt x.now)) none)
                 (transfer_sent batches place (map (λ x. attempt x.now) c.loop-step.opened.items) x (map step steps) i
                 before _ (omega (arith, length-map steps step))
-                (step_at steps i c.step-item.result (TakesOver x) (omega arith) c.step-item.is
+                (step_at steps i c.step-item.result (Transfers x) (omega arith) c.step-item.is
                 (ap step w.in-Transfer.is))
                 was.sent);
           }

@@ -1,7 +1,7 @@
 use Rattle.std.proofs.Common.{◌≡◌, ◌++◌, [], length, map, drop}
 use Rattle.eve_write.specs.Data.{attempt, batch, sent, step}
-use Rattle.eve_replica.specs.Sending.{sent_along}
-use Rattle.eve_replica.specs.Serving.{AreReplies}
+use Rattle.eve_replica.specs.SentReplies.{sent_along}
+use Rattle.eve_replica.specs.inner.RunInvariant.{AreReplies}
 use Rattle.eve_replica.proofs.sending.send_section.Given as goal
 
 abbrev pub invariant-loop-step : goal.invariant-loop-step

@@ -1,5 +1,5 @@
 use Rattle.std.proofs.Common.{◌<◌, ap, subst, sym, refl, ◌∙◌}
-use Rattle.eve_recorder.specs.Seen.{RecorderId, noted_on}
+use Rattle.eve_recorder.specs.RecorderViews.{RecorderId, noted_on}
 use Rattle.eve_replica_crew.proofs.Records.{seat_there}
 use Rattle.eve_replica_crew.proofs.gather.ended.Goals as goal
 

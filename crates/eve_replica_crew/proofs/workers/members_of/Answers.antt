@@ -2,7 +2,7 @@ use Rattle.std.proofs.Common.{◌≡◌, IsSome, None, Option, ap, subst, sym, �
 use Rattle.std.proofs.lemmas.List.{get_or-set_other}
 use Rattle.std.proofs.lemmas.List.Elements.{All-push}
 use Rattle.std.specs.Prelude.{slice_index_or}
-use Rattle.eve_recorder.specs.Drawing.{Drawer, Drawers, TicketSource}
+use Rattle.eve_recorder.specs.TicketViews.{Drawer, Drawers, TicketSource}
 use Rattle.eve_replica_crew.specs.Rooms.{AreSeatedAt}
 use Rattle.eve_replica_crew.specs.declared.workers.Member.{Member}
 use Rattle.eve_replica_crew.proofs.workers.members_of.Goals as goal

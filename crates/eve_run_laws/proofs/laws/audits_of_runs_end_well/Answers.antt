@@ -1,4 +1,4 @@
-use Rattle.eve_run_laws.proofs.Accepting.{ends_well}
+use Rattle.eve_run_laws.proofs.AcceptedRuns.{ends_well}
 use Rattle.eve_run_laws.proofs.laws.audits_of_runs_end_well.Goals as goal
 
 pub returns : goal.returns

@@ -1,4 +1,4 @@
-use Rattle.eve_run_laws.proofs.Accepting.{fault_collides}
+use Rattle.eve_run_laws.proofs.AcceptedRuns.{fault_collides}
 use Rattle.eve_run_laws.proofs.laws.faults_of_runs_are_collisions.Goals as goal
 
 pub returns : goal.returns

@@ -1,5 +1,5 @@
 use Rattle.eve_grammar.proofs.Spelled.{limits_of_spelled}
-use Rattle.eve_run_laws.proofs.Accepting.{accepted}
+use Rattle.eve_run_laws.proofs.AcceptedRuns.{accepted}
 use Rattle.eve_run_laws.proofs.laws.runs_are_accepted.Goals as goal
 
 pub returns : goal.returns

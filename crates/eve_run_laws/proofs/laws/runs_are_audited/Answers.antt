@@ -1,4 +1,4 @@
-use Rattle.eve_run_laws.proofs.Accepting.{audited}
+use Rattle.eve_run_laws.proofs.AcceptedRuns.{audited}
 use Rattle.eve_run_laws.proofs.laws.runs_are_audited.Goals as goal
 
 pub returns : goal.returns

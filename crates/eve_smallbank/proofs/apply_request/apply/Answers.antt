@@ -3,7 +3,7 @@ use Rattle.std.proofs.lemmas.List.{length-map}
 use Rattle.eve_smallbank.specs.declared.rows.Touched.TheVariants.{Rows}
 use Rattle.eve_smallbank.specs.SmallBank.{plain}
 use Rattle.eve_smallbank.specs.Access.{bank_of, balance_of_row}
-use Rattle.eve_smallbank.proofs.Applying.{rows_within, zeros, applied, applied_refused, others_kept}
+use Rattle.eve_smallbank.proofs.RequestBalances.{rows_within, zeros, applied, applied_refused, others_kept}
 use Rattle.eve_smallbank.proofs.apply_request.apply.Goals as goal
 
 pub values_in-seen-requires : goal.values_in-seen-requires

@@ -1,5 +1,5 @@
 use Rattle.std.proofs.Common.{length, length-set, arith, ◌<◌, ◌∙◌}
-use Rattle.eve_smallbank.proofs.Applying.{seen_more}
+use Rattle.eve_smallbank.proofs.RequestBalances.{seen_more}
 use Rattle.eve_smallbank.proofs.apply_request.values_in.Goals as goal
 
 pub loop-place-preserved : goal.loop-place-preserved

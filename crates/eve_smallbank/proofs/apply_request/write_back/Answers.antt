@@ -1,6 +1,6 @@
 use Rattle.std.proofs.Common.{arith, length, length-set, drop, ◌+◌, ◌<◌, ◌∙◌, ap}
-use Rattle.eve_smallbank.specs.FromValues.{balances_after}
-use Rattle.eve_smallbank.proofs.Applying.{written_read, written_write}
+use Rattle.eve_smallbank.specs.inner.FromValues.{balances_after}
+use Rattle.eve_smallbank.proofs.RequestBalances.{written_read, written_write}
 use Rattle.eve_smallbank.proofs.apply_request.write_back.Goals as goal
 use Rattle.eve_smallbank.proofs.apply_request.write_back.Goals.{in-Read, in-Write}
 

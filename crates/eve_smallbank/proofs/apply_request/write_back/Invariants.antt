@@ -1,5 +1,5 @@
 use Rattle.std.proofs.Common.{◌≡◌, drop, length}
-use Rattle.eve_smallbank.specs.FromValues.{balances_after}
+use Rattle.eve_smallbank.specs.inner.FromValues.{balances_after}
 use Rattle.eve_smallbank.proofs.apply_request.write_back.Given as goal
 
 abbrev pub invariant-loop-place : goal.invariant-loop-place

@@ -1,6 +1,6 @@
 use Rattle.std.proofs.Common.{refl, sym, ◌∙◌, arith}
 use Rattle.std.proofs.lemmas.Bool.{false≢true}
-use Rattle.eve_smallbank.proofs.Recording.{all_noted, noted_at}
+use Rattle.eve_smallbank.proofs.DecisionEntries.{all_noted, noted_at}
 use Rattle.eve_smallbank.proofs.fit.are_noted.Goals as goal
 
 pub returns-then-not-is_noted : goal.returns-then-not-is_noted

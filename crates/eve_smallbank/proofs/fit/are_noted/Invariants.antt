@@ -1,4 +1,4 @@
-use Rattle.eve_smallbank.proofs.Recording.{AreNotedBelow}
+use Rattle.eve_smallbank.proofs.DecisionEntries.{AreNotedBelow}
 use Rattle.eve_smallbank.proofs.fit.are_noted.Given as goal
 
 abbrev pub invariant-loop-place : goal.invariant-loop-place

@@ -2,7 +2,8 @@ use Rattle.std.proofs.Common.{◌≡◌, ℤ, List, map, take, refl, sym, ◌∙
 use Rattle.std.proofs.lemmas.Bool.{false≢true}
 use Rattle.eve_smallbank.specs.declared.entry.Entry.{Entry}
 use Rattle.eve_smallbank.specs.SmallBank.{plain}
-use Rattle.eve_smallbank.proofs.Recording.{other_length, judged_by_entries, judged_by_reply, seen_in, as_many_versions}
+use Rattle.eve_smallbank.proofs.DecisionEntries.{other_length, judged_by_entries, judged_by_reply, seen_in}
+use Rattle.eve_smallbank.proofs.DecisionEntries.{as_many_versions}
 use Rattle.eve_smallbank.proofs.fit.fits.Goals as goal
 
 pub returns-then-len : goal.returns-then-len

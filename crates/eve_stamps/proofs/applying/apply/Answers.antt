@@ -1,7 +1,7 @@
 use Rattle.std.proofs.Common.{ap, sym, ◌∙◌}
 use Rattle.eve_smallbank.specs.Touch.{rows_in}
 use Rattle.eve_stamps.specs.Stripes.{Stripe, has_row, rows_now, is_above}
-use Rattle.eve_stamps.proofs.Refusing.{many_seen}
+use Rattle.eve_stamps.proofs.Refusals.{many_seen}
 use Rattle.eve_stamps.proofs.applying.apply.Goals as goal
 
 pub run-requires-clause-seen : goal.run-requires-clause-seen

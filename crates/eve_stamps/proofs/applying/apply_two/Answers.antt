@@ -8,10 +8,10 @@ use Rattle.eve_stamps.specs.declared.journal.Journaled.{Journaled}
 use Rattle.eve_stamps.specs.declared.fault.StampFault.{StampFault}
 use Rattle.eve_stamps.specs.Applied.{Applied, noted_of, executed_as}
 use Rattle.eve_stamps.specs.Stripes.{HeldRow, Stripe, is_above}
-use Rattle.eve_stamps.specs.Stamping.{has_row_in_two, rows_in_two, seen_of, refused_for, IsRefusedFor}
-use Rattle.eve_stamps.specs.Holding.{stripe_held}
-use Rattle.eve_stamps.proofs.Refusing.{many_seen}
-use Rattle.eve_stamps.proofs.Keeping.{noted_within, noted_outside}
+use Rattle.eve_stamps.specs.Requests.{has_row_in_two, rows_in_two, seen_of, refused_for, IsRefusedFor}
+use Rattle.eve_stamps.specs.HeldRows.{stripe_held}
+use Rattle.eve_stamps.proofs.Refusals.{many_seen}
+use Rattle.eve_stamps.proofs.StripeLaws.{noted_within, noted_outside}
 use Rattle.eve_stamps.proofs.applying.apply_two.Goals as goal
 
 pub run-requires-clause-seen : goal.run-requires-clause-seen

@@ -1,5 +1,5 @@
 use Rattle.std.proofs.Common.{sym, ◌∙◌, arith}
-use Rattle.eve_stamps.proofs.Refusing.{worn_at}
+use Rattle.eve_stamps.proofs.Refusals.{worn_at}
 use Rattle.eve_stamps.proofs.applying.are_worn.Goals as goal
 
 pub returns-then-at-ge-MOST_VERSIONS : goal.returns-then-at-ge-MOST_VERSIONS

@@ -1,7 +1,7 @@
 use Rattle.std.proofs.Common.{◌≡◌, false, map, take}
 use Rattle.eve_smallbank.specs.Chain.{Table}
 use Rattle.eve_stamps.specs.Stripes.{row_in}
-use Rattle.eve_stamps.specs.Stamping.{is_worn}
+use Rattle.eve_stamps.specs.Requests.{is_worn}
 use Rattle.eve_stamps.proofs.applying.are_worn.Given as goal
 
 abbrev pub invariant-loop-place : goal.invariant-loop-place

@@ -1,4 +1,4 @@
-use Rattle.eve_stamps.proofs.Keeping.{rows_rise, entries_in_rows, held_noted}
+use Rattle.eve_stamps.proofs.StripeLaws.{rows_rise, entries_in_rows, held_noted}
 use Rattle.eve_stamps.proofs.applying.note.Goals as goal
 
 pub write-requires-clause-rise : goal.write-requires-clause-rise

@@ -3,8 +3,8 @@ use Rattle.std.proofs.lemmas.Bool.{not-false}
 use Rattle.eve_smallbank.specs.SmallBank.{plain}
 use Rattle.eve_smallbank.specs.Access.{Fits}
 use Rattle.eve_smallbank.specs.Touch.{rows_in}
-use Rattle.eve_stamps.specs.Stamping.{is_worn}
-use Rattle.eve_stamps.proofs.Refusing.{IsSeen, seen_is, worn_told, not_refused}
+use Rattle.eve_stamps.specs.Requests.{is_worn}
+use Rattle.eve_stamps.proofs.Refusals.{IsSeen, seen_is, worn_told, not_refused}
 use Rattle.eve_stamps.proofs.applying.run.Goals as goal
 
 pub returns-clause-run : goal.returns-clause-run

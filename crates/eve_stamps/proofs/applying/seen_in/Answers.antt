@@ -1,7 +1,7 @@
 use Rattle.std.proofs.Common.{◌≡◌, ◌∙◌, ap, length, Some, arith}
 use Rattle.eve_stamps.specs.Stripes.{has_row, rows_now}
-use Rattle.eve_stamps.proofs.Refusing.{not_seen}
-use Rattle.eve_stamps.proofs.Seeing.{one_seen, two_seen, three_seen}
+use Rattle.eve_stamps.proofs.Refusals.{not_seen}
+use Rattle.eve_stamps.proofs.SeenRows.{one_seen, two_seen, three_seen}
 use Rattle.eve_stamps.proofs.applying.seen_in.Goals as goal
 
 pub returns-in_default : goal.returns-in_default

@@ -1,7 +1,7 @@
 use Rattle.std.proofs.Common.{◌≡◌, ◌∙◌, ap, length, Some, arith}
-use Rattle.eve_stamps.specs.Stamping.{has_row_in_two, rows_in_two}
-use Rattle.eve_stamps.proofs.Refusing.{not_seen}
-use Rattle.eve_stamps.proofs.Seeing.{one_seen, two_seen, three_seen}
+use Rattle.eve_stamps.specs.Requests.{has_row_in_two, rows_in_two}
+use Rattle.eve_stamps.proofs.Refusals.{not_seen}
+use Rattle.eve_stamps.proofs.SeenRows.{one_seen, two_seen, three_seen}
 use Rattle.eve_stamps.proofs.applying.seen_in_two.Goals as goal
 
 pub returns-in_default : goal.returns-in_default

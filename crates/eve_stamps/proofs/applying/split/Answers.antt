@@ -1,6 +1,6 @@
 use Rattle.std.proofs.Common.{◌≡◌, length, ap, ◌∙◌, arith}
 use Rattle.eve_grammar.proofs.Lists.{one_listed, two_listed, three_listed}
-use Rattle.eve_stamps.specs.Stamping.{entries_within, entries_outside}
+use Rattle.eve_stamps.specs.Requests.{entries_within, entries_outside}
 use Rattle.eve_stamps.proofs.applying.split.Goals as goal
 
 pub returns-in-1 : goal.returns-in-1

@@ -1,6 +1,6 @@
 use Rattle.std.proofs.Common.{◌≡◌, length, ◌∙◌, sym, arith}
 use Rattle.eve_grammar.proofs.Lists.{one_listed, two_listed, three_listed}
-use Rattle.eve_stamps.specs.Holding.{entries_on}
+use Rattle.eve_stamps.specs.HeldRows.{entries_on}
 use Rattle.eve_stamps.proofs.Entries.{as_many_entries}
 use Rattle.eve_stamps.proofs.executing.entries_of.Goals as goal
 

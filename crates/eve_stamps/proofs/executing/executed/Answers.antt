@@ -5,7 +5,7 @@ use Rattle.eve_smallbank.specs.SmallBank.{plain}
 use Rattle.eve_smallbank.specs.Access.{Executed}
 use Rattle.eve_smallbank.specs.Execution.{executed_on}
 use Rattle.eve_smallbank.specs.Touch.{rows_in}
-use Rattle.eve_stamps.specs.Holding.{CanBeNoted}
+use Rattle.eve_stamps.specs.HeldRows.{CanBeNoted}
 use Rattle.eve_stamps.proofs.Outcomes.{executed_is, all_noted}
 use Rattle.eve_stamps.proofs.executing.executed.Goals as goal
 

@@ -1,5 +1,5 @@
 use Rattle.std.proofs.Common.{◌≡◌}
-use Rattle.eve_stamps.specs.Opening.{rows_of_stripe}
+use Rattle.eve_stamps.specs.OpeningRows.{rows_of_stripe}
 use Rattle.eve_stamps.proofs.opening.opening_rows.Given as goal
 
 abbrev pub invariant-loop-customer : goal.invariant-loop-customer

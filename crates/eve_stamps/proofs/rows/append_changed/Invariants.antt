@@ -1,6 +1,6 @@
 use Rattle.std.proofs.Common.{◌≡◌, ◌≤◌, ◌+◌, ◌++◌, drop, length}
 use Rattle.std.specs.Prelude.{vec_len, vec_capacity}
-use Rattle.eve_stamps.specs.Holding.{rows_changed}
+use Rattle.eve_stamps.specs.HeldRows.{rows_changed}
 use Rattle.eve_stamps.proofs.rows.append_changed.Given as goal
 
 abbrev pub invariant-loop-place : goal.invariant-loop-place

@@ -1,5 +1,5 @@
 use Rattle.std.proofs.Common.{◌≡◌, ◌≤◌, ◌+◌, drop, length}
-use Rattle.eve_stamps.specs.Holding.{rows_changed}
+use Rattle.eve_stamps.specs.HeldRows.{rows_changed}
 use Rattle.eve_stamps.proofs.rows.changed_count.Given as goal
 
 abbrev pub invariant-loop-place : goal.invariant-loop-place

@@ -1,7 +1,7 @@
 use Rattle.std.proofs.Common.{◌<◌, List, drop, length, refl, sym, subst}
 use Rattle.eve_stamps.specs.declared.journal.Journaled.{Journaled}
-use Rattle.eve_stamps.proofs.Settling.{Settling, IsSettled, settling_more, settling_front, one_less, none_left}
-use Rattle.eve_stamps.proofs.Settling.{rest_is_after}
+use Rattle.eve_stamps.proofs.WrittenRows.{Settling, IsSettled, settling_more, settling_prefix, one_less, none_left}
+use Rattle.eve_stamps.proofs.WrittenRows.{rest_is_after}
 use Rattle.eve_stamps.proofs.rows.settle_up_to.Goals as goal
 
 stopped : (c : goal.Then-tick-journaled) → IsSettled c.args.rows.now c.args.journal.now.items c.args.tick
@@ -34,7 +34,7 @@ returns-then-tick-journaled-clause-journal c = (stopped c).1
 
 pub write-requires-clause-entries : goal.write-requires-clause-entries
 write-requires-clause-entries c =
-    (settling_front c.args.rows.now c.args.journal.now.items c.args.tick c.loop-journaled.rows
+    (settling_prefix c.args.rows.now c.args.journal.now.items c.args.tick c.loop-journaled.rows
     c.loop-journaled.journal.items c.in-Some.journaled.now c.loop-journaled.invariant c.in-Some.ensures.item.3.0
     c.in-Some.ensures.lookup).own.0
 
@@ -49,7 +49,7 @@ loop-journaled-preserved c =
     (sym c.pop_front.ensures.rest)
     (settling_more c.args.rows.now c.args.journal.now.items c.args.tick c.loop-journaled.rows c.write.new.rows
     c.in-Some.journaled.now (drop 1 c.loop-journaled.journal.items)
-    (settling_front c.args.rows.now c.args.journal.now.items c.args.tick c.loop-journaled.rows
+    (settling_prefix c.args.rows.now c.args.journal.now.items c.args.tick c.loop-journaled.rows
     c.loop-journaled.journal.items c.in-Some.journaled.now c.loop-journaled.invariant c.in-Some.ensures.item.3.0
     c.in-Some.ensures.lookup) c.if-tick-journaled.false c.write.ensures)
 

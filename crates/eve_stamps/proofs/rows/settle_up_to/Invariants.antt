@@ -1,5 +1,5 @@
 use Rattle.std.proofs.Common.{length}
-use Rattle.eve_stamps.proofs.Settling.{Settling}
+use Rattle.eve_stamps.proofs.WrittenRows.{Settling}
 use Rattle.eve_stamps.proofs.rows.settle_up_to.Given as goal
 
 abbrev pub invariant-loop-journaled : goal.invariant-loop-journaled

@@ -4,7 +4,7 @@ use Rattle.eve_smallbank.specs.Chain.{table_after}
 use Rattle.eve_grammar.proofs.Lists.{all-slice_get}
 use Rattle.eve_stamps.specs.Stripes.{table_in, rows_in_table, RowsRise, IsEntryIn}
 use Rattle.eve_stamps.proofs.RowLaws.{rows_in_table-self, RowsRise-rows}
-use Rattle.eve_stamps.proofs.Settling.{still_in, write_more}
+use Rattle.eve_stamps.proofs.WrittenRows.{still_in, write_more}
 use Rattle.eve_stamps.proofs.rows.write.Goals.{then-place-count, else-place-count}
 use Rattle.eve_stamps.proofs.rows.write.Goals as goal
 

@@ -13,13 +13,13 @@ use Rattle.eve_smallbank.proofs.Records.{refused_fits}
 use Rattle.eve_smallbank.proofs.Unique.{made_of_table}
 use Rattle.eve_stamps.specs.Applied.{Applied, noted_of}
 use Rattle.eve_stamps.specs.Stripes.{Stripe, rows_now, stripe_with}
-use Rattle.eve_stamps.specs.Stamping.{rows_in_two, refusal, refusal_of_two, IsRefusedFor}
-use Rattle.eve_stamps.specs.Opening.{stripe_of, touches}
+use Rattle.eve_stamps.specs.Requests.{rows_in_two, refusal, refusal_of_two, IsRefusedFor}
+use Rattle.eve_stamps.specs.OpeningRows.{stripe_of, touches}
 use Rattle.eve_stamps_schedule.specs.Stripes.{needs}
 use Rattle.eve_stamps_schedule.specs.Schedule.{stripe_at, table_of_stripes}
-use Rattle.eve_stamps_schedule.specs.Applying.{IsKeptAt}
+use Rattle.eve_stamps_schedule.specs.AppliedRequests.{IsKeptAt}
 use Rattle.eve_stamps_schedule.proofs.Spans.{AreEnds}
-use Rattle.eve_stamps_schedule.proofs.Reaches.{some_touched}
+use Rattle.eve_stamps_schedule.proofs.RequestRows.{some_touched}
 use Rattle.eve_stamps_schedule.proofs.Applications.{one_table, one_kept, one_made, one_own, one_memory, IsParted}
 use Rattle.eve_stamps_schedule.proofs.Applications.{both_noted, two_table, two_kept, two_made, two_parted, two_memory}
 use Rattle.eve_stamps_schedule.proofs.Applications.{if_ok_both}

@@ -2,7 +2,7 @@ use Rattle.std.proofs.Common.{[], None, subst}
 use Rattle.std.proofs.lemmas.List.{get_or_default}
 use Rattle.eve_smallbank.specs.Touch.{rows_in}
 use Rattle.eve_stamps.specs.Stripes.{Stripe}
-use Rattle.eve_stamps.specs.Stamping.{refusal, IsRefusedFor}
+use Rattle.eve_stamps.specs.Requests.{refusal, IsRefusedFor}
 use Rattle.eve_stamps_schedule.proofs.applying.on_one.Goals as goal
 
 pub returns-clause-refused : goal.returns-clause-refused

@@ -1,5 +1,5 @@
 use Rattle.eve_stamps_schedule.proofs.Schedules.{serial, gathered, complete}
-use Rattle.eve_stamps_schedule.proofs.Listing.{listed_reached}
+use Rattle.eve_stamps_schedule.proofs.RecordLists.{listed_reached}
 use Rattle.eve_stamps_schedule.proofs.laws.every_schedule_is_serial.Goals as goal
 
 pub returns-clause-serial : goal.returns-clause-serial

@@ -1,7 +1,7 @@
 use Rattle.std.proofs.Common.{◌∷◌, ◌++◌, List, [], None, sym, ap₂, ◌∙◌, arith}
 use Rattle.std.proofs.lemmas.List.FromFn.{map-range_with_len_more}
 use Rattle.eve_stamps.specs.Stripes.{Stripe}
-use Rattle.eve_stamps.specs.Opening.{rows_of_stripe}
+use Rattle.eve_stamps.specs.OpeningRows.{rows_of_stripe}
 use Rattle.eve_stamps_schedule.proofs.opening.opening_stripes.Goals as goal
 
 pub loop-stripe-preserved : goal.loop-stripe-preserved

@@ -1,6 +1,6 @@
 use Rattle.std.proofs.Common.{◌≡◌, map, [], None}
 use Rattle.std.specs.List.{range_with_len}
-use Rattle.eve_stamps.specs.Opening.{rows_of_stripe}
+use Rattle.eve_stamps.specs.OpeningRows.{rows_of_stripe}
 use Rattle.eve_stamps_schedule.proofs.opening.opening_stripes.Given as goal
 
 abbrev pub invariant-loop-stripe : goal.invariant-loop-stripe

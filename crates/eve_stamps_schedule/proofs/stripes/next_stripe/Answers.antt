@@ -1,6 +1,6 @@
 use Rattle.std.proofs.Common.{◌<◌, length, slice_index_or, None, sym, ◌∙◌, rules}
 use Rattle.std.proofs.lemmas.Bool.{not-true, not-false}
-use Rattle.eve_stamps.specs.Opening.{touches}
+use Rattle.eve_stamps.specs.OpeningRows.{touches}
 use Rattle.eve_stamps_schedule.specs.Events.{is_owner}
 use Rattle.eve_stamps_schedule.proofs.Spans.{first_is_next, last_is_next, none_is_next}
 use Rattle.eve_stamps_schedule.proofs.stripes.next_stripe.Goals as goal

@@ -1,4 +1,4 @@
-use Rattle.eve_token.proofs.Spelled.{token-alike}
+use Rattle.eve_token.proofs.SpelledReplies.{token-alike}
 use Rattle.eve_token.proofs.laws.replies_are_hashed_as_spelled.Goals as goal
 
 pub returns : goal.returns

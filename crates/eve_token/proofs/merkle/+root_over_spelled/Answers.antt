@@ -3,7 +3,7 @@ use Rattle.std.proofs.lemmas.List.{length-take-le}
 use Rattle.eve_smallbank.specs.Spelling.{reply_text}
 use Rattle.eve_token.specs.Merkle.{IsGreatestPowerBelow}
 use Rattle.eve_token.proofs.Leaves.{leaves-root}
-use Rattle.eve_token.proofs.Spelled.{spelled-one, spelled-take, spelled-drop}
+use Rattle.eve_token.proofs.SpelledReplies.{spelled-one, spelled-take, spelled-drop}
 use Rattle.eve_token.proofs.merkle.+root_over_spelled.Goals as goal
 
 pub returns-then-leaves-eq1 : goal.returns-then-leaves-eq1

@@ -2,7 +2,7 @@ use Rattle.std.proofs.Common.{◌++◌, List, ℕ, codes, ap, ◌∙◌, arith}
 use Rattle.byteorder.specs.Endian.{big_bytes}
 use Rattle.sha2.specs.Sha256.{sha256}
 use Rattle.eve_token.specs.Token.{token_from_root}
-use Rattle.eve_token.proofs.Spelled.{spelled-count}
+use Rattle.eve_token.proofs.SpelledReplies.{spelled-count}
 use Rattle.eve_token.proofs.merkle.token_of_root_and_spelled.Goals as goal
 
 pub root_over_spelled-requires-clause-some : goal.root_over_spelled-requires-clause-some

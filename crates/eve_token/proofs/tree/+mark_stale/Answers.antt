@@ -3,7 +3,7 @@ use Rattle.std.proofs.Common.{length-take, length-drop}
 use Rattle.std.proofs.lemmas.List.{take-set}
 use Rattle.eve_token.specs.Merkle.{IsGreatestPowerBelow}
 use Rattle.eve_token.specs.Places.{HaveHashes, nodes_of}
-use Rattle.eve_token.proofs.Keeping.{leaf-stale, left-stale, right-stale, part-left, part-right, rest-after}
+use Rattle.eve_token.proofs.KeptPlaces.{leaf-stale, left-stale, right-stale, part-left, part-right, rest-after}
 use Rattle.eve_token.proofs.tree.+mark_stale.Goals as goal
 
 pub returns-then-leaves-eq1 : goal.returns-then-leaves-eq1

@@ -4,8 +4,8 @@ use Rattle.eve_smallbank.specs.Spelling.{money_text}
 use Rattle.eve_token.specs.Merkle.{leaf_hash, leaf_hashes, merkle_root}
 use Rattle.eve_token.specs.Places.{HaveHashes, nodes_of}
 use Rattle.eve_token.proofs.Leaves.{leaves-one, leaves-one-root, leaves-root, leaves-power, leaves-take, leaves-drop}
-use Rattle.eve_token.proofs.Keeping.{leaf-place, leaf-kept, part-left, part-top, part-right, joined, rebuilt}
-use Rattle.eve_token.proofs.Keeping.{rest-joined}
+use Rattle.eve_token.proofs.KeptPlaces.{leaf-place, leaf-kept, part-left, part-top, part-right, joined, rebuilt}
+use Rattle.eve_token.proofs.KeptPlaces.{rest-joined}
 use Rattle.eve_token.proofs.tree.+refresh.Goals as goal
 
 pub refresh_leaf-requires : goal.refresh_leaf-requires
@@ -58,9 +58,10 @@ refresh-left_root-requires t c =
     let is = c.left_part-part.ensures in
     let top = 2 * k - 1 in
     let at : top + 1 ≡ 2 * k = omega (arith, is.below, is.greatest) in
-    let front = c.split_at.ensures.front in
+    let prefix = c.split_at.ensures.front in
     let kept : HaveHashes (take top c.args.nodes.now) (nodes_of (leaf_hashes money_text n c.split_at.result.0.now)) =
-    subst (λ (xs : List ℤ). HaveHashes (take top c.args.nodes.now) (nodes_of (leaf_hashes money_text n xs))) (sym front)
+    subst (λ (xs : List ℤ). HaveHashes (take top c.args.nodes.now) (nodes_of (leaf_hashes money_text n xs)))
+    (sym prefix)
     (subst (λ (hs : List (List ℕ)). HaveHashes (take top c.args.nodes.now) (nodes_of hs))
     (leaves-take ℤ money_text k n bs)
     (part-left (leaf_hashes money_text n bs) k top

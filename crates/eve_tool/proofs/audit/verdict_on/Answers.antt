@@ -1,6 +1,6 @@
 use Rattle.std.proofs.Common.{◌^◌}
 use Rattle.eve_tool.proofs.Judging.{judged}
-use Rattle.eve_tool.proofs.Leaving.{at_err}
+use Rattle.eve_tool.proofs.UnsentText.{at_err}
 use Rattle.eve_tool.proofs.WholeInput.{is_read}
 use Rattle.eve_tool.proofs.audit.verdict_on.Goals as goal
 

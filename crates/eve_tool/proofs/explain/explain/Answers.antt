@@ -2,9 +2,9 @@ use Rattle.std.proofs.Common.{◌^◌}
 use Rattle.std.proofs.lemmas.Result.{IfErr-weaker, IfOk-weaker, on_ok_weaker}
 use Rattle.eve_tool.specs.Explain.{Explains}
 use Rattle.eve_tool_arguments.specs.Arguments.{Explain}
-use Rattle.eve_tool.proofs.Cutting.{WritesAllOf-cut, WritesFrontOf-cut, random_left}
-use Rattle.eve_tool.proofs.Explaining.{Explains-cut, explain_left}
-use Rattle.eve_tool.proofs.Leaving.{at_err}
+use Rattle.eve_tool.proofs.CutInput.{WritesAllOf-cut, WritesPrefixOf-cut, random_left}
+use Rattle.eve_tool.proofs.ExplainedLines.{Explains-cut, explain_left}
+use Rattle.eve_tool.proofs.UnsentText.{at_err}
 use Rattle.eve_tool.proofs.WholeInput.{is_read}
 use Rattle.eve_tool.proofs.explain.explain.Goals as goal
 
@@ -27,9 +27,9 @@ returns-clause-left g c =
     IfErr-weaker c.explain_bytes.result _ _
     (λ why. explain_left g.O.Sink.written g.O.Sink.failures known _ c.as_slice.result.now c.args.out.now
     c.explain_bytes.new.out why
-    (λ front. WritesFrontOf-cut Explains (2 ^ 30) known _ _ old new
+    (λ prefix. WritesPrefixOf-cut Explains (2 ^ 30) known _ _ old new
     Explains-cut c.as_slice.ensures.value
-    c.in_ok-bytes.ensures.bytes front))
+    c.in_ok-bytes.ensures.bytes prefix))
     c.explain_bytes.ensures.left
 
 pub returns-in_err-random-clause-left : goal.returns-in_err-random-clause-left

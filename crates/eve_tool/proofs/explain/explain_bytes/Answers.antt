@@ -4,8 +4,8 @@ use Rattle.eve_tool.specs.Explain.{text_behind}
 use Rattle.eve_tool.specs.Lines.{status_of_verdict, verdict_line}
 use Rattle.eve_tool.specs.declared.fault.ToolFault.TheVariants.{Write}
 use Rattle.eve_tool_arguments.specs.Arguments.{Explain}
-use Rattle.eve_tool.proofs.Explaining.{audits-of, explained-all, explained-front, explains-of, stops-further}
-use Rattle.eve_tool.proofs.Leaving.{at_err, sent_left}
+use Rattle.eve_tool.proofs.ExplainedLines.{audits-of, explained-all, explained-prefix, explains-of, stops-further}
+use Rattle.eve_tool.proofs.UnsentText.{at_err, sent_left}
 use Rattle.eve_tool.proofs.explain.explain_bytes.Goals as goal
 
 pub returns-in_err-status-clause-left : goal.returns-in_err-status-clause-left
@@ -34,7 +34,7 @@ returns-in_err-send_reasons-clause-left g c =
     let said = explains-of bytes x v status c.verdict.ensures audits c.in-Ok.ensures.explained c.requires.read in
     at_err c.from_residual-in_err-send_reasons.result _ Write c.from_residual-in_err-send_reasons.ensures.1 (
       c.in_err-send_reasons.ensures.counted ∙ ap after_failure c.in_ok-status.ensures.fine,
-      explained-front _ _ _ bytes _ _ status said c.in_ok-status.ensures.sent c.in_err-send_reasons.ensures.front,
+      explained-prefix _ _ _ bytes _ _ status said c.in_ok-status.ensures.sent c.in_err-send_reasons.ensures.prefix,
     )
 
 pub returns-clause-all : goal.returns-clause-all

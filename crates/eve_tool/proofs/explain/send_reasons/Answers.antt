@@ -1,14 +1,14 @@
 use Rattle.std.proofs.Common.{◌∙◌, arith}
 use Rattle.eve_tool.specs.Explain.{lines_behind}
-use Rattle.eve_tool.proofs.Explaining.{few_behind, sends_all, sends_line, stops_at}
+use Rattle.eve_tool.proofs.ExplainedLines.{few_behind, sends_all, sends_line, stops_at}
 use Rattle.eve_tool.proofs.LongLines.{at_any_err}
 use Rattle.eve_tool.proofs.explain.send_reasons.Goals as goal
 
-pub returns-in_err-send_all-clause-front : goal.returns-in_err-send_all-clause-front
-returns-in_err-send_all-clause-front g c =
+pub returns-in_err-send_all-clause-prefix : goal.returns-in_err-send_all-clause-prefix
+returns-in_err-send_all-clause-prefix g c =
     at_any_err c.from_residual.result
     (stops_at _ _ _ (lines_behind c.args.explained.now) c.lines.i _ _ c.as_slice.ensures.value c.in-Some.ensures
-    c.lines.invariant.0 c.in_err-send_all.ensures.front)
+    c.lines.invariant.0 c.in_err-send_all.ensures.prefix)
 
 pub lines-preserved : goal.lines-preserved
 lines-preserved g c = (

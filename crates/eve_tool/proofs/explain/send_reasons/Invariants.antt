@@ -2,7 +2,7 @@
 use Rattle.std.proofs.Common.{◌≡◌}
 use Rattle.std.specs.Io.KnownBytes.{Appends}
 use Rattle.eve_tool.specs.Explain.{lines_behind}
-use Rattle.eve_tool.proofs.Explaining.{text_before}
+use Rattle.eve_tool.proofs.ExplainedLines.{text_before}
 use Rattle.eve_tool.proofs.explain.send_reasons.Given as goal
 
 abbrev pub invariant-lines : goal.invariant-lines

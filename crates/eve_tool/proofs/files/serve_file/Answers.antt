@@ -3,7 +3,7 @@ use Rattle.std.proofs.lemmas.Bool.{cases_lt}
 use Rattle.eve_grammar.specs.declared.limits.TheConstants.{MOST_BYTES}
 use Rattle.eve_tool.specs.Calls.{CallSays}
 use Rattle.eve_tool.specs.Files.{HoldsBack}
-use Rattle.eve_tool.proofs.SentFiles.{said_of_file, said_of_opened, some_call}
+use Rattle.eve_tool.proofs.SentFiles.{said_of_file, decoded_of_opened, some_call}
 use Rattle.eve_tool.proofs.files.serve_file.Goals as goal
 
 pub returns-clause-serves : goal.returns-clause-serves
@@ -33,7 +33,7 @@ returns-clause-serves g c = λ call calls.
               c.serve-status.result,
               record {
                 less = before;
-                said = said_of_opened (CallSays MOST_BYTES call) bytes _ _ _ c.serve-status.result
+                said = decoded_of_opened (CallSays MOST_BYTES call) bytes _ _ _ c.serve-status.result
                     c.in-Ok.ensures.bytes (c.serve-status.ensures.said call calls before);
                 fine = fine.1;
                 quiet = refl;

@@ -1,46 +1,46 @@
 use Rattle.std.proofs.Common.{◌∙◌, ◌++◌, ap}
 use Rattle.std.proofs.lemmas.Result.{on_err_weaker, on_ok_weaker}
 use Rattle.eve_lines.specs.Rest.{words_in, words_left}
-use Rattle.eve_streams.proofs.Joining.{AppendsFront-more}
+use Rattle.eve_streams.proofs.JoinedSends.{AppendsPrefix-more}
 use Rattle.eve_tool.specs.Long.{line_of_view}
-use Rattle.eve_tool.proofs.LongLines.{at_any_err, front_put, line-put}
+use Rattle.eve_tool.proofs.LongLines.{at_any_err, prefix_put, line-put}
 use Rattle.eve_tool.proofs.LongLines.{line-stops_at_end, line-stops_in_words}
 use Rattle.eve_tool.proofs.long.put_frame.Goals as goal
 
-pub returns-in_err-make_room-clause-front : goal.returns-in_err-make_room-clause-front
-returns-in_err-make_room-clause-front g c =
+pub returns-in_err-make_room-clause-prefix : goal.returns-in_err-make_room-clause-prefix
+returns-in_err-make_room-clause-prefix g c =
     at_any_err c.from_residual.result
-    (AppendsFront-more _ _ c.args.line.now.items (line_of_view c.args.number c.args.frame.now)
-    c.in_err-make_room.ensures.front)
+    (AppendsPrefix-more _ _ c.args.line.now.items (line_of_view c.args.number c.args.frame.now)
+    c.in_err-make_room.ensures.prefix)
 
-pub returns-in_err-put_words-clause-front : goal.returns-in_err-put_words-clause-front
-returns-in_err-put_words-clause-front g c =
-    let first = front_put _ _ _ _ _ c.args.frame.now c.put_front.ensures.items c.offset.ensures c.kind_name.ensures
+pub returns-in_err-put_words-clause-prefix : goal.returns-in_err-put_words-clause-prefix
+returns-in_err-put_words-clause-prefix g c =
+    let first = prefix_put _ _ _ _ _ c.args.frame.now c.put_prefix.ensures.items c.offset.ensures c.kind_name.ensures
     c.body_len.ensures in
     let begun = c.begin-words.ensures
-    ∙ ap (λ b. c.put_front.new.line.items ++ words_in c.args.number b) c.bytes.ensures in
+    ∙ ap (λ b. c.put_prefix.new.line.items ++ words_in c.args.number b) c.bytes.ensures in
     at_any_err c.from_residual-in_err-put_words.result
     (line-stops_in_words _ _ _ _ _ _ c.begin-words.new.line.items _ _ (words_left c.begin-words.result)
-    c.in_ok-make_room.ensures.puts first begun c.in_err-put_words.ensures.front)
+    c.in_ok-make_room.ensures.puts first begun c.in_err-put_words.ensures.prefix)
 
 pub returns-clause-puts : goal.returns-clause-puts
 returns-clause-puts g c =
-    let first = front_put _ _ _ _ _ c.args.frame.now c.put_front.ensures.items c.offset.ensures c.kind_name.ensures
+    let first = prefix_put _ _ _ _ _ c.args.frame.now c.put_prefix.ensures.items c.offset.ensures c.kind_name.ensures
     c.body_len.ensures in
     let begun = c.begin-words.ensures
-    ∙ ap (λ b. c.put_front.new.line.items ++ words_in c.args.number b) c.bytes.ensures in
+    ∙ ap (λ b. c.put_prefix.new.line.items ++ words_in c.args.number b) c.bytes.ensures in
     on_ok_weaker c.put_end.result
     (line-put _ _ _ _ _ _ _ _ _ _ _ _ _ c.in_ok-make_room.ensures.puts first begun
     c.in_ok-put_words.ensures.puts)
     c.put_end.ensures.puts
 
-pub returns-clause-front : goal.returns-clause-front
-returns-clause-front g c =
-    let first = front_put _ _ _ _ _ c.args.frame.now c.put_front.ensures.items c.offset.ensures c.kind_name.ensures
+pub returns-clause-prefix : goal.returns-clause-prefix
+returns-clause-prefix g c =
+    let first = prefix_put _ _ _ _ _ c.args.frame.now c.put_prefix.ensures.items c.offset.ensures c.kind_name.ensures
     c.body_len.ensures in
     let begun = c.begin-words.ensures
-    ∙ ap (λ b. c.put_front.new.line.items ++ words_in c.args.number b) c.bytes.ensures in
+    ∙ ap (λ b. c.put_prefix.new.line.items ++ words_in c.args.number b) c.bytes.ensures in
     on_err_weaker c.put_end.result
     (line-stops_at_end _ _ _ _ _ _ _ _ _ _ _ _ c.in_ok-make_room.ensures.puts first begun
     c.in_ok-put_words.ensures.puts)
-    c.put_end.ensures.front
+    c.put_end.ensures.prefix

@@ -10,12 +10,12 @@ returns-in_default-clause-puts g c =
     λ h frames has. lists-all _ _ _ _ c.args.bytes.now c.frames.at c.frames.number h frames c.in_default.ensures.short
     (c.frames.invariant.0 h frames has)
 
-pub returns-in_err-put_frame-clause-front : goal.returns-in_err-put_frame-clause-front
-returns-in_err-put_frame-clause-front g c =
+pub returns-in_err-put_frame-clause-prefix : goal.returns-in_err-put_frame-clause-prefix
+returns-in_err-put_frame-clause-prefix g c =
     λ h frames has. at_any_err c.from_residual.result
     (lists-stops c.frames_say_their_words.ensures _ _ _ _ _ c.args.bytes.now c.frames.at c.frames.number h frames
     c.in-Some.frame c.in-Some.frame.whole c.in-Some.ensures.offset c.in-Some.ensures.bytes
-    (c.frames.invariant.0 h frames has) c.in_err-put_frame.ensures.front)
+    (c.frames.invariant.0 h frames has) c.in_err-put_frame.ensures.prefix)
 
 pub frames-preserved : goal.frames-preserved
 frames-preserved g c = (

@@ -1,13 +1,13 @@
 use Rattle.std.proofs.Common.{◌∙◌, ap, arith, length, length-append}
 use Rattle.eve_lines.specs.Rest.{words_left}
 use Rattle.eve_tool.proofs.LongLines.{at_any_err}
-use Rattle.eve_tool.proofs.Putting.{up_to-all, up_to-filled, up_to-held_stops, up_to-more}
+use Rattle.eve_tool.proofs.LinesPut.{up_to-all, up_to-filled, up_to-held_stops, up_to-more}
 use Rattle.eve_tool.proofs.long.put_words.Goals as goal
 
-pub returns-in_err-make_room-clause-front : goal.returns-in_err-make_room-clause-front
-returns-in_err-make_room-clause-front g c =
+pub returns-in_err-make_room-clause-prefix : goal.returns-in_err-make_room-clause-prefix
+returns-in_err-make_room-clause-prefix g c =
     at_any_err c.from_residual.result
-    (up_to-held_stops _ _ _ _ _ _ _ c.parts.invariant.0 c.in_err-make_room.ensures.front)
+    (up_to-held_stops _ _ _ _ _ _ _ c.parts.invariant.0 c.in_err-make_room.ensures.prefix)
 
 pub returns-then-not-fill-clause-puts : goal.returns-then-not-fill-clause-puts
 returns-then-not-fill-clause-puts g c =

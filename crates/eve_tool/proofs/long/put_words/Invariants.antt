@@ -1,7 +1,7 @@
 -- Of the words some were put, and the rest is still to come; nothing failed.
 use Rattle.std.proofs.Common.{◌≡◌, length}
 use Rattle.eve_lines.specs.Rest.{words_left}
-use Rattle.eve_tool.proofs.Putting.{PutsUpTo}
+use Rattle.eve_tool.proofs.LinesPut.{PutsUpTo}
 use Rattle.eve_tool.proofs.long.put_words.Given as goal
 
 abbrev pub invariant-parts : goal.invariant-parts

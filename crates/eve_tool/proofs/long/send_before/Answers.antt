@@ -9,19 +9,19 @@ returns-clause-sent g c =
     let fault = c.args.fault.now in
     let b = before fault.code c.args.bytes.now fault.offset c.if-at-lt-HEADER_LEN.false c.requires.stands.stands in
     on_ok_weaker c.send_lines.result (λ sent. record {
-      text = long_lines b.reached.head b.reached.front;
-      are = b.are (long_lines b.reached.head b.reached.front) refl;
+      text = long_lines b.reached.head b.reached.prefix;
+      are = b.are (long_lines b.reached.head b.reached.prefix) refl;
       sent = sent;
     })
-    (c.send_lines.ensures.sent b.reached.head b.reached.front b.says b.has)
+    (c.send_lines.ensures.sent b.reached.head b.reached.prefix b.says b.has)
 
-pub returns-clause-front : goal.returns-clause-front
-returns-clause-front g c =
+pub returns-clause-prefix : goal.returns-clause-prefix
+returns-clause-prefix g c =
     let fault = c.args.fault.now in
     let b = before fault.code c.args.bytes.now fault.offset c.if-at-lt-HEADER_LEN.false c.requires.stands.stands in
-    on_err_weaker c.send_lines.result (λ front. record {
-      text = long_lines b.reached.head b.reached.front;
-      are = b.are (long_lines b.reached.head b.reached.front) refl;
-      sent = front;
+    on_err_weaker c.send_lines.result (λ prefix. record {
+      text = long_lines b.reached.head b.reached.prefix;
+      are = b.are (long_lines b.reached.head b.reached.prefix) refl;
+      sent = prefix;
     })
-    (c.send_lines.ensures.front b.reached.head b.reached.front b.says b.has)
+    (c.send_lines.ensures.prefix b.reached.head b.reached.prefix b.says b.has)

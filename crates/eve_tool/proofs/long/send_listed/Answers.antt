@@ -1,7 +1,7 @@
 use Rattle.std.proofs.Common.{subst}
 use Rattle.std.proofs.lemmas.Result.{IfErr-weaker, on_ok_weaker}
 use Rattle.eve_tool.specs.Long.{AreLinesBefore, AreLinesOf}
-use Rattle.eve_tool.proofs.Leaving.{listing_as}
+use Rattle.eve_tool.proofs.UnsentText.{listing_as}
 use Rattle.eve_tool.proofs.LongLines.{counted, sends_as}
 use Rattle.eve_tool.proofs.long.send_listed.Goals as goal
 

@@ -1,7 +1,7 @@
 use Rattle.std.proofs.Common.{◌^◌, lit≤}
 use Rattle.std.proofs.lemmas.Result.{IfErr-weaker, IfOk-weaker, on_ok_weaker}
 use Rattle.eve_tool.specs.Long.{ShowsLong}
-use Rattle.eve_tool.proofs.Cutting.{ShowsLong-cut, WritesAllOf-cut, WritesFrontOf-cut, long_left}
+use Rattle.eve_tool.proofs.CutInput.{ShowsLong-cut, WritesAllOf-cut, WritesPrefixOf-cut, long_left}
 use Rattle.eve_tool.proofs.WholeInput.{is_read}
 use Rattle.eve_tool.proofs.long.show_long.Goals as goal
 
@@ -12,7 +12,8 @@ returns-clause-all g c =
     let new = g.O.Sink.written c.show_long_bytes.new.out in
     IfOk-weaker c.show_long_bytes.result _ _
     (λ status all. WritesAllOf-cut ShowsLong (2 ^ 30) known _ _ old new status
-    (λ bytes text s. ShowsLong-cut (2 ^ 30) bytes text s (lit≤ tt)) c.as_mut_slice.ensures.value c.in_ok-bytes.ensures.bytes
+    (λ bytes text s. ShowsLong-cut (2 ^ 30) bytes text s (lit≤ tt)) c.as_mut_slice.ensures.value
+    c.in_ok-bytes.ensures.bytes
     all)
     c.show_long_bytes.ensures.all
 
@@ -24,9 +25,10 @@ returns-clause-left g c =
     IfErr-weaker c.show_long_bytes.result _ _
     (λ why. long_left g.O.Sink.written g.O.Sink.failures known _ c.as_mut_slice.result.now c.args.out.now
     c.show_long_bytes.new.out why
-    (λ front. WritesFrontOf-cut ShowsLong (2 ^ 30) known _ _ old new
-    (λ bytes text s. ShowsLong-cut (2 ^ 30) bytes text s (lit≤ tt)) c.as_mut_slice.ensures.value c.in_ok-bytes.ensures.bytes
-    front))
+    (λ prefix. WritesPrefixOf-cut ShowsLong (2 ^ 30) known _ _ old new
+    (λ bytes text s. ShowsLong-cut (2 ^ 30) bytes text s (lit≤ tt)) c.as_mut_slice.ensures.value
+    c.in_ok-bytes.ensures.bytes
+    prefix))
     c.show_long_bytes.ensures.left
 
 pub returns-clause-ended : goal.returns-clause-ended

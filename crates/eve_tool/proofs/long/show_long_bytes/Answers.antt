@@ -3,14 +3,14 @@ use Rattle.eve_grammar.specs.Frames.{frames_of}
 use Rattle.eve_tool.specs.Lines.{fault_line}
 use Rattle.eve_tool.specs.Long.{AreLinesBefore, long_lines}
 use Rattle.eve_tool.specs.declared.fault.ToolFault.TheVariants.{Write}
-use Rattle.eve_tool.proofs.Leaving.{at_err, long_stopped}
+use Rattle.eve_tool.proofs.UnsentText.{at_err, long_stopped}
 use Rattle.eve_tool.proofs.LongLines.{trace_has, trace_says}
 use Rattle.eve_tool.proofs.long.show_long_bytes.Goals as goal
 
 pub returns-in_err-send_lines-in-Ok-clause-left : goal.returns-in_err-send_lines-in-Ok-clause-left
 returns-in_err-send_lines-in-Ok-clause-left g c =
     let t = c.in-Ok.trace in
-    let front = c.in_err-send_lines-in-Ok.ensures.front t.head (frames_of t)
+    let prefix = c.in_err-send_lines-in-Ok.ensures.prefix t.head (frames_of t)
     (trace_says c.bytes.result.now t c.bytes.ensures) (trace_has c.bytes.result.now t c.bytes.ensures) in
     at_err c.from_residual.result _ Write c.from_residual.ensures.1 (
       c.in_err-send_lines-in-Ok.ensures.counted,
@@ -18,7 +18,7 @@ returns-in_err-send_lines-in-Ok-clause-left g c =
         text = long_lines t.head (frames_of t);
         status = 0;
         said = inl (record { trace = t; spelled = c.in-Ok.ensures.trace; lines = refl }, refl);
-        written = front;
+        written = prefix;
       },
     )
 

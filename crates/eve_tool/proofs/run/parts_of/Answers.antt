@@ -1,7 +1,7 @@
 use Rattle.std.proofs.Common.{rules, sym, subst}
 use Rattle.eve_tool.specs.declared.fault.ToolFault.{ToolFault}
 use Rattle.eve_tool.specs.Run.{IsText, StopsRun}
-use Rattle.eve_tool.proofs.Running.{ended_stops}
+use Rattle.eve_tool.proofs.RunText.{ended_stops}
 use Rattle.eve_tool.proofs.run.parts_of.Goals as goal
 
 pub returns-in-Err-clause-stopped : goal.returns-in-Err-clause-stopped

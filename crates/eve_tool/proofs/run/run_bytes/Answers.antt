@@ -1,8 +1,8 @@
 use Rattle.std.proofs.Common.{rules, arith, ap, Err, ◌≤◌, ◌^◌, length}
 use Rattle.eve_grammar.specs.Spelling.{spelling}
 use Rattle.eve_write.specs.Data.{trace}
-use Rattle.eve_tool.proofs.Leaving.{at_err}
-use Rattle.eve_tool.proofs.Running.{runs_of, unrun_left, unsent_left}
+use Rattle.eve_tool.proofs.UnsentText.{at_err}
+use Rattle.eve_tool.proofs.RunText.{runs_of, unrun_left, unsent_left}
 use Rattle.eve_tool.proofs.run.run_bytes.Goals as goal
 
 pub returns-in_err-parts-clause-left : goal.returns-in_err-parts-clause-left

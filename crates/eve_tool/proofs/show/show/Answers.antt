@@ -1,7 +1,7 @@
 use Rattle.std.proofs.Common.{◌^◌, lit≤}
 use Rattle.std.proofs.lemmas.Result.{IfErr-weaker, IfOk-weaker, on_ok_weaker}
 use Rattle.eve_tool.specs.Show.{Shows}
-use Rattle.eve_tool.proofs.Cutting.{Shows-cut, WritesAllOf-cut, WritesFrontOf-cut, show_left}
+use Rattle.eve_tool.proofs.CutInput.{Shows-cut, WritesAllOf-cut, WritesPrefixOf-cut, show_left}
 use Rattle.eve_tool.proofs.WholeInput.{is_read}
 use Rattle.eve_tool.proofs.show.show.Goals as goal
 
@@ -24,9 +24,9 @@ returns-clause-left g c =
     IfErr-weaker c.show_bytes.result _ _
     (λ why. show_left g.O.Sink.written g.O.Sink.failures known _ c.as_slice.result.now c.args.out.now
     c.show_bytes.new.out why
-    (λ front. WritesFrontOf-cut Shows (2 ^ 30) known _ _ old new
+    (λ prefix. WritesPrefixOf-cut Shows (2 ^ 30) known _ _ old new
     (λ bytes text s. Shows-cut (2 ^ 30) bytes text s (lit≤ tt)) c.as_slice.ensures.value c.in_ok-bytes.ensures.bytes
-    front))
+    prefix))
     c.show_bytes.ensures.left
 
 pub returns-clause-ended : goal.returns-clause-ended

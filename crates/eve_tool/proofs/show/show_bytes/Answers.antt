@@ -3,7 +3,7 @@ use Rattle.eve_grammar.specs.Frames.{frames_of}
 use Rattle.eve_tool.specs.Lines.{fault_line}
 use Rattle.eve_tool.specs.Show.{trace_lines}
 use Rattle.eve_tool_arguments.specs.Arguments.{Show}
-use Rattle.eve_tool.proofs.Leaving.{at_err, sent_left, shown_left}
+use Rattle.eve_tool.proofs.UnsentText.{at_err, sent_left, shown_left}
 use Rattle.eve_tool.proofs.show.show_bytes.Goals as goal
 
 pub returns-in_err-send_frames-in-Ok-clause-left : goal.returns-in_err-send_frames-in-Ok-clause-left

@@ -2,7 +2,7 @@ use Rattle.std.proofs.Common.{◌≡◌, ◌∙◌, codes, ap, sym}
 use Rattle.std.specs.Prelude.{option_and_then, option_map}
 use Rattle.clap.specs.Walk.{rows_of}
 use Rattle.clap.specs.Words.{found_of}
-use Rattle.eve_workload.specs.Mixing.{mixer_named}
+use Rattle.eve_workload.specs.Mixers.{mixer_named}
 use Rattle.eve_tool_arguments.specs.Arguments.{value_given}
 use Rattle.eve_tool_arguments.proofs.FoundValues.{first_value-rows}
 use Rattle.eve_tool_arguments.proofs.arguments.mixer_of.Goals as goal

@@ -1,4 +1,4 @@
-use Rattle.eve_views.proofs.OneBeforeAnother.{precedes-trans, one_of_two}
+use Rattle.eve_views.proofs.FaultOrder.{precedes-trans, one_of_two}
 use Rattle.eve_views.proofs.laws.faults_come_one_before_another.Goals as goal
 
 pub returns : goal.returns

@@ -1,4 +1,4 @@
-use Rattle.eve_views.proofs.StandingInOrder.{stand_in_order}
+use Rattle.eve_views.proofs.PartOrder.{stand_in_order}
 use Rattle.eve_views.proofs.laws.parts_stand_in_order.Goals as goal
 
 pub returns : goal.returns

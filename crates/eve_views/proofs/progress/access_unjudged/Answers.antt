@@ -1,6 +1,6 @@
 use Rattle.std.proofs.Common.{ap}
 use Rattle.eve_grammar.specs.Kinds.{kind_byte}
-use Rattle.eve_views.proofs.Unjudged.{access_framed}
+use Rattle.eve_views.proofs.UnjudgedFrames.{access_framed}
 use Rattle.eve_views.proofs.progress.access_unjudged.Goals as goal
 
 pub returns-in-Access : goal.returns-in-Access

@@ -1,6 +1,6 @@
 use Rattle.std.proofs.Common.{sym, ◌∙◌}
 use Rattle.eve_grammar.specs.Kinds.{kind_byte}
-use Rattle.eve_views.proofs.Unjudged.{framed_unjudged}
+use Rattle.eve_views.proofs.UnjudgedFrames.{framed_unjudged}
 use Rattle.eve_views.proofs.progress.frame_unjudged.Goals as goal
 
 pub returns : goal.returns

@@ -1,7 +1,7 @@
 use Rattle.std.proofs.Common.{ℕ, drop, get_or, subst}
 use Rattle.std.proofs.lemmas.List.{take_rest, take_all}
 use Rattle.std.proofs.lemmas.List.Elements.{All-more}
-use Rattle.eve_views.specs.SideBySide.{IsRightFrame, AreRightFrames}
+use Rattle.eve_views.specs.inner.SideBySide.{IsRightFrame, AreRightFrames}
 use Rattle.eve_views.proofs.side_by_side.are_right_frames.Goals as goal
 
 pub loop-offset-preserved : goal.loop-offset-preserved

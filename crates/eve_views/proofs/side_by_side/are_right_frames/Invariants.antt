@@ -1,5 +1,5 @@
 use Rattle.std.proofs.Common.{take}
-use Rattle.eve_views.specs.SideBySide.{AreRightFrames}
+use Rattle.eve_views.specs.inner.SideBySide.{AreRightFrames}
 use Rattle.eve_views.proofs.side_by_side.are_right_frames.Given as goal
 
 abbrev pub invariant-loop-offset : goal.invariant-loop-offset

@@ -2,9 +2,9 @@ use Rattle.std.proofs.Common.{◌≡◌, ◌∙◌, ap, subst, Option, IfOk, IfS
 use Rattle.std.specs.Prelude.{Result}
 use Rattle.std.specs.declared.alloc.AllocError.{AllocError}
 use Rattle.eve_grammar.specs.Limits.{row_count}
-use Rattle.eve_views.specs.SideBySide.{AreRightFrames, IsWalkedUnjudged, WalksOn}
+use Rattle.eve_views.specs.inner.SideBySide.{AreRightFrames, IsWalkedUnjudged, WalksOn}
 use Rattle.eve_views.specs.declared.progress.Progress.{Progress}
-use Rattle.eve_views.proofs.Unjudged.{right_front}
+use Rattle.eve_views.proofs.UnjudgedFrames.{right_prefix}
 use Rattle.eve_views.proofs.side_by_side.go_on_and_judge.Goals as goal
 
 pub returns-then-right-clause-judged : goal.returns-then-right-clause-judged
@@ -19,7 +19,7 @@ returns-then-right-clause-judged g c =
     c.in_ok-on.was both.ensures.kept in
     let goes : WalksOn before c.in-Some.on = subst (λ (o : Option Progress). IfSome o (WalksOn before)) c.in-Some.is
     found in
-    right_front rows bytes before.offsets.items goes.more c.in-Some.on.offsets.items goes.offsets
+    right_prefix rows bytes before.offsets.items goes.more c.in-Some.on.offsets.items goes.offsets
     (subst (AreRightFrames rows bytes) all (both.ensures.right c.if-right.true))
 
 pub judge_and_go_on-right-requires-clause-walked : goal.judge_and_go_on-right-requires-clause-walked

@@ -1,6 +1,6 @@
 use Rattle.std.proofs.Common.{◌≡◌, ℕ, Option, IfSome, length, take, sym, subst, rules}
 use Rattle.eve_grammar.specs.Limits.{row_count}
-use Rattle.eve_views.specs.SideBySide.{AreRightFrames}
+use Rattle.eve_views.specs.inner.SideBySide.{AreRightFrames}
 use Rattle.eve_views.specs.declared.progress.Progress.{Progress}
 use Rattle.eve_views.proofs.side_by_side.index_judged.Goals as goal
 

@@ -1,7 +1,7 @@
 use Rattle.std.proofs.Common.{◌∙◌, ap, drop, arith}
 use Rattle.eve_grammar.specs.Limits.{row_count}
 use Rattle.eve_grammar.proofs.HeadLimits.{few_customers}
-use Rattle.eve_views.proofs.Unjudged.{right_whole}
+use Rattle.eve_views.proofs.UnjudgedFrames.{right_whole}
 use Rattle.eve_views.proofs.side_by_side.judge_behind.Goals as goal
 
 pub ended-requires-clause-right : goal.ended-requires-clause-right

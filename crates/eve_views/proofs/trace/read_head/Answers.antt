@@ -5,7 +5,7 @@ use Rattle.eve_views.proofs.trace.read_head.Goals as goal
 
 pub returns-in-Ok-clause-says : goal.returns-in-Ok-clause-says
 returns-in-Ok-clause-says c =
-    says_head c.args.bytes.now c.in-Ok.head (λ i. omega (arith, c.type_inv.bytes i)) c.in-Ok.ensures.head.said
+    says_head c.args.bytes.now c.in-Ok.head (λ i. omega (arith, c.type_inv.bytes i)) c.in-Ok.ensures.head.decoded
 
 pub returns-in-Err-clause-least : goal.returns-in-Err-clause-least
 returns-in-Err-clause-least c = (refused_at_header c.in-Err.code c.args.bytes.now c.in-Err.ensures.fault).least

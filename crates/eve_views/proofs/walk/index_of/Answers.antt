@@ -7,12 +7,12 @@ use Rattle.eve_grammar.specs.Kinds.{kind_byte}
 use Rattle.eve_grammar.specs.declared.head.Head.{Head}
 use Rattle.eve_grammar.proofs.HeadLimits.{few_customers}
 use Rattle.eve_grammar.specs.declared.place.Place.{Place}
-use Rattle.eve_views.specs.Starting.{no_starts, noted}
-use Rattle.eve_views.specs.Indexing.{kept_in}
+use Rattle.eve_views.specs.inner.PartStarts.{no_starts, noted}
+use Rattle.eve_views.specs.Indexes.{kept_in}
 use Rattle.eve_views.specs.declared.starts.Starts.{Starts}
-use Rattle.eve_views.specs.Walking.{Walking}
-use Rattle.eve_views.proofs.Reaching.{step_here, fault_here, step_allowed, reached_fault, few_offsets}
-use Rattle.eve_views.proofs.Reaching.{walking_start, walking_more, walking_end, room_of, replica_room, verifier_room}
+use Rattle.eve_views.specs.inner.WalkProgress.{Walking}
+use Rattle.eve_views.proofs.WalkSteps.{step_here, fault_here, step_allowed, reached_fault, few_offsets}
+use Rattle.eve_views.proofs.WalkSteps.{walking_start, walking_more, walking_end, room_of, replica_room, verifier_room}
 use Rattle.eve_views.proofs.walk.index_of.Goals as goal
 use Rattle.eve_views.proofs.walk.index_of.Goals.{then-not-reached, else-not-reached+then-at-bytes}
 
@@ -36,8 +36,8 @@ returns-in-Err-clause-fault c =
       outside = refl;
     }
 
-pub frame_in_front-requires : goal.frame_in_front-requires
-frame_in_front-requires c =
+pub frame_in_prefix-requires : goal.frame_in_prefix-requires
+frame_in_prefix-requires c =
     let small = few_customers c.args.head c.requires.says.limits in
     omega (arith, small, ap (λ (h : Head). h.customers) c.frames.invariant.1)
 

@@ -1,5 +1,5 @@
 use Rattle.std.proofs.Common.{◌≡◌, ◌-◌, length}
-use Rattle.eve_views.specs.Walking.{Walking}
+use Rattle.eve_views.specs.inner.WalkProgress.{Walking}
 use Rattle.eve_views.proofs.walk.index_of.Given as goal
 
 abbrev pub invariant-frames : goal.invariant-frames

@@ -3,11 +3,11 @@ use Rattle.std.proofs.Common.{Option, Some, None, IfNone, refl, sym, ap, ◌∙�
 use Rattle.std.proofs.lemmas.Bool.{ltb-true, and_left}
 use Rattle.std.proofs.lemmas.List.{length-drop, length-take}
 use Rattle.byteorder.specs.Endian.{big_number}
-use Rattle.eve_grammar.specs.Reading.{number_at}
+use Rattle.eve_grammar.specs.Readers.{number_at}
 use Rattle.eve_grammar.specs.declared.head.Head.{Head}
 use Rattle.eve_grammar.specs.declared.place.Place.{Place}
 use Rattle.eve_views.specs.Form.{is_framed}
-use Rattle.eve_views.proofs.Keeping.{front_of, unframed_kind, unframed_past}
+use Rattle.eve_views.proofs.KeptFrames.{prefix_of, unframed_kind, unframed_past}
 use Rattle.eve_grammar.proofs.KindBytes.{none_allowed}
 use Rattle.eve_views.proofs.walk.kind_and_body.Goals as goal
 
@@ -44,16 +44,16 @@ unframed_short h p bytes short = and_left _ _ (few short)
 
 pub returns-in_err-kind-clause-none : goal.returns-in_err-kind-clause-none
 returns-in_err-kind-clause-none c =
-    let front = front_of c.args.bytes.now c.in_ok-first.first c.in_ok-len.len c.in_ok-first.rest.now
+    let prefix = prefix_of c.args.bytes.now c.in_ok-first.first c.in_ok-len.len c.in_ok-first.rest.now
     c.in_ok-len.rest.now c.in_ok-first.ensures c.in_ok-len.ensures in
     anyway _ c.from_residual-in_err-kind.result (λ h p. unframed_kind h p c.args.bytes.now c.in_ok-first.first
-    front.kind_is (none_allowed h p c.in_ok-first.first c.in_err-kind.ensures.none))
+    prefix.kind_is (none_allowed h p c.in_ok-first.first c.in_err-kind.ensures.none))
 
 pub returns-then-rest-len-clause-none : goal.returns-then-rest-len-clause-none
 returns-then-rest-len-clause-none c = λ h p.
-    let front = front_of c.args.bytes.now c.in_ok-first.first c.in_ok-len.len c.in_ok-first.rest.now
+    let prefix = prefix_of c.args.bytes.now c.in_ok-first.first c.in_ok-len.len c.in_ok-first.rest.now
     c.in_ok-len.rest.now c.in_ok-first.ensures c.in_ok-len.ensures in
-    unframed_past h p c.args.bytes.now c.in_ok-first.first c.in_ok-len.len c.in_ok-len.rest.now front
+    unframed_past h p c.args.bytes.now c.in_ok-first.first c.in_ok-len.len c.in_ok-len.rest.now prefix
     c.if-rest-len.true
 
 pub returns-in_err-first-clause-none : goal.returns-in_err-first-clause-none
@@ -74,12 +74,12 @@ pub returns-clause-some : goal.returns-clause-some
 returns-clause-some c =
     let len = c.in_ok-len.len in
     let rest = c.in_ok-len.rest.now in
-    let front = front_of c.args.bytes.now c.in_ok-first.first len c.in_ok-first.rest.now rest c.in_ok-first.ensures
+    let prefix = prefix_of c.args.bytes.now c.in_ok-first.first len c.in_ok-first.rest.now rest c.in_ok-first.ensures
     c.in_ok-len.ensures in
     let size : length (take len rest) ≡ len = omega (arith, length-take len rest, c.if-rest-len.false) in
     record {
-      kind_is = front.kind_is ∙ sym c.in_ok-kind.ensures.kind;
-      len_is = front.len_is ∙ sym size;
-      body_is = ap (λ (n : ℕ). take n (drop 5 c.args.bytes.now)) size ∙ ap (take len) front.rest_is;
-      whole = omega (arith, size, front.size, c.if-rest-len.false);
+      kind_is = prefix.kind_is ∙ sym c.in_ok-kind.ensures.kind;
+      len_is = prefix.len_is ∙ sym size;
+      body_is = ap (λ (n : ℕ). take n (drop 5 c.args.bytes.now)) size ∙ ap (take len) prefix.rest_is;
+      whole = omega (arith, size, prefix.size, c.if-rest-len.false);
     }

@@ -4,10 +4,10 @@ use Rattle.eve_grammar.specs.Spelling.{votes_of}
 use Rattle.eve_frames.specs.Views.{vote_in}
 use Rattle.eve_votes.specs.Votes.{same_choice}
 use Rattle.eve_votes.specs.declared.ballots.Ballot.{Ballot}
-use Rattle.eve_votes.proofs.Deciding.{vote_got}
-use Rattle.eve_votes.proofs.Gathered.{verifier_there}
-use Rattle.eve_votes.proofs.InOrder.{at, here, nowhere, start_hit, start_miss}
-use Rattle.eve_votes.proofs.Backing.{backs_here, backs_nowhere}
+use Rattle.eve_votes.proofs.DecisionLaws.{vote_got}
+use Rattle.eve_votes.proofs.AllVotes.{verifier_there}
+use Rattle.eve_votes.proofs.VoteOrder.{at, here, nowhere, start_hit, start_miss}
+use Rattle.eve_votes.proofs.OnlyVotes.{backs_here, backs_nowhere}
 use Rattle.eve_votes.proofs.ballots.next_choice.Goals as goal
 
 abbrev none : Ballot

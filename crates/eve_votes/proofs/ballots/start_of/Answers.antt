@@ -1,7 +1,7 @@
 use Rattle.std.proofs.Common.{rules}
 use Rattle.std.proofs.lemmas.List.Sorted.{IsPartitionPoint-from_clause}
 use Rattle.eve_votes.specs.Ballots.{is_lower}
-use Rattle.eve_votes.proofs.InOrder.{parted, start_is}
+use Rattle.eve_votes.proofs.VoteOrder.{parted, start_is}
 use Rattle.eve_votes.proofs.ballots.start_of.Goals as goal
 
 pub returns : goal.returns

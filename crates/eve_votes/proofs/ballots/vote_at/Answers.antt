@@ -1,5 +1,5 @@
 use Rattle.std.proofs.Common.{length, ap, arith}
-use Rattle.eve_votes.proofs.Deciding.{vote_count}
+use Rattle.eve_votes.proofs.DecisionLaws.{vote_count}
 use Rattle.eve_votes.proofs.ballots.vote_at.Goals as goal
 
 pub get-requires : goal.get-requires

@@ -4,9 +4,9 @@ use Rattle.std.proofs.lemmas.Option.{slice_get-get_or}
 use Rattle.eve_votes.specs.Decisions.{Judging, AreDecisions}
 use Rattle.eve_votes.specs.declared.ballots.Ballot.{Ballot}
 use Rattle.eve_votes.specs.declared.decisions.Decision.{Decision}
-use Rattle.eve_votes.proofs.InOrder.{begins}
-use Rattle.eve_votes.proofs.Deciding.{AreJudged, start_judged, first_judged, unnoted_there, judged_there}
-use Rattle.eve_votes.proofs.Deciding.{judged_further, all_found, clashes_below, decisions_exact, IfNone_from}
+use Rattle.eve_votes.proofs.VoteOrder.{begins}
+use Rattle.eve_votes.proofs.DecisionLaws.{AreJudged, start_judged, first_judged, unnoted_there, judged_there}
+use Rattle.eve_votes.proofs.DecisionLaws.{judged_further, all_found, clashes_below, decisions_exact, IfNone_from}
 use Rattle.eve_votes.proofs.decisions.decide.Goals as goal
 use Rattle.eve_votes.proofs.decisions.decide.Goals.{then-not-continues, else-not-continues}
 

@@ -1,5 +1,5 @@
 use Rattle.eve_votes.specs.Decisions.{Judging}
-use Rattle.eve_votes.proofs.Deciding.{AreJudged}
+use Rattle.eve_votes.proofs.DecisionLaws.{AreJudged}
 use Rattle.eve_votes.proofs.decisions.decide.Given as goal
 
 abbrev pub invariant-loop-i : goal.invariant-loop-i

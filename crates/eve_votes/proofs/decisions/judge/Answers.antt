@@ -1,6 +1,6 @@
 use Rattle.std.proofs.Common.{ℕ, List, Bor, sym, ap, ◌∙◌}
 use Rattle.std.specs.Option.{option_map}
-use Rattle.eve_votes.proofs.Deciding.{none_noted}
+use Rattle.eve_votes.proofs.DecisionLaws.{none_noted}
 use Rattle.eve_votes.proofs.decisions.judge.Goals as goal
 
 pub note-requires-clause-decided : goal.note-requires-clause-decided

@@ -1,8 +1,8 @@
 use Rattle.std.proofs.Common.{ℕ, arith, Option, ap, ◌∙◌, sym, subst}
 use Rattle.eve_views.specs.Least.{lower}
 use Rattle.eve_votes.specs.Decisions.{Judging, IsFound}
-use Rattle.eve_votes.proofs.Deciding.{decided_within, within_table, known_at, clash_judging, found_clash}
-use Rattle.eve_votes.proofs.Deciding.{first_judging, first_noted, found_first}
+use Rattle.eve_votes.proofs.DecisionLaws.{decided_within, within_table, known_at, clash_judging, found_clash}
+use Rattle.eve_votes.proofs.DecisionLaws.{first_judging, first_noted, found_first}
 use Rattle.eve_votes.proofs.decisions.note.Goals as goal
 
 pub index-requires : goal.index-requires

@@ -2,8 +2,8 @@ use Rattle.std.proofs.Common.{◌≡◌, ◌≤◌, leb, length, Some, sym, ap, 
 use Rattle.std.proofs.lemmas.Bool.{leb-true, leb-false}
 use Rattle.eve_grammar.specs.Trace.{ForCommit}
 use Rattle.eve_votes.specs.Votes.{backers, IsDecided}
-use Rattle.eve_votes.proofs.Deciding.{quorum_limits}
-use Rattle.eve_votes.proofs.Leading.{quorum_leads}
+use Rattle.eve_votes.proofs.DecisionLaws.{quorum_limits}
+use Rattle.eve_votes.proofs.LeadingTokens.{quorum_leads}
 use Rattle.eve_votes.proofs.majority.decided_in.Goals as goal
 
 pub returns-then-lead-eq0 : goal.returns-then-lead-eq0

@@ -5,8 +5,8 @@ use Rattle.eve_grammar.specs.Bodies.{borrowed_choice}
 use Rattle.eve_grammar.specs.declared.head.Head.{Head}
 use Rattle.eve_votes.specs.Votes.{same_choice}
 use Rattle.eve_votes.specs.Ballots.{is_for}
-use Rattle.eve_votes.specs.Majority.{HasLead}
-use Rattle.eve_votes.proofs.Leading.{votes_before, start_leads, still_leads, one_more_for, all_lead}
+use Rattle.eve_votes.specs.inner.Majority.{HasLead}
+use Rattle.eve_votes.proofs.LeadingTokens.{votes_before, start_leads, still_leads, one_more_for, all_lead}
 use Rattle.eve_votes.proofs.majority.leader.Goals as goal
 use Rattle.eve_votes.proofs.majority.leader.Goals.{in-Some-ForCommit, in-Some-ForRollback, in-None}
 

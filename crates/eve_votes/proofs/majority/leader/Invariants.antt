@@ -1,6 +1,6 @@
 use Rattle.eve_votes.specs.Ballots.{IsStart}
-use Rattle.eve_votes.specs.Majority.{HasLead}
-use Rattle.eve_votes.proofs.Leading.{votes_before}
+use Rattle.eve_votes.specs.inner.Majority.{HasLead}
+use Rattle.eve_votes.proofs.LeadingTokens.{votes_before}
 use Rattle.eve_votes.proofs.majority.leader.Given as goal
 
 abbrev pub invariant-loop-verifier : goal.invariant-loop-verifier

@@ -2,7 +2,7 @@ use Rattle.std.proofs.Common.{ℕ, List, Bor, sym, ap, subst, ◌∙◌, arith}
 use Rattle.std.specs.Option.{option_map}
 use Rattle.eve_grammar.specs.Trace.{ForCommit}
 use Rattle.eve_votes.specs.Votes.{IsDecided, backers}
-use Rattle.eve_votes.proofs.Deciding.{decided_within}
+use Rattle.eve_votes.proofs.DecisionLaws.{decided_within}
 use Rattle.eve_votes.proofs.sorted_votes.decision_from.Goals as goal
 
 pub returns-in_default-clause-none : goal.returns-in_default-clause-none

@@ -2,8 +2,8 @@ use Rattle.std.proofs.Common.{get_or, sym, ◌∙◌, arith}
 use Rattle.std.proofs.lemmas.Bool.{false≢true}
 use Rattle.std.proofs.lemmas.Option.{slice_get-get_or}
 use Rattle.eve_votes.specs.declared.ballots.Ballot.{Ballot}
-use Rattle.eve_votes.proofs.InOrder.{begins}
-use Rattle.eve_votes.proofs.Undecided.{undecided_more, undecided_on, none_further, none_at_all, next_here}
+use Rattle.eve_votes.proofs.VoteOrder.{begins}
+use Rattle.eve_votes.proofs.UndecidedBatches.{undecided_more, undecided_on, none_further, none_at_all, next_here}
 use Rattle.eve_votes.proofs.sorted_votes.next_decision.Goals as goal
 use Rattle.eve_votes.proofs.sorted_votes.next_decision.Goals.{then-not-continues+in_default, else-not-continues}
 

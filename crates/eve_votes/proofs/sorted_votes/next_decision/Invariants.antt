@@ -1,4 +1,4 @@
-use Rattle.eve_votes.proofs.Undecided.{AreUndecided}
+use Rattle.eve_votes.proofs.UndecidedBatches.{AreUndecided}
 use Rattle.eve_votes.proofs.sorted_votes.next_decision.Given as goal
 
 abbrev pub invariant-loop-i : goal.invariant-loop-i

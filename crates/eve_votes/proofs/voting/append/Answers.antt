@@ -10,8 +10,8 @@ use Rattle.eve_frames.specs.Views.{vote_in}
 use Rattle.eve_votes.specs.Ballots.{ballot, ballots_from}
 use Rattle.eve_votes.specs.declared.ballots.Ballot.{Ballot}
 use Rattle.eve_views.proofs.CutLaws.{few_votes}
-use Rattle.eve_votes.proofs.Deciding.{vote_got, vote_count}
-use Rattle.eve_votes.proofs.Gathered.{from_more}
+use Rattle.eve_votes.proofs.DecisionLaws.{vote_got, vote_count}
+use Rattle.eve_votes.proofs.AllVotes.{from_more}
 use Rattle.eve_votes.proofs.voting.append.Goals as goal
 
 pub overflow_cast-place : goal.overflow_cast-place

@@ -3,8 +3,8 @@ use Rattle.std.specs.List.Sorted.{IsPermutation}
 use Rattle.eve_grammar.proofs.Lists.{whole_slice}
 use Rattle.eve_votes.specs.Ballots.{ballots_of, HasVotes}
 use Rattle.eve_votes.specs.declared.ballots.Ballot.{Ballot}
-use Rattle.eve_votes.proofs.InOrder.{in_order}
-use Rattle.eve_votes.proofs.Gathered.{moved_each, moved_all, moved_once}
+use Rattle.eve_votes.proofs.VoteOrder.{in_order}
+use Rattle.eve_votes.proofs.AllVotes.{moved_each, moved_all, moved_once}
 use Rattle.eve_votes.proofs.voting.cast.Goals as goal
 
 pub returns : goal.returns

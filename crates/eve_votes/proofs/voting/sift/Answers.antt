@@ -6,8 +6,8 @@ use Rattle.eve_frames.specs.Views.{vote_in}
 use Rattle.eve_views.specs.Least.{lower}
 use Rattle.eve_votes.specs.Ballots.{FollowsAlike}
 use Rattle.eve_votes.specs.declared.ballots.Ballot.{Ballot}
-use Rattle.eve_votes.proofs.Gathered.{verifier_there}
-use Rattle.eve_votes.proofs.Sifting.{Sifted, sifted_further, sifted_past, sifted_only, sifted_cast, sifted_lowest}
+use Rattle.eve_votes.proofs.AllVotes.{verifier_there}
+use Rattle.eve_votes.proofs.SiftedVotes.{Sifted, sifted_further, sifted_past, sifted_only, sifted_cast, sifted_lowest}
 use Rattle.eve_votes.proofs.voting.sift.Goals as goal
 use Rattle.eve_votes.proofs.voting.sift.Goals.{then-follows, else-follows+then-not-follows+in_ok-push}
 use Rattle.eve_votes.proofs.voting.sift.Goals.{else-follows+else-not-follows}

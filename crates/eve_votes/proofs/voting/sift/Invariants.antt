@@ -1,4 +1,4 @@
-use Rattle.eve_votes.proofs.Sifting.{Sifted}
+use Rattle.eve_votes.proofs.SiftedVotes.{Sifted}
 use Rattle.eve_votes.proofs.voting.sift.Given as goal
 
 abbrev pub invariant-loop-i : goal.invariant-loop-i

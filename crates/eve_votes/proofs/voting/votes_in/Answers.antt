@@ -4,7 +4,7 @@ use Rattle.eve_grammar.specs.Spelling.{votes_of}
 use Rattle.eve_grammar.specs.declared.head.Head.{Head}
 use Rattle.eve_votes.specs.Ballots.{ballots_from, ballots_among}
 use Rattle.eve_votes.specs.declared.ballots.Ballot.{Ballot}
-use Rattle.eve_votes.proofs.Gathered.{among_more}
+use Rattle.eve_votes.proofs.AllVotes.{among_more}
 use Rattle.eve_votes.proofs.voting.votes_in.Goals as goal
 
 pub loop-verifier-preserved : goal.loop-verifier-preserved
@@ -14,7 +14,7 @@ loop-verifier-preserved c =
     let many : c.head-verifier-end.result.verifiers ≡ length t.verifiers =
     ap (λ (h : Head). h.verifiers) c.head-verifier-end.ensures in
     let there : v < length t.verifiers = omega (arith, many, c.loop-verifier-test.true) in
-    let front : length (take v t.verifiers) ≡ v = length-take-le v t.verifiers (omega arith) in
+    let prefix : length (take v t.verifiers) ≡ v = length-take-le v t.verifiers (omega arith) in
     let number : 0 + length (take v t.verifiers) ≡ v = omega arith in
     c.in_ok-append.ensures
     ∙ ap (λ (bs : List Ballot). bs ++ ballots_from v 0 (votes_of t v)) c.loop-verifier.invariant

@@ -1,5 +1,5 @@
 use Rattle.std.proofs.Common.{◌≡◌, ◌++◌, [], ◌∷◌, ◌∙◌, arith, rules}
-use Rattle.eve_workload.proofs.Placing.{one_more_behind, one_more_inside}
+use Rattle.eve_workload.proofs.PlacedItems.{one_more_behind, one_more_inside}
 use Rattle.eve_workload.proofs.cut.add_to.Goals as goal
 
 pub returns-then-group-len-clause-sizes : goal.returns-then-group-len-clause-sizes

@@ -10,10 +10,10 @@ use Rattle.eve_smallbank.specs.Access.{RowKinds}
 use Rattle.eve_smallbank.specs.Touch.{rows_in}
 use Rattle.eve_workload.specs.declared.seats.Seat.{Seat}
 use Rattle.eve_workload.specs.declared.cut.Cut.{Cut}
-use Rattle.eve_workload.specs.Mixing.{placed, first_fit}
-use Rattle.eve_workload.specs.Seats.{IsSeating}
-use Rattle.eve_workload.specs.Groups.{rows_at, share_at, AreGroups}
-use Rattle.eve_workload.specs.Cut.{IsCut}
+use Rattle.eve_workload.specs.Mixers.{placed, first_fit}
+use Rattle.eve_workload.specs.inner.Seats.{IsSeating}
+use Rattle.eve_workload.specs.inner.Groups.{rows_at, share_at, AreGroups}
+use Rattle.eve_workload.specs.inner.Cut.{IsCut}
 use Rattle.eve_workload.proofs.Ranges.{range-push, range_within}
 use Rattle.eve_workload.proofs.Cuts.{first_fit-push, first_fit_keeps}
 use Rattle.eve_workload.proofs.groups.first_fit.Goals as goal

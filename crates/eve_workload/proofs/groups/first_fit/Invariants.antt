@@ -1,8 +1,8 @@
 use Rattle.std.proofs.Common.{◌≡◌, [], length}
 use Rattle.std.specs.List.{range_with_len}
-use Rattle.eve_workload.specs.Mixing.{first_fit}
-use Rattle.eve_workload.specs.Groups.{rows_at, share_at}
-use Rattle.eve_workload.specs.Cut.{IsCut}
+use Rattle.eve_workload.specs.Mixers.{first_fit}
+use Rattle.eve_workload.specs.inner.Groups.{rows_at, share_at}
+use Rattle.eve_workload.specs.inner.Cut.{IsCut}
 use Rattle.eve_workload.proofs.groups.first_fit.Given as goal
 
 abbrev pub invariant-loop-request : goal.invariant-loop-request

@@ -2,7 +2,7 @@ use Rattle.std.proofs.Common.{IsTrue, sym, subst, ap, ◌∙◌, arith}
 use Rattle.std.proofs.lemmas.List.{length-map}
 use Rattle.eve_workload.specs.Lines.{line_words}
 use Rattle.eve_workload.specs.Steps.{is_line}
-use Rattle.eve_workload.specs.Words.{bytes_of}
+use Rattle.eve_workload.specs.inner.Words.{bytes_of}
 use Rattle.eve_workload.proofs.Options.{none_map}
 use Rattle.eve_workload.proofs.LineKinds.{with_five, with_six, no_such_line}
 use Rattle.eve_workload.proofs.line.line_of.Goals as goal

@@ -4,8 +4,8 @@ use Rattle.eve_grammar.specs.Trace.{Asked}
 use Rattle.eve_write.specs.Data.{asked}
 use Rattle.eve_workload.specs.declared.mixer.Mixer.{Mixer}
 use Rattle.eve_workload.specs.declared.mixer.Mixer.TheVariants.{First}
-use Rattle.eve_workload.specs.Mixing.{cut}
-use Rattle.eve_workload.specs.Mixed.{touched_by, IsMixed}
+use Rattle.eve_workload.specs.Mixers.{cut}
+use Rattle.eve_workload.specs.inner.Mixed.{touched_by, IsMixed}
 use Rattle.eve_workload.proofs.mixer.cut_by.Goals as goal
 
 pub returns-in-First : goal.returns-in-First

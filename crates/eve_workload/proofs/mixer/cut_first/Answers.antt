@@ -3,9 +3,9 @@ use Rattle.std.specs.Prelude.{slice_index_or}
 use Rattle.eve_grammar.specs.Trace.{Asked}
 use Rattle.eve_write.specs.Data.{asked}
 use Rattle.eve_workload.specs.declared.mixer.Mixer.TheVariants.{First}
-use Rattle.eve_workload.specs.Mixing.{cut}
-use Rattle.eve_workload.specs.Mixed.{touched_by}
-use Rattle.eve_workload.specs.Groups.{refused_request, listed}
+use Rattle.eve_workload.specs.Mixers.{cut}
+use Rattle.eve_workload.specs.inner.Mixed.{touched_by}
+use Rattle.eve_workload.specs.inner.Groups.{refused_request, listed}
 use Rattle.eve_workload.proofs.Mixed.{first_cut, batch_is, touched_listed}
 use Rattle.eve_workload.proofs.mixer.cut_first.Goals as goal
 

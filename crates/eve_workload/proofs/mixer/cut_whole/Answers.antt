@@ -2,8 +2,8 @@ use Rattle.std.proofs.Common.{◌≡◌, List, [], ◌∷◌, length, map, sym, 
 use Rattle.std.proofs.lemmas.List.{length-map}
 use Rattle.eve_grammar.specs.Trace.{Asked}
 use Rattle.eve_write.specs.Data.{asked}
-use Rattle.eve_workload.specs.Mixed.{touched_by}
-use Rattle.eve_workload.specs.Mixing.{batch_with}
+use Rattle.eve_workload.specs.inner.Mixed.{touched_by}
+use Rattle.eve_workload.specs.Mixers.{batch_with}
 use Rattle.eve_workload.proofs.Mixed.{whole_is}
 use Rattle.eve_workload.proofs.mixer.cut_whole.Goals as goal
 

@@ -2,8 +2,8 @@ use Rattle.std.proofs.Common.{◌≡◌, ℕ, ◌<◌, [], ◌∷◌, ◌++◌, 
 use Rattle.std.specs.Prelude.{slice_index_or}
 use Rattle.std.proofs.lemmas.List.{take_all, get_or-map}
 use Rattle.eve_write.specs.Data.{asked}
-use Rattle.eve_workload.specs.Groups.{refused_request, listed}
-use Rattle.eve_workload.proofs.Listing.{listed_more}
+use Rattle.eve_workload.specs.inner.Groups.{refused_request, listed}
+use Rattle.eve_workload.proofs.ListedRequests.{listed_more}
 use Rattle.eve_workload.proofs.requests.listed.Goals as goal
 
 pub loop-index-preserved : goal.loop-index-preserved

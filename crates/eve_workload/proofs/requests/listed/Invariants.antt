@@ -1,6 +1,6 @@
 use Rattle.std.proofs.Common.{◌≡◌, length, map, take, vec_len, vec_capacity}
 use Rattle.eve_write.specs.Data.{asked}
-use Rattle.eve_workload.specs.Groups.{listed}
+use Rattle.eve_workload.specs.inner.Groups.{listed}
 use Rattle.eve_workload.proofs.requests.listed.Given as goal
 
 abbrev pub invariant-loop-index : goal.invariant-loop-index

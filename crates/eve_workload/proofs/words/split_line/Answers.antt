@@ -1,9 +1,9 @@
 use Rattle.std.proofs.Common.{◌≡◌, ℕ, ◌+◌, ◌<◌, true, List, Bor, get_or, length, refl, sym, subst, ap, ◌∙◌}
 use Rattle.std.proofs.Common.{arith, rules}
 use Rattle.std.proofs.lemmas.List.{length-map, map_push}
-use Rattle.eve_workload.specs.Words.{is_inside, bytes_of, IsFirstLine}
+use Rattle.eve_workload.specs.inner.Words.{is_inside, bytes_of, IsFirstLine}
 use Rattle.eve_workload.proofs.LineLaws.{no_line_of_few}
-use Rattle.eve_workload.proofs.Splitting.{IsSplit, split_end, split_space, split_inside, no_line_with}
+use Rattle.eve_workload.proofs.SplitLines.{IsSplit, split_end, split_space, split_inside, no_line_with}
 use Rattle.eve_workload.proofs.words.split_line.Goals as goal
 
 pub returns-then-byte-eq-LINE_FEED-clause-found : goal.returns-then-byte-eq-LINE_FEED-clause-found

@@ -1,7 +1,7 @@
 use Rattle.std.proofs.Common.{◌≡◌, ◌-◌, ◌<◌, length, vec_len, vec_capacity}
 use Rattle.eve_workload.specs.declared.words.TheConstants.{MOST_WORDS}
-use Rattle.eve_workload.specs.Words.{bytes_of}
-use Rattle.eve_workload.proofs.Splitting.{IsSplit}
+use Rattle.eve_workload.specs.inner.Words.{bytes_of}
+use Rattle.eve_workload.proofs.SplitLines.{IsSplit}
 use Rattle.eve_workload.proofs.words.split_line.Given as goal
 
 abbrev pub invariant-loop-words : goal.invariant-loop-words

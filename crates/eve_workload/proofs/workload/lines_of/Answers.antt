@@ -1,9 +1,9 @@
 use Rattle.std.proofs.Common.{◌≡◌, ◌≤◌, true, false, length, Some, None, sym, subst, ◌∙◌, arith, rules}
 use Rattle.std.proofs.lemmas.List.{take_rest}
-use Rattle.eve_workload.specs.Words.{HasLineFeed}
+use Rattle.eve_workload.specs.inner.Words.{HasLineFeed}
 use Rattle.eve_workload.specs.Steps.{may_end}
-use Rattle.eve_workload.specs.Drafts.{TakesLine}
-use Rattle.eve_workload.proofs.Reading.{keeps_small, read_more, read_all, read_bad, read_early, feed_to_come}
+use Rattle.eve_workload.specs.inner.Drafts.{TakesLine}
+use Rattle.eve_workload.proofs.TextLines.{keeps_small, read_more, read_all, read_bad, read_early, feed_to_come}
 use Rattle.eve_workload.proofs.workload.lines_of.Goals as goal
 use Rattle.eve_workload.proofs.workload.lines_of.Goals.{then-at-text-via-then-at-text}
 use Rattle.eve_workload.proofs.workload.lines_of.Goals.{then-at-text-via-else-at-text+then-not-may_end}
@@ -25,12 +25,12 @@ next_line-requires c = keeps_small c.loop-at.draft c.loop-at.invariant.read.befo
 
 pub loop-at-preserved : goal.loop-at-preserved
 loop-at-preserved c =
-    let taken = c.in_ok-len.ensures.taken c.loop-at.invariant.read.before c.loop-at.invariant.read.keeps in
+    let accepted = c.in_ok-len.ensures.accepted c.loop-at.invariant.read.before c.loop-at.invariant.read.keeps in
     record {
       read = read_more c.args.text.now c.loop-at.at c.in-Some.len c.loop-at.draft c.take_line.new.self
           c.loop-at.invariant.read
           (subst (λ rest. TakesLine c.take_line.new.self c.loop-at.invariant.read.before rest (Some c.in-Some.len))
-          (take_rest c.args.text.now c.loop-at.at) (rw c.in-Some.is at taken));
+          (take_rest c.args.text.now c.loop-at.at) (rw c.in-Some.is at accepted));
       format = c.in_ok-len.ensures.format ∙ c.loop-at.invariant.format;
       room = omega (arith, c.in_ok-len.ensures.room, c.loop-at.invariant.room);
     }
@@ -38,12 +38,12 @@ loop-at-preserved c =
 pub returns-in-None-clause-bad : goal.returns-in-None-clause-bad
 returns-in-None-clause-bad c = λ number same.
     let is : c.next_line-number.result ≡ number = cc in
-    let taken = c.in_ok-len.ensures.taken c.loop-at.invariant.read.before c.loop-at.invariant.read.keeps in
+    let accepted = c.in_ok-len.ensures.accepted c.loop-at.invariant.read.before c.loop-at.invariant.read.keeps in
     read_bad c.args.format c.args.text.now c.loop-at.at number c.loop-at.draft c.take_line.new.self
     c.loop-at.invariant.read c.loop-at.invariant.format (c.in_ok-len.ensures.format ∙ c.loop-at.invariant.format)
     (sym is ∙ c.next_line-number.ensures c.loop-at.invariant.read.before c.loop-at.invariant.read.keeps) (omega arith)
     (subst (λ rest. TakesLine c.take_line.new.self c.loop-at.invariant.read.before rest None)
-    (take_rest c.args.text.now c.loop-at.at) (rw c.in-None.is at taken))
+    (take_rest c.args.text.now c.loop-at.at) (rw c.in-None.is at accepted))
 
 pub returns-then-at-text-clause-bad : goal.returns-then-at-text-clause-bad
 returns-then-at-text-clause-bad c = λ number same.

@@ -1,6 +1,6 @@
 use Rattle.std.proofs.Common.{◌≡◌, ◌-◌, ◌≤◌, length, vec_capacity}
 use Rattle.eve_workload.specs.declared.words.TheConstants.{MOST_WORDS}
-use Rattle.eve_workload.proofs.Reading.{IsRead}
+use Rattle.eve_workload.proofs.TextLines.{IsRead}
 use Rattle.eve_workload.proofs.workload.lines_of.Given as goal
 
 abbrev pub invariant-loop-at : goal.invariant-loop-at

@@ -1,8 +1,8 @@
 use Rattle.std.proofs.Common.{sym, subst, ◌∙◌}
-use Rattle.eve_write.specs.Writing.{Writes}
+use Rattle.eve_write.specs.Writes.{Writes}
 use Rattle.eve_write.specs.declared.access_list.AccessNote.{AccessNote}
 use Rattle.eve_write.proofs.AccessLists.{noted_text}
-use Rattle.eve_write.proofs.Joined.{Puts-then, Puts-whole}
+use Rattle.eve_write.proofs.JoinedWrites.{Puts-then, Puts-whole}
 use Rattle.eve_write.proofs.access.write_access.Goals as goal
 
 pub returns : goal.returns

@@ -1,6 +1,6 @@
 use Rattle.std.proofs.Common.{subst}
-use Rattle.eve_write.specs.Writing.{Puts}
-use Rattle.eve_write.proofs.Joined.{Puts-then}
+use Rattle.eve_write.specs.Writes.{Puts}
+use Rattle.eve_write.proofs.JoinedWrites.{Puts-then}
 use Rattle.eve_write.proofs.AccessLists.{noted_text}
 use Rattle.eve_write.proofs.access_list.put_access.Goals as goal
 

@@ -1,7 +1,7 @@
 use Rattle.std.proofs.Common.{◌≡◌, ◌+◌, ◌*◌, ap, ◌∙◌, subst, arith}
 use Rattle.byteorder.specs.Endian.{big_bytes}
-use Rattle.eve_write.specs.Writing.{Puts}
-use Rattle.eve_write.proofs.Joined.{Puts-then, app}
+use Rattle.eve_write.specs.Writes.{Puts}
+use Rattle.eve_write.proofs.JoinedWrites.{Puts-then, app}
 use Rattle.eve_write.proofs.access_list.put_note.Goals as goal
 
 pub returns-clause-puts : goal.returns-clause-puts

@@ -1,12 +1,12 @@
 use Rattle.std.proofs.Common.{length, take, drop, get_or, refl, sym, subst, ap, ◌∙◌, arith}
 use Rattle.std.proofs.lemmas.List.{take_all}
 use Rattle.std.specs.List.{flat_map}
-use Rattle.eve_write.specs.Writing.{Wrote, Stopped, Writes}
+use Rattle.eve_write.specs.Writes.{Wrote, Stopped, Writes}
 use Rattle.eve_write.specs.declared.access_list.AccessNote.{AccessNote}
 use Rattle.eve_write.specs.AccessLists.{accesses_listed, access_text}
-use Rattle.eve_write.proofs.Joined.{Writes-at_err}
-use Rattle.eve_write.proofs.Gathered.{AreGathered, gathered-none, gathered-sent, gathered-more, gathered-stopped}
-use Rattle.eve_write.proofs.Gathered.{gathered-at, gathered-whole}
+use Rattle.eve_write.proofs.JoinedWrites.{Writes-at_err}
+use Rattle.eve_write.proofs.GatheredTexts.{AreGathered, gathered-none, gathered-sent, gathered-more, gathered-stopped}
+use Rattle.eve_write.proofs.GatheredTexts.{gathered-at, gathered-whole}
 use Rattle.eve_write.proofs.AccessLists.{ShareEntries-same, accesses-at, length-accesses, left-behind, noted}
 use Rattle.eve_write.proofs.AccessLists.{note-within}
 use Rattle.eve_write.proofs.access_list.write_accesses.Goals.{then-len+in_ok-send, else-len}

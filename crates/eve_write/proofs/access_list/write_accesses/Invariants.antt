@@ -2,7 +2,7 @@
 use Rattle.std.proofs.Common.{◌≡◌, take, drop}
 use Rattle.eve_write.specs.AccessLists.{accesses_listed, access_text}
 use Rattle.eve_write.proofs.AccessLists.{counted}
-use Rattle.eve_write.proofs.Gathered.{AreGathered}
+use Rattle.eve_write.proofs.GatheredTexts.{AreGathered}
 use Rattle.eve_write.proofs.access_list.write_accesses.Given as goal
 
 abbrev pub invariant-loop-note : goal.invariant-loop-note

@@ -1,7 +1,7 @@
 use Rattle.std.proofs.Common.{◌<◌, length, sym, arith}
 use Rattle.std.proofs.lemmas.Option.{get_or_from_slice_get}
 use Rattle.eve_grammar.specs.Spelling.{entry_text}
-use Rattle.eve_write.proofs.Joined.{Puts-more}
+use Rattle.eve_write.proofs.JoinedWrites.{Puts-more}
 use Rattle.eve_write.proofs.fields.put_entries.Goals as goal
 
 pub loop-i-preserved : goal.loop-i-preserved

@@ -3,8 +3,8 @@ use Rattle.std.specs.List.{flat_map}
 use Rattle.std.proofs.lemmas.List.{take_all}
 use Rattle.arrayvec.specs.ArrayVec.{array_vec_len}
 use Rattle.eve_grammar.specs.Spelling.{entry_text}
-use Rattle.eve_write.specs.Writing.{Puts}
-use Rattle.eve_write.proofs.Joined.{Puts-more}
+use Rattle.eve_write.specs.Writes.{Puts}
+use Rattle.eve_write.proofs.JoinedWrites.{Puts-more}
 use Rattle.eve_write.proofs.fields.put_few_entries.Goals.{then-place-entries, else-place-entries}
 use Rattle.eve_write.proofs.fields.put_few_entries.Goals as goal
 

@@ -3,7 +3,7 @@ use Rattle.std.proofs.Common.{◌≡◌, ◌+◌, ◌*◌, length, min, take}
 use Rattle.std.specs.List.{flat_map}
 use Rattle.arrayvec.specs.ArrayVec.{array_vec_len}
 use Rattle.eve_grammar.specs.Spelling.{entry_text}
-use Rattle.eve_write.specs.Writing.{Puts}
+use Rattle.eve_write.specs.Writes.{Puts}
 use Rattle.eve_write.proofs.fields.put_few_entries.Given as goal
 
 abbrev pub invariant-loop-place : goal.invariant-loop-place

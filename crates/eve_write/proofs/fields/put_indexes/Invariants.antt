@@ -3,7 +3,7 @@ use Rattle.std.proofs.Common.{◌≡◌, ◌+◌, ◌*◌, take}
 use Rattle.std.specs.List.{flat_map}
 use Rattle.arrayvec.specs.ArrayVec.{array_vec_len}
 use Rattle.byteorder.specs.Endian.{big_bytes}
-use Rattle.eve_write.specs.Writing.{Puts}
+use Rattle.eve_write.specs.Writes.{Puts}
 use Rattle.eve_write.proofs.fields.put_indexes.Given as goal
 
 abbrev pub invariant-loop-index : goal.invariant-loop-index

@@ -4,9 +4,9 @@ use Rattle.eve_grammar.specs.Frames.{OfSent, End}
 use Rattle.eve_grammar.specs.Spelling.{section_text, votes_text, frame_text}
 use Rattle.eve_write.specs.Data.{section, votes, sent}
 use Rattle.eve_write.specs.Passes.{fits_step}
-use Rattle.eve_write.specs.Writing.{Wrote, Stopped}
-use Rattle.eve_write.proofs.Joined.{Stopped-before, Stopped-later, Writes-at_err, Writes-then, each_as, all_fit}
-use Rattle.eve_write.proofs.Sound.{AreWritable-from_spelling}
+use Rattle.eve_write.specs.Writes.{Wrote, Stopped}
+use Rattle.eve_write.proofs.JoinedWrites.{Stopped-before, Stopped-later, Writes-at_err, Writes-then, each_as, all_fit}
+use Rattle.eve_write.proofs.RightParts.{AreWritable-from_spelling}
 use Rattle.eve_write.proofs.gathering.write_rest.Goals as goal
 
 pub write_sections-requires-clause-right : goal.write_sections-requires-clause-right

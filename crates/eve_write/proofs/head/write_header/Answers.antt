@@ -1,7 +1,7 @@
 use Rattle.std.proofs.Common.{subst}
 use Rattle.eve_grammar.specs.Spelling.{head_text}
-use Rattle.eve_write.specs.Writing.{Writes}
-use Rattle.eve_write.proofs.Joined.{app, led}
+use Rattle.eve_write.specs.Writes.{Writes}
+use Rattle.eve_write.proofs.JoinedWrites.{app, led}
 use Rattle.eve_write.proofs.head.write_header.Goals as goal
 
 pub returns : goal.returns

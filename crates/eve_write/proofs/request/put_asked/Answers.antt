@@ -1,7 +1,7 @@
 use Rattle.std.proofs.Common.{subst, ap}
 use Rattle.eve_grammar.specs.Spelling.{request_text}
-use Rattle.eve_write.specs.Writing.{Puts}
-use Rattle.eve_write.proofs.Joined.{Puts-then, app}
+use Rattle.eve_write.specs.Writes.{Puts}
+use Rattle.eve_write.proofs.JoinedWrites.{Puts-then, app}
 use Rattle.eve_write.proofs.request.put_asked.Goals as goal
 
 pub returns : goal.returns

@@ -1,7 +1,7 @@
 use Rattle.std.proofs.Common.{sym, ◌∙◌, ◌+◌, ap, arith, drop, ◌≡◌, []}
 use Rattle.std.proofs.lemmas.List.{drop_all}
 use Rattle.eve_grammar.proofs.Scans.{is_rising_from, rising_from_zero}
-use Rattle.eve_write.proofs.Rising.{rising_more, rising_ends}
+use Rattle.eve_write.proofs.RisingRestores.{rising_more, rising_ends}
 use Rattle.eve_write.proofs.rollback.is_rising.Goals as goal
 
 pub loop-restore-init : goal.loop-restore-init

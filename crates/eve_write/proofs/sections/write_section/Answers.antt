@@ -4,8 +4,8 @@ use Rattle.std.proofs.lemmas.List.Folds.{flat_map-map}
 use Rattle.eve_grammar.specs.Frames.{step_frames}
 use Rattle.eve_grammar.specs.Spelling.{frame_text, step_text}
 use Rattle.eve_write.specs.Data.{step}
-use Rattle.eve_write.specs.Writing.{Writes}
-use Rattle.eve_write.proofs.Joined.{Stopped-before, Writes-at_err, Writes-then, flat_map-flat_map}
+use Rattle.eve_write.specs.Writes.{Writes}
+use Rattle.eve_write.proofs.JoinedWrites.{Stopped-before, Writes-at_err, Writes-then, flat_map-flat_map}
 use Rattle.eve_write.proofs.sections.write_section.Goals as goal
 
 pub returns-in_err-write_replica : goal.returns-in_err-write_replica

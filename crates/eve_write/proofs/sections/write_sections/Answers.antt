@@ -4,9 +4,9 @@ use Rattle.std.proofs.lemmas.List.{take_all, length-map}
 use Rattle.std.proofs.lemmas.List.FromFn.{length-enumerate_from}
 use Rattle.eve_grammar.specs.Spelling.{section_text}
 use Rattle.eve_write.specs.Data.{step, section}
-use Rattle.eve_write.specs.Writing.{Wrote, Stopped}
-use Rattle.eve_write.proofs.Joined.{Writes-at_err}
-use Rattle.eve_write.proofs.Numbered.{Wrote-numbered, Stopped-numbered}
+use Rattle.eve_write.specs.Writes.{Wrote, Stopped}
+use Rattle.eve_write.proofs.JoinedWrites.{Writes-at_err}
+use Rattle.eve_write.proofs.NumberedItems.{Wrote-numbered, Stopped-numbered}
 use Rattle.eve_write.proofs.sections.write_sections.Goals as goal
 
 pub returns-in_err-write_section : goal.returns-in_err-write_section

@@ -3,7 +3,7 @@ use Rattle.std.proofs.Common.{take, map}
 use Rattle.std.specs.List.{flat_map, enumerate_from}
 use Rattle.eve_grammar.specs.Spelling.{section_text}
 use Rattle.eve_write.specs.Data.{section}
-use Rattle.eve_write.specs.Writing.{Wrote}
+use Rattle.eve_write.specs.Writes.{Wrote}
 use Rattle.eve_write.proofs.sections.write_sections.Given as goal
 
 abbrev pub invariant-loop-i : goal.invariant-loop-i

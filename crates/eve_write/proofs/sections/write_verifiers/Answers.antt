@@ -4,9 +4,9 @@ use Rattle.std.proofs.lemmas.List.{take_all, length-map}
 use Rattle.std.proofs.lemmas.List.FromFn.{length-enumerate_from}
 use Rattle.eve_grammar.specs.Spelling.{votes_text}
 use Rattle.eve_write.specs.Data.{vote, votes}
-use Rattle.eve_write.specs.Writing.{Wrote, Stopped}
-use Rattle.eve_write.proofs.Joined.{Writes-at_err}
-use Rattle.eve_write.proofs.Numbered.{Wrote-numbered, Stopped-numbered}
+use Rattle.eve_write.specs.Writes.{Wrote, Stopped}
+use Rattle.eve_write.proofs.JoinedWrites.{Writes-at_err}
+use Rattle.eve_write.proofs.NumberedItems.{Wrote-numbered, Stopped-numbered}
 use Rattle.eve_write.proofs.sections.write_verifiers.Goals as goal
 
 pub returns-in_err-write_votes : goal.returns-in_err-write_votes

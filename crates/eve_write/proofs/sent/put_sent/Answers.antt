@@ -5,8 +5,8 @@ use Rattle.eve_grammar.specs.Frames.{OfSent}
 use Rattle.eve_grammar.specs.Spelling.{body_text}
 use Rattle.eve_grammar.proofs.PartCodecs.{reply_length}
 use Rattle.eve_write.specs.Data.{sent}
-use Rattle.eve_write.specs.Writing.{Puts}
-use Rattle.eve_write.proofs.Joined.{Puts-then, app, led, onto}
+use Rattle.eve_write.specs.Writes.{Puts}
+use Rattle.eve_write.proofs.JoinedWrites.{Puts-then, app, led, onto}
 use Rattle.eve_write.proofs.sent.put_sent.Goals as goal
 
 pub returns : goal.returns

@@ -1,6 +1,6 @@
 use Rattle.std.proofs.Common.{subst, ◌∙◌}
-use Rattle.eve_write.specs.Writing.{Writes}
-use Rattle.eve_write.proofs.Joined.{Puts-whole}
+use Rattle.eve_write.specs.Writes.{Writes}
+use Rattle.eve_write.proofs.JoinedWrites.{Puts-whole}
 use Rattle.eve_write.proofs.sent.write_sent.Goals as goal
 
 pub returns : goal.returns

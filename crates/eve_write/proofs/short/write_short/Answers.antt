@@ -1,9 +1,9 @@
 use Rattle.std.proofs.Common.{◌≡◌, take, subst, ap, arith}
 use Rattle.std.proofs.lemmas.List.{take_all}
-use Rattle.eve_write.specs.Writing.{Wrote, Stopped, Writes}
-use Rattle.eve_write.proofs.Joined.{Writes-at_err}
-use Rattle.eve_write.proofs.Gathered.{AreGathered, gathered-none, gathered-sent, gathered-more, gathered-stopped}
-use Rattle.eve_write.proofs.Gathered.{gathered-at, gathered-whole}
+use Rattle.eve_write.specs.Writes.{Wrote, Stopped, Writes}
+use Rattle.eve_write.proofs.JoinedWrites.{Writes-at_err}
+use Rattle.eve_write.proofs.GatheredTexts.{AreGathered, gathered-none, gathered-sent, gathered-more, gathered-stopped}
+use Rattle.eve_write.proofs.GatheredTexts.{gathered-at, gathered-whole}
 use Rattle.eve_write.proofs.short.write_short.Goals.{then-len+in_ok-send, else-len}
 use Rattle.eve_write.proofs.short.write_short.Goals as goal
 

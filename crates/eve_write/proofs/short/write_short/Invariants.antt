@@ -1,5 +1,5 @@
 -- The items so far are sent or gathered.
-use Rattle.eve_write.proofs.Gathered.{AreGathered}
+use Rattle.eve_write.proofs.GatheredTexts.{AreGathered}
 use Rattle.eve_write.proofs.short.write_short.Given as goal
 
 abbrev pub invariant-loop-item : goal.invariant-loop-item

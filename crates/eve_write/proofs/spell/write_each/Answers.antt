@@ -1,4 +1,4 @@
-use Rattle.eve_write.proofs.Joined.{Wrote-more, Stopped-more, Writes-at_err}
+use Rattle.eve_write.proofs.JoinedWrites.{Wrote-more, Stopped-more, Writes-at_err}
 use Rattle.eve_write.proofs.spell.write_each.Goals as goal
 
 pub returns-in_err-write : goal.returns-in_err-write

@@ -1,7 +1,7 @@
 -- The items so far are written.
 use Rattle.std.proofs.Common.{take}
 use Rattle.std.specs.List.{flat_map}
-use Rattle.eve_write.specs.Writing.{Wrote}
+use Rattle.eve_write.specs.Writes.{Wrote}
 use Rattle.eve_write.proofs.spell.write_each.Given as goal
 
 abbrev pub invariant-loop-item : goal.invariant-loop-item

@@ -1,8 +1,8 @@
 use Rattle.std.proofs.Common.{subst, ap, ◌∙◌, arith}
 use Rattle.std.proofs.Common.{◌≡◌, ℕ, ◌+◌, ◌∷◌, length}
 use Rattle.byteorder.specs.Endian.{big_bytes}
-use Rattle.eve_write.specs.Writing.{Writes}
-use Rattle.eve_write.proofs.Joined.{app, led}
+use Rattle.eve_write.specs.Writes.{Writes}
+use Rattle.eve_write.proofs.JoinedWrites.{app, led}
 use Rattle.eve_write.proofs.Votes.{vote_is}
 use Rattle.eve_write.proofs.vote.write_vote.Goals as goal
 

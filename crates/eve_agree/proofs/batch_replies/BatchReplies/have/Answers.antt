@@ -2,9 +2,9 @@ use Rattle.std.proofs.Common.{◌≡◌, ℕ, ◌≤◌, map, sym, subst, ap, �
 use Rattle.eve_grammar.specs.Trace.{Sent, request_id}
 use Rattle.eve_frames.specs.Views.{sent_in}
 use Rattle.eve_history.specs.Section.{batch_at}
-use Rattle.eve_agree.specs.Keeping.{AreSpelled, kept_ids, replies_at}
-use Rattle.eve_agree.proofs.Answering.{replied_from, answer_from}
-use Rattle.eve_agree.proofs.Sending.{possible_of}
+use Rattle.eve_agree.specs.inner.KeptRequests.{AreSpelled, kept_ids, replies_at}
+use Rattle.eve_agree.proofs.AnsweredRequests.{replied_from, answer_from}
+use Rattle.eve_agree.proofs.RepliesSent.{possible_of}
 use Rattle.eve_agree.proofs.batch_replies.BatchReplies.have.Goals as goal
 
 pub returns-clause-replied : goal.returns-clause-replied

@@ -2,8 +2,8 @@ use Rattle.std.proofs.Common.{◌≡◌, ℕ, ◌<◌, List, length, refl, sym, 
 use Rattle.eve_grammar.specs.Trace.{Sent}
 use Rattle.eve_frames.specs.Views.{sent_in}
 use Rattle.eve_history.specs.SectionHistory.{SectionHistory}
-use Rattle.eve_history.proofs.Rights.{as_many_told}
-use Rattle.eve_agree.proofs.Sending.{possible_of, told_as}
+use Rattle.eve_history.proofs.RightSections.{as_many_told}
+use Rattle.eve_agree.proofs.RepliesSent.{possible_of, told_as}
 use Rattle.eve_agree.proofs.batch_replies.BatchReplies.turn_to.Goals as goal
 
 pub bounds-histories-replica : goal.bounds-histories-replica

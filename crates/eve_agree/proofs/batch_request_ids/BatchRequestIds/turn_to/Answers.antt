@@ -2,7 +2,7 @@ use Rattle.std.proofs.Common.{ℕ, map, sym, ap, ◌∙◌}
 use Rattle.eve_grammar.specs.Trace.{Batch}
 use Rattle.eve_frames.specs.Views.{batch_in}
 use Rattle.eve_grammar.specs.Trace.{request_id}
-use Rattle.eve_history.proofs.Finding.{batch_is, batch_fits}
+use Rattle.eve_history.proofs.Lookups.{batch_is, batch_fits}
 use Rattle.eve_agree.proofs.batch_request_ids.BatchRequestIds.turn_to.Goals as goal
 
 pub read-self-requires : goal.read-self-requires

@@ -1,7 +1,7 @@
 use Rattle.std.proofs.Common.{sym, ap, ◌∙◌}
 use Rattle.std.proofs.lemmas.Bool.{eq-eqb, false≢true}
-use Rattle.eve_agree.specs.Marking.{marked_count}
-use Rattle.eve_agree.proofs.Marking.{some_marked}
+use Rattle.eve_agree.specs.Marks.{marked_count}
+use Rattle.eve_agree.proofs.MarkLaws.{some_marked}
 use Rattle.eve_agree.proofs.first_seen.FirstSeen.is_empty.Goals as goal
 
 pub returns-clause-some : goal.returns-clause-some

@@ -1,7 +1,7 @@
 use Rattle.std.proofs.Common.{◌≡◌, ◌<◌, not, length, sym, ap, subst, ◌∙◌, arith}
 use Rattle.std.specs.Prelude.{List, Option}
-use Rattle.eve_agree.specs.Marking.{marked_count}
-use Rattle.eve_agree.proofs.Marking.{one_less}
+use Rattle.eve_agree.specs.Marks.{marked_count}
+use Rattle.eve_agree.proofs.MarkLaws.{one_less}
 use Rattle.eve_smallbank.specs.declared.versioned.Versioned.{Versioned}
 use Rattle.eve_agree.proofs.first_seen.FirstSeen.mark.Goals as goal
 

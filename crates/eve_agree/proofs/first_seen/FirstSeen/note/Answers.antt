@@ -3,7 +3,7 @@ use Rattle.std.specs.List.{list_all}
 use Rattle.eve_smallbank.specs.declared.entry.Entry.{Entry}
 use Rattle.eve_grammar.specs.Limits.{is_entry}
 use Rattle.eve_grammar.proofs.EntryLimits.{first_right, rest_right}
-use Rattle.eve_agree.specs.Marking.{Marking, marking_of, marked}
+use Rattle.eve_agree.specs.Marks.{Marking, marking_of, marked}
 use Rattle.eve_agree.proofs.first_seen.FirstSeen.note.Goals as goal
 
 pub loop-entry-init : goal.loop-entry-init

@@ -3,7 +3,7 @@ use Rattle.std.specs.List.{list_all}
 use Rattle.std.proofs.lemmas.Bool.{and_parts}
 use Rattle.eve_grammar.specs.Limits.{is_restore}
 use Rattle.eve_grammar.specs.declared.restore.Restore.{Restore}
-use Rattle.eve_agree.specs.Marking.{Marking, marking_of, marked_by}
+use Rattle.eve_agree.specs.Marks.{Marking, marking_of, marked_by}
 use Rattle.eve_agree.proofs.first_seen.FirstSeen.note_restores.Goals as goal
 
 pub loop-restored-preserved : goal.loop-restored-preserved

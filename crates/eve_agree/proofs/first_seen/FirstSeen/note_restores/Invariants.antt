@@ -1,7 +1,7 @@
 use Rattle.std.proofs.Common.{◌≡◌, IsTrue, length}
 use Rattle.std.specs.List.{list_all}
 use Rattle.eve_grammar.specs.Limits.{is_restore}
-use Rattle.eve_agree.specs.Marking.{marking_of, marked_by}
+use Rattle.eve_agree.specs.Marks.{marking_of, marked_by}
 use Rattle.eve_agree.proofs.first_seen.FirstSeen.note_restores.Given as goal
 
 abbrev pub invariant-loop-restored : goal.invariant-loop-restored

@@ -1,7 +1,7 @@
 use Rattle.std.proofs.Common.{◌≡◌, ◌==◌, false, List, ℕ, if◌then◌else◌, sym, ap, ◌∙◌, inl, inr}
 use Rattle.std.proofs.lemmas.Bool.Decides.{eqb_tells}
 use Rattle.eve_token.specs.Token.{flat_token, token_from_root, rows_root, token_of}
-use Rattle.eve_agree.specs.HashedRows.{balances_in}
+use Rattle.eve_agree.specs.inner.HashedRows.{balances_in}
 use Rattle.eve_agree.specs.declared.hashed_rows.HashedRows.{HashedRows}
 use Rattle.eve_agree.proofs.hashed_rows.HashedRows.token.Goals as goal
 

@@ -1,9 +1,9 @@
 use Rattle.std.proofs.Common.{◌≡◌, ℕ, ◌+◌, ◌∷◌, sym, subst, ap, ◌∙◌, rules}
 use Rattle.eve_grammar.specs.Trace.{Commit}
 use Rattle.eve_attempts.specs.Ledgers.{Opened, Ledger, IsLedger}
-use Rattle.eve_attempts.specs.Discarding.{Commits}
-use Rattle.eve_attempts.specs.Holding.{ledger_of}
-use Rattle.eve_attempts.proofs.Ledgering.{opened_split, committed_next, ledger_next}
+use Rattle.eve_attempts.specs.CommitsAndRollbacks.{Commits}
+use Rattle.eve_attempts.specs.HeldLedgers.{ledger_of}
+use Rattle.eve_attempts.proofs.LedgerSteps.{opened_split, committed_next, ledger_next}
 use Rattle.eve_attempts.proofs.ledger.Ledger.commit.Goals as goal
 
 split : (c : goal.After-drop-first-inside) → c.self.inside.opened.items
@@ -24,8 +24,8 @@ returns-clause-committed c =
     let others = c.remove-first.new.self.items in
     let first = c.remove-first.result in
     let new : Ledger = record s { opened = others; committed = c.args.seq } in
-    let said : Commit = record { seq = c.args.seq; view = c.first.inside.view; token = c.first.inside.token } in
-    subst (λ (o : Ledger). Commits o new said) c.self.view_is (record {
+    let decoded : Commit = record { seq = c.args.seq; view = c.first.inside.view; token = c.first.inside.token } in
+    subst (λ (o : Ledger). Commits o new decoded) c.self.view_is (record {
       first = first;
       others = others;
       opened = split c;

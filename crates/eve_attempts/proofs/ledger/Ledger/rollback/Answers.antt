@@ -4,11 +4,11 @@ use Rattle.std.specs.List.Sorted.{IsPermutation}
 use Rattle.eve_smallbank.specs.Chain.{Table}
 use Rattle.eve_attempts.specs.Ledgers.{Opened, Ledger, IsLedger, table_of_rows, values_before, writes_in, open_writes}
 use Rattle.eve_attempts.specs.Ledgers.{rows_committed}
-use Rattle.eve_attempts.specs.Discarding.{restore_in, RollsBack}
-use Rattle.eve_attempts.specs.Restoring.{entry_rows, rising_from}
-use Rattle.eve_attempts.specs.Holding.{ledger_of}
-use Rattle.eve_attempts.specs.KeptRows.{KeptRows}
-use Rattle.eve_attempts.proofs.Ledgering.{are_there, rolled_back, ledger_empty}
+use Rattle.eve_attempts.specs.CommitsAndRollbacks.{restore_in, RollsBack}
+use Rattle.eve_attempts.specs.inner.RestoredRows.{entry_rows, rising_from}
+use Rattle.eve_attempts.specs.HeldLedgers.{ledger_of}
+use Rattle.eve_attempts.specs.inner.KeptRows.{KeptRows}
+use Rattle.eve_attempts.proofs.LedgerSteps.{are_there, rolled_back, ledger_empty}
 use Rattle.eve_attempts.proofs.ledger.Ledger.rollback.Goals as goal
 
 -- rolled back, with these rows of a version

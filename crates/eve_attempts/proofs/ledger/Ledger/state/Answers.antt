@@ -1,9 +1,9 @@
 use Rattle.std.proofs.Common.{◌≡◌, subst}
 use Rattle.std.proofs.lemmas.Result.{IfOk-weaker}
 use Rattle.eve_attempts.specs.Ledgers.{Ledger}
-use Rattle.eve_attempts.specs.TakingOver.{rows_of_state, IsStateOf}
-use Rattle.eve_attempts.specs.Holding.{ledger_of}
-use Rattle.eve_attempts.proofs.Ledgering.{is_state}
+use Rattle.eve_attempts.specs.Transfers.{rows_of_state, IsStateOf}
+use Rattle.eve_attempts.specs.HeldLedgers.{ledger_of}
+use Rattle.eve_attempts.proofs.LedgerSteps.{is_state}
 use Rattle.eve_attempts.proofs.ledger.Ledger.state.Goals as goal
 
 pub returns : goal.returns

@@ -1,10 +1,10 @@
 use Rattle.std.proofs.Common.{length, arith}
 use Rattle.eve_smallbank.specs.Chain.{Sees}
 use Rattle.eve_grammar.specs.Limits.{is_entry}
-use Rattle.eve_grammar.proofs.Grouping.{all_at}
+use Rattle.eve_grammar.proofs.GroupOrder.{all_at}
 use Rattle.eve_grammar.proofs.Lists.{drop_here}
 use Rattle.eve_attempts.specs.Ledgers.{table_of_rows}
-use Rattle.eve_attempts.proofs.Listing.{goes_start, goes_more, goes_on, goes_stop, goes_end, fails_by}
+use Rattle.eve_attempts.proofs.Lists.{goes_start, goes_more, goes_on, goes_stop, goes_end, fails_by}
 use Rattle.eve_attempts.proofs.rows.Rows.are_seen.Goals.{else-place-count-via-then-place-count+else-not-is_seen}
 use Rattle.eve_attempts.proofs.rows.Rows.are_seen.Goals.{else-place-count-via-else-place-count}
 use Rattle.eve_attempts.proofs.rows.Rows.are_seen.Goals as goal

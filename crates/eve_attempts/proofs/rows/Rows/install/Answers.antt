@@ -1,7 +1,7 @@
 use Rattle.std.proofs.Common.{◌≡◌, ℕ, ℤ, ◌<◌, List, length, set, sym, ap, ◌∙◌}
 use Rattle.eve_token.specs.TokenRows.{TokenRows}
-use Rattle.eve_attempts.specs.KeptRows.{KeptRows}
-use Rattle.eve_attempts.proofs.Listing.{put_next}
+use Rattle.eve_attempts.specs.inner.KeptRows.{KeptRows}
+use Rattle.eve_attempts.proofs.Lists.{put_next}
 use Rattle.eve_attempts.proofs.rows.Rows.install.Goals as goal
 
 pub loop-number-preserved : goal.loop-number-preserved

@@ -2,7 +2,7 @@ use Rattle.std.proofs.Common.{◌≡◌, ℕ, ◌-◌, ◌≤◌, ◌∷◌, [],
 use Rattle.std.proofs.lemmas.List.{drop_all}
 use Rattle.eve_smallbank.specs.Chain.{Table}
 use Rattle.eve_attempts.specs.Ledgers.{table_of_rows, values_before, is_write_in}
-use Rattle.eve_attempts.proofs.Listing.{all_read, drop_before}
+use Rattle.eve_attempts.proofs.Lists.{all_read, drop_before}
 use Rattle.eve_attempts.proofs.rows.Rows.undo.Goals as goal
 
 pub loop-end-init : goal.loop-end-init

@@ -1,6 +1,6 @@
 use Rattle.std.proofs.Common.{ap}
 use Rattle.eve_token.specs.TokenRows.{TokenRows}
-use Rattle.eve_attempts.specs.KeptRows.{KeptRows}
+use Rattle.eve_attempts.specs.inner.KeptRows.{KeptRows}
 use Rattle.eve_attempts.proofs.TableLaws.{seen_held}
 use Rattle.eve_attempts.proofs.rows.Rows.undo_one.Goals as goal
 

@@ -1,7 +1,7 @@
 use Rattle.std.proofs.Common.{sym, subst}
 use Rattle.eve_agree.specs.ShownTokens.{IsDueReplica}
 use Rattle.eve_audit.specs.Reports.{IsReportOf}
-use Rattle.eve_audit.proofs.Beside.{due_of_report}
+use Rattle.eve_audit.proofs.SoundPeers.{due_of_report}
 use Rattle.eve_audit.proofs.findings.Finding.peer.Goals as goal
 
 pub returns-in-Ok : goal.returns-in-Ok

@@ -2,8 +2,8 @@ use Rattle.std.proofs.Common.{◌≡◌, ℕ, None, Option, Some, refl, subst, a
 use Rattle.eve_views.specs.First.{first_of}
 use Rattle.eve_views.specs.declared.fault.Fault.{Fault}
 use Rattle.eve_chains.specs.Along.{fault_if}
-use Rattle.eve_chains.specs.Gathered.{as_noted}
-use Rattle.eve_chains.specs.Walked.{IsMismatch}
+use Rattle.eve_chains.specs.inner.Gathered.{as_noted}
+use Rattle.eve_chains.specs.inner.Walked.{IsMismatch}
 use Rattle.eve_chains.proofs.row_walk.RowWalk.judge.Goals as goal
 
 -- nothing more is wrong

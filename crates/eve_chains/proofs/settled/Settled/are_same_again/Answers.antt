@@ -1,7 +1,7 @@
 use Rattle.std.proofs.Common.{◌-◌, sym, ◌∙◌}
 use Rattle.std.proofs.lemmas.Bool.{false≢true}
 use Rattle.eve_chains.specs.Changes.{changes_in_ranges}
-use Rattle.eve_chains.proofs.SameAgain.{IsCompared, same_again, changed_alike}
+use Rattle.eve_chains.proofs.EqualBalances.{IsCompared, same_again, changed_alike}
 use Rattle.eve_chains.proofs.settled.Settled.are_same_again.Goals as goal
 
 pub returns-then-are_same_where_changed : goal.returns-then-are_same_where_changed

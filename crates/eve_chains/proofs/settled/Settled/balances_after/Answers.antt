@@ -1,7 +1,7 @@
 use Rattle.std.proofs.Common.{◌≡◌, length, ap, ◌∙◌, rules}
 use Rattle.eve_smallbank.specs.Access.{balance_of_row}
-use Rattle.eve_chains.specs.Settling.{Settling, values_in}
-use Rattle.eve_chains.proofs.AdvancingBanks.{values_opening, banks_are}
+use Rattle.eve_chains.specs.CommittedValues.{Settling, values_in}
+use Rattle.eve_chains.proofs.BankSteps.{values_opening, banks_are}
 use Rattle.eve_chains.proofs.settled.Settled.balances_after.Goals as goal
 
 pub loop-before-init : goal.loop-before-init

@@ -1,6 +1,6 @@
 use Rattle.std.proofs.Common.{◌≡◌, length}
 use Rattle.eve_smallbank.specs.Access.{balance_of_row}
-use Rattle.eve_chains.specs.Settling.{values_in}
+use Rattle.eve_chains.specs.CommittedValues.{values_in}
 use Rattle.eve_chains.proofs.settled.Settled.balances_after.Given as goal
 
 abbrev pub invariant-loop-before : goal.invariant-loop-before

@@ -1,5 +1,5 @@
 use Rattle.std.proofs.Common.{◌≤◌, ◌+◌, length}
-use Rattle.eve_chains.specs.Stretches.{AreBetween}
+use Rattle.eve_chains.specs.inner.Stretches.{AreBetween}
 use Rattle.eve_chains.proofs.stretch.Stretch.cut.Given as goal
 
 abbrev pub invariant-loop : goal.invariant-loop

@@ -1,5 +1,5 @@
 use Rattle.std.proofs.Common.{refl, ◌∙◌}
-use Rattle.eve_grammar.specs.Reading.{entry_at}
+use Rattle.eve_grammar.specs.Readers.{entry_at}
 use Rattle.eve_grammar.specs.declared.limits.TheConstants.{MOST_ROWS}
 use Rattle.eve_frames.specs.Views.{access_in}
 use Rattle.eve_frames.proofs.AccessPlaces.{entries_of, access_placed}

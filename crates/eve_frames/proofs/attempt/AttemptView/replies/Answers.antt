@@ -1,5 +1,5 @@
 use Rattle.std.proofs.Common.{ℕ, ◌+◌, ◌*◌, ap, ◌∙◌}
-use Rattle.eve_grammar.specs.Reading.{reply_at}
+use Rattle.eve_grammar.specs.Readers.{reply_at}
 use Rattle.eve_frames.specs.Views.{attempt_in}
 use Rattle.eve_frames.proofs.AttemptPlaces.{requests_of, attempt_placed}
 use Rattle.eve_frames.proofs.Lists.{stand_passes}

@@ -1,5 +1,5 @@
 use Rattle.std.proofs.Common.{◌≡◌, ◌+◌, ◌*◌, ◌<◌, arith}
-use Rattle.eve_grammar.specs.Reading.{reply_at}
+use Rattle.eve_grammar.specs.Readers.{reply_at}
 use Rattle.eve_frames.specs.Views.{attempt_in}
 use Rattle.eve_frames.proofs.AttemptPlaces.{requests_of, attempt_placed, attempt_even}
 use Rattle.eve_frames.proofs.Lists.{stand_is, stand_some}

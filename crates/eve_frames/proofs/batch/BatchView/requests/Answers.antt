@@ -1,5 +1,5 @@
 use Rattle.std.proofs.Common.{ℕ, ◌+◌, ◌*◌, sum, ap, ◌∙◌}
-use Rattle.eve_grammar.specs.Reading.{asked_at}
+use Rattle.eve_grammar.specs.Readers.{asked_at}
 use Rattle.eve_frames.specs.Views.{batch_in}
 use Rattle.eve_frames.proofs.BatchPlaces.{groups_of, batch_placed}
 use Rattle.eve_frames.proofs.Lists.{passes_from}

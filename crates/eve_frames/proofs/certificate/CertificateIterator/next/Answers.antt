@@ -1,5 +1,5 @@
 use Rattle.std.proofs.Common.{sym, ◌∙◌}
-use Rattle.eve_grammar.specs.Reading.{number_at}
+use Rattle.eve_grammar.specs.Readers.{number_at}
 use Rattle.eve_frames.proofs.Lists.{none_left, there_some, there_steps, goes_on}
 use Rattle.eve_frames.proofs.certificate.CertificateIterator.next.Goals as goal
 

@@ -1,8 +1,8 @@
 use Rattle.std.proofs.Common.{◌≡◌, ℕ, List, Some, is_some, sym, ◌∙◌, arith}
 use Rattle.std.specs.Prelude.{IsTrue}
 use Rattle.eve_smallbank.specs.declared.entry.Entry.{Entry}
-use Rattle.eve_grammar.specs.Reading.{entry_at}
-use Rattle.eve_frames.specs.Items.{are_there}
+use Rattle.eve_grammar.specs.Readers.{entry_at}
+use Rattle.eve_frames.specs.inner.Items.{are_there}
 use Rattle.eve_grammar.specs.declared.limits.TheConstants.{MOST_ROWS}
 use Rattle.eve_frames.proofs.Lists.{Steps, none_left, there_first, there_steps, goes_on}
 use Rattle.eve_frames.proofs.entries.EntriesIterator.next.Goals as goal

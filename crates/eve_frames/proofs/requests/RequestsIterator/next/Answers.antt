@@ -1,5 +1,5 @@
 use Rattle.std.proofs.Common.{sym, ◌∙◌}
-use Rattle.eve_grammar.specs.Reading.{asked_at}
+use Rattle.eve_grammar.specs.Readers.{asked_at}
 use Rattle.eve_grammar.specs.Bodies.{borrowed_asked}
 use Rattle.eve_frames.proofs.Lists.{none_left, there_first, there_steps, goes_on}
 use Rattle.eve_frames.proofs.requests.RequestsIterator.next.Goals as goal

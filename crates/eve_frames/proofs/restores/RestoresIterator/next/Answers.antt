@@ -1,5 +1,5 @@
 use Rattle.std.proofs.Common.{sym, ◌∙◌}
-use Rattle.eve_grammar.specs.Reading.{restore_at}
+use Rattle.eve_grammar.specs.Readers.{restore_at}
 use Rattle.eve_grammar.specs.declared.limits.TheConstants.{MOST_ROWS}
 use Rattle.eve_frames.proofs.Lists.{none_left, there_some, there_steps, goes_on}
 use Rattle.eve_frames.proofs.restores.RestoresIterator.next.Goals as goal

@@ -1,5 +1,5 @@
 use Rattle.std.proofs.Common.{refl, ◌∙◌}
-use Rattle.eve_grammar.specs.Reading.{restore_at}
+use Rattle.eve_grammar.specs.Readers.{restore_at}
 use Rattle.eve_grammar.specs.declared.limits.TheConstants.{MOST_ROWS}
 use Rattle.eve_frames.specs.Views.{rollback_in}
 use Rattle.eve_frames.proofs.RollbackPlaces.{restores_of, rollback_placed}

@@ -1,5 +1,5 @@
 use Rattle.std.proofs.Common.{arith, rules}
-use Rattle.eve_grammar.proofs.Straight.{header_is}
+use Rattle.eve_grammar.proofs.FixedFields.{header_is}
 use Rattle.eve_grammar.proofs.head.Head.read.Goals as goal
 
 pub returns-then-bytes-ne18 : goal.returns-then-bytes-ne18

@@ -5,8 +5,9 @@ use Rattle.eve_grammar.specs.Trace.{Access}
 use Rattle.eve_frames.specs.Views.{access_in}
 use Rattle.eve_history.specs.declared.access_marks.AccessMarks.{AccessMarks}
 use Rattle.eve_history.specs.Structure.{accesses_of}
-use Rattle.eve_history.specs.Marking.{AreMarked}
-use Rattle.eve_history.proofs.Marking.{refused_worker, refused_index, refused_again, refused_place, taken_right}
+use Rattle.eve_history.specs.inner.MarkedRecords.{AreMarked}
+use Rattle.eve_history.proofs.MarkedRecords.{refused_worker, refused_index, refused_again, refused_place}
+use Rattle.eve_history.proofs.MarkedRecords.{transferred_right}
 use Rattle.eve_history.proofs.access_marks.AccessMarks.mark.Goals as goal
 
 pub returns-then-worker-workers : goal.returns-then-worker-workers
@@ -36,7 +37,7 @@ returns-then-place-self c = λ before marked.
 
 pub returns : goal.returns
 returns c = λ before marked.
-    taken_right c.args.workers c.args.count before
+    transferred_right c.args.workers c.args.count before
     (c.args.access.now.offset, access_in c.args.access.now.bytes.now) c.args.self.now
     c.worker-worker.result c.index-index.result c.worker-worker.ensures c.index-index.ensures marked
     c.offset.result c.offset.ensures c.requires.workers c.requires.count (search rules) (search rules)

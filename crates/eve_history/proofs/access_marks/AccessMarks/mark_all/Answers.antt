@@ -3,8 +3,8 @@ use Rattle.std.proofs.lemmas.List.{length-take-le}
 use Rattle.eve_grammar.specs.Trace.{Access}
 use Rattle.eve_grammar.proofs.Lists.{all-slice_get}
 use Rattle.eve_frames.specs.Views.{access_in}
-use Rattle.eve_history.specs.Marking.{AreMarkedIfRight}
-use Rattle.eve_history.proofs.Marking.{marking_start, marking_more, marking_wrong, marking_end}
+use Rattle.eve_history.specs.inner.MarkedRecords.{AreMarkedIfRight}
+use Rattle.eve_history.proofs.MarkedRecords.{marking_start, marking_more, marking_wrong, marking_end}
 use Rattle.eve_history.proofs.access_marks.AccessMarks.mark_all.Goals as goal
 
 pub loop-i-init : goal.loop-i-init

@@ -1,4 +1,4 @@
-use Rattle.eve_history.proofs.Marking.{Marking}
+use Rattle.eve_history.proofs.MarkedRecords.{Marking}
 use Rattle.eve_history.proofs.access_marks.AccessMarks.mark_all.Given as goal
 
 abbrev pub invariant-loop-i : goal.invariant-loop-i

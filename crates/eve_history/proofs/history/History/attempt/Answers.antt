@@ -4,11 +4,11 @@ use Rattle.eve_grammar.specs.Frames.{OfAttempt}
 use Rattle.eve_grammar.specs.Spelling.{frame_text}
 use Rattle.eve_grammar.proofs.Lists.{all-slice_get}
 use Rattle.eve_frames.specs.Views.{attempt_in}
-use Rattle.eve_history.specs.Standing.{IsAttemptAt}
+use Rattle.eve_history.specs.FrameOffsets.{IsAttemptAt}
 use Rattle.eve_history.specs.SectionHistory.{ExecutedAttempt, SectionHistory}
-use Rattle.eve_history.specs.Coming.{kept_section, kept_attempt, kept_executed_attempt}
-use Rattle.eve_history.proofs.Lent.{lent_attempt}
-use Rattle.eve_history.proofs.Finding.{get_mapped, get_is, part_length}
+use Rattle.eve_history.specs.KeptSections.{kept_section, kept_attempt, kept_executed_attempt}
+use Rattle.eve_history.proofs.LentFrames.{lent_attempt}
+use Rattle.eve_history.proofs.Lookups.{get_mapped, get_is, part_length}
 use Rattle.eve_history.proofs.history.History.attempt.Goals as goal
 
 pub attempt_at-requires : goal.attempt_at-requires

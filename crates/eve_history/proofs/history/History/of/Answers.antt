@@ -3,14 +3,14 @@ use Rattle.std.proofs.Common.{ℕ, List, ◌∷◌, ◌∙◌, sym, subst, rules
 use Rattle.std.proofs.lemmas.Result.{err_from_is_err_and}
 use Rattle.std.specs.List.{AllByRecursion}
 use Rattle.eve_grammar.specs.Trace.{Step}
-use Rattle.eve_history.specs.Standing.{IsAttemptAt, IsAccessAt, IsRollbackAt, IsTransferAt}
+use Rattle.eve_history.specs.FrameOffsets.{IsAttemptAt, IsAccessAt, IsRollbackAt, IsTransferAt}
 use Rattle.eve_grammar.specs.Spelling.{steps_at}
-use Rattle.eve_grammar.specs.Following.{Spells}
+use Rattle.eve_grammar.specs.FrameOrder.{Spells}
 use Rattle.eve_views.specs.StepKinds.{IsStep}
 use Rattle.eve_views.specs.declared.fault.Fault.{Fault}
-use Rattle.eve_history.specs.Coming.{KeptSection, kept_section, HasCome}
-use Rattle.eve_history.proofs.Coming.{come_start, come_ended, come_told, come_faultless}
-use Rattle.eve_history.proofs.Taking.{weaker_found}
+use Rattle.eve_history.specs.KeptSections.{KeptSection, kept_section, HasCome}
+use Rattle.eve_history.proofs.SectionSteps.{come_start, come_ended, come_told, come_faultless}
+use Rattle.eve_history.proofs.StepHandlers.{weaker_found}
 use Rattle.eve_history.specs.Structure.{StandsInStructure}
 use Rattle.eve_history.proofs.history.History.of.Goals as goal
 
@@ -79,4 +79,4 @@ loop-step-preserved c =
     let some = c.in-Some.ensures.some in
     let come = subst (λ (xs : List (ℕ × Step)). HasCome c.args.trace.now c.args.e xs (kept_section c.loop-step.notes))
     some.1 c.loop-step.invariant.0 in
-    (c.in_ok-take.ensures.taken c.next.new.self some.0 come some.2, c.in_ok-take.ensures.noted)
+    (c.in_ok-take.ensures.handled c.next.new.self some.0 come some.2, c.in_ok-take.ensures.noted)

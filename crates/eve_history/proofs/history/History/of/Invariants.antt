@@ -1,5 +1,5 @@
 use Rattle.std.proofs.Common.{length}
-use Rattle.eve_history.specs.Coming.{kept_section, HasCome, AreNotesOf}
+use Rattle.eve_history.specs.KeptSections.{kept_section, HasCome, AreNotesOf}
 use Rattle.eve_history.proofs.history.History.of.Given as goal
 
 abbrev pub invariant-loop-step : goal.invariant-loop-step

@@ -8,11 +8,11 @@ use Rattle.eve_grammar.specs.Spelling.{frame_text}
 use Rattle.eve_grammar.proofs.Lists.{all-slice_get}
 use Rattle.eve_frames.specs.Views.{access_in}
 use Rattle.eve_history.specs.SectionHistory.{ExecutedAttempt, SectionHistory}
-use Rattle.eve_history.specs.Standing.{IsAccessAt}
-use Rattle.eve_history.specs.Coming.{kept_section, kept_attempt, kept_executed_attempt, section_history_of}
-use Rattle.eve_history.specs.Coming.{seen, IsWholeSection}
-use Rattle.eve_history.proofs.Finding.{get_mapped, get_is, get_in_part}
-use Rattle.eve_history.proofs.Lent.{lent_ordered}
+use Rattle.eve_history.specs.FrameOffsets.{IsAccessAt}
+use Rattle.eve_history.specs.KeptSections.{kept_section, kept_attempt, kept_executed_attempt, section_history_of}
+use Rattle.eve_history.specs.KeptSections.{seen, IsWholeSection}
+use Rattle.eve_history.proofs.Lookups.{get_mapped, get_is, get_in_part}
+use Rattle.eve_history.proofs.LentFrames.{lent_ordered}
 use Rattle.eve_history.proofs.history.History.ordered.Goals as goal
 
 -- where an attempt's records are

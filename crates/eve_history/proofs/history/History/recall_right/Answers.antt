@@ -1,6 +1,6 @@
 use Rattle.std.proofs.Common.{refl, subst, IsTrue}
 use Rattle.eve_history.specs.SectionHistory.{SectionHistory}
-use Rattle.eve_history.proofs.Rights.{right_section}
+use Rattle.eve_history.proofs.RightSections.{right_section}
 use Rattle.eve_history.proofs.history.History.recall_right.Goals as goal
 
 pub returns : goal.returns

@@ -5,11 +5,11 @@ use Rattle.eve_grammar.specs.Spelling.{frame_text}
 use Rattle.eve_grammar.proofs.Lists.{all-slice_get}
 use Rattle.eve_frames.specs.Views.{rollback_in}
 use Rattle.eve_history.specs.declared.structure.Notes.{Notes}
-use Rattle.eve_history.specs.Standing.{IsRollbackAt}
+use Rattle.eve_history.specs.FrameOffsets.{IsRollbackAt}
 use Rattle.eve_history.specs.SectionHistory.{SectionHistory}
-use Rattle.eve_history.specs.Coming.{kept_section, rolled, section_history_of}
-use Rattle.eve_history.proofs.Lent.{lent_rollback}
-use Rattle.eve_history.proofs.Finding.{get_mapped, get_is}
+use Rattle.eve_history.specs.KeptSections.{kept_section, rolled, section_history_of}
+use Rattle.eve_history.proofs.LentFrames.{lent_rollback}
+use Rattle.eve_history.proofs.Lookups.{get_mapped, get_is}
 use Rattle.eve_history.proofs.history.History.rollback.Goals as goal
 
 -- where the rollback was found

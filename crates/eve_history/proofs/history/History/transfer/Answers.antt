@@ -5,11 +5,11 @@ use Rattle.eve_grammar.specs.Spelling.{frame_text}
 use Rattle.eve_grammar.proofs.Lists.{all-slice_get}
 use Rattle.eve_frames.specs.Views.{transfer_in}
 use Rattle.eve_history.specs.declared.structure.Notes.{Notes}
-use Rattle.eve_history.specs.Standing.{IsTransferAt}
+use Rattle.eve_history.specs.FrameOffsets.{IsTransferAt}
 use Rattle.eve_history.specs.SectionHistory.{SectionHistory}
-use Rattle.eve_history.specs.Coming.{kept_section, took_over, section_history_of}
-use Rattle.eve_history.proofs.Lent.{lent_transfer}
-use Rattle.eve_history.proofs.Finding.{get_mapped, get_is}
+use Rattle.eve_history.specs.KeptSections.{kept_section, was_transferred, section_history_of}
+use Rattle.eve_history.proofs.LentFrames.{lent_transfer}
+use Rattle.eve_history.proofs.Lookups.{get_mapped, get_is}
 use Rattle.eve_history.proofs.history.History.transfer.Goals as goal
 
 -- where the state was found
@@ -18,7 +18,7 @@ found : (e : ℕ) (n : Notes) (v : SectionHistory) (i at : ℕ) → section_hist
     → at ≡ get_or n.transfers.items i at → slice_get n.transfers.items i ≡ Some at
 found e n v i at is lt read =
     let count : length v.transfers ≡ length n.transfers.items = ap (λ (v : SectionHistory). length v.transfers) (sym is)
-    ∙ length-map n.transfers.items (took_over n.bytes.now) in
+    ∙ length-map n.transfers.items (was_transferred n.bytes.now) in
     get_is n.transfers.items i at (omega arith) read
 
 pub transfer_at-requires : goal.transfer_at-requires
@@ -34,7 +34,7 @@ returns-clause-says c =
     let n = c.notes-notes.result.now in
     let at = c.index.result.now in
     ap (λ (v : SectionHistory). slice_get v.transfers c.args.i) (sym c.notes-notes.ensures.tells)
-    ∙ get_mapped (took_over n.bytes.now) n.transfers.items c.args.i at
+    ∙ get_mapped (was_transferred n.bytes.now) n.transfers.items c.args.i at
     (found c.args.self.now.replica n c.args.self.now c.args.i at c.notes-notes.ensures.tells c.requires c.index.ensures)
     ∙ (λ i. Some (sym c.transfer_at.ensures.offset i, transfer_in (sym c.transfer_at.ensures.bytes i)))
 

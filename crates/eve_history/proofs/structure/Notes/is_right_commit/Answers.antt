@@ -6,9 +6,9 @@ use Rattle.eve_grammar.specs.Trace.{Attempt}
 use Rattle.eve_grammar.proofs.Lists.{all-slice_get}
 use Rattle.eve_frames.specs.Views.{attempt_in, commit_in}
 use Rattle.eve_history.specs.declared.structure.Attempted.{Attempted}
-use Rattle.eve_history.specs.Standing.{IsAttemptAt}
-use Rattle.eve_history.specs.Coming.{kept_section, kept_attempt}
-use Rattle.eve_history.proofs.Finding.{commit_is, get_mapped, get_is}
+use Rattle.eve_history.specs.FrameOffsets.{IsAttemptAt}
+use Rattle.eve_history.specs.KeptSections.{kept_section, kept_attempt}
+use Rattle.eve_history.proofs.Lookups.{commit_is, get_mapped, get_is}
 use Rattle.eve_history.proofs.structure.Notes.is_right_commit.Goals as goal
 
 number_is : (seq last : ℕ) (b : Bool) → seq ≡ last + 1 → ((seq == last + 1) && b) ≡ b
@@ -30,7 +30,7 @@ attempt_at-requires c =
 
 pub returns : goal.returns
 returns c = λ s stands.
-    let said = commit_in c.args.commit.now.bytes.now in
+    let decoded = commit_in c.args.commit.now.bytes.now in
     let n = c.args.self.now in
     let x = c.index.result.now in
     let f = kept_attempt n.bytes.now x in
@@ -38,8 +38,9 @@ returns c = λ s stands.
     let more : length n.fates.items < length n.attempts.items = search rules in
     let at = get_mapped (kept_attempt n.bytes.now) n.attempts.items (length n.fates.items) x
     (first_at n.attempts.items c.len-settled.result (length n.fates.items) x settled more c.index.ensures) in
-    let seq : said.seq ≡ n.last + 1 = sym c.seq.ensures ∙ c.if-seq-self.false in
-    c.is_of.ensures ∙ ap (λ (a : Attempt). (a.view == said.view) && pointwise ◌==◌ a.token said.token)
+    let seq : decoded.seq ≡ n.last + 1 = sym c.seq.ensures ∙ c.if-seq-self.false in
+    c.is_of.ensures ∙ ap (λ (a : Attempt). (a.view == decoded.view) && pointwise ◌==◌ a.token decoded.token)
     (ap attempt_in c.attempt_at.ensures.bytes)
-    ∙ sym (commit_is s (kept_section n) f said stands at
-    ∙ number_is said.seq n.last ((f.attempt.view == said.view) && pointwise ◌==◌ f.attempt.token said.token) seq)
+    ∙ sym (commit_is s (kept_section n) f decoded stands at
+    ∙ number_is decoded.seq n.last ((f.attempt.view == decoded.view) && pointwise ◌==◌ f.attempt.token decoded.token)
+    seq)

@@ -2,7 +2,7 @@ use Rattle.std.proofs.Common.{◌≡◌, ℕ, ◌-◌, ◌+◌, false, List, [],
 use Rattle.std.proofs.Common.{subst, ◌∙◌, arith, rules}
 use Rattle.std.specs.List.{AllByRecursion}
 use Rattle.std.proofs.lemmas.List.{map-append, length-map}
-use Rattle.eve_grammar.specs.Trace.{Transfer, Step, TakesOver}
+use Rattle.eve_grammar.specs.Trace.{Transfer, Step, Transfers}
 use Rattle.eve_grammar.proofs.Lists.{all-push}
 use Rattle.eve_frames.specs.Views.{transfer_in}
 use Rattle.eve_views.specs.declared.fault.Code.TheVariants as code
@@ -11,33 +11,33 @@ use Rattle.eve_views.specs.declared.fault.CheckFault.{CheckFault}
 use Rattle.eve_views.specs.declared.fault.CheckFault.TheVariants.{Found}
 use Rattle.eve_views.specs.Form.{IfFound, IsLeast, IsFaultIn}
 use Rattle.eve_history.specs.declared.fate.Fate.TheVariants.{Discarded}
-use Rattle.eve_history.specs.Standing.{frame_in, IsTransferAt}
+use Rattle.eve_history.specs.FrameOffsets.{frame_in, IsTransferAt}
 use Rattle.eve_history.specs.Section.{start, state_after}
-use Rattle.eve_history.specs.FirstWrong.{fault_of}
-use Rattle.eve_history.specs.Coming.{kept_section, kept_attempt, took_over, open_count, HasCome}
-use Rattle.eve_history.proofs.Coming.{come_wrong, come_transfer, with_transfer, over_at, later_number}
-use Rattle.eve_history.proofs.Standing.{transfer_there, transfers_small}
-use Rattle.eve_history.proofs.Taking.{transfer_wrong, transfer_right, discarded_all, landings_over}
+use Rattle.eve_history.specs.inner.FirstWrong.{fault_of}
+use Rattle.eve_history.specs.KeptSections.{kept_section, kept_attempt, was_transferred, open_count, HasCome}
+use Rattle.eve_history.proofs.SectionSteps.{come_wrong, come_transfer, with_transfer, over_at, later_number}
+use Rattle.eve_history.proofs.FrameOffsets.{transfer_there, transfers_small}
+use Rattle.eve_history.proofs.StepHandlers.{transfer_wrong, transfer_right, discarded_all, each_reached_over}
 use Rattle.eve_history.specs.Structure.{StandsInStructure}
 use Rattle.eve_history.proofs.structure.Notes.take_transfer.Goals as goal
 
-pub returns-then-not-takes_over-clause-wrong : goal.returns-then-not-takes_over-clause-wrong
-returns-then-not-takes_over-clause-wrong c =
+pub returns-then-not-may_transfer-clause-wrong : goal.returns-then-not-may_transfer-clause-wrong
+returns-then-not-may_transfer-clause-wrong c =
     let t = c.args.trace.now in
     let e = c.args.e in
     let k = kept_section c.args.self.now in
     let at = c.args.transfer.now.offset in
-    let said = transfer_in c.args.transfer.now.bytes.now in
-    let P : Fault → Type 0 = λ f. (rest : List (ℕ × Step)) → HasCome t e ((at, TakesOver said) ∷ rest) k
+    let decoded = transfer_in c.args.transfer.now.bytes.now in
+    let P : Fault → Type 0 = λ f. (rest : List (ℕ × Step)) → HasCome t e ((at, Transfers decoded) ∷ rest) k
     → IsLeast (IsFaultIn StandsInStructure t e) f in
     subst (λ (x : CheckFault). IfFound x P)
     (sym (c.fault_in.ensures ∙ ap (λ (o : ℕ). Found (fault_of e (record { code = code.Transfer; offset = o })))
     c.offset.ensures))
     (λ rest come.
-    come_wrong t e (at, TakesOver said) rest k (record { code = code.Transfer; offset = at }) come
-    (transfer_wrong t (state_after start come.front) at said
-    (sym (c.takes_over.ensures t (state_after start come.front) come.stands
-    c.head.ensures) ∙ c.if-not-takes_over.true)))
+    come_wrong t e (at, Transfers decoded) rest k (record { code = code.Transfer; offset = at }) come
+    (transfer_wrong t (state_after start come.prefix) at decoded
+    (sym (c.may_transfer.ensures t (state_after start come.prefix) come.stands
+    c.head.ensures) ∙ c.if-not-may_transfer.true)))
 
 pub overflow_cast-offset : goal.overflow_cast-offset
 overflow_cast-offset c =
@@ -51,38 +51,38 @@ pub overflow_cast-place : goal.overflow_cast-place
 overflow_cast-place c =
     let n = c.args.self.now in
     let small = transfers_small n.bytes.now c.args.trace.now c.args.e c.requires.comes.0 (kept_section n)
-    c.args.transfer.now.offset (TakesOver (transfer_in c.args.transfer.now.bytes.now)) c.requires.noted.spelled
+    c.args.transfer.now.offset (Transfers (transfer_in c.args.transfer.now.bytes.now)) c.requires.noted.spelled
     c.requires.comes.1 in
     let count : c.len-place.result ≡ length n.transfers.items = search rules in
-    record { fits = omega (arith, small, count, length-map n.transfers.items (took_over n.bytes.now)) }
+    record { fits = omega (arith, small, count, length-map n.transfers.items (was_transferred n.bytes.now)) }
 
 pub overflow_sub-seq : goal.overflow_sub-seq
 overflow_sub-seq c =
     let t = c.args.trace.now in
     let at = c.args.transfer.now.offset in
-    let said = transfer_in c.args.transfer.now.bytes.now in
+    let decoded = transfer_in c.args.transfer.now.bytes.now in
     let come = c.requires.comes.1 in
-    let later = later_number t c.args.e at said c.requires.comes.0 (kept_section c.args.self.now) come
-    (transfer_right t (state_after start come.front) at said
-    (sym (c.takes_over.ensures t (state_after start come.front) come.stands
-    c.head.ensures) ∙ c.if-not-takes_over.false)) in
+    let later = later_number t c.args.e at decoded c.requires.comes.0 (kept_section c.args.self.now) come
+    (transfer_right t (state_after start come.prefix) at decoded
+    (sym (c.may_transfer.ensures t (state_after start come.prefix) come.stands
+    c.head.ensures) ∙ c.if-not-may_transfer.false)) in
     omega (arith, later, c.seq-seq.ensures)
 
-pub returns-clause-taken : goal.returns-clause-taken
-returns-clause-taken c = λ rest come.
+pub returns-clause-handled : goal.returns-clause-handled
+returns-clause-handled c = λ rest come.
     let t = c.args.trace.now in
     let e = c.args.e in
     let n = c.args.self.now in
     let k = kept_section n in
     let at = c.args.transfer.now.offset in
-    let said = transfer_in c.args.transfer.now.bytes.now in
-    let right = transfer_right t (state_after start come.front) at said
-    (sym (c.takes_over.ensures t (state_after start come.front) come.stands c.head.ensures)
-    ∙ c.if-not-takes_over.false) in
-    let keep = took_over n.bytes.now in
+    let decoded = transfer_in c.args.transfer.now.bytes.now in
+    let right = transfer_right t (state_after start come.prefix) at decoded
+    (sym (c.may_transfer.ensures t (state_after start come.prefix) come.stands c.head.ensures)
+    ∙ c.if-not-may_transfer.false) in
+    let keep = was_transferred n.bytes.now in
     let begins = c.offset-2.result in
     let same : begins ≡ at = c.offset-2.ensures in
-    let seq : c.seq-seq.result ≡ said.seq = c.seq-seq.ensures in
+    let seq : c.seq-seq.result ≡ decoded.seq = c.seq-seq.ensures in
     let count : c.len-all.result ≡ length n.attempts.items = search rules in
     let old : vec_len n.fates ≡ length n.fates.items = search rules in
     let all : c.len-all.result ≡ length k.attempts =
@@ -90,27 +90,28 @@ returns-clause-taken c = λ rest come.
     let fates : n.fates.items ++ replicate (open_count k) Discarded ≡ c.resize.new.self.items =
     discarded_all n.fates.items c.resize.new.self.items c.len-all.result (vec_len n.fates)
     (length k.attempts) c.in_ok-resize.ensures.items all old come.is_kept.fewer in
-    let taken : c.len-place.result ≡ length n.transfers.items = search rules in
-    let place : c.len-place.result ≡ length k.transfers = taken ∙ sym (length-map n.transfers.items keep) in
-    let numbers : vec_len n.landings ≡ length n.landings.items = search rules in
-    let landings : k.landings ++ over_at (said.seq - (k.last + 1)) (length k.transfers) ≡ c.push-2.new.self.items =
-    landings_over n.landings.items c.resize-2.new.self.items c.push-2.new.self.items (c.seq-seq.result - 1)
-    (vec_len n.landings) k.last said.seq c.len-place.result (length k.transfers) c.in_ok-resize-2.ensures.items
+    let transferred : c.len-place.result ≡ length n.transfers.items = search rules in
+    let place : c.len-place.result ≡ length k.transfers = transferred ∙ sym (length-map n.transfers.items keep) in
+    let numbers : vec_len n.each_reached ≡ length n.each_reached.items = search rules in
+    let each_reached : k.each_reached ++ over_at (decoded.seq - (k.last + 1)) (length k.transfers)
+    ≡ c.push-2.new.self.items =
+    each_reached_over n.each_reached.items c.resize-2.new.self.items c.push-2.new.self.items (c.seq-seq.result - 1)
+    (vec_len n.each_reached) k.last decoded.seq c.len-place.result (length k.transfers) c.in_ok-resize-2.ensures.items
     c.in_ok-push-2.ensures.items (ap (λ (m : ℕ). m - 1) seq) numbers come.is_kept.count
-    (later_number t e at said rest k come right) place in
-    let there = transfer_there n.bytes.now t e rest k at said c.requires.noted.spelled come in
-    let is_one : (at, said) ≡ keep begins =
+    (later_number t e at decoded rest k come right) place in
+    let there = transfer_there n.bytes.now t e rest k at decoded c.requires.noted.spelled come in
+    let is_one : (at, decoded) ≡ keep begins =
     λ i. (sym same i, (sym there.0 ∙ ap (λ (o : ℕ). transfer_in (frame_in n.bytes.now o)) (sym same)) i) in
-    let transfers : map keep n.transfers.items ++ (at, said) ∷ [] ≡ map keep c.push.new.self.items =
+    let transfers : map keep n.transfers.items ++ (at, decoded) ∷ [] ≡ map keep c.push.new.self.items =
     ap (λ (x : ℕ × Transfer). map keep n.transfers.items ++ x ∷ []) is_one
     ∙ sym (ap (map keep) c.in_ok-push.ensures.items ∙ map-append keep n.transfers.items (begins ∷ [])) in
-    let is : with_transfer k at said
+    let is : with_transfer k at decoded
     ≡ kept_section (record n {
       view = c.view-self.result;
       last = c.seq-seq.result;
       rolled_back = false;
       fates = c.resize.new.self;
-      landings = c.push-2.new.self;
+      each_reached = c.push-2.new.self;
       transfers = c.push.new.self;
     }) =
     λ i. record k {
@@ -118,10 +119,10 @@ returns-clause-taken c = λ rest come.
       last = sym seq i;
       rolled_back = false;
       fates = fates i;
-      landings = landings i;
+      each_reached = each_reached i;
       transfers = transfers i;
     } in
-    subst (HasCome t e rest) is (come_transfer t e at said rest k come right)
+    subst (HasCome t e rest) is (come_transfer t e at decoded rest k come right)
 
 pub returns-clause-noted : goal.returns-clause-noted
 returns-clause-noted c =

@@ -2,7 +2,7 @@ use Rattle.std.proofs.Common.{arith, length, ◌∙◌, ◌++◌, ap, length-app
 use Rattle.eve_frames.specs.Views.{transfer_in}
 use Rattle.eve_lines.specs.Rest.{transfer_left}
 use Rattle.eve_lines.specs.Words.{row_words}
-use Rattle.eve_lines.proofs.Appending.{puts_row}
+use Rattle.eve_lines.proofs.AppendedParts.{puts_row}
 use Rattle.eve_lines.proofs.transfer.TransferRest.put_next.Goals as goal
 
 pub returns : goal.returns

@@ -4,11 +4,11 @@ use Rattle.crossbeam_queue.specs.Passes.{view}
 use Rattle.eve_stamps.specs.Applied.{Applied}
 use Rattle.eve_recorder.specs.Noted.{of_worker}
 use Rattle.eve_recorder.specs.declared.passes.Knowledge.{Knowledge}
-use Rattle.eve_recorder.specs.Seen.{RecorderId, recorder_id, Places, Taker, IsTakerAt, noted_on, noted_on_all}
+use Rattle.eve_recorder.specs.RecorderViews.{RecorderId, recorder_id, Places, Taker, IsTakerAt, noted_on, noted_on_all}
 use Rattle.eve_recorder.specs.SeatTables.{seats_in_table}
-use Rattle.eve_recorder.proofs.Keeps.{merges_taker}
+use Rattle.eve_recorder.proofs.QueueSteps.{merges_taker}
 use Rattle.eve_recorder.proofs.SeatTable.{all_gathered}
-use Rattle.eve_recorder.proofs.Ending.{own_at, tied, noted_at, noted_past, from_seated}
+use Rattle.eve_recorder.proofs.JoinedPass.{own_at, tied, noted_at, noted_past, from_seated}
 use Rattle.eve_recorder.proofs.recorder.Recorder.finish.Goals as goal
 
 pub put_back-requires-clause-own : goal.put_back-requires-clause-own

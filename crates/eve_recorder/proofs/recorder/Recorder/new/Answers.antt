@@ -1,11 +1,11 @@
 use Rattle.std.proofs.Common.{◌≡◌, ap, sym, ◌∙◌, subst, max, List, [], ◌∷◌, false, Option, arith}
 use Rattle.atomic_table.specs.Seated.{TableId}
-use Rattle.eve_recorder.specs.Kept.{knowledge, no_taker}
+use Rattle.eve_recorder.specs.QueueRule.{knowledge, no_taker}
 use Rattle.eve_recorder.specs.SeatTables.{table_by}
-use Rattle.eve_recorder.specs.Seen.{recorder_id, Noter, AreNotersSeated, fresh_noter}
-use Rattle.eve_recorder.proofs.Ending.{fresh_seated}
+use Rattle.eve_recorder.specs.RecorderViews.{recorder_id, Noter, AreNotersSeated, fresh_noter}
+use Rattle.eve_recorder.proofs.JoinedPass.{fresh_seated}
 use Rattle.eve_recorder.specs.declared.passes.Knowledge.{Knowledge}
-use Rattle.eve_recorder.proofs.Keeps.{begins, forks_taker}
+use Rattle.eve_recorder.proofs.QueueSteps.{begins, forks_taker}
 use Rattle.eve_recorder.proofs.recorder.Recorder.new.Goals as goal
 
 pub ruled-requires-clause-rule : goal.ruled-requires-clause-rule

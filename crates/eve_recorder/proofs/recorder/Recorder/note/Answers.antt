@@ -1,8 +1,8 @@
 use Rattle.std.proofs.Common.{rules, ◌≡◌, ap, sym, ◌∙◌, subst, arith}
 use Rattle.crossbeam_queue.specs.Passes.{view}
 use Rattle.crossbeam_queue.specs.Fifo.{Held}
-use Rattle.eve_recorder.specs.Kept.{SeesSome}
-use Rattle.eve_recorder.specs.Seen.{RecorderId, recorder_id, Desk, Noter, WasFull}
+use Rattle.eve_recorder.specs.QueueRule.{SeesSome}
+use Rattle.eve_recorder.specs.RecorderViews.{RecorderId, recorder_id, Desk, Noter, WasFull}
 use Rattle.eve_recorder.proofs.OneSeat.{note_due, seat_after, full_by, full_alone}
 use Rattle.eve_recorder.proofs.recorder.Recorder.note.Goals as goal
 

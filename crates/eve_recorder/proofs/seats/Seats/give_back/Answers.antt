@@ -1,6 +1,6 @@
 use Rattle.std.proofs.Common.{◌≡◌, refl, ap, sym, ◌∙◌, subst, List, Option, Some, set, arith}
 use Rattle.eve_recorder.specs.Noted.{AllOf}
-use Rattle.eve_recorder.specs.Seen.{RecorderId, recorder_id, Noter, Places, IsNoterOf, AreNotersSeated}
+use Rattle.eve_recorder.specs.RecorderViews.{RecorderId, recorder_id, Noter, Places, IsNoterOf, AreNotersSeated}
 use Rattle.eve_recorder.specs.SeatTables.{seats_in_table}
 use Rattle.eve_recorder.proofs.SeatTable.{seated_with}
 use Rattle.eve_recorder.proofs.seats.Seats.give_back.Goals as goal

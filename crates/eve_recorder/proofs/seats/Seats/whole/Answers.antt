@@ -1,6 +1,6 @@
 use Rattle.std.proofs.Common.{subst, sym, refl, true≢false, true, IsTrue, IsSome, Option, Some, None, ◌≡◌, ◌↔◌}
 use Rattle.std.specs.Option.{is_some}
-use Rattle.eve_recorder.specs.Seen.{Taker, Places, HasAllSeats}
+use Rattle.eve_recorder.specs.RecorderViews.{Taker, Places, HasAllSeats}
 use Rattle.eve_recorder.proofs.seats.Seats.whole.Goals as goal
 
 there : (o : Option Taker) → is_some o ≡ true → IsSome o

@@ -1,7 +1,7 @@
 use Rattle.std.proofs.Common.{sym, ◌≡◌, ◌<◌, IfSome, subst}
 use Rattle.std.specs.Prelude.{List, Option}
 use Rattle.std.proofs.lemmas.Option.{IfSome_then}
-use Rattle.eve_recorder.specs.Seen.{recorder_id, Noter, Places, IsNoterOf, AreNotersSeated}
+use Rattle.eve_recorder.specs.RecorderViews.{recorder_id, Noter, Places, IsNoterOf, AreNotersSeated}
 use Rattle.eve_recorder.specs.SeatTables.{seats_in_table}
 use Rattle.eve_recorder.proofs.SeatTable.{own_of, seated_without}
 use Rattle.eve_recorder.proofs.seats.Seats.worker.Goals as goal

@@ -1,5 +1,5 @@
 use Rattle.std.proofs.Common.{◌≡◌, ◌<◌, refl, ap, sym, ◌∙◌, subst, List, Option, Some, set, arith}
-use Rattle.eve_recorder.specs.Drawing.{TicketSource, Drawer, Drawers, IsDrawerOf, AreDrawersSeated, ticket_source}
+use Rattle.eve_recorder.specs.TicketViews.{TicketSource, Drawer, Drawers, IsDrawerOf, AreDrawersSeated, ticket_source}
 use Rattle.eve_recorder.specs.SeatTables.{seats_in_table}
 use Rattle.eve_recorder.proofs.SeatTable.{seated_with}
 use Rattle.eve_recorder.proofs.ticket_seats.TicketSeats.give_back.Goals as goal

@@ -1,6 +1,6 @@
 use Rattle.std.proofs.Common.{◌≡◌, ◌<◌, IfSome, sym, subst, List, Option}
 use Rattle.std.proofs.lemmas.Option.{IfSome_then}
-use Rattle.eve_recorder.specs.Drawing.{Drawer, Drawers, IsDrawerOf, AreDrawersSeated, ticket_source}
+use Rattle.eve_recorder.specs.TicketViews.{Drawer, Drawers, IsDrawerOf, AreDrawersSeated, ticket_source}
 use Rattle.eve_recorder.specs.SeatTables.{seats_in_table}
 use Rattle.eve_recorder.proofs.SeatTable.{own_of, seated_without}
 use Rattle.eve_recorder.proofs.ticket_seats.TicketSeats.seat.Goals as goal

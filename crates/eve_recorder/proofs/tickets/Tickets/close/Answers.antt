@@ -1,13 +1,13 @@
 use Rattle.std.proofs.Common.{◌≡◌, ◌+◌, ◌-◌, ℕ, refl, ap, sym, ◌∙◌, min, arith}
 use lib.ListN.{get_elem?}
 use Rattle.eve_recorder.specs.declared.drawn.Drawn.{Drawn}
-use Rattle.eve_recorder.specs.Dealt.{all_parts, times}
-use Rattle.eve_recorder.specs.Drawing.{TicketSource, Drawers, all_drawn, drawn_on}
+use Rattle.eve_recorder.specs.CounterRule.{all_parts, times}
+use Rattle.eve_recorder.specs.TicketViews.{TicketSource, Drawers, all_drawn, drawn_on}
 use Rattle.eve_recorder.specs.SeatTables.{seats_in_table}
-use Rattle.eve_recorder.proofs.Counting.{permutation_of}
-use Rattle.eve_recorder.proofs.Dealing.{closes}
+use Rattle.eve_recorder.proofs.Occurrences.{permutation_of}
+use Rattle.eve_recorder.proofs.CounterSteps.{closes}
 use Rattle.eve_recorder.proofs.SeatTable.{all_gathered}
-use Rattle.eve_recorder.proofs.Seating.{own_at}
+use Rattle.eve_recorder.proofs.SeatsOfTickets.{own_at}
 use Rattle.eve_recorder.proofs.tickets.Tickets.close.Goals as goal
 
 pub join_back-requires-clause-own : goal.join_back-requires-clause-own

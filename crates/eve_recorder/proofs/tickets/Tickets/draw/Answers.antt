@@ -3,8 +3,8 @@ use mathlib.Core.Option.{none}
 use Rattle.atomic_table.specs.Table.{Me, step}
 use Rattle.eve_recorder.specs.declared.drawn.Drawn.{Drawn}
 use Rattle.eve_recorder.specs.declared.limits.TheConstants.{MOST_DRAWN}
-use Rattle.eve_recorder.specs.Drawing.{TicketSource, Drawer}
-use Rattle.eve_recorder.proofs.Dealing.{draws, drawer_after}
+use Rattle.eve_recorder.specs.TicketViews.{TicketSource, Drawer}
+use Rattle.eve_recorder.proofs.CounterSteps.{draws, drawer_after}
 use Rattle.eve_recorder.proofs.tickets.Tickets.draw.Goals as goal
 
 pub fetch_add-number-requires : goal.fetch_add-number-requires

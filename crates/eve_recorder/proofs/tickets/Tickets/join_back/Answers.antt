@@ -1,6 +1,6 @@
 use Rattle.std.proofs.Common.{◌≡◌, ◌<◌, ap, sym, ◌∙◌, subst, Option, IfSome, arith}
-use Rattle.eve_recorder.specs.Drawing.{TicketSource, Drawer}
-use Rattle.eve_recorder.proofs.Dealing.{joins}
+use Rattle.eve_recorder.specs.TicketViews.{TicketSource, Drawer}
+use Rattle.eve_recorder.proofs.CounterSteps.{joins}
 use Rattle.eve_recorder.proofs.tickets.Tickets.join_back.Goals as goal
 
 pub join_seat-requires : goal.join_seat-requires

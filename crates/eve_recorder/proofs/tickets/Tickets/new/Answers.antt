@@ -2,9 +2,9 @@ use Rattle.std.proofs.Common.{◌≡◌, ◌-◌, ap, sym, ◌∙◌, subst, min
 use Rattle.atomic_table.specs.Seated.{TableId}
 use Rattle.atomic_table.specs.Table.{Me}
 use Rattle.eve_recorder.specs.declared.drawn.Drawn.{Drawn}
-use Rattle.eve_recorder.specs.Dealt.{drawn, all_parts}
-use Rattle.eve_recorder.specs.Drawing.{TicketSource, Drawer, AreDrawersSeated, fresh_seats, ticket_source}
-use Rattle.eve_recorder.proofs.Seating.{fresh_seated}
+use Rattle.eve_recorder.specs.CounterRule.{drawn, all_parts}
+use Rattle.eve_recorder.specs.TicketViews.{TicketSource, Drawer, AreDrawersSeated, fresh_seats, ticket_source}
+use Rattle.eve_recorder.proofs.SeatsOfTickets.{fresh_seated}
 use Rattle.eve_recorder.proofs.tickets.Tickets.new.Goals as goal
 
 pub invariant_of-all : goal.invariant_of-all

@@ -1,8 +1,8 @@
 use Rattle.std.proofs.Common.{ap, sym, ◌∙◌, ℕ, arith}
 use Rattle.atomic_table.specs.Table.{Me}
 use Rattle.eve_recorder.specs.declared.drawn.Drawn.{Drawn}
-use Rattle.eve_recorder.specs.Drawing.{TicketSource}
-use Rattle.eve_recorder.proofs.Dealing.{splits}
+use Rattle.eve_recorder.specs.TicketViews.{TicketSource}
+use Rattle.eve_recorder.proofs.CounterSteps.{splits}
 use Rattle.eve_recorder.proofs.tickets.Tickets.split_off.Goals as goal
 
 pub split_seat-place-requires : goal.split_seat-place-requires

@@ -3,11 +3,11 @@ use Rattle.std.specs.List.{list_all}
 use Rattle.eve_grammar.specs.Limits.{is_step}
 use Rattle.eve_write.specs.Data.{batch, attempt, section}
 use Rattle.eve_attempts.specs.Ledgers.{ledger_rows}
-use Rattle.eve_replica.specs.Serving.{server_with}
+use Rattle.eve_replica.specs.inner.RunInvariant.{server_with}
 use Rattle.eve_replica.specs.Replicas.{MismatchesDue}
 use Rattle.eve_replica.proofs.Mismatches.{mismatch_breaks}
-use Rattle.eve_replica.proofs.OneStep.{attempt_goes}
-use Rattle.eve_replica.proofs.WhereWell.{at_err}
+use Rattle.eve_replica.proofs.Steps.{attempt_goes}
+use Rattle.eve_replica.proofs.Endings.{at_err}
 use Rattle.eve_replica.proofs.replica.Replica.add_attempt.Goals as goal
 
 pub returns-in-Ok-clause-on : goal.returns-in-Ok-clause-on

@@ -4,14 +4,15 @@ use Rattle.std.proofs.lemmas.Option.{slice_get-map, slice_get_read}
 use Rattle.eve_write.specs.Data.{batch}
 use Rattle.eve_workload.specs.declared.mixer.MixedBatch.{MixedBatch}
 use Rattle.eve_replica.specs.declared.standing.Standing.{Standing}
-use Rattle.eve_replica.specs.Serving.{GoesOn, IsNotedAs, IsRightMixed, MismatchesAmid, attempt_move, server_with}
+use Rattle.eve_replica.specs.inner.RunInvariant.{GoesOn, IsNotedAs, IsRightMixed, MismatchesAmid, attempt_move}
+use Rattle.eve_replica.specs.inner.RunInvariant.{server_with}
 use Rattle.eve_stamps.specs.Applied.{Applied}
 use Rattle.eve_replica_crew.specs.Recording.{AreNotedOf}
 use Rattle.eve_replica.specs.Replicas.{MismatchesDue, Replica}
-use Rattle.eve_replica.proofs.Going.{one_more}
+use Rattle.eve_replica.proofs.Moves.{one_more}
 use Rattle.eve_replica.proofs.Mismatches.{mismatch_so, still_due}
 use Rattle.eve_replica.proofs.Noted.{noted_at}
-use Rattle.eve_replica.proofs.OneStep.{none_made}
+use Rattle.eve_replica.proofs.Steps.{none_made}
 use Rattle.eve_replica.proofs.replica.Replica.close_window.Goals as goal
 
 pub loop-place-init : goal.loop-place-init

@@ -1,6 +1,6 @@
 use Rattle.std.proofs.Common.{map}
 use Rattle.eve_write.specs.Data.{batch}
-use Rattle.eve_replica.specs.Serving.{GoesOn, attempt_move, server_with}
+use Rattle.eve_replica.specs.inner.RunInvariant.{GoesOn, attempt_move, server_with}
 use Rattle.eve_replica.proofs.replica.Replica.close_window.Given as goal
 
 abbrev pub invariant-loop-place : goal.invariant-loop-place

@@ -1,6 +1,6 @@
 use Rattle.std.proofs.Common.{subst}
 use Rattle.eve_write.specs.Data.{rollback}
-use Rattle.eve_attempts.specs.Discarding.{RollsBack}
+use Rattle.eve_attempts.specs.CommitsAndRollbacks.{RollsBack}
 use Rattle.eve_replica.specs.Replicas.{Replica}
 use Rattle.eve_replica.proofs.replica.Replica.rollback.Goals as goal
 

@@ -4,11 +4,11 @@ use Rattle.eve_write.specs.Data.{vote}
 use Rattle.eve_replica.specs.declared.server.Server.{Server}
 use Rattle.eve_replica.specs.RunFaults.{IsLongOnly}
 use Rattle.eve_replica.specs.Sections.{RunPlan}
-use Rattle.eve_replica.specs.Serving.{Serves, IsDecision, IsUnderWay, after_commit, count_with, states_len}
-use Rattle.eve_replica.proofs.CameSoFar.{commit_ends}
-use Rattle.eve_replica.proofs.Going.{lent_serve, lent_undecided, moved}
-use Rattle.eve_replica.proofs.UnderWay.{batch_left, lent_majority, lent_before, lent_spends, lent_taken}
-use Rattle.eve_replica.proofs.WhereWell.{at_err}
+use Rattle.eve_replica.specs.inner.RunInvariant.{Serves, IsDecision, IsUnderWay, after_commit, count_with, states_len}
+use Rattle.eve_replica.proofs.RunProgress.{commit_ends}
+use Rattle.eve_replica.proofs.Moves.{lent_serve, lent_undecided, moved}
+use Rattle.eve_replica.proofs.RunsUnderWay.{batch_left, lent_majority, lent_before, lent_spends, lent_transferred}
+use Rattle.eve_replica.proofs.Endings.{at_err}
 use Rattle.eve_replica.proofs.run_state.RunState.commit.Goals as goal
 
 pub commit_each-requires-clause-serve : goal.commit_each-requires-clause-serve
@@ -54,7 +54,7 @@ returns-clause-under_way c = λ p was.
     (subst (λ (vs : List Vote). All (Serves p (after_commit d.standing) vs) c.commit_each.new.servers)
     (sym c.in_ok-vote_for_commit.ensures.added) (made.serve p d.standing votes serve left))
     made.majority (made.committed (lent_before p d lent was same))
-    (made.taken p d.standing votes serve left (lent_taken p d lent was same))
+    (made.transferred p d.standing votes serve left (lent_transferred p d lent was same))
     (made.undecided (lent_undecided p d lent was same))
     (λ two. lent_spends p d lent c.commit_each.new.servers c.commit_each.new.room was same two (made.spent two))
 

@@ -1,6 +1,6 @@
 use Rattle.std.proofs.Common.{ℕ, List, Option, None, subst}
 use Rattle.eve_replica.specs.declared.server.Server.{Server}
-use Rattle.eve_replica.specs.Serving.{IsDecision}
+use Rattle.eve_replica.specs.inner.RunInvariant.{IsDecision}
 use Rattle.eve_replica.proofs.run_state.RunState.decide.Goals as goal
 
 pub roll_back-requires-clause-undecided : goal.roll_back-requires-clause-undecided

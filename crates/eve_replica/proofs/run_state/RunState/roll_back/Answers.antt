@@ -1,11 +1,12 @@
 use Rattle.std.proofs.Common.{None, List, map, refl, sym, ◌∙◌, subst, arith}
 use Rattle.eve_write.specs.Data.{vote}
 use Rattle.eve_replica.specs.declared.server.Server.{Server}
-use Rattle.eve_replica.specs.Serving.{Discards, GivesUpNext, GoesOn, IsDecision, after_rollback, rollback_move}
-use Rattle.eve_replica.proofs.Each.{all_so}
-use Rattle.eve_replica.proofs.Going.{Moves, lent_serve, lent_undecided}
-use Rattle.eve_replica.proofs.Together.{all_moved}
-use Rattle.eve_replica.proofs.Undecided.{rolled_back_undecided}
+use Rattle.eve_replica.specs.inner.RunInvariant.{Discards, GivesUpNext, GoesOn, IsDecision, after_rollback}
+use Rattle.eve_replica.specs.inner.RunInvariant.{rollback_move}
+use Rattle.eve_replica.proofs.ReplicaLists.{all_so}
+use Rattle.eve_replica.proofs.Moves.{Moves, lent_serve, lent_undecided}
+use Rattle.eve_replica.proofs.CommonMoves.{all_moved}
+use Rattle.eve_replica.proofs.UndecidedBatches.{rolled_back_undecided}
 use Rattle.eve_replica.proofs.Windows.{window_rolled_back}
 use Rattle.eve_replica.proofs.run_state.RunState.roll_back.Goals as goal
 

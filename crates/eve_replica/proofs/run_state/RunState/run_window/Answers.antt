@@ -6,15 +6,16 @@ use Rattle.eve_write.specs.Data.{batch, vote}
 use Rattle.eve_workload.specs.declared.mixer.MixedBatch.{MixedBatch}
 use Rattle.eve_replica.specs.declared.server.Server.{Server}
 use Rattle.eve_replica.specs.declared.standing.Standing.{Standing}
-use Rattle.eve_replica.specs.Serving.{AttemptsIfLive, IsRightMixed, IsUnderWay, AreWholeWindow, Move, attempt_move}
+use Rattle.eve_replica.specs.inner.RunInvariant.{AttemptsIfLive, IsRightMixed, IsUnderWay, AreWholeWindow, Move}
+use Rattle.eve_replica.specs.inner.RunInvariant.{attempt_move}
 use Rattle.eve_replica.specs.RunFaults.{EndsSoFar, run_fault_of}
 use Rattle.eve_replica.specs.Sections.{RunPlan}
-use Rattle.eve_replica.proofs.CameSoFar.{amid, attempt_ends}
-use Rattle.eve_replica.proofs.Going.{due, lent_serve, lent_undecided, none_missing, window_open, window_len, window_due}
-use Rattle.eve_replica.proofs.Together.{all_moved}
-use Rattle.eve_replica.proofs.Undecided.{still_undecided}
+use Rattle.eve_replica.proofs.RunProgress.{amid, attempt_ends}
+use Rattle.eve_replica.proofs.Moves.{due, lent_serve, lent_undecided, none_missing, window_open, window_len, window_due}
+use Rattle.eve_replica.proofs.CommonMoves.{all_moved}
+use Rattle.eve_replica.proofs.UndecidedBatches.{still_undecided}
 use Rattle.eve_replica.proofs.Windows.{window_attempted}
-use Rattle.eve_replica.proofs.WhereWell.{at_err}
+use Rattle.eve_replica.proofs.Endings.{at_err}
 use Rattle.eve_replica.proofs.run_state.RunState.run_window.Goals as goal
 
 -- the attempts of a window

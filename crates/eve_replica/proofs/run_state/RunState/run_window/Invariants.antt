@@ -1,6 +1,6 @@
 use Rattle.std.proofs.Common.{◌≡◌, ◌≤◌, ◌<◌, ◌+◌}
 use Rattle.eve_replica.specs.Sections.{RunPlan}
-use Rattle.eve_replica.specs.Serving.{IsSameRun, IsUnderWay}
+use Rattle.eve_replica.specs.inner.RunInvariant.{IsSameRun, IsUnderWay}
 use Rattle.eve_replica.proofs.run_state.RunState.run_window.Given as goal
 
 abbrev pub invariant-loop-self : goal.invariant-loop-self

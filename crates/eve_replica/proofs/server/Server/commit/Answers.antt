@@ -3,12 +3,12 @@ use Rattle.std.specs.List.{list_all}
 use Rattle.std.proofs.lemmas.Result.{on_ok_weaker}
 use Rattle.eve_grammar.specs.Limits.{is_step}
 use Rattle.eve_attempts.specs.Ledgers.{ledger_rows}
-use Rattle.eve_attempts.specs.Discarding.{Commits}
+use Rattle.eve_attempts.specs.CommitsAndRollbacks.{Commits}
 use Rattle.eve_write.specs.Data.{commit, section}
 use Rattle.eve_replica.specs.Replicas.{Replica, CommitsFirst}
-use Rattle.eve_replica.specs.Serving.{CommitsNext, GoesOn, commit_move}
-use Rattle.eve_replica.proofs.OneStep.{commit_goes, commits_next}
-use Rattle.eve_replica.proofs.WhereWell.{where_well}
+use Rattle.eve_replica.specs.inner.RunInvariant.{CommitsNext, GoesOn, commit_move}
+use Rattle.eve_replica.proofs.Steps.{commit_goes, commits_next}
+use Rattle.eve_replica.proofs.Endings.{where_well}
 use Rattle.eve_replica.proofs.server.Server.commit.Goals as goal
 
 pub returns-clause-on : goal.returns-clause-on

@@ -1,7 +1,7 @@
 use Rattle.std.proofs.Common.{rules, ◌≡◌, false, refl}
-use Rattle.eve_replica.specs.Deciding.{is_some_of}
-use Rattle.eve_replica.specs.Serving.{next_token}
-use Rattle.eve_replica.proofs.OneStep.{stop_goes}
+use Rattle.eve_replica.specs.Decisions.{is_some_of}
+use Rattle.eve_replica.specs.inner.RunInvariant.{next_token}
+use Rattle.eve_replica.proofs.Steps.{stop_goes}
 use Rattle.eve_replica.proofs.server.Server.commit_or_stop.Goals as goal
 
 pub returns-then-not-has_next-clause-on : goal.returns-then-not-has_next-clause-on

@@ -1,5 +1,5 @@
 use Rattle.std.proofs.Common.{sym, ap, ◌∙◌}
-use Rattle.eve_replica.specs.Deciding.{is_some_of}
+use Rattle.eve_replica.specs.Decisions.{is_some_of}
 use Rattle.eve_replica.proofs.server.Server.has_next.Goals as goal
 
 pub returns-in-None : goal.returns-in-None

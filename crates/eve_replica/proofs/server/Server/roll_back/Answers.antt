@@ -1,13 +1,13 @@
 use Rattle.std.proofs.Common.{rules, ◌≡◌, true, false, IsTrue, sym, ◌∙◌, subst, arith}
 use Rattle.std.specs.List.{list_all}
 use Rattle.eve_grammar.specs.Limits.{is_step}
-use Rattle.eve_attempts.specs.Discarding.{RollsBack}
+use Rattle.eve_attempts.specs.CommitsAndRollbacks.{RollsBack}
 use Rattle.eve_write.specs.Data.{rollback, section}
 use Rattle.eve_replica.specs.Replicas.{Replica}
-use Rattle.eve_replica.specs.Serving.{GoesOn, GivesUpNext, rollback_move}
-use Rattle.eve_replica.proofs.OneStep.{rests, rollback_goes, rollback_gives_up, stopped_gives_up}
+use Rattle.eve_replica.specs.inner.RunInvariant.{GoesOn, GivesUpNext, rollback_move}
+use Rattle.eve_replica.proofs.Steps.{rests, rollback_goes, rollback_gives_up, stopped_gives_up}
 use Rattle.std.proofs.lemmas.Result.{on_ok_weaker}
-use Rattle.eve_replica.proofs.WhereWell.{where_well}
+use Rattle.eve_replica.proofs.Endings.{where_well}
 use Rattle.eve_replica.proofs.server.Server.roll_back.Goals as goal
 
 pub returns-clause-on : goal.returns-clause-on

@@ -1,7 +1,7 @@
 use Rattle.std.proofs.Common.{sym, subst}
 use Rattle.eve_grammar.specs.Bodies.{transfer}
 use Rattle.eve_grammar.specs.declared.transfer.TransferData.{TransferData}
-use Rattle.eve_replica.specs.Serving.{IsLentBy}
+use Rattle.eve_replica.specs.inner.RunInvariant.{IsLentBy}
 use Rattle.eve_replica.proofs.server.Server.state.Goals as goal
 
 pub returns-in-Ok-clause-lent : goal.returns-in-Ok-clause-lent

@@ -1,4 +1,4 @@
-use Rattle.eve_stamps.proofs.Keeping.{held_undone}
+use Rattle.eve_stamps.proofs.StripeLaws.{held_undone}
 use Rattle.eve_stamps.proofs.stripe.Stripe.go_back.Goals as goal
 
 pub invariant_of-self : goal.invariant_of-self

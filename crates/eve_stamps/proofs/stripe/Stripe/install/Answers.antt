@@ -4,8 +4,8 @@ use Rattle.std.proofs.lemmas.List.{with_items_is}
 use Rattle.eve_smallbank.specs.declared.versioned.Versioned.{Versioned}
 use Rattle.eve_stamps.specs.declared.journal.Journaled.{Journaled}
 use Rattle.eve_stamps.specs.Stripes.{HeldRow, row_installed, installed}
-use Rattle.eve_stamps.specs.Holding.{IsHeldStripe, stripe_held}
-use Rattle.eve_stamps.proofs.Keeping.{held_installed}
+use Rattle.eve_stamps.specs.HeldRows.{IsHeldStripe, stripe_held}
+use Rattle.eve_stamps.proofs.StripeLaws.{held_installed}
 use Rattle.eve_stamps.proofs.stripe.Stripe.install.Goals as goal
 
 base_is : (c : goal.After-clear) → (with_items c.self.inside.base c.install_rows.new.rows).items

@@ -4,7 +4,7 @@ use Rattle.std.specs.List.{AllByRecursion}
 use Rattle.eve_stamps.specs.declared.journal.Journaled.{Journaled}
 use Rattle.eve_stamps.specs.Stripes.{Stripe, is_within}
 use Rattle.eve_stamps.proofs.JournalLaws.{up_to, behind}
-use Rattle.eve_stamps.proofs.Keeping.{all_up_to}
+use Rattle.eve_stamps.proofs.StripeLaws.{all_up_to}
 use Rattle.eve_stamps.proofs.stripe.Stripe.is_all_up_to.Goals as goal
 
 split : (c : goal.In-Some) → IsTrue (nat_le c.in-Some.greatest c.args.tick)

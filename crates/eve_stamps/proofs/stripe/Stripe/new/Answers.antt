@@ -1,5 +1,5 @@
 use Rattle.std.proofs.Common.{None}
-use Rattle.eve_stamps.proofs.Keeping.{held_alone}
+use Rattle.eve_stamps.proofs.StripeLaws.{held_alone}
 use Rattle.eve_stamps.proofs.stripe.Stripe.new.Goals as goal
 
 pub invariant_of-result : goal.invariant_of-result

@@ -1,6 +1,6 @@
 use Rattle.std.proofs.Common.{◌≡◌, cond, Some, None, subst}
 use Rattle.eve_stamps.specs.Stripes.{Stripe, has_row, row_in, rows_now}
-use Rattle.eve_stamps.proofs.Keeping.{seen_at}
+use Rattle.eve_stamps.proofs.StripeLaws.{seen_at}
 use Rattle.eve_stamps.proofs.stripe.Stripe.see.Goals as goal
 
 pub returns-in-Some : goal.returns-in-Some

@@ -4,9 +4,9 @@ use Rattle.std.proofs.lemmas.List.{with_items_is}
 use Rattle.eve_stamps.specs.declared.journal.Journaled.{Journaled}
 use Rattle.eve_stamps.specs.Stripes.{HeldRow, Stripe, RowsRise, JournalLiesIn, settled_to, table_in, rows_in_table}
 use Rattle.eve_stamps.specs.Stripes.{table_after_journal}
-use Rattle.eve_stamps.specs.Holding.{stripe_held}
+use Rattle.eve_stamps.specs.HeldRows.{stripe_held}
 use Rattle.eve_stamps.proofs.JournalLaws.{up_to, behind}
-use Rattle.eve_stamps.proofs.Keeping.{held_settled}
+use Rattle.eve_stamps.proofs.StripeLaws.{held_settled}
 use Rattle.eve_stamps.proofs.stripe.Stripe.settle.Goals as goal
 
 committed : (c : goal.After-self-1) → (with_items c.self.inside.base c.settle_up_to.new.rows).items

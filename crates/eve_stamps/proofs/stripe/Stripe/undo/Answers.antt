@@ -1,6 +1,6 @@
 use Rattle.std.proofs.Common.{◌≡◌, ◌++◌, List, length, ◌∙◌, ap, ap₂, refl, arith}
 use Rattle.eve_stamps.specs.Stripes.{HeldRow, restores_of}
-use Rattle.eve_stamps.specs.Holding.{rows_changed, stripe_held}
+use Rattle.eve_stamps.specs.HeldRows.{rows_changed, stripe_held}
 use Rattle.eve_stamps.proofs.Versions.{changed_is}
 use Rattle.eve_stamps.proofs.stripe.Stripe.undo.Goals as goal
 

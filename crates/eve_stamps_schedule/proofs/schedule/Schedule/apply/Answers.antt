@@ -12,14 +12,15 @@ use Rattle.eve_smallbank.specs.Execution.{executed_on}
 use Rattle.eve_grammar.specs.declared.limits.TheConstants.{MOST_VERSIONS}
 use Rattle.eve_stamps.specs.Applied.{Applied, noted_of}
 use Rattle.eve_stamps.specs.Stripes.{Stripe, is_above}
-use Rattle.eve_stamps_schedule.specs.Before.{EachBefore}
+use Rattle.eve_stamps_schedule.specs.ListOrder.{EachBefore}
 use Rattle.eve_stamps_schedule.specs.Stripes.{needs}
 use Rattle.eve_stamps_schedule.specs.World.{planned_request}
 use Rattle.eve_stamps_schedule.specs.Events.{placed_by_tick}
 use Rattle.eve_stamps_schedule.specs.Schedule.{stripe_at, table_of_stripes}
-use Rattle.eve_stamps_schedule.specs.Applying.{IsKeptAt}
-use Rattle.eve_stamps_schedule.proofs.Stepping.{allowed_by, above_owned, fresh_rows, short_list, ticks_rise, IsMadeOn}
-use Rattle.eve_stamps_schedule.proofs.Stepping.{with_made, made_plan, made_world, made_held}
+use Rattle.eve_stamps_schedule.specs.AppliedRequests.{IsKeptAt}
+use Rattle.eve_stamps_schedule.proofs.ScheduleSteps.{allowed_by, above_owned, fresh_rows, short_list, ticks_rise}
+use Rattle.eve_stamps_schedule.proofs.ScheduleSteps.{IsMadeOn}
+use Rattle.eve_stamps_schedule.proofs.ScheduleSteps.{with_made, made_plan, made_world, made_held}
 use Rattle.eve_stamps_schedule.proofs.schedule.Schedule.apply.Goals.{In-Ticked, In-Ok}
 use Rattle.eve_stamps_schedule.proofs.schedule.Schedule.apply.Goals as goal
 

@@ -5,7 +5,7 @@ use Rattle.eve_stamps_schedule.specs.Events.{happens}
 use Rattle.eve_stamps_schedule.specs.Schedule.{Schedule, plan_of, world_of, allows}
 use Rattle.eve_stamps_schedule.specs.Scheduled.{schedule_of}
 use Rattle.eve_stamps_schedule.specs.Events.{may_claim}
-use Rattle.eve_stamps_schedule.proofs.Stepping.{allowed_by, claim_held, claim_plan, claim_world, with_claim}
+use Rattle.eve_stamps_schedule.proofs.ScheduleSteps.{allowed_by, claim_held, claim_plan, claim_world, with_claim}
 use Rattle.eve_stamps_schedule.proofs.schedule.Schedule.claim.Goals.{After-may_claim}
 use Rattle.eve_stamps_schedule.proofs.schedule.Schedule.claim.Goals as goal
 

@@ -10,8 +10,8 @@ use Rattle.std.proofs.lemmas.List.{get_or_default}
 use Rattle.eve_stamps.specs.declared.limits.TheConstants.{STRIPES}
 use Rattle.eve_stamps_schedule.specs.Events.{is_owner, is_free, needs_at, next_stripe}
 use Rattle.eve_stamps_schedule.proofs.Changes.{least_small}
-use Rattle.eve_stamps_schedule.proofs.Stepping.{allowed_by, refused_by, lock_held, lock_world, with_lock, is_taken}
-use Rattle.eve_stamps_schedule.proofs.Stepping.{is_nobodys}
+use Rattle.eve_stamps_schedule.proofs.ScheduleSteps.{allowed_by, refused_by, lock_held, lock_world, with_lock, is_taken}
+use Rattle.eve_stamps_schedule.proofs.ScheduleSteps.{is_nobodys}
 use Rattle.eve_stamps_schedule.proofs.schedule.Schedule.lock_stripe.Goals.{In-Some}
 use Rattle.eve_stamps_schedule.proofs.schedule.Schedule.lock_stripe.Goals as goal
 

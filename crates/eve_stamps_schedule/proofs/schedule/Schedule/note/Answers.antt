@@ -9,8 +9,8 @@ use Rattle.eve_stamps.specs.Applied.{Applied}
 use Rattle.eve_stamps.specs.declared.limits.TheConstants.{STRIPES}
 use Rattle.eve_stamps_schedule.specs.Stripes.{greatest_below}
 use Rattle.eve_stamps_schedule.specs.Events.{is_owner, last_stripe}
-use Rattle.eve_stamps_schedule.proofs.Stepping.{allowed_by, note_held, note_plan, note_world, with_note, few_noted}
-use Rattle.eve_stamps_schedule.proofs.Stepping.{is_nobodys}
+use Rattle.eve_stamps_schedule.proofs.ScheduleSteps.{allowed_by, note_held, note_plan, note_world, with_note, few_noted}
+use Rattle.eve_stamps_schedule.proofs.ScheduleSteps.{is_nobodys}
 use Rattle.eve_stamps_schedule.proofs.schedule.Schedule.note.Goals.{After-append}
 use Rattle.eve_stamps_schedule.proofs.schedule.Schedule.note.Goals as goal
 

@@ -5,7 +5,7 @@ use Rattle.eve_stamps_schedule.specs.Serial.{IsSerialWorld, AreNotedBy, is_done,
 use Rattle.eve_stamps_schedule.specs.Schedule.{Schedule, plan_of, world_of}
 use Rattle.eve_stamps_schedule.specs.Scheduled.{schedule_of}
 use Rattle.eve_stamps_schedule.proofs.Schedules.{serial, gathered, complete}
-use Rattle.eve_stamps_schedule.proofs.Listing.{listed_reached}
+use Rattle.eve_stamps_schedule.proofs.RecordLists.{listed_reached}
 use Rattle.eve_stamps_schedule.proofs.schedule.Schedule.recall_serial.Goals as goal
 
 pub returns-clause-serial : goal.returns-clause-serial

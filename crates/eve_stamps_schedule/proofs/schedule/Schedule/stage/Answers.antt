@@ -3,7 +3,7 @@ use Rattle.eve_stamps_schedule.specs.declared.stage.Stage.TheVariants as at
 use Rattle.eve_stamps_schedule.specs.Schedule.{Schedule, world_of}
 use Rattle.eve_stamps_schedule.specs.Scheduled.{schedule_of}
 use Rattle.std.proofs.lemmas.List.{get_or_default}
-use Rattle.eve_stamps_schedule.proofs.Stepping.{claimed_there, ticked_there}
+use Rattle.eve_stamps_schedule.proofs.ScheduleSteps.{claimed_there, ticked_there}
 use Rattle.eve_stamps_schedule.proofs.schedule.Schedule.stage.Goals as goal
 
 pub returns-clause-claimed : goal.returns-clause-claimed

@@ -5,7 +5,7 @@ use Rattle.eve_stamps_schedule.specs.Events.{happens}
 use Rattle.eve_stamps_schedule.specs.Schedule.{Schedule, plan_of, world_of, allows}
 use Rattle.eve_stamps_schedule.specs.Scheduled.{schedule_of}
 use Rattle.eve_stamps_schedule.specs.Events.{next_stripe}
-use Rattle.eve_stamps_schedule.proofs.Stepping.{allowed_by, tick_held, tick_plan, tick_world, with_tick, few_ticks}
+use Rattle.eve_stamps_schedule.proofs.ScheduleSteps.{allowed_by, tick_held, tick_plan, tick_world, with_tick, few_ticks}
 use Rattle.eve_stamps_schedule.proofs.schedule.Schedule.tick.Goals.{After-owns_all}
 use Rattle.eve_stamps_schedule.proofs.schedule.Schedule.tick.Goals as goal
 

@@ -9,7 +9,7 @@ use Rattle.eve_stamps.specs.declared.limits.TheConstants.{STRIPES}
 use Rattle.eve_stamps_schedule.specs.Stripes.{greatest_below}
 use Rattle.eve_stamps_schedule.specs.Events.{is_owner, last_stripe}
 use Rattle.eve_stamps_schedule.proofs.Changes.{greatest_small}
-use Rattle.eve_stamps_schedule.proofs.Stepping.{allowed_by, unlock_held, unlock_world, with_lock}
+use Rattle.eve_stamps_schedule.proofs.ScheduleSteps.{allowed_by, unlock_held, unlock_world, with_lock}
 use Rattle.eve_stamps_schedule.proofs.schedule.Schedule.unlock.Goals.{In-Some}
 use Rattle.eve_stamps_schedule.proofs.schedule.Schedule.unlock.Goals as goal
 

@@ -1,7 +1,7 @@
 use Rattle.std.proofs.Common.{◌≡◌, ℕ, ◌<◌, List, [], length, sym, ap, subst, ◌∙◌, rules}
 use Rattle.eve_history.specs.SectionHistory.{SectionHistory}
-use Rattle.eve_chains.specs.Settling.{settling}
-use Rattle.eve_test_program.specs.SectionHistories.{AreTold}
+use Rattle.eve_chains.specs.CommittedValues.{settling}
+use Rattle.eve_test_program.specs.inner.SectionHistories.{AreTold}
 use Rattle.eve_test_program.proofs.Replicas.{none_told, told_more, all_told, all_settled, all_right}
 use Rattle.eve_test_program.proofs.limits.together.read_replicas.Goals as goal
 

@@ -1,5 +1,5 @@
 -- What is told of the replicas so far.
-use Rattle.eve_test_program.specs.SectionHistories.{AreTold}
+use Rattle.eve_test_program.specs.inner.SectionHistories.{AreTold}
 use Rattle.eve_test_program.proofs.limits.together.read_replicas.Given as goal
 
 abbrev pub invariant-replicas : goal.invariant-replicas

@@ -2,7 +2,7 @@ use Rattle.std.proofs.Common.{◌∙◌, ap, sym, List, ℕ}
 use Rattle.eve_token.specs.declared.token_rows.Kept.{Kept}
 use Rattle.eve_token.specs.Token.{token_of, token_from_root}
 use Rattle.eve_token.specs.TokenRows.{TokenRows}
-use Rattle.eve_token.specs.Holding.{token_rows_of}
+use Rattle.eve_token.specs.HeldBalances.{token_rows_of}
 use Rattle.eve_token.proofs.token_rows.TokenRows.token.Goals as goal
 use Rattle.eve_token.proofs.token_rows.TokenRows.token.Goals.{in-Flat, in-Tree}
 

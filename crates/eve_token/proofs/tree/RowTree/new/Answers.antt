@@ -1,7 +1,7 @@
 use Rattle.std.proofs.Common.{◌≡◌, ◌-◌, ◌*◌, ◌<◌, List, ℕ, length, replicate, sym, subst, ap, arith, rules, Option}
 use Rattle.std.proofs.Common.{None}
 use Rattle.eve_token.specs.Places.{IsRowTree}
-use Rattle.eve_token.proofs.Keeping.{all-stale}
+use Rattle.eve_token.proofs.KeptPlaces.{all-stale}
 use Rattle.eve_token.proofs.tree.RowTree.new.Goals as goal
 
 pub invariant_of-result : goal.invariant_of-result

@@ -2,7 +2,7 @@ use Rattle.std.proofs.Common.{◌≡◌, ◌++◌, ◌∙◌, ℕ, ℤ, List, le
 use Rattle.std.proofs.Common.{length-set}
 use Rattle.std.proofs.lemmas.List.{take_at}
 use Rattle.eve_token.specs.Places.{IsRowTree, HaveHashes, nodes_of}
-use Rattle.eve_token.proofs.Keeping.{row-changed, nothing-changed}
+use Rattle.eve_token.proofs.KeptPlaces.{row-changed, nothing-changed}
 use Rattle.eve_token.proofs.tree.RowTree.set.Goals as goal
 
 pub invariant_of-self : goal.invariant_of-self

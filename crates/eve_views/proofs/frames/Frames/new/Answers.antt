@@ -1,4 +1,4 @@
-use Rattle.eve_views.proofs.Locating.{all_from}
+use Rattle.eve_views.proofs.FrameOffsets.{all_from}
 use Rattle.eve_views.proofs.frames.Frames.new.Goals as goal
 
 pub returns : goal.returns

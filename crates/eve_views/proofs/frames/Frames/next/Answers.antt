@@ -1,6 +1,6 @@
 use Rattle.std.proofs.Common.{sym, ◌∙◌, arith}
 use Rattle.eve_grammar.specs.Frames.{frames_of}
-use Rattle.eve_views.proofs.Locating.{none_from, next_from}
+use Rattle.eve_views.proofs.FrameOffsets.{none_from, next_from}
 use Rattle.eve_views.proofs.frames.Frames.next.Goals as goal
 
 pub returns-then-self-frame_count-clause-none : goal.returns-then-self-frame_count-clause-none

@@ -1,4 +1,4 @@
-use Rattle.eve_views.proofs.Reaching.{walking_end}
+use Rattle.eve_views.proofs.WalkSteps.{walking_end}
 use Rattle.eve_views.proofs.progress.Progress.ended.Goals as goal
 
 pub returns-then-bytes-self : goal.returns-then-bytes-self

@@ -1,6 +1,6 @@
 use Rattle.std.proofs.Common.{List, ℕ, ◌++◌, ap, ◌∙◌, append_assoc, arith}
 use Rattle.eve_views.specs.declared.progress.Progress.{Progress}
-use Rattle.eve_views.specs.SideBySide.{WalksOn}
+use Rattle.eve_views.specs.inner.SideBySide.{WalksOn}
 use Rattle.eve_views.proofs.progress.Progress.go_on.Goals as goal
 
 walks_on : (first next last : Progress) → WalksOn first next → WalksOn next last → WalksOn first last

@@ -1,5 +1,5 @@
 use Rattle.std.proofs.Common.{◌-◌, length}
-use Rattle.eve_views.specs.SideBySide.{IsWalkedUnjudged, WalksOn}
+use Rattle.eve_views.specs.inner.SideBySide.{IsWalkedUnjudged, WalksOn}
 use Rattle.eve_views.proofs.progress.Progress.go_on.Given as goal
 
 abbrev pub invariant-frames : goal.invariant-frames

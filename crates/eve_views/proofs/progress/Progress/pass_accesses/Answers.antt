@@ -3,9 +3,9 @@ use Rattle.std.proofs.Common.{append_assoc}
 use Rattle.std.proofs.lemmas.List.{append-nil, length-append, length-drop, length-take}
 use Rattle.eve_grammar.specs.Limits.{row_count}
 use Rattle.eve_grammar.specs.declared.place.Place.{Place}
-use Rattle.eve_views.specs.SideBySide.{AreRightFrames, access_kept}
-use Rattle.eve_views.specs.Walking.{Walking}
-use Rattle.eve_views.proofs.Unjudged.{access_again, walking_unjudged}
+use Rattle.eve_views.specs.inner.SideBySide.{AreRightFrames, access_kept}
+use Rattle.eve_views.specs.inner.WalkProgress.{Walking}
+use Rattle.eve_views.proofs.UnjudgedFrames.{access_again, walking_unjudged}
 use Rattle.eve_views.proofs.progress.Progress.pass_accesses.Goals as goal
 
 pub frames-preserved : goal.frames-preserved

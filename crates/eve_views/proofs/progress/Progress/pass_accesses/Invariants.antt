@@ -1,6 +1,6 @@
 use Rattle.std.proofs.Common.{◌≡◌, ◌-◌, ◌<◌, ◌≤◌, true, length}
 use Rattle.eve_grammar.specs.Frames.{is_allowed}
-use Rattle.eve_views.specs.SideBySide.{IsWalkedUnjudged, WalksOn}
+use Rattle.eve_views.specs.inner.SideBySide.{IsWalkedUnjudged, WalksOn}
 use Rattle.eve_views.proofs.progress.Progress.pass_accesses.Given as goal
 
 abbrev pub invariant-frames : goal.invariant-frames

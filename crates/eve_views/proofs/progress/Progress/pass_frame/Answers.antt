@@ -7,13 +7,13 @@ use Rattle.eve_grammar.specs.Limits.{row_count}
 use Rattle.eve_grammar.specs.declared.place.Place.{Place}
 use Rattle.eve_grammar.specs.declared.head.Head.{Head}
 use Rattle.eve_grammar.proofs.HeadLimits.{few_customers}
-use Rattle.eve_views.specs.Starting.{noted}
-use Rattle.eve_views.specs.Indexing.{kept_in}
-use Rattle.eve_views.specs.SideBySide.{AreRightFrames}
-use Rattle.eve_views.specs.Walking.{Walking}
+use Rattle.eve_views.specs.inner.PartStarts.{noted}
+use Rattle.eve_views.specs.Indexes.{kept_in}
+use Rattle.eve_views.specs.inner.SideBySide.{AreRightFrames}
+use Rattle.eve_views.specs.inner.WalkProgress.{Walking}
 use Rattle.eve_views.specs.declared.starts.Starts.{Starts}
-use Rattle.eve_views.proofs.Reaching.{room_of, replica_room, verifier_room}
-use Rattle.eve_views.proofs.Unjudged.{walking_unjudged}
+use Rattle.eve_views.proofs.WalkSteps.{room_of, replica_room, verifier_room}
+use Rattle.eve_views.proofs.UnjudgedFrames.{walking_unjudged}
 use Rattle.eve_views.proofs.progress.Progress.pass_frame.Goals as goal
 
 pub frame_unjudged-requires : goal.frame_unjudged-requires

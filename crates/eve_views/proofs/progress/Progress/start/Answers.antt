@@ -1,8 +1,8 @@
 use Rattle.std.proofs.Common.{ℕ, List, [], length, sym, ap, subst, arith}
-use Rattle.eve_views.specs.Starting.{no_starts}
-use Rattle.eve_views.specs.Walking.{Walking}
+use Rattle.eve_views.specs.inner.PartStarts.{no_starts}
+use Rattle.eve_views.specs.inner.WalkProgress.{Walking}
 use Rattle.eve_views.specs.declared.starts.Starts.{Starts}
-use Rattle.eve_views.proofs.Reaching.{walking_start}
+use Rattle.eve_views.proofs.WalkSteps.{walking_start}
 use Rattle.eve_grammar.specs.declared.place.Place.{Place}
 use Rattle.eve_views.proofs.progress.Progress.start.Goals as goal
 

@@ -1,9 +1,9 @@
 use Rattle.std.proofs.Common.{◌≡◌, ◌<◌, ◌^◌, ℕ, List, ◌++◌, length, vec_len, sym, ap, subst, ◌∙◌, rules, arith}
 use Rattle.std.specs.Prelude.{drop}
-use Rattle.eve_views.proofs.Reaching.{length-offsets_of}
+use Rattle.eve_views.proofs.WalkSteps.{length-offsets_of}
 use Rattle.eve_grammar.specs.Frames.{frames_of}
 use Rattle.eve_grammar.specs.Spelling.{frame_text}
-use Rattle.eve_grammar.specs.Following.{Spells}
+use Rattle.eve_grammar.specs.FrameOrder.{Spells}
 use Rattle.eve_views.proofs.FrameLaws.{length-frame_text}
 use Rattle.eve_views.proofs.TraceLaws.{part_is}
 use Rattle.eve_views.proofs.trace.Trace.frame.Goals as goal

@@ -1,6 +1,6 @@
 use Rattle.std.proofs.Common.{◌≡◌, length, ap, ◌∙◌, rules}
 use Rattle.eve_grammar.specs.Frames.{frames_of}
-use Rattle.eve_views.proofs.Reaching.{length-offsets_of}
+use Rattle.eve_views.proofs.WalkSteps.{length-offsets_of}
 use Rattle.eve_views.proofs.trace.Trace.frame_count.Goals as goal
 
 pub returns : goal.returns

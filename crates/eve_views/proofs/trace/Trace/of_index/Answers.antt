@@ -1,6 +1,6 @@
 use Rattle.std.proofs.Common.{Result, IfOk, IfErr, subst, arith}
 use Rattle.eve_views.specs.Form.{IfFound, StandsInForm, IsFaultOutside}
-use Rattle.eve_views.specs.Indexing.{IsIndex}
+use Rattle.eve_views.specs.Indexes.{IsIndex}
 use Rattle.eve_views.specs.declared.fault.CheckFault.{CheckFault}
 use Rattle.eve_views.specs.declared.walk.Index.{Index}
 use Rattle.eve_views.proofs.FormLaws.{refused_behind}

@@ -3,7 +3,7 @@ use Rattle.eve_grammar.specs.Trace.{head_of}
 use Rattle.eve_grammar.specs.Limits.{row_count}
 use Rattle.eve_grammar.specs.declared.limits.TheConstants.{MOST_ROWS}
 use Rattle.eve_grammar.proofs.HeadLimits.{few_customers}
-use Rattle.eve_views.specs.Fronts.{before_section}
+use Rattle.eve_views.specs.inner.FramesBefore.{before_section}
 use Rattle.eve_views.proofs.CutLaws.{steps_cut, steps_are_there}
 use Rattle.eve_views.proofs.trace.Trace.section.Goals as goal
 

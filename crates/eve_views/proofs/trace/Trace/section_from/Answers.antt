@@ -3,9 +3,9 @@ use Rattle.eve_grammar.specs.Trace.{head_of}
 use Rattle.eve_grammar.proofs.Runs.{some_verifier}
 use Rattle.eve_grammar.specs.declared.head.Head.{Head}
 use Rattle.eve_grammar.proofs.Spelled.{limits_of_spelled}
-use Rattle.eve_views.specs.Held.{IsHeldTrace}
+use Rattle.eve_views.specs.HeldTraces.{IsHeldTrace}
 use Rattle.eve_views.proofs.PartLaws.{few_replicas}
-use Rattle.eve_views.proofs.StartsAt.{section_starts, sections_stop}
+use Rattle.eve_views.proofs.IndexedParts.{section_starts, sections_stop}
 use Rattle.eve_views.proofs.trace.Trace.section_from.Goals as goal
 
 pub returns-then-e-self : goal.returns-then-e-self

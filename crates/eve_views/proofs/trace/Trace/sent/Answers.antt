@@ -1,5 +1,5 @@
 use Rattle.std.proofs.Common.{◌≡◌, ◌+◌, ◌<◌, ◌^◌, arith, rules, length}
-use Rattle.eve_views.specs.Fronts.{before_sent}
+use Rattle.eve_views.specs.inner.FramesBefore.{before_sent}
 use Rattle.eve_views.proofs.PartLaws.{frames_many, sent_lent, lent_there}
 use Rattle.eve_views.proofs.trace.Trace.sent.Goals as goal
 

@@ -1,6 +1,6 @@
 use Rattle.std.proofs.Common.{subst}
-use Rattle.eve_views.specs.Held.{IsHeldTrace}
-use Rattle.eve_views.proofs.StartsAt.{sent_starts}
+use Rattle.eve_views.specs.HeldTraces.{IsHeldTrace}
+use Rattle.eve_views.proofs.IndexedParts.{sent_starts}
 use Rattle.eve_views.proofs.trace.Trace.sent_from.Goals as goal
 
 pub returns : goal.returns

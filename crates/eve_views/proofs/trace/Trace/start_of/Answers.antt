@@ -1,8 +1,8 @@
 use Rattle.std.proofs.Common.{◌≡◌, ◌<◌, ℕ, List, length, get_or, vec_len, ap, subst, ◌∙◌, rules, arith}
 use Rattle.std.proofs.lemmas.List.{get_or_read}
 use Rattle.eve_grammar.specs.Frames.{frames_of}
-use Rattle.eve_views.specs.Held.{IsHeldTrace}
-use Rattle.eve_views.proofs.Reaching.{length-offsets_of}
+use Rattle.eve_views.specs.HeldTraces.{IsHeldTrace}
+use Rattle.eve_views.proofs.WalkSteps.{length-offsets_of}
 use Rattle.eve_views.proofs.TraceLaws.{offsets_at, end_at}
 use Rattle.eve_views.proofs.trace.Trace.start_of.Goals as goal
 

@@ -1,9 +1,9 @@
 use Rattle.std.proofs.Common.{◌≡◌, ap, subst, arith, length}
 use Rattle.eve_grammar.specs.declared.head.Head.{Head}
-use Rattle.eve_views.specs.Held.{IsHeldTrace}
+use Rattle.eve_views.specs.HeldTraces.{IsHeldTrace}
 use Rattle.eve_grammar.proofs.Spelled.{limits_of_spelled}
 use Rattle.eve_views.proofs.PartLaws.{few_verifiers}
-use Rattle.eve_views.proofs.StartsAt.{verifier_starts, verifiers_stop}
+use Rattle.eve_views.proofs.IndexedParts.{verifier_starts, verifiers_stop}
 use Rattle.eve_views.proofs.trace.Trace.verifier_from.Goals as goal
 
 pub returns-then-v-self : goal.returns-then-v-self

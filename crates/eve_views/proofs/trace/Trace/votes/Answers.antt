@@ -1,7 +1,7 @@
 use Rattle.std.proofs.Common.{◌≡◌, ◌+◌, ℕ, suc, length, ap, ◌∙◌, arith}
 use Rattle.eve_grammar.specs.Trace.{head_of}
 use Rattle.eve_grammar.proofs.HeadLimits.{head_has_limits}
-use Rattle.eve_views.specs.Fronts.{before_verifier}
+use Rattle.eve_views.specs.inner.FramesBefore.{before_verifier}
 use Rattle.eve_views.proofs.CutLaws.{votes_cut, votes_are_there}
 use Rattle.eve_views.proofs.trace.Trace.votes.Goals as goal
 

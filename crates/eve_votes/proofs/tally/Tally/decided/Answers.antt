@@ -3,9 +3,9 @@ use Rattle.std.specs.Prelude.{◌↔◌, nat_lt}
 use Rattle.std.specs.Option.{option_map}
 use Rattle.eve_grammar.specs.Trace.{Trace}
 use Rattle.eve_votes.specs.Votes.{IsDecided}
-use Rattle.eve_votes.specs.Decisions.{decision_said, decision_on}
+use Rattle.eve_votes.specs.Decisions.{decision_decoded, decision_on}
 use Rattle.eve_votes.specs.declared.decisions.Decision.{Decision}
-use Rattle.eve_votes.proofs.Tallying.{decided_is, decision_past, decision_of, token_size}
+use Rattle.eve_votes.proofs.TallyLaws.{decided_is, decision_past, decision_of, token_size}
 use Rattle.eve_votes.proofs.tally.Tally.decided.Goals as goal
 
 abbrev Answers : ℕ → Option (ℕ × List ℕ) → Trace → Type 0
@@ -31,9 +31,10 @@ array_of-requires c =
     let read : c.in-Some.kept.now ≡ get_or ds c.args.n c.in-Some.kept.now =
     c.in-Some.ensures.lookup.1 ∙ ap (λ (xs : List (Option Decision)). get_or xs c.args.n c.in-Some.kept.now)
     c.deref.ensures.value in
-    let is : decision_on ds c.args.n ≡ Some (decision_said c.in-Some-kept.decision) =
-    decision_of ds c.args.n c.in-Some.kept.now there read ∙ ap (option_map decision_said) c.in-Some-kept.is in
-    token_size c.self.inside.trace.now ds c.args.n (decision_said c.in-Some-kept.decision) c.self.invariant.decisions is
+    let is : decision_on ds c.args.n ≡ Some (decision_decoded c.in-Some-kept.decision) =
+    decision_of ds c.args.n c.in-Some.kept.now there read ∙ ap (option_map decision_decoded) c.in-Some-kept.is in
+    token_size c.self.inside.trace.now ds c.args.n (decision_decoded c.in-Some-kept.decision) c.self.invariant.decisions
+    is
 
 pub returns-in-Some-kept : goal.returns-in-Some-kept
 returns-in-Some-kept c =
@@ -46,7 +47,7 @@ returns-in-Some-kept c =
     c.in-Some.ensures.lookup.1 ∙ ap (λ (xs : List (Option Decision)). get_or xs c.args.n c.in-Some.kept.now)
     c.deref.ensures.value in
     let is : decision_on ds c.args.n ≡ Some (c.in-Some-kept.decision.view, c.array_of.result) =
-    decision_of ds c.args.n c.in-Some.kept.now there read ∙ ap (option_map decision_said) c.in-Some-kept.is
+    decision_of ds c.args.n c.in-Some.kept.now there read ∙ ap (option_map decision_decoded) c.in-Some-kept.is
     ∙ ap (λ (token : List ℕ). Some (c.in-Some-kept.decision.view, token)) (sym c.array_of.ensures) in
     subst (Answers c.args.n (Some (c.in-Some-kept.decision.view, c.array_of.result))) same
     (decided_is c.self.inside.trace.now ds c.args.n (Some (c.in-Some-kept.decision.view, c.array_of.result))
@@ -63,6 +64,6 @@ returns-in-None c =
     c.in-Some.ensures.lookup.1 ∙ ap (λ (xs : List (Option Decision)). get_or xs c.args.n c.in-Some.kept.now)
     c.deref.ensures.value in
     let is : decision_on ds c.args.n ≡ None = decision_of ds c.args.n c.in-Some.kept.now there read
-    ∙ ap (option_map decision_said) c.in-None.is in
+    ∙ ap (option_map decision_decoded) c.in-None.is in
     subst (Answers c.args.n None) same
     (decided_is c.self.inside.trace.now ds c.args.n None c.self.invariant.decisions is)

@@ -3,7 +3,7 @@ use Rattle.eve_views.specs.Form.{IsLeast, IsFaultOutside}
 use Rattle.eve_views.specs.First.{first_of}
 use Rattle.eve_views.specs.declared.fault.Fault.{Fault}
 use Rattle.eve_votes.specs.Decisions.{AreDecisions}
-use Rattle.eve_votes.proofs.Tallying.{first_of_both, first_is_least, not_apart, none_stands, votes_sound}
+use Rattle.eve_votes.proofs.TallyLaws.{first_of_both, first_is_least, not_apart, none_stands, votes_sound}
 use Rattle.eve_votes.specs.Faults.{StandsInVotes}
 use Rattle.eve_votes.proofs.tally.Tally.of.Goals as goal
 

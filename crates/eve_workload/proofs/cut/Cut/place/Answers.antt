@@ -1,5 +1,5 @@
 use Rattle.std.proofs.Common.{◌≡◌, ◌++◌, [], ◌∷◌, ◌∙◌, ap, arith, rules}
-use Rattle.eve_workload.proofs.Cutting.{within_sizes, below_count, small, cut_more}
+use Rattle.eve_workload.proofs.CutSteps.{within_sizes, below_count, small, cut_more}
 use Rattle.eve_workload.proofs.cut.Cut.place.Goals as goal
 
 pub add_to-requires-clause-there : goal.add_to-requires-clause-there

@@ -1,7 +1,7 @@
 use Rattle.std.proofs.Common.{◌≡◌, length, ap, arith, rules}
 use Rattle.std.proofs.lemmas.List.{length-map}
 use Rattle.eve_write.specs.Data.{customer}
-use Rattle.eve_workload.proofs.Drafting.{batches_kept, line_count}
+use Rattle.eve_workload.proofs.DraftLines.{batches_kept, line_count}
 use Rattle.eve_workload.proofs.draft.Draft.next_line.Goals as goal
 
 pub returns : goal.returns

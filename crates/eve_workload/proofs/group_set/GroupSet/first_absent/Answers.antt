@@ -1,5 +1,5 @@
 use Rattle.std.proofs.Common.{ap, arith, ◌+◌, ◌∙◌}
-use Rattle.eve_workload.specs.GroupSets.{has}
+use Rattle.eve_workload.specs.inner.GroupSets.{has}
 use Rattle.eve_workload.proofs.WordBits.{lowest_unset, set_below, set_past}
 use Rattle.eve_workload.proofs.group_set.GroupSet.first_absent.Goals as goal
 

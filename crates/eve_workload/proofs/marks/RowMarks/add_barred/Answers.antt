@@ -1,8 +1,8 @@
 use Rattle.std.proofs.Common.{sym, ap, ◌∙◌}
 use Rattle.std.specs.Prelude.{◌||◌}
 use Rattle.eve_smallbank.specs.declared.entry.Kind.{Kind}
-use Rattle.eve_workload.specs.GroupSets.{has}
-use Rattle.eve_workload.specs.Marks.{groups_barred}
+use Rattle.eve_workload.specs.inner.GroupSets.{has}
+use Rattle.eve_workload.specs.inner.Marks.{groups_barred}
 use Rattle.eve_workload.proofs.RowsMarked.{barred_by}
 use Rattle.eve_workload.proofs.marks.RowMarks.add_barred.Goals as goal
 

@@ -4,7 +4,7 @@ use Rattle.std.specs.List.{list_any}
 use Rattle.std.proofs.lemmas.List.Folds.{list_any_more}
 use Rattle.std.proofs.lemmas.Option.{get_or_from_slice_get, slice_get_within}
 use Rattle.eve_smallbank.specs.declared.entry.Kind.{Kind}
-use Rattle.eve_workload.specs.Marks.{is_barred}
+use Rattle.eve_workload.specs.inner.Marks.{is_barred}
 use Rattle.eve_workload.proofs.marks.RowMarks.barred.Goals as goal
 
 pub loop-index-preserved : goal.loop-index-preserved

@@ -1,7 +1,7 @@
 use Rattle.std.proofs.Common.{◌≡◌, ℕ, take}
 use Rattle.std.specs.List.{list_any}
-use Rattle.eve_workload.specs.GroupSets.{has}
-use Rattle.eve_workload.specs.Marks.{is_barred}
+use Rattle.eve_workload.specs.inner.GroupSets.{has}
+use Rattle.eve_workload.specs.inner.Marks.{is_barred}
 use Rattle.eve_workload.proofs.marks.RowMarks.barred.Given as goal
 
 abbrev pub invariant-loop-index : goal.invariant-loop-index

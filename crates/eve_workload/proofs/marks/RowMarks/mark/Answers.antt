@@ -5,8 +5,8 @@ use Rattle.std.proofs.Math.Bool.{and-or_distrib_right}
 use Rattle.std.proofs.lemmas.List.Folds.{list_any_more}
 use Rattle.std.proofs.lemmas.Option.{get_or_from_slice_get, slice_get_within}
 use Rattle.eve_smallbank.specs.declared.entry.Kind.{Kind}
-use Rattle.eve_workload.specs.Mixing.{collide}
-use Rattle.eve_workload.specs.Marks.{is_barred}
+use Rattle.eve_workload.specs.Mixers.{collide}
+use Rattle.eve_workload.specs.inner.Marks.{is_barred}
 use Rattle.eve_workload.proofs.marks.RowMarks.mark.Goals as goal
 
 regroup : (o a b g : Bool) → ((o || (a && g)) || (b && g)) ≡ (o || ((a || b) && g))

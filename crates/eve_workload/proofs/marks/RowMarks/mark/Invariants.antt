@@ -2,8 +2,8 @@ use Rattle.std.proofs.Common.{◌≡◌, ℕ, ◌+◌, ◌≤◌, length, take}
 use Rattle.std.specs.Prelude.{◌==◌, ◌&&◌, ◌||◌}
 use Rattle.std.specs.List.{list_any}
 use Rattle.eve_smallbank.specs.declared.entry.Kind.{Kind}
-use Rattle.eve_workload.specs.Mixing.{collide}
-use Rattle.eve_workload.specs.Marks.{is_barred}
+use Rattle.eve_workload.specs.Mixers.{collide}
+use Rattle.eve_workload.specs.inner.Marks.{is_barred}
 use Rattle.eve_workload.proofs.marks.RowMarks.mark.Given as goal
 
 abbrev pub invariant-loop-index : goal.invariant-loop-index

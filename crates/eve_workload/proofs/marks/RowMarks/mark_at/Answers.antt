@@ -1,7 +1,7 @@
 use Rattle.std.proofs.Common.{true, false, refl, sym, ◌∙◌}
 use Rattle.std.proofs.Math.Bool.{or-false}
 use Rattle.std.proofs.lemmas.Option.{slice_get_read}
-use Rattle.eve_workload.specs.GroupSets.{has}
+use Rattle.eve_workload.specs.inner.GroupSets.{has}
 use Rattle.eve_workload.proofs.RowsMarked.{marked_at}
 use Rattle.eve_workload.proofs.marks.RowMarks.mark_at.Goals as goal
 

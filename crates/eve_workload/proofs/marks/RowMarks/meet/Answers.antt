@@ -4,8 +4,8 @@ use Rattle.std.specs.Vec.{with_item}
 use Rattle.std.proofs.lemmas.List.{get_or-set_other}
 use Rattle.eve_workload.specs.declared.marks.Marks.{Marks}
 use Rattle.eve_workload.specs.declared.marks.RowMarks.{RowMarks}
-use Rattle.eve_workload.specs.Marks.{is_barred}
-use Rattle.eve_workload.proofs.RowsMarked.{grown, met_more}
+use Rattle.eve_workload.specs.inner.Marks.{is_barred}
+use Rattle.eve_workload.proofs.RowsMarked.{grown, seen_more}
 use Rattle.eve_workload.proofs.marks.RowMarks.meet.Goals as goal
 use Rattle.eve_workload.proofs.marks.RowMarks.meet.Goals.{then-index-len+in_ok-resize, else-index-len}
 
@@ -25,7 +25,7 @@ returns-clause-same c =
       marks = c.if-index-len.self.marks;
     } in
     let pushed : new.marks.items ≡ c.args.self.now.marks.items ++ none ∷ [] = search rules in
-    met_more c.args.self.now new none pushed c.none.ensures c.none-2.ensures
+    seen_more c.args.self.now new none pushed c.none.ensures c.none-2.ensures
     (λ kind group. ap (λ (row : ℕ). is_barred c.args.self.now (row, kind) group) c.number.ensures.number
     ∙ c.in_default.ensures.none kind group)
     (search rules)

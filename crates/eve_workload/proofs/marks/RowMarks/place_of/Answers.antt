@@ -1,6 +1,6 @@
 use Rattle.std.proofs.Common.{◌≡◌, refl, sym, ◌∙◌, arith, rules}
 use Rattle.std.proofs.lemmas.Option.{slice_get_read}
-use Rattle.eve_workload.specs.Marks.{place_of}
+use Rattle.eve_workload.specs.inner.Marks.{place_of}
 use Rattle.eve_workload.proofs.RowsMarked.{none_past, none_of_another}
 use Rattle.eve_workload.proofs.marks.RowMarks.place_of.Goals as goal
 use Rattle.eve_workload.proofs.marks.RowMarks.place_of.Goals.{in-Some, in-None}

@@ -6,8 +6,8 @@ use Rattle.std.proofs.lemmas.Result.{IfOk-weaker}
 use Rattle.eve_grammar.specs.Trace.{Asked, Batch}
 use Rattle.eve_grammar.specs.Limits.{is_asked, is_batch}
 use Rattle.eve_write.specs.Data.{asked, batch}
-use Rattle.eve_workload.specs.Mixing.{cut, batch_with}
-use Rattle.eve_workload.specs.Mixed.{touched_by}
+use Rattle.eve_workload.specs.Mixers.{cut, batch_with}
+use Rattle.eve_workload.specs.inner.Mixed.{touched_by}
 use Rattle.eve_workload.proofs.Mixed.{cut_keeps, cut_is_right}
 use Rattle.eve_workload.proofs.mixer.MixingTable.mix_touched.Goals as goal
 

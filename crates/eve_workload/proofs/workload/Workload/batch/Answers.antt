@@ -1,5 +1,5 @@
 use Rattle.std.proofs.Common.{◌-◌, arith}
-use Rattle.eve_workload.proofs.Holding.{batch_listed, listed_some, listed_few, listed_right}
+use Rattle.eve_workload.proofs.HeldWorkloads.{batch_listed, listed_some, listed_few, listed_right}
 use Rattle.eve_workload.proofs.workload.Workload.batch.Goals as goal
 
 pub returns-clause-some : goal.returns-clause-some

@@ -1,5 +1,5 @@
 use Rattle.std.proofs.Common.{◌≡◌, length, arith, rules, ◌∙◌, refl}
-use Rattle.eve_workload.proofs.Holding.{batch_count, batches_few}
+use Rattle.eve_workload.proofs.HeldWorkloads.{batch_count, batches_few}
 use Rattle.eve_workload.proofs.workload.Workload.batches.Goals as goal
 
 pub overflow_cast-result : goal.overflow_cast-result

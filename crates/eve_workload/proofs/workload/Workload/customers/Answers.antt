@@ -1,6 +1,6 @@
 use Rattle.std.proofs.Common.{arith}
-use Rattle.eve_workload.proofs.Holding.{customer_count, customers_some, customers_few, customers_right}
-use Rattle.eve_workload.proofs.Holding.{customers_differ}
+use Rattle.eve_workload.proofs.HeldWorkloads.{customer_count, customers_some, customers_few, customers_right}
+use Rattle.eve_workload.proofs.HeldWorkloads.{customers_differ}
 use Rattle.eve_workload.proofs.workload.Workload.customers.Goals as goal
 
 pub returns-clause-some : goal.returns-clause-some

@@ -1,7 +1,8 @@
 use Rattle.std.proofs.Common.{◌≡◌, length, IsTrue, arith, rules, refl, sym, subst, ◌∙◌}
 use Rattle.eve_grammar.specs.Limits.{is_head}
-use Rattle.eve_workload.proofs.Holding.{batch_count, batches_few, customer_count, customers_few, head_is, head_right}
-use Rattle.eve_workload.proofs.Holding.{is_workload}
+use Rattle.eve_workload.proofs.HeldWorkloads.{batch_count, batches_few, customer_count, customers_few, head_is}
+use Rattle.eve_workload.proofs.HeldWorkloads.{head_right}
+use Rattle.eve_workload.proofs.HeldWorkloads.{is_workload}
 use Rattle.eve_workload.proofs.workload.Workload.head.Goals as goal
 
 pub overflow_cast-customers : goal.overflow_cast-customers

@@ -1,7 +1,7 @@
 use Rattle.std.proofs.Common.{◌≡◌, length, eqb, eq-eqb, sym, ◌∙◌, ap, arith}
 use Rattle.std.specs.List.{list_all}
 use Rattle.eve_grammar.specs.Limits.{row_count, is_access}
-use Rattle.eve_write.proofs.Judged.{and_true}
+use Rattle.eve_write.proofs.PartTests.{and_true}
 use Rattle.eve_write.proofs.attempt.AttemptData.has_accesses.Goals as goal
 
 pub returns-then-len : goal.returns-then-len

@@ -2,8 +2,8 @@ use Rattle.std.proofs.Common.{ap, subst}
 use Rattle.std.specs.List.{flat_map}
 use Rattle.byteorder.specs.Endian.{big_bytes}
 use Rattle.eve_smallbank.specs.Spelling.{reply_text}
-use Rattle.eve_write.specs.Writing.{Puts}
-use Rattle.eve_write.proofs.Joined.{Puts-then, app, onto}
+use Rattle.eve_write.specs.Writes.{Puts}
+use Rattle.eve_write.proofs.JoinedWrites.{Puts-then, app, onto}
 use Rattle.eve_write.proofs.attempt.AttemptData.put_results.Goals as goal
 
 pub returns : goal.returns

@@ -3,8 +3,8 @@ use Rattle.std.specs.List.{flat_map}
 use Rattle.std.proofs.lemmas.List.Folds.{flat_map-map}
 use Rattle.eve_grammar.specs.Frames.{OfAccess}
 use Rattle.eve_grammar.specs.Spelling.{frame_text}
-use Rattle.eve_write.specs.Writing.{Writes}
-use Rattle.eve_write.proofs.Joined.{Stopped-before, Writes-at_err, Writes-then}
+use Rattle.eve_write.specs.Writes.{Writes}
+use Rattle.eve_write.proofs.JoinedWrites.{Stopped-before, Writes-at_err, Writes-then}
 use Rattle.eve_write.proofs.attempt.AttemptData.write_frames.Goals as goal
 
 pub returns-in_err-write_attempt : goal.returns-in_err-write_attempt

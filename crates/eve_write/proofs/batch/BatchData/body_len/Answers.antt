@@ -3,7 +3,7 @@ use Rattle.eve_grammar.specs.Limits.{is_asked}
 use Rattle.eve_grammar.specs.Spelling.{asked_text}
 use Rattle.eve_write.specs.Data.{asked, batch}
 use Rattle.eve_write.proofs.Lengths.{IsGrouped-from_test, length-groups, all_as}
-use Rattle.eve_write.proofs.Joined.{each_as}
+use Rattle.eve_write.proofs.JoinedWrites.{each_as}
 use Rattle.eve_write.proofs.batch.BatchData.body_len.Goals as goal
 
 pub overflow_cast-result : goal.overflow_cast-result

@@ -4,7 +4,7 @@ use Rattle.std.proofs.lemmas.List.{length-map}
 use Rattle.std.proofs.lemmas.Bool.{false≢true}
 use Rattle.eve_grammar.specs.Limits.{is_asked}
 use Rattle.eve_write.specs.Data.{asked, batch}
-use Rattle.eve_write.proofs.Judged.{batch_is, all_is}
+use Rattle.eve_write.proofs.PartTests.{batch_is, all_is}
 use Rattle.eve_write.proofs.batch.BatchDataJudge.is_right.Goals as goal
 
 some_from : (n : ℕ) → false ≡ eqb n 0 → 1 ≤ n

@@ -1,7 +1,7 @@
 use Rattle.std.proofs.Common.{subst, ap, ◌∙◌, length, ◌∷◌, [], ℕ}
 use Rattle.byteorder.specs.Endian.{big_bytes}
-use Rattle.eve_write.specs.Writing.{Writes}
-use Rattle.eve_write.proofs.Joined.{app, led}
+use Rattle.eve_write.specs.Writes.{Writes}
+use Rattle.eve_write.proofs.JoinedWrites.{app, led}
 use Rattle.eve_write.proofs.customer.CustomerDataSpell.write.Goals as goal
 
 pub returns : goal.returns

@@ -1,6 +1,6 @@
 use Rattle.std.proofs.Common.{subst}
-use Rattle.eve_write.specs.Writing.{Puts}
-use Rattle.eve_write.proofs.Joined.{Puts-then, app}
+use Rattle.eve_write.specs.Writes.{Puts}
+use Rattle.eve_write.proofs.JoinedWrites.{Puts-then, app}
 use Rattle.eve_write.proofs.fields.RestoreShort.put.Goals as goal
 
 pub returns : goal.returns

@@ -1,5 +1,5 @@
 use Rattle.std.proofs.Common.{rules}
-use Rattle.eve_write.proofs.Sound.{tested, passed}
+use Rattle.eve_write.proofs.RightParts.{tested, passed}
 use Rattle.eve_write.proofs.parts.Parts.has_spelling.Goals as goal
 
 pub returns-in-Some : goal.returns-in-Some

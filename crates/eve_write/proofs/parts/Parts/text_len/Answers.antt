@@ -5,8 +5,8 @@ use Rattle.eve_grammar.specs.Spelling.{customer_text, frame_text}
 use Rattle.eve_grammar.specs.Limits.{is_customer, is_batch}
 use Rattle.eve_write.specs.Data.{customer, batch, sent}
 use Rattle.eve_write.specs.Passes.{fits_step, step_size, vote_size}
-use Rattle.eve_write.proofs.Joined.{all_fit}
-use Rattle.eve_write.proofs.Sound.{AreWritable-from_spelling}
+use Rattle.eve_write.proofs.JoinedWrites.{all_fit}
+use Rattle.eve_write.proofs.RightParts.{AreWritable-from_spelling}
 use Rattle.eve_write.proofs.Totals.{length_is}
 use Rattle.eve_write.proofs.parts.Parts.text_len.Goals as goal
 

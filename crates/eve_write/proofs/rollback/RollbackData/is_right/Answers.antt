@@ -2,7 +2,7 @@ use Rattle.std.proofs.Common.{ap, sym, ◌∙◌, arith}
 use Rattle.std.specs.List.{list_all}
 use Rattle.eve_grammar.specs.Limits.{row_count, is_rising, is_restore}
 use Rattle.eve_write.specs.Data.{rollback}
-use Rattle.eve_write.proofs.Judged.{rollback_is}
+use Rattle.eve_write.proofs.PartTests.{rollback_is}
 use Rattle.eve_write.proofs.rollback.RollbackData.is_right.Goals as goal
 
 pub returns-then-is_rising : goal.returns-then-is_rising

@@ -4,7 +4,7 @@ use Rattle.eve_grammar.specs.Bodies.{transfer}
 use Rattle.eve_grammar.specs.Frames.{OfCommit, OfRollback, OfTransfer}
 use Rattle.eve_grammar.specs.Spelling.{frame_text, step_text}
 use Rattle.eve_write.specs.Data.{step, commit, rollback}
-use Rattle.eve_write.specs.Writing.{Writes}
+use Rattle.eve_write.specs.Writes.{Writes}
 use Rattle.eve_write.proofs.step.StepSpell.write.Goals as goal
 
 pub returns-in-Attempt : goal.returns-in-Attempt

@@ -1,0 +1,3 @@
+-- Devices of this crate's proofs: no promise of `audit`, `serve` or `run` rests on them.
+pub mod Findings
+pub mod Peers

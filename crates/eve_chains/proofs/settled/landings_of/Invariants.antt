@@ -1,7 +1,0 @@
-use Rattle.std.proofs.Common.{take}
-use Rattle.std.specs.List.{AllZip}
-use Rattle.eve_history.specs.SectionHistory.{IsToldOf}
-use Rattle.eve_chains.proofs.settled.landings_of.Given as goal
-
-abbrev pub invariant-loop-before : goal.invariant-loop-before
-invariant-loop-before l = AllZip (IsToldOf l.history) l.landings.items (take l.before l.history.landings)

@@ -1,7 +1,0 @@
-use Rattle.eve_evidence.proofs.LastSources.{front_commit}
-use Rattle.eve_evidence.proofs.front.after_commit.Goals as goal
-
-pub returns : goal.returns
-returns c = λ t row left before at d is.
-    front_commit row before at d t left c.args.front c.saturating_sub.result c.last_after_commit.result
-    c.saturating_sub.ensures c.last_after_commit.ensures is

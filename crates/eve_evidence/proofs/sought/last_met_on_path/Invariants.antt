@@ -1,7 +1,0 @@
-use Rattle.std.proofs.Common.{◌-◌, drop}
-use Rattle.eve_evidence.specs.Sought.{NoneMet}
-use Rattle.eve_evidence.proofs.RecordLookups.{on_way}
-use Rattle.eve_evidence.proofs.sought.last_met_on_path.Given as goal
-
-abbrev pub invariant-loop-back : goal.invariant-loop-back
-invariant-loop-back l = NoneMet l.sought (on_way (drop (l.count - l.back) l.course.path.items))
