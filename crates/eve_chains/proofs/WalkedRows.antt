@@ -286,17 +286,3 @@ pub changes_more : (before : List Changed) (ns ms : List Noted) (now : List Chan
     → changes_along now ms ≡ changes_along before (ns ++ ms)
 changes_more before [] ms now is = ap (λ (cs : List Changed). changes_along cs ms) is
 changes_more before (n ∷ ns) ms now is = changes_more (change_by before n) ns ms now is
-
--- ---- one range of all rows
-
-pub range_alone : (t : Trace) (e rows : ℕ) (n : Numbered) → IsOfRange t e (record { from = 0; to = rows }) n
-    → AreOfRanges t e rows (n ∷ [])
-range_alone t e rows n is = record {
-  ranges = record { from = 0; to = rows } ∷ [];
-  cut = record {
-    reaches = (refl, refl);
-    within = All-cons (IsWithin rows) (record { from = 0; to = rows }) []
-        (record { rising = omega arith; there = omega arith }) (All-nil (IsWithin rows));
-  };
-  each = (is, tt);
-}

@@ -144,6 +144,6 @@ pub fn check<'a, R: Threads + Sync>(
     }
     sound_sections_have_no_fault();
     let ranges = changed_ranges(alloc, walked)?;
-    let settled = Settled::of_ranges(alloc, history, trace, opening, ranges)?;
+    let settled = Settled::of(alloc, history, trace, opening, ranges)?;
     Ok(settled)
 }

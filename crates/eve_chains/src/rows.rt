@@ -15,7 +15,6 @@ ghost use Rattle.eve_chains.specs.declared.rows.WalkedRange.{WalkedRange as Walk
 
 use crate::bases::Bases;
 use crate::changed::Changed;
-use crate::gathered::gather;
 use crate::grouped::Grouped;
 use crate::note::Note;
 use crate::numbered::Numbered;
@@ -179,33 +178,6 @@ pub(crate) fn walk_all<R: Threads + Sync>(
             { walk_range(alloc, history, trace, opening, parts, *range) },
         )
         .collect::<Result<Vec<WalkedRange>, AllocError>>(rt, alloc)?
-}
-
-/// What the batches changed of all rows, along a section whose records nobody judges, on the caller's thread alone.
-pub(crate) fn changed_in_section(
-    alloc: Global,
-    history: &History<'_>,
-    trace: &Trace<'_>,
-    opening: &Balances,
-) -> Result<Vec<Numbered>, AllocError>
-    requires history { history.now ≡ section_history trace.now history.now.replica }
-    requires opening { opening.now ≡ opening_rows trace.now.customers }
-    ensures { IfOk result (λ ranges. AreOfRanges trace.now history.now.replica (row_count (head_of trace.now))
-        ranges.items) }
-{
-    let attempts = Stretch {
-        from: 0,
-        to: history.attempts(),
-    };
-    let rows = Stretch {
-        from: 0,
-        to: opening.len(),
-    };
-    let parts = gather(alloc, history, trace, row_count(trace), attempts)?;
-    let mut ranges = Vec::with_capacity(alloc, 1)?;
-    let walked = walk_range(alloc, history, trace, opening, &parts, rows)?;
-    ranges.push_reserved(walked.changed);
-    Ok(ranges)
 }
 
 /// The first fault of all rows.

@@ -17,8 +17,7 @@ ghost use Rattle.eve_chains.specs.inner.Walked.{AreOfRanges};
 
 use crate::changed::Changed;
 use crate::numbered::Numbered;
-use crate::opening::opening_balances;
-use crate::rows::{changed_in_section, row_at};
+use crate::rows::row_at;
 use eve_accounts::{Balances, SetRow};
 use eve_frames::TransferView;
 use eve_history::laws::numbers_are_reached;
@@ -79,22 +78,8 @@ impl<'a> Model for Settled<'a> {
 }
 
 impl<'a> Settled<'a> {
-    /// What a replica committed, of its history in the trace, whatever its entries see.
-    pub fn of(
-        alloc: Global,
-        history: &History<'a>,
-        trace: &Trace<'_>,
-    ) -> Result<Settled<'a>, AllocError>
-        requires history { history.now ≡ section_history trace.now history.now.replica }
-        ensures { IfOk result (λ settled. settled ≡ settling trace.now history.now.replica) }
-    {
-        let opening = opening_balances(alloc, trace)?;
-        let ranges = changed_in_section(alloc, history, trace, &opening)?;
-        Settled::of_ranges(alloc, history, trace, opening, ranges)
-    }
-
-    /// The same, of its opening balances and of what the rows changed.
-    pub(crate) fn of_ranges(
+    /// What a replica committed, of its opening balances and of what the batches changed of the rows.
+    pub(crate) fn of(
         alloc: Global,
         history: &History<'a>,
         trace: &Trace<'_>,

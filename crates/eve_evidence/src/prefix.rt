@@ -336,18 +336,6 @@ fn after(prefix: Prefix, step: &Step<'_, '_>, row: Row, left: &Versioned) -> Pre
     }
 }
 
-/// The byte at which a step's own frame begins.
-fn offset_of(step: &Step<'_, '_>) -> u64
-    ensures { (is : ℕ × StepValue) → IsStep step.now is → result ≡ is.0 }
-{
-    match step {
-        Step::Attempt(attempt, _) => attempt.offset(),
-        Step::Commit(commit) => commit.offset(),
-        Step::Rollback(rollback) => rollback.offset(),
-        Step::Transfer(transfer) => transfer.offset(),
-    }
-}
-
 /// What was met in front of the attempt whose frame begins at byte `at`, along the steps of replica e's section, which
 /// are gone over up to that attempt.
 pub fn prefix_of<'t, 'a>(
@@ -368,7 +356,7 @@ pub fn prefix_of<'t, 'a>(
 {
     let mut prefix = at_opening(trace, row, left);
     while let Some(step) = steps.next() {
-        if offset_of(&step) == at {
+        if step.offset() == at {
             return prefix;
         }
         prefix = after(prefix, &step, row, left);

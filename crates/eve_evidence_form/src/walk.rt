@@ -1,19 +1,20 @@
 //! How far the frames before a byte have come.
 
-ghost use Rattle.std.specs.Prelude.{◌≡◌, ◌<◌, ◌≤◌, ℕ, ◌++◌, List, IfSome, IsTrue, length};
+ghost use Rattle.std.specs.Prelude.{◌≡◌, ◌<◌, ◌≤◌, ℕ, ◌++◌, List, IfSome, length};
 ghost use Rattle.eve_grammar.specs.Kinds.{kind_byte};
-ghost use Rattle.eve_grammar.specs.Frames.{Frame, is_allowed, kind_of, next_place};
+ghost use Rattle.eve_grammar.specs.Frames.{Frame, kind_of, next_place};
 ghost use Rattle.eve_grammar.specs.Limits.{FitsAt};
 ghost use Rattle.eve_grammar.specs.Spelling.{frame_text};
 ghost use Rattle.eve_grammar.specs.declared.head.Head.{Head as HeadValue};
 ghost use Rattle.eve_views.specs.Form.{IsReached, SaysHead, place_at};
-ghost use Rattle.eve_views.specs.inner.Places.{accesses_in, place_after};
+ghost use Rattle.eve_views.specs.inner.Places.{accesses_in};
 ghost use Rattle.eve_evidence_form.specs.inner.Walk.{BeginsWith};
 ghost use Rattle.eve_evidence_form.specs.Records.{TellsRecords, records_after};
 
 use byteorder::{BigEndian, ByteOrder};
 use eve_evidence::RecordsBefore;
 use eve_grammar::{FRAME_HEAD_LEN, FrameKind, HEADER_LEN, Head, Place};
+use eve_views::Reached;
 
 /// How far the frames before a byte have come.
 #[derive(Clone, Copy)]
@@ -66,38 +67,6 @@ fn accesses_in_prefix(bytes: &[u8], kind: FrameKind) -> usize
     }
 }
 
-/// The place after a frame of a kind that may stand there, which that many access frames have to follow.
-fn pass(head: &Head, place: Place, kind: FrameKind, accesses: usize) -> Place
-    requires { IsTrue (is_allowed head.now place (kind_byte kind)) }
-    ensures { result ≡ place_after place (kind_byte kind) accesses }
-{
-    let mut after = place;
-    match kind {
-        FrameKind::Customer => {
-            prove!(after.customers < head.customers);
-            after.customers += 1;
-        }
-        FrameKind::Batch => {
-            prove!(after.batches < head.batches);
-            after.batches += 1;
-        }
-        FrameKind::Replica => {
-            prove!(after.replicas < head.replicas);
-            after.replicas += 1;
-        }
-        FrameKind::Attempt => after.accesses = accesses,
-        FrameKind::Access => after.accesses -= 1,
-        FrameKind::Commit | FrameKind::Rollback | FrameKind::Transfer | FrameKind::Vote => {}
-        FrameKind::Verifier => {
-            prove!(after.verifiers == 0 || after.verifiers < head.verifiers);
-            after.verifiers += 1;
-        }
-        FrameKind::Sent => after.sending = true,
-        FrameKind::End => after.ended = true,
-    }
-    after
-}
-
 /// The last attempt after a frame of this kind, which begins at byte `at`, and which that many access frames have to
 /// follow.
 fn note(
@@ -138,8 +107,13 @@ fn step(head: &Head, so_far: PlaceReached, bytes: &[u8], at: usize) -> PlaceReac
 {
     let kind = kind_in_prefix(bytes);
     let accesses = accesses_in_prefix(bytes, kind);
+    let mut reached = Reached {
+        head: *head,
+        place: so_far.place,
+    };
+    reached.pass(kind, accesses);
     PlaceReached {
-        place: pass(head, so_far.place, kind, accesses),
+        place: reached.place,
         records: note(so_far.records, kind, at, accesses),
     }
 }

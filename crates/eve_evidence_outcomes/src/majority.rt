@@ -139,18 +139,6 @@ fn of_step<'a>(trace: &Trace<'a>, step: &Step<'_, 'a>, code: Code) -> Option<Evi
     }
 }
 
-/// The byte at which a step's own frame begins.
-fn offset_of(step: &Step<'_, '_>) -> u64
-    ensures { (is : ℕ × StepValue) → IsStep step.now is → result ≡ is.0 }
-{
-    match step {
-        Step::Attempt(attempt, _) => attempt.offset(),
-        Step::Commit(commit) => commit.offset(),
-        Step::Rollback(rollback) => rollback.offset(),
-        Step::Transfer(transfer) => transfer.offset(),
-    }
-}
-
 /// Who voted for what a step does, where its frame begins at this byte and it has a fault of this code.
 fn at_step<'a>(
     trace: &Trace<'a>,
@@ -164,7 +152,7 @@ fn at_step<'a>(
     ensures none { IfNone result ((is : ℕ × StepValue) → IsStep step.now is → is.0 ≡ place
         → ¬ LacksMajority code trace.now is.1) }
 {
-    if offset_of(step) != place {
+    if step.offset() != place {
         return None;
     }
     of_step(trace, step, code)

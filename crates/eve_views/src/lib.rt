@@ -30,6 +30,7 @@ pub use fault::{CheckFault, Code, Fault};
 pub use first::first_of;
 pub use frames::Frames;
 pub use least::lower;
+pub use reached::Reached;
 pub use steps::{Step, Steps};
 pub use trace::Trace;
 pub use votes::Votes;

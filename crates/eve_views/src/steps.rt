@@ -26,6 +26,20 @@ pub enum Step<'t, 'a> {
     Transfer(TransferView<'a>),
 }
 
+impl<'t, 'a> Step<'t, 'a> {
+    /// The byte at which the step's own frame begins.
+    pub fn offset(&self) -> u64
+        ensures { (is : ℕ × StepValue) → IsStep self.now is → result ≡ is.0 }
+    {
+        match self {
+            Step::Attempt(attempt, _) => attempt.offset(),
+            Step::Commit(commit) => commit.offset(),
+            Step::Rollback(rollback) => rollback.offset(),
+            Step::Transfer(transfer) => transfer.offset(),
+        }
+    }
+}
+
 /// The steps of a section that are still to come.
 ///
 /// Contracts see them as a list of steps, each with the byte offset of its frame; an attempt's access frames

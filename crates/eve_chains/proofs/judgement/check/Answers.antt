@@ -42,8 +42,8 @@ chains-requires-clause-first g c =
     c.deref-3.ensures.value))
     (first_of_walked t h.replica c.in_ok-walked.walked.items c.in_ok-walked.ensures)
 
-pub of_ranges-requires-clause-ranges : goal.of_ranges-requires-clause-ranges
-of_ranges-requires-clause-ranges g c =
+pub of-requires-clause-ranges : goal.of-requires-clause-ranges
+of-requires-clause-ranges g c =
     let t = c.args.trace.now in
     let h = c.args.history.now in
     subst (λ (ns : List Numbered). AreOfRanges t h.replica (row_count (head_of t)) ns) (sym c.in_ok-ranges.ensures)

@@ -11,8 +11,8 @@ loop-step-init c =
     (sym c.requires.steps)
     (walks_first t c.args.e c.args.at c.args.row c.args.left.now c.at_opening-prefix.result c.at_opening-prefix.ensures)
 
-pub returns-then-offset_of-at-clause-prefix : goal.returns-then-offset_of-at-clause-prefix
-returns-then-offset_of-at-clause-prefix c = λ prefix s behind is.
+pub returns-then-offset-at-clause-prefix : goal.returns-then-offset-at-clause-prefix
+returns-then-offset-at-clause-prefix c = λ prefix s behind is.
     let t = c.args.trace.now in
     let some = c.in-Some.ensures.some in
     let w = subst (λ (xs : List (ℕ × Step)). Walks t c.args.e c.args.at c.args.row c.args.left.now xs
@@ -20,10 +20,10 @@ returns-then-offset_of-at-clause-prefix c = λ prefix s behind is.
     c.loop-step.invariant in
     prefix_met t c.args.e c.args.at c.args.row c.args.left.now prefix s behind is some.0 c.next.new.self
     c.loop-step.prefix w
-    (sym (c.offset_of.ensures some.0 some.2) ∙ c.if-offset_of-at.true)
+    (sym (c.offset.ensures some.0 some.2) ∙ c.if-offset-at.true)
 
-pub returns-then-offset_of-at-clause-behind : goal.returns-then-offset_of-at-clause-behind
-returns-then-offset_of-at-clause-behind c = λ prefix s behind is.
+pub returns-then-offset-at-clause-behind : goal.returns-then-offset-at-clause-behind
+returns-then-offset-at-clause-behind c = λ prefix s behind is.
     let t = c.args.trace.now in
     let some = c.in-Some.ensures.some in
     let w = subst (λ (xs : List (ℕ × Step)). Walks t c.args.e c.args.at c.args.row c.args.left.now xs
@@ -31,7 +31,7 @@ returns-then-offset_of-at-clause-behind c = λ prefix s behind is.
     c.loop-step.invariant in
     behind_found t c.args.e c.args.at c.args.row c.args.left.now prefix s behind is some.0 c.next.new.self
     c.loop-step.prefix w
-    (sym (c.offset_of.ensures some.0 some.2) ∙ c.if-offset_of-at.true)
+    (sym (c.offset.ensures some.0 some.2) ∙ c.if-offset-at.true)
 
 pub after-prefix-requires : goal.after-prefix-requires
 after-prefix-requires c =
@@ -47,7 +47,7 @@ loop-step-preserved c =
     c.loop-step.invariant in
     walks_on t c.args.e c.args.at c.args.row c.args.left.now some.0 c.next.new.self c.loop-step.prefix
     c.after-prefix.result w
-    (λ same. c.if-offset_of-at.false (c.offset_of.ensures some.0 some.2 ∙ same))
+    (λ same. c.if-offset-at.false (c.offset.ensures some.0 some.2 ∙ same))
     (c.after-prefix.ensures t w.done some.0 w.is some.2)
 
 pub unreachable-requires : goal.unreachable-requires

@@ -12,7 +12,7 @@ use Rattle.eve_chains.specs.CommittedValues.{settling}
 use Rattle.eve_chains.proofs.CommittedChanges.{ranges_are, ranges_reach, each_reached_counted}
 use Rattle.eve_chains.proofs.ReachedChanges.{told_counted, told_among, numbers_told}
 use Rattle.eve_chains.proofs.TransferredRows.{views_have_rows}
-use Rattle.eve_chains.proofs.settled.Settled.of_ranges.Goals as goal
+use Rattle.eve_chains.proofs.settled.Settled.of.Goals as goal
 
 pub invariant_of-result : goal.invariant_of-result
 invariant_of-result c =
