@@ -6,7 +6,7 @@
 
 Three replicas run each batch with three workers, which lock the customers that they touch; three verifiers compare the
 replicas' tokens and vote. The mixer overlooks whom an amalgamate pays, so the replicas reply differently in batch 3,
-roll back, and run it again in index order. Replica 2 is down meanwhile, and takes over a state afterwards.
+roll back, and run it again in index order. Replica 2 is down meanwhile, and gets a state by a transfer afterwards.
 
 Workers, replicas and verifiers are generators: at each `yield` another may go on, drawn by lot. So a seed gives one
 run, byte for byte. examples/README.md has the bugs that can be planted, and what eve says of each.
@@ -211,7 +211,7 @@ class Replica:
                                  rest=packed("IQq", [(row, *self.committed[row]) for row in rows])))
 
     def take_over(self, seq):
-        """Waits until some replica has the state after a batch, and takes it over."""
+        """Waits until some replica has the state after a batch, and installs it."""
         wanted = seq - 1 if bug("stale-state") else seq
         while wanted not in self.bank.states:
             yield

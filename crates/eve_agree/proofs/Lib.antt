@@ -12,7 +12,7 @@ pub mod DiscardedAttempts
 pub mod RestoresInOrder
 pub mod RightRestores
 pub mod TokensInOrder
-mod Majorities
+mod MajorityFaults
 pub mod Replicas
 mod SpelledReplies
 mod AnsweredRequests

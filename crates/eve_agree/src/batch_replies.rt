@@ -52,8 +52,8 @@ impl<'a> BatchReplies<'a> {
         sent: &SentView<'_>,
     ) -> bool
         requires histories { histories.now ≡ section_histories trace.now }
-        requires fits
-        { IsTrue (is_sent (length trace.now.sections) (length trace.now.batches) (sent_decoded sent.now)) }
+        requires fits { IsTrue (is_sent (length trace.now.sections) (length trace.now.batches)
+            (sent_decoded sent.now)) }
         requires text { sent.now.bytes.now ≡ frame_text (OfSent (sent_decoded sent.now)) }
         requires old { AreRepliesOf trace.now self.old }
         ensures new { AreRepliesOf trace.now self.new }
@@ -66,8 +66,8 @@ impl<'a> BatchReplies<'a> {
     /// Turns to the batch of a reply that was sent, if another is at hand.
     fn turn_to(&mut self, trace: &Trace<'_>, histories: &[History<'a>], sent: &SentView<'_>)
         requires histories { histories.now ≡ section_histories trace.now }
-        requires fits
-        { IsTrue (is_sent (length trace.now.sections) (length trace.now.batches) (sent_decoded sent.now)) }
+        requires fits { IsTrue (is_sent (length trace.now.sections) (length trace.now.batches)
+            (sent_decoded sent.now)) }
         requires old { AreRepliesOf trace.now self.old }
         ensures new { AreRepliesOf trace.now self.new }
         ensures replica { self.new.replica ≡ (sent_decoded sent.now).replica }

@@ -119,7 +119,8 @@ impl BatchRequestIds {
         requires { self.now.count ≤ MOST_REQUESTS }
         ensures below { IsTrue result → i < MOST_REQUESTS }
         ensures asks { IsTrue result
-            ↔ (slice_get (kept_ids self.now) i ≡ Some ((sent_decoded sent.now).client, (sent_decoded sent.now).number)) }
+            ↔ (slice_get (kept_ids self.now) i
+            ≡ Some ((sent_decoded sent.now).client, (sent_decoded sent.now).number)) }
     {
         if i >= self.count {
             return false;

@@ -286,7 +286,7 @@ impl Ledger {
         })
     }
 
-    /// Takes over a state of a batch that isn't committed here, in a view that isn't behind: rows, number and view are
+    /// Applies a state of a batch that isn't committed here, in a view that isn't behind: rows, number and view are
     /// its, nothing is open any more, and the next attempt is parallel. It takes no memory.
     ///
     /// docs/MODEL.md, "Section state, fate". `NotDue` comes where the state is of no later batch or of an earlier view,

@@ -5,7 +5,8 @@ ghost use Rattle.std.specs.Thread.{IsSync};
 ghost use Rattle.eve_views.specs.declared.fault.CheckFault.TheVariants.{Memory};
 ghost use Rattle.eve_history.specs.SectionHistory.{names_of};
 ghost use Rattle.eve_audit.specs.declared.findings.Finding.{Finding as FindingValue};
-ghost use Rattle.eve_audit.specs.inner.Findings.{AreTrueSoFar, AreTrue, IsAnswerOf, IsAnswerBeforeTokens, AreOfReplicas};
+ghost use Rattle.eve_audit.specs.inner.Findings.{AreTrueSoFar, AreTrue, IsAnswerOf, IsAnswerBeforeTokens};
+ghost use Rattle.eve_audit.specs.inner.Findings.{AreOfReplicas};
 ghost use Rattle.eve_audit.specs.inner.Peers.{IsSoundPeer};
 
 use crate::replicas::{Report, report_before_tokens};

@@ -43,8 +43,8 @@ impl<'a> Report<'a> {
         }
     }
 
-    /// Judges the tokens of the replica, which is sound otherwise: beside another replica whose tokens are due, if there
-    /// is one, in one thread; else by themselves in up to `jobs` threads, at least 1.
+    /// Judges the tokens of the replica, which is sound otherwise: beside another replica whose tokens are due, if
+    /// there is one, in one thread; else by themselves in up to `jobs` threads, at least 1.
     pub fn check_tokens<R: Threads + Sync>(
         &self,
         rt: &R,

@@ -71,7 +71,7 @@ impl<'n> Floor<'n> {
         }
     }
 
-    /// Takes over a state: each row that the state has gets its version and its value, committed and now, and nothing
+    /// Applies a state: each row that the state has gets its version and its value, committed and now, and nothing
     /// is journaled any more, in all stripes. It takes no memory and can't be refused.
     ///
     /// docs/MODEL.md, "Executions". No version of the state is above `MOST_VERSIONS`.

@@ -322,7 +322,7 @@ impl<'n> Replica<'n> {
         Ok(commit)
     }
 
-    /// Takes over a state that another replica committed: rows, number and view are its, nothing is open, and the next
+    /// Applies a state that another replica committed: rows, number and view are its, nothing is open, and the next
     /// attempt is parallel. It takes no memory and waits for nobody.
     ///
     /// docs/TRACE.md, "Version 2". The state has each row of the replica, and its versions are at most `MOST_VERSIONS`:

@@ -162,7 +162,7 @@ impl<'n> Server<'n> {
         }
     }
 
-    /// Takes over the state of the batch that is next, which another replica has committed. One that has committed the
+    /// Applies the state of the batch that is next, which another replica has committed. One that has committed the
     /// batch too stays as it is.
     pub(crate) fn apply_transfer_or_stay(
         &mut self,

@@ -9,7 +9,7 @@ use eve_grammar::TransferData;
 use eve_smallbank::Versioned;
 
 impl Stripe {
-    /// Takes over a state: each row of the stripe that the state has gets its version and its value, in the committed
+    /// Applies a state: each row of the stripe that the state has gets its version and its value, in the committed
     /// base and as the row is now. The journal is empty then, and the greatest tick stays. It takes no memory.
     ///
     /// docs/MODEL.md, "Stripe". No version of the state is above `MOST_VERSIONS`.

@@ -36,7 +36,7 @@ pub fn replay_beside(case: &Case, section: u8, said: &mut Text)
     end(case.alloc, &mut second, said);
 }
 
-/// Takes over what the first ledger has committed, and tells what came of it. Then neither that state is due any more,
+/// Transfers what the first ledger has committed, and tells what came of it. Then neither that state is due any more,
 /// nor a later one of an earlier view.
 fn apply_transfer(alloc: Global, first: &Ledger, second: &mut Ledger, said: &mut Text) {
     let Some(rows) = said.made(state_of(alloc, first)) else {

@@ -166,8 +166,8 @@ fn six_of<'a>(words: &[&'a [u8]]) -> Six<'a>
 }
 
 fn batch_line<'a>(kind: &[u8]) -> Option<Line<'a>>
-    ensures some
-    { IfSome result (λ l. (line_words (line_decoded l) ≡ kind.now ∷ []) × IsTrue (is_line (line_decoded l))) }
+    ensures some { IfSome result (λ l. (line_words (line_decoded l) ≡ kind.now ∷ [])
+        × IsTrue (is_line (line_decoded l))) }
     ensures none { IfNone result (codes "batch" ≢ kind.now) }
 {
     if says(kind, b"batch") {

@@ -2,7 +2,7 @@ use Rattle.std.proofs.Common.{◌≡◌, [], sym, subst, rules}
 use Rattle.eve_grammar.specs.Trace.{Trace}
 use Rattle.eve_agree.specs.Majority.{IsBacked}
 use Rattle.eve_agree.specs.inner.Unbacked.{IsUnbacked}
-use Rattle.eve_agree.proofs.Majorities.{AreLeft, left_first, left_next, left_fault}
+use Rattle.eve_agree.proofs.MajorityFaults.{AreLeft, left_first, left_next, left_fault}
 use Rattle.eve_agree.proofs.majority.first_in.Goals as goal
 
 pub loop-step-init : goal.loop-step-init

@@ -1,5 +1,5 @@
 use Rattle.std.proofs.Common.{length}
-use Rattle.eve_agree.proofs.Majorities.{AreLeft}
+use Rattle.eve_agree.proofs.MajorityFaults.{AreLeft}
 use Rattle.eve_agree.proofs.majority.first_in.Given as goal
 
 abbrev pub invariant-loop-step : goal.invariant-loop-step

@@ -1,5 +1,5 @@
 use Rattle.eve_frames.specs.Views.{commit_in}
-use Rattle.eve_agree.proofs.Majorities.{decided_from, decided_with, decided_elsewhere, decided_nowhere}
+use Rattle.eve_agree.proofs.MajorityFaults.{decided_from, decided_with, decided_elsewhere, decided_nowhere}
 use Rattle.std.proofs.Common.{refl, false, ◌==◌}
 use Rattle.eve_agree.proofs.majority.is_decided.Goals as goal
 

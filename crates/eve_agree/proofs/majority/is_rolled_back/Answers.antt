@@ -1,5 +1,5 @@
 use Rattle.eve_frames.specs.Views.{rollback_in}
-use Rattle.eve_agree.proofs.Majorities.{rolled_from}
+use Rattle.eve_agree.proofs.MajorityFaults.{rolled_from}
 use Rattle.eve_agree.proofs.majority.is_rolled_back.Goals as goal
 
 pub returns : goal.returns

@@ -1,5 +1,5 @@
 use Rattle.eve_frames.specs.Views.{transfer_in}
-use Rattle.eve_agree.proofs.Majorities.{some_decided_with, some_decided_nowhere}
+use Rattle.eve_agree.proofs.MajorityFaults.{some_decided_with, some_decided_nowhere}
 use Rattle.eve_agree.proofs.majority.is_some_decided.Goals as goal
 
 pub returns : goal.returns

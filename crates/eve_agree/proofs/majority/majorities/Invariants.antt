@@ -1,4 +1,4 @@
-use Rattle.eve_agree.proofs.Majorities.{IsFirstUnbackedBelow}
+use Rattle.eve_agree.proofs.MajorityFaults.{IsFirstUnbackedBelow}
 use Rattle.eve_agree.proofs.majority.majorities.Given as goal
 
 abbrev pub invariant-loop-history : goal.invariant-loop-history

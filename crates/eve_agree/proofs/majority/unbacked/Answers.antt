@@ -1,4 +1,4 @@
-use Rattle.eve_agree.proofs.Majorities.{commit_located, rollback_located, transfer_located}
+use Rattle.eve_agree.proofs.MajorityFaults.{commit_located, rollback_located, transfer_located}
 use Rattle.eve_agree.proofs.majority.unbacked.Goals as goal
 
 pub returns-then-is_decided-clause-backed : goal.returns-then-is_decided-clause-backed

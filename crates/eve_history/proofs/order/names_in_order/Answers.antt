@@ -64,7 +64,7 @@ loop-i-preserved c =
     let decoded : ℕ × Customer = (c.customer-customer.result.offset, customer_in c.customer-customer.result.bytes.now)
     in
     let new : ¬ Contains c.loop-i.names.items (name_in decoded) =
-    subst (λ (n : List ℕ). ¬ Contains c.loop-i.names.items n) c.name.ensures c.in-Ok.ensures.transferred.new in
+    subst (λ (n : List ℕ). ¬ Contains c.loop-i.names.items n) c.name.ensures c.in-Ok.ensures.taken.new in
     let added : c.add.new.self ≡ record c.loop-i.names { items = c.loop-i.names.items ++ name_in decoded ∷ [] } =
     c.in-Ok.ensures.added ∙ ap (λ (n : List ℕ). with_name c.loop-i.names n) c.name.ensures in
     naming_more t c.loop-i.i c.loop-i.names c.add.new.self decoded c.loop-i.invariant c.customer-customer.ensures.says
