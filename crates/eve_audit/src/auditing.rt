@@ -24,13 +24,13 @@ use eve_accounts::Names;
 use eve_agree::{equal_balances, majorities, replies_side_by_side};
 use eve_chains::Settled;
 use eve_chains::laws::requests_take_effect_once;
+use eve_gate::Gate;
 use eve_grammar::MOST_AUDIT_WORKERS;
 use eve_grammar::laws::{
     bytes_are_as_long_as_their_trace, bytes_spell_one_trace, right_heads_have_limits,
 };
 use eve_history::laws::{faults_lie_within, outcomes_come_of_steps};
 use eve_history::{History, orders};
-use eve_recorder::Gate;
 use eve_views::laws::parts_stand_in_order;
 use eve_views::{CheckFault, Trace};
 use eve_votes::Tally;

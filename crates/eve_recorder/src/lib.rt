@@ -3,7 +3,6 @@
 #![tactic(auto)]
 
 mod drawn;
-mod gate;
 mod limits;
 mod passes;
 mod recorder;
@@ -16,7 +15,7 @@ mod ticket_seats;
 mod tickets;
 mod worker_seat;
 
-pub use gate::{Gate, OpenGate};
+pub use eve_gate::{Gate, OpenGate};
 pub use limits::{MOST_DRAWN, MOST_QUEUED, MOST_SEATS};
 pub use recorder::{NoteFault, Recorder};
 pub use seats::Seats;

@@ -2,7 +2,7 @@
 
 use crate::audits::by_workers;
 use eve_audit::Verdict;
-use eve_recorder::Gate;
+use eve_gate::Gate;
 use eve_testing::Text;
 use std::random::RandomSource;
 use std::sync::Wait;
