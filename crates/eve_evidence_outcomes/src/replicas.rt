@@ -1,13 +1,16 @@
 //! Replicas by their numbers: what their sections tell, and what they settled.
 
-ghost use Rattle.std.specs.Prelude.{◌≡◌, ◌<◌, IfOk, length};
-ghost use Rattle.eve_history.specs.SectionHistory.{section_history, section_histories};
+ghost use Rattle.std.specs.Prelude.{◌≡◌, ◌<◌, ◌≤◌, ℕ, IfOk, length};
+ghost use Rattle.eve_history.specs.SectionHistory.{names_of, section_history, section_histories};
 ghost use Rattle.eve_chains.specs.CommittedValues.{settling, settlings};
+ghost use Rattle.eve_chains.specs.Faults.{HasNoFault};
 
-use eve_chains::Settled;
+use eve_accounts::Names;
+use eve_chains::{Settled, check};
 use eve_history::History;
-use eve_views::Trace;
+use eve_views::{CheckFault, Trace};
 use std::alloc::{AllocError, Global};
+use std::thread::Threads;
 
 /// What replica e's section tells, of what all replicas' tell.
 pub(crate) fn history_at<'h, 'a>(
@@ -37,22 +40,54 @@ pub(crate) fn settled_at<'h, 'a>(
     own
 }
 
-/// What all replicas settled, in their order, by what their sections tell.
+/// What a replica settled in whose section no fault of records or chains stands.
 ///
-/// It takes the opening balances for each replica, and what its batches changed.
-pub fn settled_of<'a>(
+/// Its records and its rows are judged in up to `jobs` threads, at least 1, as `check` does.
+pub fn settled_of<'a, R: Threads + Sync>(
+    rt: &R,
+    alloc: Global,
+    trace: &Trace<'_>,
+    history: &History<'a>,
+    names: &Names<'_>,
+    jobs: u8,
+) -> Result<Settled<'a>, AllocError>
+    requires history { history.now ≡ section_history trace.now history.now.replica }
+    requires none { HasNoFault trace.now history.now.replica }
+    requires names { names.now.items ≡ names_of trace.now }
+    requires jobs { 1 ≤ jobs }
+    ensures { IfOk result (λ settled. settled ≡ settling trace.now history.now.replica) }
+{
+    match check(rt, alloc, history, trace, names, jobs) {
+        Ok(settled) => Ok(settled),
+        Err(CheckFault::Found(_)) => unreachable!(),
+        Err(CheckFault::Memory) => Err(AllocError),
+    }
+}
+
+/// What all replicas settled, in their order, where no fault of records or chains stands in any section.
+///
+/// It takes the opening balances for each replica, and what its batches changed; the replicas are judged one after
+/// another, each as `settled_of` does.
+pub fn all_settled<'a, R: Threads + Sync>(
+    rt: &R,
     alloc: Global,
     trace: &Trace<'_>,
     histories: &[History<'a>],
+    names: &Names<'_>,
+    jobs: u8,
 ) -> Result<Vec<Settled<'a>>, AllocError>
-    requires { histories.now ≡ section_histories trace.now }
+    requires histories { histories.now ≡ section_histories trace.now }
+    requires none { (e : ℕ) → e < length trace.now.sections → HasNoFault trace.now e }
+    requires names { names.now.items ≡ names_of trace.now }
+    requires jobs { 1 ≤ jobs }
     ensures { IfOk result (λ ss. ss.items ≡ settlings trace.now) }
 {
     trace.recall_limits();
-    let mut settled = Vec::new(alloc);
+    let mut all = Vec::new(alloc);
     for e in 0..trace.section_count() {
-        let one = Settled::of(alloc, history_at(trace, histories, e), trace)?;
-        settled.push(one)?;
+        let history = history_at(trace, histories, e);
+        let settled = settled_of(rt, alloc, trace, history, names, jobs)?;
+        all.push(settled)?;
     }
-    Ok(settled)
+    Ok(all)
 }

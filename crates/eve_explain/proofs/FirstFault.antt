@@ -29,7 +29,7 @@ use Rattle.eve_audit.specs.Verdict.{IsOwnFault, of_structure, of_records, of_cha
 use Rattle.eve_audit.specs.Verdict.{IsTraceFault, in_section, Stands, in_form, in_trace, Masks, IsJudged, IsFirst}
 use Rattle.eve_audit.proofs.Phases.{form_phase, structure_phase, record_phase, chain_phase, restore_phase, token_phase}
 use Rattle.eve_evidence.specs.Section.{StandsAlong}
-use Rattle.eve_explain.specs.inner.Behind.{IsFirstInTrace, IsBehindSection}
+use Rattle.eve_explain.specs.inner.Behind.{IsFirstInTrace, IsBehind}
 use Rattle.eve_explain.specs.Explained.{is_of_majority, is_of_orders, is_told_along}
 use Rattle.eve_explain.proofs.Phases.{orders_phase, along_phase, majority_code_phase, some_phase, orders_in, own_in}
 use Rattle.eve_explain.proofs.Phases.{restores_in, tokens_in, votes_in, majorities_in, agreement_in, replies_in}
@@ -142,31 +142,29 @@ module _ (one : OneTrace) (t : Trace) (f : Fault) (first : IsFirstInTrace t f) w
 
   -- ---- what doesn't stand before it
 
-  -- a fault behind right sections has none of structure before it
-  pub no_structure : (e : ℕ) → IsBehindSection f e → e < length t.sections
-      → HasNone (IsFaultIn StandsInStructure t e)
+  -- a fault that stands behind a phase of a replica's has none of that phase, nor of one before it, in its section
+  none_behind : (phase e : ℕ) → phase ≤ 7 → IsBehind phase f e → (g : Fault) → (e < length t.sections)
+      → IsOwnFault t e g → phase_of g.code ≤ phase → g.replica ≡ Some e → ⊥
+  none_behind phase e own behind g there is early inside =
+      first.2.judged.alone g (in_trace t first.1 (in_section (e, there, is))) (masks behind)
+    where
+      masks : IsBehind phase f e → Masks g f
+      masks (inl far) = (omega (arith, own, early, far), λ low high. absurd (omega (arith, far, high)))
+      masks (inr later) = (omega (arith, early, later.0), λ low high. inside ∙ sym later.1)
+
+  -- none of structure
+  pub no_structure : (e : ℕ) → IsBehind 3 f e → e < length t.sections → HasNone (IsFaultIn StandsInStructure t e)
   no_structure e behind there g is =
-      first.2.judged.alone g (in_trace t first.1 (in_section (e, there, of_structure is))) (masks behind)
-    where
-      three : phase_of g.code ≡ 3
-      three = structure_phase t e g is
+      none_behind 3 e (omega arith) behind g there (of_structure is) (omega (arith, structure_phase t e g is)) is.inside
 
-      masks : IsBehindSection f e → Masks g f
-      masks (inl far) = (omega (arith, three, far), λ low high. absurd (omega (arith, far, high)))
-      masks (inr later) = (omega (arith, three, later.0), λ low high. is.inside ∙ sym later.1)
-
-  -- a fault of restores has none of records or chains before it in its section
-  pub none_before_restores : phase_of f.code ≡ 6 → (e : ℕ) → f.replica ≡ Some e → e < length t.sections
-      → HasNoFault t e
-  none_before_restores six e named there = record {
-    records = λ g is. first.2.judged.alone g (in_trace t first.1 (in_section (e, there, of_records is)))
-        (earlier g (omega (arith, record_phase t e g is)) is.inside);
-    chains = λ g is. first.2.judged.alone g (in_trace t first.1 (in_section (e, there, of_chains is)))
-        (earlier g (omega (arith, chain_phase t e g is)) is.inside);
+  -- none of records or chains
+  pub no_records_or_chains : (e : ℕ) → IsBehind 5 f e → e < length t.sections → HasNoFault t e
+  no_records_or_chains e behind there = record {
+    records = λ g is. none_behind 5 e (omega arith) behind g there (of_records is)
+        (omega (arith, record_phase t e g is)) is.inside;
+    chains = λ g is. none_behind 5 e (omega arith) behind g there (of_chains is)
+        (omega (arith, chain_phase t e g is)) is.inside;
   }
-    where
-      earlier : (g : Fault) → phase_of g.code < 6 → g.replica ≡ Some e → Masks g f
-      earlier g lt inside = (omega (arith, six, lt), λ low high. inside ∙ sym named)
 
   -- of a replica's certificate it has none of the same attempt beside it
   certificate_apart : (e : ℕ) → e < length t.sections → f.replica ≡ Some e → f.code ≡ code.Certificate

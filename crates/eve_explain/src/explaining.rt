@@ -9,7 +9,7 @@ ghost use Rattle.eve_audit.specs.declared.verdict.Verdict.TheVariants.{Yes, No};
 ghost use Rattle.eve_audit.specs.Verdict.{IsFirst, IsVerdict, SpellsAudited};
 ghost use Rattle.eve_audit.specs.Where.{NamesItsSection};
 ghost use Rattle.eve_grammar.specs.Trace.{Trace as TraceValue};
-ghost use Rattle.eve_history.specs.SectionHistory.{names_of, section_histories};
+ghost use Rattle.eve_history.specs.SectionHistory.{section_histories};
 ghost use Rattle.std.specs.Prelude.{Some, IsTrue};
 ghost use Rattle.eve_evidence.specs.Section.{TellsAlong};
 ghost use Rattle.eve_explain.specs.inner.Behind.{IsFirstInTrace};
@@ -17,45 +17,25 @@ ghost use Rattle.eve_explain.specs.Explained.{is_told_along, verdict_in};
 ghost use Rattle.eve_explain.specs.Explained.{IsEvidence, IsEvidenceOf, IsExplained};
 
 use crate::explained::Explained;
+use crate::names::names_in_order;
 use crate::outcomes::{
     evidence_of_majority, evidence_of_outcome, evidence_of_reply, evidence_of_restore,
     evidence_of_state, evidence_of_token,
 };
 use crate::phase::{is_of_majority, is_of_orders, is_told_along};
-use eve_accounts::Names;
 use eve_audit::{AcceptedTrace, AuditFault, WholeVerdict, audit_whole};
 use eve_evidence::laws::faults_stand_along_the_section;
 use eve_evidence::{Evidence, section_evidence};
 use eve_evidence_form::{form_evidence, trace_evidence};
 use eve_evidence_outcomes::{counts, decisions_evidence, voted_again};
+use eve_gate::Gate;
 use eve_grammar::MOST_AUDIT_WORKERS;
 use eve_grammar::laws::bytes_spell_one_trace;
-use eve_recorder::Gate;
 use eve_views::{CheckFault, Code, Fault, Trace};
 use std::alloc::{AllocError, Global};
 use std::hash::RandomState;
 use std::sync::Wait;
 use std::thread::Threads;
-
-/// The customers of a trace by name, in their order.
-fn names_in_order<'a>(
-    alloc: Global,
-    trace: &Trace<'a>,
-    random: RandomState,
-) -> Result<Names<'a>, AllocError>
-    ensures { IfOk result (λ names. names.items ≡ names_of trace.now) }
-{
-    trace.recall_limits();
-    let mut names = Names::new(alloc, random, trace.customer_count());
-    for i in 0..trace.customer_count() {
-        // No other fault than of memory can come: names are right, differ, and have room.
-        match names.add(trace.customer(i).name()) {
-            Ok(_) => {}
-            Err(_) => return Err(AllocError),
-        }
-    }
-    Ok(names)
-}
 
 /// The evidence of a fault along the section of the replica that it names.
 fn evidence_along<'a>(
@@ -78,14 +58,17 @@ fn evidence_along<'a>(
     section_evidence(alloc, trace, &names, e, fault.code, fault.offset)
 }
 
-/// The evidence of a fault in the trace.
-fn evidence_in<'a>(
+/// The evidence of a fault in the trace, in up to `jobs` threads where records and chains are judged for it.
+fn evidence_in<'a, R: Threads + Sync>(
+    rt: &R,
     alloc: Global,
     trace: &Trace<'a>,
     fault: &Fault,
     random: RandomState,
+    jobs: u8,
 ) -> Result<Evidence<'a>, AllocError>
-    requires { IsFirstInTrace trace.now fault.now }
+    requires first { IsFirstInTrace trace.now fault.now }
+    requires jobs { 1 ≤ jobs }
     ensures { IfOk result (IsEvidence trace.now fault.now) }
 {
     bytes_spell_one_trace();
@@ -102,44 +85,50 @@ fn evidence_in<'a>(
         Code::TwoVotes => Ok(Evidence::TwoVotes(voted_again(trace, fault.offset))),
         Code::TwoDecisions => decisions_evidence(alloc, trace, fault.offset),
         Code::Restore => evidence_of_restore(alloc, trace, fault),
-        Code::Token => evidence_of_token(alloc, trace, fault),
-        Code::Outcome => evidence_of_outcome(alloc, trace, fault),
-        Code::TransferBalances => evidence_of_state(alloc, trace, fault),
+        Code::Token => evidence_of_token(rt, alloc, trace, fault, random, jobs),
+        Code::Outcome => evidence_of_outcome(rt, alloc, trace, fault, random, jobs),
+        Code::TransferBalances => evidence_of_state(rt, alloc, trace, fault, random, jobs),
         Code::Reply => evidence_of_reply(alloc, trace, fault),
         _ => Ok(Evidence::Untold),
     }
 }
 
 /// The evidence of the first fault of these bytes.
-fn evidence_of<'a>(
+fn evidence_of<'a, R: Threads + Sync>(
+    rt: &R,
     alloc: Global,
     bytes: &'a [u8],
     fault: &Fault,
     random: RandomState,
+    jobs: u8,
 ) -> Result<Evidence<'a>, AllocError>
-    requires { IsFirst bytes.now fault.now }
+    requires first { IsFirst bytes.now fault.now }
+    requires jobs { 1 ≤ jobs }
     ensures { IfOk result (IsEvidenceOf bytes.now fault.now) }
 {
     bytes_spell_one_trace();
     match Trace::read(alloc, bytes) {
-        Ok(trace) => evidence_in(alloc, &trace, fault, random),
+        Ok(trace) => evidence_in(rt, alloc, &trace, fault, random, jobs),
         Err(CheckFault::Found(_)) => Ok(form_evidence(bytes, fault)),
         Err(CheckFault::Memory) => Err(AllocError),
     }
 }
 
 /// A no with the evidence of its fault.
-fn explained_no<'a>(
+fn explained_no<'a, R: Threads + Sync>(
+    rt: &R,
     alloc: Global,
     bytes: &'a [u8],
     fault: &Fault,
     random: RandomState,
+    jobs: u8,
 ) -> Result<Explained<'a>, AuditFault>
-    requires { IsFirst bytes.now fault.now }
+    requires first { IsFirst bytes.now fault.now }
+    requires jobs { 1 ≤ jobs }
     ensures no { IfOk result (λ x. verdict_in x ≡ No fault.now) }
     ensures explained { IfOk result (IsExplained bytes.now) }
 {
-    match evidence_of(alloc, bytes, fault, random) {
+    match evidence_of(rt, alloc, bytes, fault, random, jobs) {
         Ok(evidence) => Ok(Explained::No(*fault, evidence)),
         Err(AllocError) => Err(AuditFault::Memory),
     }
@@ -160,7 +149,8 @@ fn explained_yes<'a>(accepted: &AcceptedTrace<'_>) -> Explained<'a>
 /// what shows it: what is wrong at the frame that the fault names, what was due there, and what says so.
 ///
 /// docs/MODEL.md, "Verdict" and "Evidence". Refused memory decides nothing. The trace is audited first. Only where the
-/// verdict is no it is read again, and once more gone through up to the fault.
+/// verdict is no it is read again, and once more gone through up to the fault. For Token the records and chains of the
+/// replica are judged once more, for Outcome and TransferBalances those of all replicas.
 pub fn explain<'a, R: Threads + Wait + Sync, G: Gate>(
     rt: &R,
     alloc: Global,
@@ -178,7 +168,7 @@ pub fn explain<'a, R: Threads + Wait + Sync, G: Gate>(
 {
     match audit_whole(rt, alloc, bytes, workers, random, gate) {
         Ok(WholeVerdict::Yes(accepted)) => Ok(explained_yes(&accepted)),
-        Ok(WholeVerdict::No(fault)) => explained_no(alloc, bytes, &fault, random),
+        Ok(WholeVerdict::No(fault)) => explained_no(rt, alloc, bytes, &fault, random, workers),
         Err(why) => Err(why),
     }
 }

@@ -3,6 +3,7 @@
 
 mod explained;
 mod explaining;
+mod names;
 mod outcomes;
 mod phase;
 mod replicas;

@@ -1,6 +1,6 @@
 //! Evidence of restores, of tokens, of majorities, of what replicas come to together, and of replies that were sent.
 
-ghost use Rattle.std.specs.Prelude.{◌≡◌, ℕ, IfOk, IsTrue, Some};
+ghost use Rattle.std.specs.Prelude.{◌≡◌, ◌≤◌, ℕ, IfOk, IsTrue, Some};
 ghost use Rattle.eve_views.specs.declared.fault.Code.TheVariants as code;
 ghost use Rattle.eve_evidence_outcomes.specs.Majority.{TellsMajority};
 ghost use Rattle.eve_evidence_outcomes.specs.Outcome.{TellsOutcome};
@@ -11,17 +11,19 @@ ghost use Rattle.eve_evidence_outcomes.specs.Token.{TellsToken};
 ghost use Rattle.eve_explain.specs.inner.Behind.{IsFirstInTrace};
 ghost use Rattle.eve_explain.specs.Explained.{is_of_majority};
 
+use crate::names::names_in_order;
 use crate::replicas::{histories_of, history_of};
-use eve_chains::Settled;
 use eve_evidence::Evidence;
 use eve_evidence_outcomes::{
-    majority_evidence, outcome_evidence, reply_evidence, restore_evidence, settled_of,
+    all_settled, majority_evidence, outcome_evidence, reply_evidence, restore_evidence, settled_of,
     state_evidence, token_evidence,
 };
 use eve_grammar::laws::bytes_spell_one_trace;
 use eve_history::laws::right_sections_have_no_fault;
 use eve_views::{Fault, Trace};
 use std::alloc::{AllocError, Global};
+use std::hash::RandomState;
+use std::thread::Threads;
 
 /// The evidence of a step that no majority voted for.
 pub(crate) fn evidence_of_majority<'a>(trace: &Trace<'a>, fault: &Fault) -> Evidence<'a>
@@ -56,13 +58,17 @@ pub(crate) fn evidence_of_restore<'a>(
 }
 
 /// The evidence of a token that isn't due.
-pub(crate) fn evidence_of_token<'a>(
+pub(crate) fn evidence_of_token<'a, R: Threads + Sync>(
+    rt: &R,
     alloc: Global,
     trace: &Trace<'a>,
     fault: &Fault,
+    random: RandomState,
+    jobs: u8,
 ) -> Result<Evidence<'a>, AllocError>
     requires first { IsFirstInTrace trace.now fault.now }
     requires token { fault.now.code ≡ code.Token }
+    requires jobs { 1 ≤ jobs }
     ensures { IfOk result (λ x. (e : ℕ) → fault.now.replica ≡ Some e → TellsToken trace.now e fault.now.offset x) }
 {
     bytes_spell_one_trace();
@@ -70,9 +76,8 @@ pub(crate) fn evidence_of_token<'a>(
         return Ok(Evidence::Untold);
     };
     let history = history_of(alloc, trace, fault, e)?;
-    let Ok(settled) = Settled::of(alloc, &history, trace) else {
-        return Err(AllocError);
-    };
+    let names = names_in_order(alloc, trace, random)?;
+    let settled = settled_of(rt, alloc, trace, &history, &names, jobs)?;
     token_evidence(alloc, trace, &history, &settled, fault.offset)
 }
 
@@ -92,13 +97,17 @@ pub(crate) fn evidence_of_reply<'a>(
 }
 
 /// The evidence of an outcome that isn't that of the first replica that committed the batch.
-pub(crate) fn evidence_of_outcome<'a>(
+pub(crate) fn evidence_of_outcome<'a, R: Threads + Sync>(
+    rt: &R,
     alloc: Global,
     trace: &Trace<'a>,
     fault: &Fault,
+    random: RandomState,
+    jobs: u8,
 ) -> Result<Evidence<'a>, AllocError>
     requires first { IsFirstInTrace trace.now fault.now }
     requires outcome { fault.now.code ≡ code.Outcome }
+    requires jobs { 1 ≤ jobs }
     ensures { IfOk result (λ x. (e : ℕ) → fault.now.replica ≡ Some e → TellsOutcome trace.now e fault.now.offset x) }
 {
     bytes_spell_one_trace();
@@ -106,20 +115,23 @@ pub(crate) fn evidence_of_outcome<'a>(
         return Ok(Evidence::Untold);
     };
     let histories = histories_of(alloc, trace, fault)?;
-    let Ok(settled) = settled_of(alloc, trace, &histories) else {
-        return Err(AllocError);
-    };
+    let names = names_in_order(alloc, trace, random)?;
+    let settled = all_settled(rt, alloc, trace, &histories, &names, jobs)?;
     outcome_evidence(alloc, trace, &histories, &settled, e, fault.offset)
 }
 
 /// The evidence of a state that was transferred and isn't the one that was committed.
-pub(crate) fn evidence_of_state<'a>(
+pub(crate) fn evidence_of_state<'a, R: Threads + Sync>(
+    rt: &R,
     alloc: Global,
     trace: &Trace<'a>,
     fault: &Fault,
+    random: RandomState,
+    jobs: u8,
 ) -> Result<Evidence<'a>, AllocError>
     requires first { IsFirstInTrace trace.now fault.now }
     requires state { fault.now.code ≡ code.TransferBalances }
+    requires jobs { 1 ≤ jobs }
     ensures { IfOk result (λ x. (e : ℕ) → fault.now.replica ≡ Some e → TellsState trace.now e fault.now.offset x) }
 {
     bytes_spell_one_trace();
@@ -127,8 +139,7 @@ pub(crate) fn evidence_of_state<'a>(
         return Ok(Evidence::Untold);
     };
     let histories = histories_of(alloc, trace, fault)?;
-    let Ok(settled) = settled_of(alloc, trace, &histories) else {
-        return Err(AllocError);
-    };
+    let names = names_in_order(alloc, trace, random)?;
+    let settled = all_settled(rt, alloc, trace, &histories, &names, jobs)?;
     state_evidence(alloc, trace, &histories, &settled, e, fault.offset)
 }

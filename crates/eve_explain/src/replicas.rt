@@ -3,7 +3,7 @@
 ghost use Rattle.std.specs.Prelude.{◌≡◌, ◌<◌, IfOk, length};
 ghost use Rattle.eve_views.specs.Code.{phase_of};
 ghost use Rattle.eve_history.specs.SectionHistory.{section_history, section_histories};
-ghost use Rattle.eve_explain.specs.inner.Behind.{IsFirstInTrace, IsBehindSection};
+ghost use Rattle.eve_explain.specs.inner.Behind.{IsFirstInTrace, IsBehind};
 
 use eve_grammar::laws::bytes_spell_one_trace;
 use eve_history::History;
@@ -19,7 +19,7 @@ pub(crate) fn history_of<'a>(
     e: u8,
 ) -> Result<History<'a>, AllocError>
     requires first { IsFirstInTrace trace.now fault.now }
-    requires behind { IsBehindSection fault.now e }
+    requires behind { IsBehind 3 fault.now e }
     requires there { e < length trace.now.sections }
     ensures history { IfOk result (λ h. h ≡ section_history trace.now e) }
     ensures replica { IfOk result (λ h. h.replica ≡ e) }

@@ -124,7 +124,7 @@ fn tell_sent_again<R: AllocGlobal + RandomSource + Threads + Wait + Sync>(
     tell(rt, page, "a reply sent twice", &twice, NOWHERE);
     let all = sent_again(rt.alloc(), trace.written(), 8 * 28 * 256);
     tell(rt, page, "all replies sent twice", &all, NOWHERE);
-    tell_call(rt.alloc(), page, &all, &ALL_TWICE);
+    tell_call(rt, page, &all, &ALL_TWICE);
 }
 
 /// What is asked of the widest trace as it is.
@@ -151,7 +151,7 @@ fn tell_widest<R: AllocGlobal + RandomSource + Threads + Wait + Sync>(rt: &R, pa
     };
     page.words(size);
     tell(rt, page, "widest", &trace, NOWHERE);
-    tell_call(rt.alloc(), page, &trace, &AS_IT_IS);
+    tell_call(rt, page, &trace, &AS_IT_IS);
     tell_changes(rt, page, &mut trace);
     tell_sent_again(rt, page, &trace);
 }

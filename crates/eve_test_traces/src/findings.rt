@@ -3,24 +3,27 @@
 use crate::audits::keys;
 use crate::frames::push_frames;
 use crate::histories::{agreement, push_findings};
-use crate::one_thread::push_served_all;
+use crate::one_thread::push_run;
+use eve_history::orders;
 use eve_testing::Text;
 use eve_views::{CheckFault, Fault, Trace};
-use std::alloc::Global;
 use std::hash::RandomState;
 use std::random::RandomSource;
+use std::thread::Threads;
 
 /// All of it, up to the first fault.
-fn push_all(
+fn push_all<R: AllocGlobal + Threads + Sync>(
     text: &mut Text,
-    alloc: Global,
+    rt: &R,
     bytes: &[u8],
     random: RandomState,
 ) -> Result<(), CheckFault> {
-    let trace = Trace::read(alloc, bytes)?;
+    let trace = Trace::read(rt.alloc(), bytes)?;
     push_frames(text, &trace);
-    push_findings(text, alloc, &trace)?;
-    push_served_all(text, alloc, &trace, random)
+    let names = orders(rt.alloc(), &trace, random)?;
+    push_findings(text, rt, &trace, &names)?;
+    push_run(text, rt.alloc(), &trace, &names);
+    Ok(())
 }
 
 fn push_fault(text: &mut Text, fault: Fault) {
@@ -40,16 +43,27 @@ pub fn push_found(text: &mut Text, found: Result<(), CheckFault>) {
 }
 
 /// What the libraries lend and find of a trace.
-pub fn push_told<R: AllocGlobal + RandomSource>(text: &mut Text, rt: &R, bytes: &[u8]) {
+pub fn push_told<R: AllocGlobal + RandomSource + Threads + Sync>(
+    text: &mut Text,
+    rt: &R,
+    bytes: &[u8],
+) {
     text.words("what is lent and found");
     if let Some(random) = keys(text, rt) {
-        let found = push_all(text, rt.alloc(), bytes, random);
+        let found = push_all(text, rt, bytes, random);
         push_found(text, found);
     }
 }
 
 /// What two replicas come to together.
-pub fn push_agreed(text: &mut Text, alloc: Global, bytes: &[u8]) {
+pub fn push_agreed<R: AllocGlobal + RandomSource + Threads + Sync>(
+    text: &mut Text,
+    rt: &R,
+    bytes: &[u8],
+) {
     text.words("two replicas");
-    push_found(text, agreement(alloc, bytes));
+    if let Some(random) = keys(text, rt) {
+        let found = agreement(rt, bytes, random);
+        push_found(text, found);
+    }
 }

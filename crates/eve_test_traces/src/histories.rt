@@ -1,18 +1,20 @@
 //! What the libraries find of a trace's replicas and verifiers.
 
 ghost use Rattle.std.specs.Prelude.{◌≡◌, ◌<◌, ◌≤◌, length};
-ghost use Rattle.eve_history.specs.SectionHistory.{section_history};
+ghost use Rattle.eve_history.specs.SectionHistory.{names_of};
 
-use eve_accounts::Balances;
+use eve_accounts::{Balances, Names};
 use eve_agree::equal_balances;
-use eve_chains::Settled;
+use eve_chains::{Settled, check};
 use eve_frames::VoteView;
 use eve_grammar::Choice;
-use eve_history::{History, HowReached};
+use eve_history::{History, HowReached, orders};
 use eve_testing::Text;
 use eve_views::{CheckFault, Trace};
 use eve_votes::Tally;
 use std::alloc::Global;
+use std::hash::RandomState;
+use std::thread::Threads;
 
 /// A replica's attempts, with their fates.
 fn push_attempts(text: &mut Text, history: &History) {
@@ -123,25 +125,21 @@ fn push_settled(text: &mut Text, alloc: Global, settled: &Settled) {
     }
 }
 
-/// The balances after each batch that a replica committed, of its history.
-fn push_settled_of<'a>(text: &mut Text, alloc: Global, trace: &Trace<'a>, history: &History<'a>)
-    requires { history.now ≡ section_history trace.now history.now.replica }
+/// A replica's history, and, where its records and chains are right, the balances after each batch that it committed.
+fn push_replica<R: AllocGlobal + Threads + Sync>(
+    text: &mut Text,
+    rt: &R,
+    trace: &Trace,
+    names: &Names,
+    e: u8,
+) -> Result<(), CheckFault>
+    requires there { e < length trace.now.sections }
+    requires names { names.now.items ≡ names_of trace.now }
 {
-    match Settled::of(alloc, history, trace) {
-        Ok(settled) => push_settled(text, alloc, &settled),
-        Err(_) => text.refused(),
-    }
-}
-
-/// A replica's history, and the balances after each batch that it committed.
-fn push_replica(text: &mut Text, alloc: Global, trace: &Trace, e: u8) -> Result<(), CheckFault> {
-    trace.recall_limits();
-    if e >= trace.section_count() {
-        return Ok(());
-    }
-    let history = History::of(alloc, trace, e)?;
+    let history = History::of(rt.alloc(), trace, e)?;
     push_history(text, &history);
-    push_settled_of(text, alloc, trace, &history);
+    let settled = check(rt, rt.alloc(), &history, trace, names, 1)?;
+    push_settled(text, rt.alloc(), &settled);
     Ok(())
 }
 
@@ -214,31 +212,49 @@ fn push_tally(text: &mut Text, alloc: Global, trace: &Trace) -> Result<(), Check
     Ok(())
 }
 
-/// What two replicas come to together.
-fn agreement_of_two(alloc: Global, trace: &Trace) -> Result<(), CheckFault>
-    requires { length trace.now.sections ≡ 2 }
+/// What two replicas come to together, each of which is right by itself.
+fn agreement_of_two<R: AllocGlobal + Threads + Sync>(
+    rt: &R,
+    trace: &Trace,
+    names: &Names,
+) -> Result<(), CheckFault>
+    requires two { length trace.now.sections ≡ 2 }
+    requires names { names.now.items ≡ names_of trace.now }
 {
-    let first = History::of(alloc, trace, 0)?;
-    let second = History::of(alloc, trace, 1)?;
-    let one = Settled::of(alloc, &first, trace)?;
-    let other = Settled::of(alloc, &second, trace)?;
-    equal_balances(alloc, trace, &[first, second], &[one, other])
+    let first = History::of(rt.alloc(), trace, 0)?;
+    let second = History::of(rt.alloc(), trace, 1)?;
+    let one = check(rt, rt.alloc(), &first, trace, names, 1)?;
+    let other = check(rt, rt.alloc(), &second, trace, names, 1)?;
+    equal_balances(rt.alloc(), trace, &[first, second], &[one, other])
 }
 
 /// What the replicas of a trace with two come to together.
-pub fn agreement(alloc: Global, bytes: &[u8]) -> Result<(), CheckFault> {
-    let trace = Trace::read(alloc, bytes)?;
+pub fn agreement<R: AllocGlobal + Threads + Sync>(
+    rt: &R,
+    bytes: &[u8],
+    random: RandomState,
+) -> Result<(), CheckFault> {
+    let trace = Trace::read(rt.alloc(), bytes)?;
+    let names = orders(rt.alloc(), &trace, random)?;
     trace.recall_limits();
     if trace.section_count() != 2 {
         return Ok(());
     }
-    agreement_of_two(alloc, &trace)
+    agreement_of_two(rt, &trace, &names)
 }
 
 /// What each replica did and committed, and what the verifiers decided.
-pub fn push_findings(text: &mut Text, alloc: Global, trace: &Trace) -> Result<(), CheckFault> {
+pub fn push_findings<R: AllocGlobal + Threads + Sync>(
+    text: &mut Text,
+    rt: &R,
+    trace: &Trace,
+    names: &Names,
+) -> Result<(), CheckFault>
+    requires { names.now.items ≡ names_of trace.now }
+{
+    trace.recall_limits();
     for e in 0..trace.section_count() {
-        push_replica(text, alloc, trace, e)?;
+        push_replica(text, rt, trace, names, e)?;
     }
-    push_tally(text, alloc, trace)
+    push_tally(text, rt.alloc(), trace)
 }

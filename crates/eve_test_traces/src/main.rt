@@ -11,8 +11,8 @@
 //! - `each-one-higher FILE`: the verdict with each byte one higher, modulo 256, if two workers come to the same.
 //! - `one FILE`: whether `audit_one` accepts it.
 //! - `meet FILE`: the audit by two workers, each held at its replica until the other has come to its own.
-//! - `walk FILE`: how many sections have no fault of records or chains, how many have one, and of how many `check` and
-//!   `Settled` say something else than a walk along the section over a table of all rows.
+//! - `walk FILE`: how many sections have no fault of records or chains, how many have one, and of how many `check` or
+//!   its `Settled` says something else than a walk along the section over a table of all rows.
 //! - `draw FILE COUNT`: the same of COUNT traces with other values in entries at random places.
 //! - `agree FILE`: what is found of two replicas together, whatever was voted.
 //! - `alone FILE CHANGE..`: what its replicas' rollbacks and tokens come to, each phase by itself.
@@ -136,7 +136,7 @@ fn push_answer<R: AllocGlobal + RandomSource + Threads + Wait + Sync>(
     match call {
         Call::Sweep(sweep) => sweeps::push_swept(text, rt, sweep, bytes, more),
         Call::One => sweeps::push_one(text, rt, bytes),
-        Call::Agree => findings::push_agreed(text, rt.alloc(), bytes),
+        Call::Agree => findings::push_agreed(text, rt, bytes),
         Call::Meet => meeting::push_meeting(text, rt, bytes),
         Call::Walk => walks::push_walked(text, rt, bytes),
         Call::Draw => walks::push_drawn(text, rt, bytes, more),

@@ -3,12 +3,10 @@
 use crate::histories::push_balances;
 use crate::texts::{push_change, push_done, push_reply, push_request};
 use eve_accounts::{Balances, Cents, MOST_NAMES, Names, Row};
-use eve_history::orders;
 use eve_smallbank::{Effect, Kind, Request, Touched, UpToThree, apply, decide, touched};
 use eve_testing::Text;
-use eve_views::{CheckFault, Trace};
+use eve_views::Trace;
 use std::alloc::{AllocError, Global};
-use std::hash::RandomState;
 
 /// Sets the balance of a row that is there.
 fn open_row(balances: &mut Balances, row: Row, cents: Cents) {
@@ -89,8 +87,9 @@ fn push_batches(text: &mut Text, trace: &Trace, names: &Names, balances: &mut Ba
     }
 }
 
-/// The balances at the opening, what is made of all requests, and the balances after them.
-fn push_run(text: &mut Text, alloc: Global, trace: &Trace, names: &Names) {
+/// The balances at the opening, what is made of all requests of all batches, one after another, and the balances after
+/// them.
+pub fn push_run(text: &mut Text, alloc: Global, trace: &Trace, names: &Names) {
     match opening_of(alloc, trace) {
         Ok(mut balances) => {
             push_balances(text, "\n balances", &balances);
@@ -99,16 +98,4 @@ fn push_run(text: &mut Text, alloc: Global, trace: &Trace, names: &Names) {
         }
         Err(_) => text.refused(),
     }
-}
-
-/// The balances at the opening, all requests of all batches, one after another, and the balances after them.
-pub fn push_served_all(
-    text: &mut Text,
-    alloc: Global,
-    trace: &Trace,
-    random: RandomState,
-) -> Result<(), CheckFault> {
-    let names = orders(alloc, trace, random)?;
-    push_run(text, alloc, trace, &names);
-    Ok(())
 }

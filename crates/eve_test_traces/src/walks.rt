@@ -1,4 +1,4 @@
-//! What `check` and `Settled` come to, beside what a walk along the section comes to.
+//! What `check` and its `Settled` come to, beside what a walk along the section comes to.
 
 ghost use Rattle.std.specs.Prelude.{◌≡◌, ◌≤◌, ◌<◌, length};
 ghost use Rattle.eve_history.specs.SectionHistory.{names_of, section_history};
@@ -118,7 +118,7 @@ fn is_checked<R: AllocGlobal + Threads + Sync>(
     }
 }
 
-/// Whether `check`, with one job and with more, and `Settled::of` come to what the walk comes to.
+/// Whether `check`, with one job and with more, comes to what the walk comes to.
 fn is_alike<R: AllocGlobal + Threads + Sync>(
     text: &mut Text,
     rt: &R,
@@ -130,13 +130,7 @@ fn is_alike<R: AllocGlobal + Threads + Sync>(
     requires history { history.now ≡ section_history trace.now history.now.replica }
     requires names { names.now.items ≡ names_of trace.now }
 {
-    let mut alike = match Settled::of(rt.alloc(), history, trace) {
-        Ok(settled) => has_all_balances(text, rt.alloc(), &settled, walk),
-        Err(_) => {
-            text.refused();
-            false
-        }
-    };
+    let mut alike = true;
     for jobs in [1u8, 2, 3, 8] {
         alike = alike & is_checked(text, rt, trace, history, names, walk, jobs);
     }

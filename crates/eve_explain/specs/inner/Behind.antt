@@ -10,6 +10,6 @@ use Rattle.eve_audit.specs.Verdict.{IsFirst}
 abbrev pub IsFirstInTrace : Trace → Fault → Type 0
 IsFirstInTrace t f = (bytes : List ℕ) × Spells bytes t × IsFirst bytes f
 
--- The fault is of a phase behind those of single replicas, or of this replica and of a later phase than structure.
-abbrev pub IsBehindSection : Fault → ℕ → Type 0
-IsBehindSection f e = (7 < phase_of f.code) ⊎ ((3 < phase_of f.code) × (f.replica ≡ Some e))
+-- The fault is of a phase behind those of single replicas, or of this replica and of a later phase than this one.
+abbrev pub IsBehind : ℕ → Fault → ℕ → Type 0
+IsBehind phase f e = (7 < phase_of f.code) ⊎ ((phase < phase_of f.code) × (f.replica ≡ Some e))

@@ -55,7 +55,7 @@ pub(crate) fn tell_changed<R: AllocGlobal + RandomSource + Threads + Wait + Sync
     trace.flip(at);
     tell(rt, page, change.name, trace, change.frame);
     if let Some(asked) = &change.asked {
-        tell_call(rt.alloc(), page, trace, asked);
+        tell_call(rt, page, trace, asked);
     }
     trace.flip(at);
 }
@@ -70,7 +70,6 @@ pub(crate) fn tell_changes<R: AllocGlobal + RandomSource + Threads + Wait + Sync
 ) {
     let places = Places::of(rt.alloc(), trace.written(), WIDEST.batches, RECORDED);
     let batch = spot_at(page, places.batch, None);
-    let attempt = spot_at(page, places.attempt, Some(LAST_REPLICA));
     let access = spot_at(page, places.access, Some(LAST_REPLICA));
     let sent = spot_at(page, Some(last_sent(trace.written())), None);
     let changes = [
@@ -78,11 +77,7 @@ pub(crate) fn tell_changes<R: AllocGlobal + RandomSource + Threads + Wait + Sync
             name: "another balance",
             frame: access,
             behind: LAST_OF_AFTER,
-            asked: Some(Asked {
-                name: "another balance, by itself",
-                matter: Matter::Outcomes,
-                spot: attempt,
-            }),
+            asked: None,
         },
         Change {
             name: "another count of groups",

@@ -8,9 +8,7 @@ use std::alloc::Global;
 pub(crate) struct Places {
     /// A batch.
     pub(crate) batch: Option<u64>,
-    /// The last replica's last attempt with a record of some request.
-    pub(crate) attempt: Option<u64>,
-    /// That record.
+    /// The last replica's last record of some request.
     pub(crate) access: Option<u64>,
     /// The last replica's last rollback.
     pub(crate) rollback: Option<u64>,
@@ -19,7 +17,6 @@ pub(crate) struct Places {
 /// No places.
 const NONE: Places = Places {
     batch: None,
-    attempt: None,
     access: None,
     rollback: None,
 };
@@ -54,9 +51,7 @@ impl Places {
         let mut steps = trace.section(last);
         while let Some(step) = steps.next() {
             match step {
-                Step::Attempt(attempt, accesses) => {
-                    self.find_access(attempt.offset(), &accesses, index)
-                }
+                Step::Attempt(_, accesses) => self.find_access(&accesses, index),
                 Step::Rollback(rollback) => self.rollback = Some(rollback.offset()),
                 Step::Commit(_) | Step::Transfer(_) => {}
             }
@@ -64,11 +59,10 @@ impl Places {
     }
 
     /// Finds the record of a request in an attempt.
-    fn find_access(&mut self, attempt: u64, accesses: &Accesses<'_, '_>, index: u16) {
+    fn find_access(&mut self, accesses: &Accesses<'_, '_>, index: u16) {
         for place in 0..accesses.len() {
             let access = accesses.get(place);
             if access.index() == index {
-                self.attempt = Some(attempt);
                 self.access = Some(access.offset());
             }
         }

@@ -6,6 +6,7 @@ use crate::fault::Fault;
 use crate::limits::together::{Matter, judge};
 use eve_views::CheckFault;
 use std::alloc::Global;
+use std::hash::RandomState;
 use std::random::RandomSource;
 use std::sync::Wait;
 use std::thread::Threads;
@@ -94,9 +95,21 @@ pub(crate) struct Asked {
 }
 
 /// Writes what such a call finds, with the word `there` where it is at the spot that it has to be.
-pub(crate) fn tell_call(alloc: Global, page: &mut Bytes, trace: &Bytes, asked: &Asked) {
+pub(crate) fn tell_call<R: AllocGlobal + RandomSource + Threads + Sync>(
+    rt: &R,
+    page: &mut Bytes,
+    trace: &Bytes,
+    asked: &Asked,
+) {
     let Asked { name, matter, spot } = *asked;
-    let (what, place) = match judge(alloc, trace.written(), matter) {
+    let random = match RandomState::new(rt) {
+        Ok(random) => random,
+        Err(why) => {
+            page.fail(Fault::from(why));
+            return;
+        }
+    };
+    let (what, place) = match judge(rt, trace.written(), matter, random) {
         Ok(()) => ("no fault", "\n"),
         Err(CheckFault::Found(fault)) => {
             let is_there = fault.offset == spot.at && fault.replica == spot.replica;

@@ -5,7 +5,7 @@ use Rattle.eve_explain.specs.Explained.{IsEvidence, IsEvidenceOf}
 use Rattle.eve_explain.proofs.explaining.evidence_of.Goals as goal
 
 pub returns-in-Ok : goal.returns-in-Ok
-returns-in-Ok c =
+returns-in-Ok g c =
     IfOk-weaker c.evidence_in.result (IsEvidence c.in-Ok.trace c.args.fault.now)
     (IsEvidenceOf c.args.bytes.now c.args.fault.now)
     (λ x told. record {

@@ -1,23 +1,42 @@
-use Rattle.std.proofs.Common.{◌≡◌, ap, subst, arith}
+use Rattle.std.proofs.Common.{◌≡◌, ℕ, Some, inl, sym, ap, subst, ◌∙◌, arith}
+use Rattle.std.proofs.lemmas.Option.{same_Some}
+use Rattle.std.proofs.lemmas.Result.{IfOk-weaker}
 use Rattle.eve_views.specs.Code.{phase_of}
 use Rattle.eve_views.specs.declared.fault.Code.{Code}
 use Rattle.eve_agree.specs.Agreement.{StandsInAgreement}
-use Rattle.eve_explain.proofs.FirstFault.{agreement_first}
+use Rattle.eve_evidence_outcomes.specs.Outcome.{TellsOutcome}
+use Rattle.eve_explain.proofs.FirstFault.{agreement_first, no_records_or_chains}
 use Rattle.eve_explain.proofs.outcomes.evidence_of_outcome.Goals as goal
 
 pub histories_of-requires-clause-together : goal.histories_of-requires-clause-together
-histories_of-requires-clause-together c =
+histories_of-requires-clause-together g c =
     let ten : phase_of c.args.fault.now.code ≡ 10 = ap phase_of c.requires.outcome in omega (arith, ten)
 
+pub all_settled-requires-clause-none : goal.all_settled-requires-clause-none
+all_settled-requires-clause-none g c κs within = λ e there.
+    let ten : phase_of c.args.fault.now.code ≡ 10 = ap phase_of c.requires.outcome in
+    no_records_or_chains c.bytes_spell_one_trace.ensures c.args.trace.now c.args.fault.now c.requires.first e
+    (inl (omega (arith, ten))) there
+
 pub outcome_evidence-requires-clause-there : goal.outcome_evidence-requires-clause-there
-outcome_evidence-requires-clause-there c =
+outcome_evidence-requires-clause-there g c =
     (agreement_first c.bytes_spell_one_trace.ensures c.args.trace.now c.args.fault.now c.requires.first
     (ap phase_of c.requires.outcome) c.in-Some.e c.in-Some.is).there
 
 pub outcome_evidence-requires-clause-stands : goal.outcome_evidence-requires-clause-stands
-outcome_evidence-requires-clause-stands c =
+outcome_evidence-requires-clause-stands g c =
     let t = c.args.trace.now in
     let f = c.args.fault.now in
     subst (λ (k : Code). StandsInAgreement k t c.in-Some.e f.offset) c.requires.outcome
     (agreement_first c.bytes_spell_one_trace.ensures t f c.requires.first (ap phase_of c.requires.outcome) c.in-Some.e
     c.in-Some.is).stands
+
+pub returns : goal.returns
+returns g c =
+    let t = c.args.trace.now in
+    let f = c.args.fault.now in
+    IfOk-weaker c.outcome_evidence.result (TellsOutcome t c.in-Some.e f.offset)
+    (λ x. (e : ℕ) → f.replica ≡ Some e → TellsOutcome t e f.offset x)
+    (λ x told e named. subst (λ (n : ℕ). TellsOutcome t n f.offset x)
+    (same_Some c.in-Some.e e (sym c.in-Some.is ∙ named)) told)
+    c.outcome_evidence.ensures.told

@@ -1,24 +1,30 @@
-use Rattle.std.proofs.Common.{◌≡◌, ℕ, Some, sym, ap, subst, ◌∙◌, arith}
+use Rattle.std.proofs.Common.{◌≡◌, ℕ, Some, inl, sym, ap, subst, ◌∙◌, arith}
 use Rattle.std.proofs.lemmas.Option.{same_Some}
 use Rattle.std.proofs.lemmas.Result.{IfOk-weaker}
 use Rattle.eve_views.specs.Code.{phase_of}
 use Rattle.eve_views.specs.declared.fault.Code.{Code}
 use Rattle.eve_agree.specs.Agreement.{StandsInAgreement}
 use Rattle.eve_evidence_outcomes.specs.Outcomes.{TellsState}
-use Rattle.eve_explain.proofs.FirstFault.{agreement_first}
+use Rattle.eve_explain.proofs.FirstFault.{agreement_first, no_records_or_chains}
 use Rattle.eve_explain.proofs.outcomes.evidence_of_state.Goals as goal
 
 pub histories_of-requires-clause-together : goal.histories_of-requires-clause-together
-histories_of-requires-clause-together c =
+histories_of-requires-clause-together g c =
     let ten : phase_of c.args.fault.now.code ≡ 10 = ap phase_of c.requires.state in omega (arith, ten)
 
+pub all_settled-requires-clause-none : goal.all_settled-requires-clause-none
+all_settled-requires-clause-none g c κs within = λ e there.
+    let ten : phase_of c.args.fault.now.code ≡ 10 = ap phase_of c.requires.state in
+    no_records_or_chains c.bytes_spell_one_trace.ensures c.args.trace.now c.args.fault.now c.requires.first e
+    (inl (omega (arith, ten))) there
+
 pub state_evidence-requires-clause-there : goal.state_evidence-requires-clause-there
-state_evidence-requires-clause-there c =
+state_evidence-requires-clause-there g c =
     (agreement_first c.bytes_spell_one_trace.ensures c.args.trace.now c.args.fault.now c.requires.first
     (ap phase_of c.requires.state) c.in-Some.e c.in-Some.is).there
 
 pub state_evidence-requires-clause-stands : goal.state_evidence-requires-clause-stands
-state_evidence-requires-clause-stands c =
+state_evidence-requires-clause-stands g c =
     let t = c.args.trace.now in
     let f = c.args.fault.now in
     subst (λ (k : Code). StandsInAgreement k t c.in-Some.e f.offset) c.requires.state
@@ -26,7 +32,7 @@ state_evidence-requires-clause-stands c =
     c.in-Some.is).stands
 
 pub returns : goal.returns
-returns c =
+returns g c =
     let t = c.args.trace.now in
     let f = c.args.fault.now in
     IfOk-weaker c.state_evidence.result (TellsState t c.in-Some.e f.offset)

@@ -19,7 +19,7 @@ replicas-preserved c =
     told_more t c.replicas.e c.replicas.histories.items c.push.new.self.items c.replicas.settled.items
     c.push-in-replicas.new.self.items c.in_ok-history.history c.in_ok-wrote.wrote lt c.replicas.invariant
     c.in_ok-push.ensures.items c.in_ok-push-2.ensures.items c.in_ok-history.ensures.section_history
-    (c.in_ok-wrote.ensures ∙ ap (settling t) c.in_ok-history.ensures.replica) c.in_ok-history.ensures.right
+    (c.in_ok-wrote.ensures.settled ∙ ap (settling t) c.in_ok-history.ensures.replica) c.in_ok-history.ensures.right
 
 pub returns-clause-histories : goal.returns-clause-histories
 returns-clause-histories c =

@@ -9,7 +9,7 @@ use Rattle.eve_grammar.specs.declared.head.TheConstants.{HEADER_LEN}
 use Rattle.eve_views.proofs.FrameOffsets.{located_get}
 use Rattle.eve_grammar.proofs.Lists.{take_one_more}
 use Rattle.eve_history.specs.SectionHistory.{names_of}
-use Rattle.eve_explain.proofs.explaining.names_in_order.Goals as goal
+use Rattle.eve_explain.proofs.names.names_in_order.Goals as goal
 
 name_there : (t : Trace) (i : ℕ) (c : ℕ × Customer) → slice_get (customers_at t) i ≡ Some c
     → slice_get (names_of t) i ≡ Some c.1.name
