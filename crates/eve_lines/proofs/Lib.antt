@@ -1,4 +1,6 @@
 mod AppendedParts
 pub mod Digits
 mod KindNames
+mod StateRows
+pub mod Tables
 mod WordsOfFrames

@@ -47,7 +47,7 @@ batch_words number b =
     ++ (flat_map index_words b.sizes ++ list_words false (map asked_words b.requests))
 
 -- ` batch 1 view 0`
-unfoldable pub batch_and_view : ℕ → ℕ → List ℕ
+abbrev pub batch_and_view : ℕ → ℕ → List ℕ
 batch_and_view seq view = codes " batch " ++ (decimal seq ++ (codes " view " ++ decimal view))
 
 -- ` batch 1 view 0 parallel order 1 0: Done; Total 2000 token ..`

@@ -1,3 +1,4 @@
 pub mod Words
 pub mod FrameLines
 pub mod Rest
+pub mod Table

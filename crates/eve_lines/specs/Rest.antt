@@ -1,7 +1,7 @@
 -- What frames say by their bytes, and what is still to come of it while a line is put part by part.
-use Rattle.std.specs.Prelude.{◌≡◌, ℕ, ◌-◌, ◌/◌, ◌<◌, ◌==◌, nat_le, nat_lt, Bool, ◌&&◌, is_some, true, false}
-use Rattle.std.specs.Prelude.{if◌then◌else◌, List, [], ◌++◌, map, length}
-use Rattle.std.specs.Prelude.{drop, codes, decimal, slice_index, slice_get, Option, Some, None}
+use Rattle.std.specs.Prelude.{ℕ, ◌-◌, ◌/◌, ◌==◌, nat_le, nat_lt, Bool, ◌&&◌, is_some, if◌then◌else◌, List, [], ◌++◌}
+use Rattle.std.specs.Prelude.{map, length, drop, codes, decimal, slice_index, slice_get, Option, Some, None}
+use Rattle.std.specs.Option.{option_map}
 use Rattle.std.specs.List.{flat_map, enumerate_from}
 use Rattle.eve_grammar.specs.Readers.{number_of, transfer_of}
 use Rattle.eve_grammar.specs.declared.limits.TheConstants.{MOST_ROWS}
@@ -14,58 +14,43 @@ use Rattle.eve_frames.specs.Views.{has_commit_body, has_rollback_body, has_vote_
 use Rattle.eve_frames.specs.Views.{customer_in, batch_in, attempt_in, access_in, commit_in, rollback_in, transfer_in}
 use Rattle.eve_frames.specs.Views.{vote_in, sent_in}
 use Rattle.eve_smallbank.specs.declared.entry.Entry.{Entry}
-use Rattle.eve_lines.specs.Words.{token_words, parting, list_words, reply_words, asked_words, row_words, entry_words}
+use Rattle.eve_lines.specs.Words.{parting, token_words, list_words, reply_words, asked_words, row_words, entry_words}
 use Rattle.eve_lines.specs.FrameLines.{customer_words, index_words, batch_words, attempt_words, access_words}
 use Rattle.eve_lines.specs.FrameLines.{commit_words, restore_words, rollback_words, transfer_words, vote_words}
 use Rattle.eve_lines.specs.FrameLines.{sent_words}
-use Rattle.eve_lines.specs.declared.batch.BatchRest.{BatchRest}
-use Rattle.eve_lines.specs.declared.attempt.AttemptRest.{AttemptRest}
-use Rattle.eve_lines.specs.declared.rollback.RollbackRest.{RollbackRest}
-use Rattle.eve_lines.specs.declared.transfer.TransferRest.{TransferRest}
-use Rattle.eve_lines.specs.declared.frame.Rest.{Rest}
-use Rattle.eve_lines.specs.declared.frame.Rest.TheVariants as of
+use Rattle.eve_lines.specs.declared.lists.Items.{Items}
+use Rattle.eve_lines.specs.declared.lists.Items.TheVariants as items
+use Rattle.eve_lines.specs.declared.lists.Numbers.{Numbers}
+use Rattle.eve_lines.specs.declared.lists.Numbers.TheVariants as numbers
 use Rattle.eve_lines.specs.declared.frame.FrameWords.{FrameWords}
 
 -- ---- what is still to come
 
--- of a batch: the sizes from one on, and the requests
-unfoldable pub batch_left : BatchRest → List ℕ
-batch_left r =
-    flat_map index_words (drop r.came (batch_in r.batch.bytes.now).1.sizes)
-    ++ list_words r.has_begun (map asked_words r.requests)
+-- numbers: the sizes of a batch from one on, or indexes of a certificate
+abbrev pub numbers_left : Numbers → List ℕ
+numbers_left numbers.None = []
+numbers_left (numbers.Sizes s) = drop s.came (batch_in s.batch.bytes.now).1.sizes
+numbers_left (numbers.Indexes certificate) = certificate
 
--- of an attempt: indexes of its certificate, replies, the token
-unfoldable pub attempt_left : AttemptRest → List ℕ
-attempt_left r =
-    flat_map index_words r.certificate
-    ++ (list_words r.has_begun (map reply_words r.replies) ++ (codes " token " ++ token_words r.token.now))
+-- items: each in words
+abbrev pub items_left : Items → List (List ℕ)
+items_left items.None = []
+items_left (items.Replies replies) = map reply_words replies
+items_left (items.Requests requests) = map asked_words requests
+items_left (items.Restores restores) = map restore_words restores
+items_left (items.Rows r) =
+    map row_words (enumerate_from r.came (drop r.came (transfer_in r.transfer.bytes.now).rows))
 
--- of a rollback: restores
-unfoldable pub rollback_left : RollbackRest → List ℕ
-rollback_left r = list_words r.has_begun (map restore_words r.restores)
+-- words, and then a token where there is one
+abbrev pub and_token : List ℕ → Option (List ℕ) → List ℕ
+and_token words None = words
+and_token words (Some token) = words ++ (codes " token " ++ token_words token)
 
--- of a state transferred: the rows from one on
-unfoldable pub transfer_left : TransferRest → List ℕ
-transfer_left r =
-    list_words (nat_lt 0 r.came)
-    (map row_words (enumerate_from r.came (drop r.came (transfer_in r.transfer.bytes.now).rows)))
-
--- of a frame
-abbrev pub rest_left : Rest → List ℕ
-rest_left of.None = []
-rest_left (of.Batch r) = batch_left r
-rest_left (of.Attempt r) = attempt_left r
-rest_left (of.Rollback r) = rollback_left r
-rest_left (of.Transfer r) = transfer_left r
-
-abbrev pub words_left : FrameWords → List ℕ
-words_left w = rest_left w.rest
-
--- A part of the words was put. Where more may come, what stands and what is still to come are together what they were,
--- and the line has grown; else all is put.
-abbrev pub PutsPart : (more : Bool) (old new to_come left : List ℕ) → Type 0
-PutsPart true old new to_come left = (new ++ left ≡ old ++ to_come) × (length old < length new)
-PutsPart false old new to_come left = new ≡ old ++ to_come
+-- of a frame: numbers, items, the token
+unfoldable pub words_left : FrameWords → List ℕ
+words_left w =
+    flat_map index_words (numbers_left w.numbers)
+    ++ and_token (list_words w.has_begun (items_left w.items)) (option_map (λ t. t.now) w.token)
 
 -- ---- what bytes say
 

@@ -1,20 +1,20 @@
 //! What a frame says, in words.
 
-ghost use Rattle.std.specs.Prelude.{◌≡◌, ◌+◌, ◌<◌, ◌≤◌, ◌++◌, IsTrue, IsFalse, length};
+ghost use Rattle.std.specs.Prelude.{◌≡◌, ◌+◌, ◌<◌, ◌≤◌, ◌++◌, [], false, IfNone, IfSome, IsFalse, IsTrue, length};
 ghost use Rattle.arrayvec.specs.ArrayVec.{array_vec_len};
 ghost use Rattle.eve_grammar.specs.declared.frame_kind.TheConstants.{FRAME_HEAD_LEN};
-ghost use Rattle.eve_lines.specs.Rest.{PutsPart, rest_left, short_words, words_in, words_left};
-ghost use Rattle.eve_lines.specs.Rest.{words_of_kind};
+ghost use Rattle.eve_lines.specs.Rest.{items_left, short_words, words_in, words_left, words_of_kind};
+ghost use Rattle.eve_lines.specs.Table.{labelled_room, labelled_words};
+ghost use Rattle.eve_lines.specs.Words.{list_words};
 
-use crate::access::put_access_frame;
-use crate::attempt::{AttemptRest, begin_attempt};
-use crate::batch::{BatchRest, begin_batch};
-use crate::line::{LINE_ROOM, LONGEST_PART, Line, has_room};
-use crate::rollback::{RollbackRest, begin_rollback};
-use crate::short::{
-    put_commit_frame, put_customer_frame, put_number_frame, put_sent_frame, put_vote_frame,
+use crate::heads::{
+    begin_attempt, begin_batch, begin_rollback, begin_transfer, put_access, put_commit,
+    put_customer, put_number_frame, put_sent, put_vote,
 };
-use crate::transfer::{TransferRest, begin_transfer};
+use crate::line::{LINE_ROOM, LONGEST_PART, Line};
+use crate::lists::{Items, Numbers};
+use crate::table::{Value, Word, put_word};
+use crate::words::parting;
 use eve_grammar::{
     ACCESS_FRAME, ATTEMPT_FRAME, BATCH_FRAME, COMMIT_FRAME, CUSTOMER_FRAME, FRAME_HEAD_LEN,
     REPLICA_FRAME, ROLLBACK_FRAME, SENT_FRAME, TRANSFER_FRAME, VERIFIER_FRAME, VOTE_FRAME,
@@ -25,17 +25,12 @@ use eve_grammar::{
 /// docs/USING.md, "What `show --long` prints".
 #[derive(Drop)]
 pub struct FrameWords<'a> {
-    rest: Rest<'a>,
-}
-
-/// The lists of a frame that are still to come, and what stands behind them.
-#[derive(Drop)]
-pub(crate) enum Rest<'a> {
-    None,
-    Batch(BatchRest<'a>),
-    Attempt(AttemptRest<'a>),
-    Rollback(RollbackRest<'a>),
-    Transfer(TransferRest<'a>),
+    pub(crate) numbers: Numbers<'a>,
+    pub(crate) items: Items<'a>,
+    /// Whether an item came.
+    pub(crate) has_begun: bool,
+    /// The token behind the items.
+    pub(crate) token: Option<&'a [u8]>,
 }
 
 /// Appends the words of a frame of this kind without lists, which is frame number `number` of its trace.
@@ -45,23 +40,23 @@ fn put_short(line: &mut Line, kind: u8, number: usize, frame: &[u8])
     ensures { line.new.items ≡ line.old.items ++ short_words kind number frame.now }
 {
     match kind {
-        ACCESS_FRAME => put_access_frame(line, frame),
-        COMMIT_FRAME => put_commit_frame(line, frame),
-        CUSTOMER_FRAME => put_customer_frame(line, number, frame),
+        ACCESS_FRAME => put_access(line, frame),
+        COMMIT_FRAME => put_commit(line, frame),
+        CUSTOMER_FRAME => put_customer(line, number, frame),
         REPLICA_FRAME => put_number_frame(line, " replica ", frame),
-        SENT_FRAME => put_sent_frame(line, frame),
+        SENT_FRAME => put_sent(line, frame),
         VERIFIER_FRAME => put_number_frame(line, " verifier ", frame),
-        VOTE_FRAME => put_vote_frame(line, frame),
+        VOTE_FRAME => put_vote(line, frame),
         _ => {}
     }
 }
 
 /// Appends the words of a frame of this kind up to its first list, and gives the others. It is frame number `number` of
 /// its trace.
-fn begin_kind<'a>(line: &mut Line, kind: u8, number: usize, frame: &'a [u8]) -> Rest<'a>
+fn begin_kind<'a>(line: &mut Line, kind: u8, number: usize, frame: &'a [u8]) -> FrameWords<'a>
     requires room { array_vec_len line.old + LONGEST_PART ≤ LINE_ROOM }
     requires framed { FRAME_HEAD_LEN ≤ length frame.now }
-    ensures { line.new.items ++ rest_left result ≡ line.old.items ++ words_of_kind kind number frame.now }
+    ensures { line.new.items ++ words_left result ≡ line.old.items ++ words_of_kind kind number frame.now }
 {
     match kind {
         ATTEMPT_FRAME => begin_attempt(line, frame),
@@ -70,12 +65,25 @@ fn begin_kind<'a>(line: &mut Line, kind: u8, number: usize, frame: &'a [u8]) -> 
         TRANSFER_FRAME => begin_transfer(line, frame),
         _ => {
             put_short(line, kind, number, frame);
-            Rest::None
+            FrameWords::of(Items::None)
         }
     }
 }
 
 impl<'a> FrameWords<'a> {
+    /// Items alone.
+    #[tactic(auto, unfolding(crate::specs::Rest::words_left))]
+    pub(crate) fn of(items: Items<'a>) -> FrameWords<'a>
+        ensures { words_left result ≡ list_words false (items_left items.entry) }
+    {
+        FrameWords {
+            numbers: Numbers::None,
+            items,
+            has_begun: false,
+            token: None,
+        }
+    }
+
     /// Appends the words of a frame up to its first list, and gives the others: none, where its kind is not known or
     /// its body isn't right. It is frame number `number` of its trace, from 0.
     pub fn begin(line: &mut Line, number: usize, frame: &'a [u8]) -> FrameWords<'a>
@@ -83,22 +91,28 @@ impl<'a> FrameWords<'a> {
         requires framed { FRAME_HEAD_LEN ≤ length frame.now }
         ensures { line.new.items ++ words_left result ≡ line.old.items ++ words_in number frame.now }
     {
-        let rest = begin_kind(line, frame[0], number, frame);
-        FrameWords { rest }
+        begin_kind(line, frame[0], number, frame)
     }
 
-    /// Appends the next part of them; no, where that was the last.
-    fn put_next(&mut self, line: &mut Line) -> bool
-        requires { array_vec_len line.old + LONGEST_PART ≤ LINE_ROOM }
-        ensures { PutsPart result line.old.items line.new.items (words_left self.old) (words_left self.new) }
+    /// The next word.
+    #[tactic(auto, unfolding(crate::specs::Rest::words_left))]
+    fn next(&mut self) -> Option<Word<'a>>
+        ensures some { IfSome result (λ word. words_left self.old ≡ labelled_words word ++ words_left self.new) }
+        ensures none { IfNone result (words_left self.old ≡ []) }
+        ensures long { IfSome result (λ word. 0 < length word.0.now) }
+        ensures short { IfSome result (λ word. labelled_room word ≤ LONGEST_PART) }
     {
-        match &mut self.rest {
-            Rest::None => false,
-            Rest::Batch(rest) => rest.put_next(line),
-            Rest::Attempt(rest) => rest.put_next(line),
-            Rest::Rollback(rest) => rest.put_next(line),
-            Rest::Transfer(rest) => rest.put_next(line),
+        if let Some(number) = self.numbers.next() {
+            return Some(Word(" ", Value::Number(u64::from(number))));
         }
+        if let Some(item) = self.items.next() {
+            let label = parting(self.has_begun);
+            self.has_begun = true;
+            return Some(Word(label, item));
+        }
+        let token = self.token?;
+        self.token = None;
+        Some(Word(" token ", Value::Token(token)))
     }
 
     /// Appends as many of them as there is room for; no, where all have come.
@@ -107,10 +121,11 @@ impl<'a> FrameWords<'a> {
         ensures all { IsFalse result → line.new.items ≡ line.old.items ++ words_left self.old }
         ensures full { IsTrue result → LINE_ROOM < array_vec_len line.new + LONGEST_PART }
     {
-        'parts: while has_room(line) {
-            if !self.put_next(line) {
+        'parts: while line.len() <= LINE_ROOM - LONGEST_PART {
+            let Some(word) = self.next() else {
                 return false;
-            }
+            };
+            put_word(line, &word);
         }
         true
     }

@@ -1,8 +1,8 @@
 //! A line in a fixed array.
 
-ghost use Rattle.std.specs.Prelude.{◌≡◌, ◌+◌, ◌<◌, ◌≤◌, ◌++◌, [], ◌∷◌, IsTrue, IsFalse, length};
+ghost use Rattle.std.specs.Prelude.{◌≡◌, ◌+◌, ◌≤◌, ◌++◌, [], ◌∷◌, length};
 ghost use Rattle.arrayvec.specs.ArrayVec.{array_vec_len};
-ghost use Rattle.eve_lines.specs.Words.{name_words};
+ghost use Rattle.eve_lines.specs.Words.{name_words, token_words};
 
 use arrayvec::ArrayVec;
 
@@ -57,6 +57,21 @@ pub fn put_name(line: &mut Line, name: &[u8])
     put_bytes(line, &name[..len]);
 }
 
+/// Appends a token of 32 bytes in 64 hexadecimal digits.
+pub fn put_token(line: &mut Line, token: &[u8])
+    requires { array_vec_len line.old + 64 ≤ LINE_ROOM }
+    ensures items { line.new.items ≡ line.old.items ++ token_words token.now }
+    ensures len { array_vec_len line.new ≤ array_vec_len line.old + 64 }
+{
+    let len = token.len().min(TOKEN_LEN);
+    let mut digits = [0; 2 * TOKEN_LEN];
+    let text = &mut digits[..2 * len];
+    let Ok(()) = hex::encode_to_slice(&token[..len], text) else {
+        unreachable!()
+    };
+    put_bytes(line, text);
+}
+
 /// Ends the line.
 #[inline(always)]
 pub fn put_line_feed(line: &mut Line)
@@ -65,13 +80,4 @@ pub fn put_line_feed(line: &mut Line)
     ensures len { array_vec_len line.new ≡ array_vec_len line.old + 1 }
 {
     line.push(b'\n');
-}
-
-/// Whether there is room for one part more.
-#[inline(always)]
-pub(crate) fn has_room(line: &Line) -> bool
-    ensures room { IsTrue result → array_vec_len line.now + LONGEST_PART ≤ LINE_ROOM }
-    ensures full { IsFalse result → LINE_ROOM < array_vec_len line.now + LONGEST_PART }
-{
-    line.len() <= LINE_ROOM - LONGEST_PART
 }

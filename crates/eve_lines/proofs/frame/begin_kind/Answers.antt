@@ -29,4 +29,4 @@ returns-in_default c =
       ne_eqb c.args.kind 20 (λ e. absurd (omega arith)),
       ne_eqb c.args.kind 21 (λ e. absurd (omega arith)),
     )
-    (none_left c.args.line.now.items c.put_short.new.line.items _ c.put_short.ensures)
+    (rw c.of.ensures (none_left c.args.line.now.items c.put_short.new.line.items _ c.put_short.ensures))
