@@ -17,7 +17,8 @@ use Rattle.eve_evidence.specs.Sources.{Passed, passed, IsLeftBy, way_to}
 use Rattle.eve_evidence.specs.Seen.{IsSeenBy}
 
 -- The entry is the first that sees another version, or another value, than its row has in the table; that was left on
--- the way to it from this state, or from the opening. Of the records before it in its own attempt, who saw what it left.
+-- the way to it from this state, or from the opening. Of the records before it in its own attempt, who saw what it
+-- left.
 pub record IsWrongEntry (t : Trace) (c : Code) (table : Table) (state : Option (ℕ × Transfer)) (way : List Passed)
     (own : List Passed) (before : List Entry) (e : Entry) (w : WrongEntry) : Type 0 where
   pub first : AllByRecursion (λ y. ¬ SeesAnother c (table y.row) y) before

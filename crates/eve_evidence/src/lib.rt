@@ -11,6 +11,7 @@ mod prefix;
 mod record;
 mod section;
 mod seen;
+mod site;
 mod sought;
 mod sources;
 mod structure;

@@ -31,6 +31,7 @@ use crate::course::Course;
 use crate::evidence::{Evidence, SeenFrom};
 use crate::record::record_fault;
 use crate::seen::seen_from;
+use crate::site::Site;
 use crate::structure::{
     access_fault, attempt_fault, commit_fault, place_fault, rollback_fault, transfer_fault,
 };
@@ -92,23 +93,28 @@ fn at_own_frame<'a>(
 
 /// What shows a fault at the frame of an access record, if there is one of this code.
 fn at_access<'a>(
-    trace: &Trace<'a>,
+    site: Site<'_, '_, 'a>,
     names: &Names<'_>,
-    course: &Course<'_, 'a>,
-    attempt: &AttemptView<'a>,
-    accesses: &Accesses<'_, 'a>,
     i: usize,
     code: Code,
 ) -> Option<Evidence<'a>>
-    requires course { (s : SectionState) × IsCourse s course.now }
-    requires names { names.now.items ≡ names_of trace.now }
-    requires there { i < length accesses.now }
-    ensures told { IfSome result (TellsRecord code trace.now course.now attempt.now accesses.now i) }
-    ensures none { IfNone result (HasNoneWrong code trace.now course.now attempt.now accesses.now i) }
+    requires course { (s : SectionState) × IsCourse s site.course.now }
+    requires names { names.now.items ≡ names_of site.trace.now }
+    requires there { i < length site.accesses.now }
+    ensures told { IfSome result (TellsRecord code site.entry.trace.now site.entry.course.now site.entry.attempt.now
+        site.entry.accesses.now i) }
+    ensures none { IfNone result (HasNoneWrong code site.entry.trace.now site.entry.course.now site.entry.attempt.now
+        site.entry.accesses.now i) }
 {
+    let Site {
+        trace,
+        attempt,
+        accesses,
+        ..
+    } = site;
     match code {
-        Code::Version => chain_at(trace, course, attempt, accesses, i, Code::Version),
-        Code::Value => chain_at(trace, course, attempt, accesses, i, Code::Value),
+        Code::Version => chain_at(site, i, Code::Version),
+        Code::Value => chain_at(site, i, Code::Value),
         Code::Record => record_at(trace, names, attempt, &accesses.get(i)),
         Code::Access => match access_fault(trace, attempt, accesses, i) {
             Some(wrong) => Some(Evidence::Access {
@@ -131,23 +137,24 @@ fn at_access<'a>(
 }
 
 /// What shows that an entry of an access record sees another version, or another value, than it must, if one does.
-fn chain_at<'a>(
-    trace: &Trace<'a>,
-    course: &Course<'_, 'a>,
-    attempt: &AttemptView<'a>,
-    accesses: &Accesses<'_, 'a>,
-    i: usize,
-    code: Code,
-) -> Option<Evidence<'a>>
-    requires course { (s : SectionState) × IsCourse s course.now }
-    requires there { i < length accesses.now }
-    ensures told { IfSome result (TellsRecord code trace.now course.now attempt.now accesses.now i) }
-    ensures none { IfNone result ((x : ℕ × AccessValue) → slice_get accesses.now i ≡ Some x
-        → (s : SectionState) (a : AttemptValue) → IsCourse s course.now
-        → attempt_decoded attempt.now ≡ without_accesses a → accesses.now ≡ accesses_at attempt.now.offset a
+fn chain_at<'a>(site: Site<'_, '_, 'a>, i: usize, code: Code) -> Option<Evidence<'a>>
+    requires course { (s : SectionState) × IsCourse s site.course.now }
+    requires there { i < length site.accesses.now }
+    ensures told { IfSome result (TellsRecord code site.entry.trace.now site.entry.course.now site.entry.attempt.now
+        site.entry.accesses.now i) }
+    ensures none { IfNone result ((x : ℕ × AccessValue) → slice_get site.entry.accesses.now i ≡ Some x
+        → (s : SectionState) (a : AttemptValue) → IsCourse s site.entry.course.now
+        → attempt_decoded site.entry.attempt.now ≡ without_accesses a
+        → site.entry.accesses.now ≡ accesses_at site.entry.attempt.now.offset a
         → ¬ SomePlace x.1.entries (λ _ y. SeesAnother code
-        (visible_to trace.now (placed_in s attempt.now.offset a) x.1.index y.row) y)) }
+        (visible_to site.entry.trace.now (placed_in s site.entry.attempt.now.offset a) x.1.index y.row) y)) }
 {
+    let Site {
+        trace,
+        course,
+        attempt,
+        accesses,
+    } = site;
     let access = accesses.get(i);
     let Some(wrong) = wrong_entry(trace, course, attempt, accesses, &access, code) else {
         return None;
@@ -192,45 +199,43 @@ fn record_at<'a>(
 
 /// What shows a fault at the frame of an access record, if it begins at this byte and there is one of this code.
 fn at_place<'a>(
-    trace: &Trace<'a>,
+    site: Site<'_, '_, 'a>,
     names: &Names<'_>,
-    course: &Course<'_, 'a>,
-    attempt: &AttemptView<'a>,
-    accesses: &Accesses<'_, 'a>,
     i: usize,
     code: Code,
     place: u64,
 ) -> Option<Evidence<'a>>
-    requires course { (s : SectionState) × IsCourse s course.now }
-    requires names { names.now.items ≡ names_of trace.now }
-    requires there { i < length accesses.now }
-    ensures told { IfSome result (TellsPlace code trace.now course.now attempt.now accesses.now place i) }
-    ensures none { IfNone result (HasNonePlace code trace.now course.now attempt.now accesses.now place i) }
+    requires course { (s : SectionState) × IsCourse s site.course.now }
+    requires names { names.now.items ≡ names_of site.trace.now }
+    requires there { i < length site.accesses.now }
+    ensures told { IfSome result (TellsPlace code site.entry.trace.now site.entry.course.now site.entry.attempt.now
+        site.entry.accesses.now place i) }
+    ensures none { IfNone result (HasNonePlace code site.entry.trace.now site.entry.course.now site.entry.attempt.now
+        site.entry.accesses.now place i) }
 {
-    if accesses.get(i).offset() != place {
+    if site.accesses.get(i).offset() != place {
         return None;
     }
-    at_access(trace, names, course, attempt, accesses, i, code)
+    at_access(site, names, i, code)
 }
 
 /// What shows a fault at the frame of one of an attempt's access records that begins at this byte, if there is one of
 /// this code.
 fn at_accesses<'a>(
-    trace: &Trace<'a>,
+    site: Site<'_, '_, 'a>,
     names: &Names<'_>,
-    course: &Course<'_, 'a>,
-    attempt: &AttemptView<'a>,
-    accesses: &Accesses<'_, 'a>,
     code: Code,
     place: u64,
 ) -> Option<Evidence<'a>>
-    requires course { (s : SectionState) × IsCourse s course.now }
-    requires names { names.now.items ≡ names_of trace.now }
-    ensures told { IfSome result (ToldAlong code trace.now place course.now attempt.now accesses.now) }
-    ensures none { IfNone result (NoneAlong code trace.now place course.now attempt.now accesses.now) }
+    requires course { (s : SectionState) × IsCourse s site.course.now }
+    requires names { names.now.items ≡ names_of site.trace.now }
+    ensures told { IfSome result (ToldAlong code site.entry.trace.now place site.entry.course.now site.entry.attempt.now
+        site.entry.accesses.now) }
+    ensures none { IfNone result (NoneAlong code site.entry.trace.now place site.entry.course.now site.entry.attempt.now
+        site.entry.accesses.now) }
 {
-    for i in 0..accesses.len() {
-        if let Some(found) = at_place(trace, names, course, attempt, accesses, i, code, place) {
+    for i in 0..site.accesses.len() {
+        if let Some(found) = at_place(site, names, i, code, place) {
             return Some(found);
         }
     }
@@ -256,7 +261,13 @@ fn at_step<'a>(
             if let Some(found) = at_own_frame(trace, course, attempt, code, place) {
                 return Some(found);
             }
-            at_accesses(trace, names, course, attempt, accesses, code, place)
+            let site = Site {
+                trace,
+                course,
+                attempt,
+                accesses,
+            };
+            at_accesses(site, names, code, place)
         }
         Step::Commit(commit) => if commit.offset() == place {
             at_commit(course, commit, code)
@@ -344,37 +355,21 @@ fn at_transfer<'a>(
     }
 }
 
-/// Where what a wrong entry saw comes from, of an attempt of replica e's section, where that has come to this; nothing of
-/// other evidence.
-fn seen_in<'a>(
-    trace: &Trace<'a>,
-    e: u8,
-    course: &Course<'_, 'a>,
-    own: &AttemptView<'a>,
-    accesses: &Accesses<'_, 'a>,
-    evidence: &Evidence<'a>,
-) -> Option<SeenFrom>
-    requires there { e < length trace.now.sections }
-    requires look { HasLook trace.now e course.now own.now accesses.now }
+/// Where what a wrong entry saw comes from, of an attempt of replica e's section; nothing of other evidence.
+fn seen_in<'a>(site: Site<'_, '_, 'a>, e: u8, evidence: &Evidence<'a>) -> Option<SeenFrom>
+    requires there { e < length site.trace.now.sections }
+    requires look { HasLook site.trace.now e site.course.now site.attempt.now site.accesses.now }
     ensures { (prefix behind : List (ℕ × StepValue)) (a : AttemptValue)
-        → steps_at trace.now e ≡ prefix ++ (own.now.offset, Attempts a) ∷ behind
-        → IsCourse (state_after start prefix) course.now → attempt_decoded own.now ≡ without_accesses a
-        → accesses.now ≡ accesses_at own.now.offset a
-        → TellsSeenWith trace.now prefix (own.now.offset, Attempts a) behind evidence.now result }
+        → steps_at site.entry.trace.now e ≡ prefix ++ (site.entry.attempt.now.offset, Attempts a) ∷ behind
+        → IsCourse (state_after start prefix) site.entry.course.now
+        → attempt_decoded site.entry.attempt.now ≡ without_accesses a
+        → site.entry.accesses.now ≡ accesses_at site.entry.attempt.now.offset a
+        → TellsSeenWith site.entry.trace.now prefix (site.entry.attempt.now.offset, Attempts a) behind evidence.now
+        result }
 {
     match evidence {
         Evidence::Chain { request, wrong, .. } => {
-            let row = wrong.row.row;
-            let seen = seen_from(
-                trace,
-                e,
-                course,
-                own,
-                accesses,
-                request.index,
-                row,
-                &wrong.saw,
-            );
+            let seen = seen_from(site, e, request.index, wrong.row.row, &wrong.saw);
             Some(seen)
         }
         _ => None,
@@ -399,7 +394,15 @@ fn seen_at<'a>(
         → TellsSeenWith trace.now prefix is behind evidence.now result }
 {
     match step {
-        Step::Attempt(own, accesses) => seen_in(trace, e, course, own, accesses, evidence),
+        Step::Attempt(attempt, accesses) => {
+            let site = Site {
+                trace,
+                course,
+                attempt,
+                accesses,
+            };
+            seen_in(site, e, evidence)
+        }
         Step::Commit(_) => None,
         Step::Rollback(_) => None,
         Step::Transfer(_) => None,

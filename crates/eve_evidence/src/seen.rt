@@ -12,9 +12,9 @@ ghost use Rattle.eve_evidence.specs.Course.{IsCourse};
 ghost use Rattle.eve_evidence.specs.Sources.{passed};
 ghost use Rattle.eve_evidence.specs.Seen.{look, IsSeenBy, IsSeenFrom, NoneNear};
 
-use crate::course::Course;
 use crate::evidence::{SeenFrom, Source};
 use crate::prefix::{Since, first_among, prefix_of};
+use crate::site::Site;
 use crate::sought::{Sought, first_found, is_same, last_found_in, last_found_on_path};
 use crate::sources::{left_at_first, place_of};
 use eve_accounts::Row;
@@ -47,25 +47,25 @@ pub fn seen_by(
 }
 
 /// Where what an entry of the record with this index saw in a row comes from, on its way or behind it in its attempt.
-fn near(
-    trace: &Trace<'_>,
-    course: &Course<'_, '_>,
-    attempt: &AttemptView<'_>,
-    accesses: &Accesses<'_, '_>,
-    index: u16,
-    row: Row,
-    saw: &Versioned,
-) -> Option<SeenFrom>
-    requires { (s : SectionState) × IsCourse s course.now }
+fn near(site: Site<'_, '_, '_>, index: u16, row: Row, saw: &Versioned) -> Option<SeenFrom>
+    requires { (s : SectionState) × IsCourse s site.course.now }
     ensures seen { IfSome result (λ x. (prefix behind : List (ℕ × StepValue)) (a : AttemptValue)
-        → IsCourse (state_after start prefix) course.now → attempt_decoded attempt.now ≡ without_accesses a
-        → accesses.now ≡ accesses_at attempt.now.offset a
-        → IsSeenFrom trace.now (look prefix behind attempt.now.offset a index row saw.now) x) }
+        → IsCourse (state_after start prefix) site.entry.course.now
+        → attempt_decoded site.entry.attempt.now ≡ without_accesses a
+        → site.entry.accesses.now ≡ accesses_at site.entry.attempt.now.offset a
+        → IsSeenFrom site.entry.trace.now (look prefix behind site.entry.attempt.now.offset a index row saw.now) x) }
     ensures none { IfNone result ((prefix behind : List (ℕ × StepValue)) (a : AttemptValue)
-        → IsCourse (state_after start prefix) course.now → attempt_decoded attempt.now ≡ without_accesses a
-        → accesses.now ≡ accesses_at attempt.now.offset a
-        → NoneNear trace.now (look prefix behind attempt.now.offset a index row saw.now)) }
+        → IsCourse (state_after start prefix) site.entry.course.now
+        → attempt_decoded site.entry.attempt.now ≡ without_accesses a
+        → site.entry.accesses.now ≡ accesses_at site.entry.attempt.now.offset a
+        → NoneNear site.entry.trace.now (look prefix behind site.entry.attempt.now.offset a index row saw.now)) }
 {
+    let Site {
+        trace,
+        course,
+        attempt,
+        accesses,
+    } = site;
     let sought = Sought::Left(row, *saw);
     let place = place_of(attempt, index);
     if let Some(source) = last_found_in(attempt, accesses, place, &sought) {
@@ -140,29 +140,22 @@ fn elsewhere(trace: &Trace<'_>, e: u8, at: u64, row: Row, saw: &Versioned) -> Se
 ///
 /// docs/MODEL.md, "Where what was seen comes from". It goes back over the records on its way. Where none of these left
 /// it, and none behind it in the attempt, one pass over the section. It takes no memory.
-pub fn seen_from(
-    trace: &Trace<'_>,
-    e: u8,
-    course: &Course<'_, '_>,
-    attempt: &AttemptView<'_>,
-    accesses: &Accesses<'_, '_>,
-    index: u16,
-    row: Row,
-    saw: &Versioned,
-) -> SeenFrom
-    requires there { e < length trace.now.sections }
+pub fn seen_from(site: Site<'_, '_, '_>, e: u8, index: u16, row: Row, saw: &Versioned) -> SeenFrom
+    requires there { e < length site.trace.now.sections }
     requires look { (prefix : List (ℕ × StepValue)) × (behind : List (ℕ × StepValue)) × (a : AttemptValue)
-        × (steps_at trace.now e ≡ prefix ++ (attempt.now.offset, Attempts a) ∷ behind)
-        × IsCourse (state_after start prefix) course.now × (attempt_decoded attempt.now ≡ without_accesses a)
-        × (accesses.now ≡ accesses_at attempt.now.offset a) }
+        × (steps_at site.trace.now e ≡ prefix ++ (site.attempt.now.offset, Attempts a) ∷ behind)
+        × IsCourse (state_after start prefix) site.course.now × (attempt_decoded site.attempt.now ≡ without_accesses a)
+        × (site.accesses.now ≡ accesses_at site.attempt.now.offset a) }
     ensures { (prefix behind : List (ℕ × StepValue)) (a : AttemptValue)
-        → steps_at trace.now e ≡ prefix ++ (attempt.now.offset, Attempts a) ∷ behind
-        → IsCourse (state_after start prefix) course.now → attempt_decoded attempt.now ≡ without_accesses a
-        → accesses.now ≡ accesses_at attempt.now.offset a
-        → IsSeenFrom trace.now (look prefix behind attempt.now.offset a index row saw.now) result }
+        → steps_at site.entry.trace.now e ≡ prefix ++ (site.entry.attempt.now.offset, Attempts a) ∷ behind
+        → IsCourse (state_after start prefix) site.entry.course.now
+        → attempt_decoded site.entry.attempt.now ≡ without_accesses a
+        → site.entry.accesses.now ≡ accesses_at site.entry.attempt.now.offset a
+        → IsSeenFrom site.entry.trace.now (look prefix behind site.entry.attempt.now.offset a index row saw.now)
+        result }
 {
-    match near(trace, course, attempt, accesses, index, row, saw) {
+    match near(site, index, row, saw) {
         Some(seen) => seen,
-        None => elsewhere(trace, e, attempt.offset(), row, saw),
+        None => elsewhere(site.trace, e, site.attempt.offset(), row, saw),
     }
 }

@@ -1,9 +1,8 @@
--- How many customers, batches and requests there are.
-use Rattle.std.proofs.Common.{◌≡◌, ℕ, ◌≤◌, true, length, sum, Some, slice_get, ◌∙◌, arith}
+-- How many customers there are, and how many requests at most.
+use Rattle.std.proofs.Common.{◌≡◌, ℕ, ◌≤◌, true, length, sum, Some, slice_get, arith}
 use Rattle.std.specs.Prelude.{nat_le, ◌==◌}
 use Rattle.std.specs.List.{list_all}
 use Rattle.std.proofs.lemmas.Bool.{and_parts, leb-true, eqb-true}
-use Rattle.std.proofs.lemmas.List.FromFn.{length-enumerate_from}
 use Rattle.eve_grammar.specs.Trace.{Batch, Trace}
 use Rattle.eve_grammar.specs.Frames.{batches_of}
 use Rattle.eve_grammar.specs.Spelling.{customer_text, batch_text, batches_start, customers_at, batches_at}
@@ -16,10 +15,6 @@ use Rattle.eve_views.proofs.FrameOffsets.{length-located, located_get}
 pub customer_count : (t : Trace) → length (customers_at t) ≡ length t.customers
 unfolding customers_at
 customer_count t = length-located customer_text 32 t.customers
-
-pub batch_count : (t : Trace) → length (batches_at t) ≡ length t.batches
-unfolding batches_at
-batch_count t = length-located batch_text (batches_start t) (batches_of t) ∙ length-enumerate_from 1 t.batches
 
 request_limit : (b : Batch) → is_batch b ≡ true → length b.requests ≤ 256
 request_limit b right =

@@ -7,6 +7,7 @@ ghost use Rattle.eve_evidence_form.specs.Due.{TellsFrame};
 use crate::due::{due_kinds, frame_fault};
 use crate::walk::{head_decoded, reached};
 use eve_evidence::{FRAME_KINDS, FrameFault, RecordsBefore};
+use eve_views::Reached;
 
 /// What stands where no frame can, which kinds of frames may stand there, and behind which access records.
 #[derive(Clone, Copy)]
@@ -29,9 +30,13 @@ pub fn no_frame_at(bytes: &[u8], at: u64) -> NoFrame
     let at = at as usize;
     let head = head_decoded(bytes);
     let so_far = reached(&head, bytes, at);
-    let due = due_kinds(&head, &so_far.place);
+    let place = Reached {
+        head,
+        place: so_far.place,
+    };
+    let due = due_kinds(&place);
     NoFrame {
-        wrong: frame_fault(&head, &so_far.place, &bytes[at..]),
+        wrong: frame_fault(&place, &bytes[at..]),
         due,
         records: so_far.records,
     }

@@ -127,15 +127,7 @@ pub fn reached(head: &Head, bytes: &[u8], at: usize) -> PlaceReached
     ensures records { (r : IsReached bytes.now at) → r.head ≡ head.now → TellsRecords r.prefix result.records }
 {
     let mut so_far = PlaceReached {
-        place: Place {
-            customers: 0,
-            batches: 0,
-            replicas: 0,
-            accesses: 0,
-            verifiers: 0,
-            sending: false,
-            ended: false,
-        },
+        place: Reached::start(*head).place,
         records: None,
     };
     let mut next = HEADER_LEN;

@@ -31,7 +31,8 @@ fn gives(history: &History<'_>, i: usize, seq: u32, index: u16, reply: Reply) ->
     }
 }
 
-/// The first attempt of a replica that is of the batch, has the reply to the request of the index, and wasn't committed.
+/// The first attempt of a replica that is of the batch, has the reply to the request of the index, and wasn't
+/// committed.
 pub(crate) fn given_by(history: &History<'_>, seq: u32, index: u16, reply: Reply) -> Option<GivenBy>
     ensures { TellsGiven history.now seq index reply result }
 {

@@ -22,7 +22,7 @@ mod votes;
 pub use decisions::decisions_evidence;
 pub use majority::majority_evidence;
 pub use outcome::outcome_evidence;
-pub use replicas::{all_settled, settled_of};
+pub use replicas::{Replicas, all_settled, settled_of};
 pub use restore::restore_evidence;
 pub use second_vote::voted_again;
 pub use sent::reply_evidence;

@@ -10,14 +10,12 @@ ghost use Rattle.eve_agree.specs.Agreement.{StandsInAgreement};
 ghost use Rattle.eve_evidence_outcomes.specs.Outcome.{IsFirstApart, IsReplyFault, TellsOutcomeFault, TellsOutcome};
 ghost use Rattle.eve_evidence_outcomes.specs.Outcome.{HasThatOfFirst};
 
-use crate::committed::committed_attempt;
-use crate::replicas::{history_at, settled_at};
+use crate::committed::{CommittedBy, committed_attempt, first_committed};
+use crate::replicas::{Replicas, history_at, settled_at};
 use crate::sent::has_reply;
-use crate::state::{first_committed, row_apart};
-use eve_chains::Settled;
+use crate::state::row_apart;
 use eve_evidence::{Evidence, OutcomeFault, reply_of, told_attempt, told_request};
 use eve_frames::AttemptView;
-use eve_history::History;
 use eve_views::Trace;
 use std::alloc::{AllocError, Global};
 
@@ -66,36 +64,34 @@ fn reply_apart<'a>(
     })
 }
 
-/// The first thing in which replica e's outcome of batch n isn't that of replica f, if there is one.
+/// The first thing in which one replica's outcome of batch n isn't that of another, if there is one.
 fn outcome_fault<'a>(
     alloc: Global,
     trace: &Trace<'a>,
-    histories: &[History<'_>],
-    settled: &[Settled<'_>],
-    e: u8,
-    f: u8,
+    replicas: Replicas<'_, '_>,
     n: u32,
-    own: &AttemptView<'_>,
-    its: &AttemptView<'_>,
+    own: CommittedBy<'_>,
+    its: CommittedBy<'_>,
 ) -> Result<Option<OutcomeFault<'a>>, AllocError>
-    requires histories { histories.now ≡ section_histories trace.now }
-    requires settled { settled.now ≡ settlings trace.now }
-    requires there { e < length trace.now.sections }
-    requires number { n ≤ length (settling trace.now e).numbers }
-    requires its { f < length trace.now.sections }
-    requires its_number { n ≤ length (settling trace.now f).numbers }
-    ensures told { IfOk result (λ x. IfSome x (TellsOutcomeFault trace.now e f n (attempt_decoded own.now).replies
-        (attempt_decoded its.now).replies)) }
-    ensures none { IfOk result (λ x. IfNone x ((balances_to trace.now e n ≡ balances_to trace.now f n)
-        × ((attempt_decoded own.now).replies ≡ (attempt_decoded its.now).replies))) }
+    requires histories { replicas.histories.now ≡ section_histories trace.now }
+    requires settled { replicas.settled.now ≡ settlings trace.now }
+    requires there { own.replica < length trace.now.sections }
+    requires number { n ≤ length (settling trace.now own.replica).numbers }
+    requires its { its.replica < length trace.now.sections }
+    requires its_number { n ≤ length (settling trace.now its.replica).numbers }
+    ensures told { IfOk result (λ x. IfSome x (TellsOutcomeFault trace.now own.entry.replica its.entry.replica n
+        (attempt_decoded own.entry.attempt).replies (attempt_decoded its.entry.attempt).replies)) }
+    ensures none { IfOk result (λ x. IfNone x
+        ((balances_to trace.now own.entry.replica n ≡ balances_to trace.now its.entry.replica n)
+        × ((attempt_decoded own.entry.attempt).replies ≡ (attempt_decoded its.entry.attempt).replies))) }
 {
-    match row_apart(alloc, trace, histories, settled, e, f, n) {
+    match row_apart(alloc, trace, replicas, own.replica, its.replica, n) {
         Ok(Some(apart)) => Ok(Some(OutcomeFault::Row {
             row: apart.row,
             found: apart.found,
             due: apart.due,
         })),
-        Ok(None) => Ok(reply_apart(trace, n, own, its)),
+        Ok(None) => Ok(reply_apart(trace, n, &own.attempt, &its.attempt)),
         Err(why) => Err(why),
     }
 }
@@ -105,33 +101,36 @@ fn outcome_fault<'a>(
 fn at_number<'a>(
     alloc: Global,
     trace: &Trace<'a>,
-    histories: &[History<'_>],
-    settled: &[Settled<'_>],
+    replicas: Replicas<'_, '_>,
     e: u8,
     n: u32,
     place: u64,
 ) -> Result<Option<Evidence<'a>>, AllocError>
-    requires histories { histories.now ≡ section_histories trace.now }
-    requires settled { settled.now ≡ settlings trace.now }
+    requires histories { replicas.histories.now ≡ section_histories trace.now }
+    requires settled { replicas.settled.now ≡ settlings trace.now }
     requires there { e < length trace.now.sections }
     requires number { n ≤ length (settling trace.now e).numbers }
     ensures told { IfOk result (λ x. IfSome x (TellsOutcome trace.now e place)) }
     ensures none { IfOk result (λ x. IfNone x (HasThatOfFirst trace.now e place n)) }
 {
-    let Some(own) = committed_attempt(history_at(trace, histories, e), n) else {
+    let Some(own) = committed_attempt(history_at(trace, replicas.histories, e), n) else {
         return Ok(None);
     };
     if own.offset() != place {
         return Ok(None);
     }
-    let Some((first, its)) = first_committed(histories, n) else {
+    let Some(first) = first_committed(replicas.histories, n) else {
         return Ok(None);
     };
-    match outcome_fault(alloc, trace, histories, settled, e, first, n, &own, &its) {
+    let own_by = CommittedBy {
+        replica: e,
+        attempt: own,
+    };
+    match outcome_fault(alloc, trace, replicas, n, own_by, first) {
         Ok(Some(wrong)) => Ok(Some(Evidence::Outcome {
             attempt: told_attempt(&own),
-            first,
-            first_at: its.offset(),
+            first: first.replica,
+            first_at: first.attempt.offset(),
             wrong,
         })),
         Ok(None) => Ok(None),
@@ -150,20 +149,19 @@ fn at_number<'a>(
 pub fn outcome_evidence<'a>(
     alloc: Global,
     trace: &Trace<'a>,
-    histories: &[History<'_>],
-    settled: &[Settled<'_>],
+    replicas: Replicas<'_, '_>,
     e: u8,
     place: u64,
 ) -> Result<Evidence<'a>, AllocError>
-    requires histories { histories.now ≡ section_histories trace.now }
-    requires settled { settled.now ≡ settlings trace.now }
+    requires histories { replicas.histories.now ≡ section_histories trace.now }
+    requires settled { replicas.settled.now ≡ settlings trace.now }
     requires there { e < length trace.now.sections }
     requires stands { StandsInAgreement code.Outcome trace.now e place }
     ensures told { IfOk result (TellsOutcome trace.now e place) }
 {
-    let count = settled_at(trace, settled, e).committed();
+    let count = settled_at(trace, replicas.settled, e).committed();
     for n in 0..count {
-        match at_number(alloc, trace, histories, settled, e, n + 1, place) {
+        match at_number(alloc, trace, replicas, e, n + 1, place) {
             Ok(None) => {}
             Ok(Some(found)) => return Ok(found),
             Err(why) => return Err(why),

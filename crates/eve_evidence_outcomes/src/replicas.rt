@@ -12,6 +12,15 @@ use eve_views::{CheckFault, Trace};
 use std::alloc::{AllocError, Global};
 use std::thread::Threads;
 
+/// What all replicas' sections tell, and what all settled, in their order.
+#[derive(Clone, Copy)]
+pub struct Replicas<'r, 'a> {
+    /// What their sections tell.
+    pub histories: &'r [History<'a>],
+    /// What they settled.
+    pub settled: &'r [Settled<'a>],
+}
+
 /// What replica e's section tells, of what all replicas' tell.
 pub(crate) fn history_at<'h, 'a>(
     trace: &Trace<'_>,

@@ -68,7 +68,8 @@ pub(crate) fn has_reply(attempt: &AttemptView<'_>, index: u16, reply: Reply) -> 
     attempt.reply(index as usize) == reply
 }
 
-/// The first thing that is wrong with a reply that was sent, if it isn't one that its replica committed, and who gave it.
+/// The first thing that is wrong with a reply that was sent, if it isn't one that its replica committed, and who
+/// gave it.
 fn wrong_with<'a>(
     trace: &Trace<'a>,
     history: &History<'_>,

@@ -1,82 +1,64 @@
 //! The evidence of a state that was transferred and isn't the one that was committed.
 
 ghost use Rattle.std.specs.Prelude.{◌≡◌, ◌<◌, ◌≤◌, IfOk, IfSome, IfNone, None, Some, length};
-ghost use Rattle.eve_grammar.specs.Trace.{Trace as TraceValue};
 ghost use Rattle.eve_frames.specs.Decoded.{transfer_decoded};
 ghost use Rattle.eve_views.specs.declared.fault.Code.TheVariants as code;
 ghost use Rattle.eve_history.specs.SectionHistory.{section_histories};
 ghost use Rattle.eve_chains.specs.Committed.{balances_to};
 ghost use Rattle.eve_chains.specs.CommittedValues.{settling, settlings};
 ghost use Rattle.eve_agree.specs.ByNumber.{told_state_at};
-ghost use Rattle.eve_agree.specs.Agreement.{first_to_commit, StandsInAgreement};
-ghost use Rattle.eve_evidence_outcomes.specs.inner.Committed.{IsCommittedBy};
+ghost use Rattle.eve_agree.specs.Agreement.{StandsInAgreement};
 ghost use Rattle.eve_evidence_outcomes.specs.Outcomes.{IsRowFoundApart, TellsStateFault, TellsState, HasThoseOfFirst};
 ghost use Rattle.eve_evidence_outcomes.specs.Outcomes.{IsRightAt};
 
 use crate::apart::{RowApart, first_apart};
 use crate::balances::balances_to;
-use crate::committed::committed_attempt;
-use crate::replicas::{history_at, settled_at};
+use crate::committed::first_committed;
+use crate::replicas::{Replicas, history_at, settled_at};
 use eve_accounts::Balances;
-use eve_chains::Settled;
 use eve_chains::laws::states_are_the_balances;
 use eve_evidence::{Evidence, StateFault, told_transfer};
-use eve_frames::{AttemptView, TransferView};
+use eve_frames::TransferView;
 use eve_history::laws::numbers_are_reached;
 use eve_history::{History, HowReached};
 use eve_views::Trace;
 use std::alloc::{AllocError, Global};
 
-/// The lowest-numbered replica that committed batch n by an attempt, and that attempt, if one did.
-pub(crate) fn first_committed<'a>(
-    histories: &[History<'a>],
-    n: u32,
-) -> Option<(u8, AttemptView<'a>)>
-    ensures some { IfSome result (λ x. (t : TraceValue) → histories.now ≡ section_histories t
-        → (x.0 < length t.sections) × (first_to_commit t n ≡ Some x.0) × IsCommittedBy t x.0 n x.1) }
-    ensures none { IfNone result ((t : TraceValue) → histories.now ≡ section_histories t
-        → first_to_commit t n ≡ None) }
-{
-    for e in 0..histories.len() {
-        let history = &histories[e];
-        if let Some(attempt) = committed_attempt(history, n) {
-            return Some((history.replica(), attempt));
-        }
-    }
-    None
-}
-
 /// The balances that replica e has after number n, of all customers, row by row.
 fn balances_of(
     alloc: Global,
     trace: &Trace<'_>,
-    histories: &[History<'_>],
-    settled: &[Settled<'_>],
+    replicas: Replicas<'_, '_>,
     e: u8,
     n: u32,
 ) -> Result<Balances, AllocError>
-    requires histories { histories.now ≡ section_histories trace.now }
-    requires settled { settled.now ≡ settlings trace.now }
+    requires histories { replicas.histories.now ≡ section_histories trace.now }
+    requires settled { replicas.settled.now ≡ settlings trace.now }
     requires there { e < length trace.now.sections }
     requires number { n ≤ length (settling trace.now e).numbers }
     ensures { IfOk result (λ balances. balances ≡ balances_to trace.now e n) }
 {
-    let history = history_at(trace, histories, e);
-    balances_to(alloc, trace, history, settled_at(trace, settled, e), n)
+    let history = history_at(trace, replicas.histories, e);
+    balances_to(
+        alloc,
+        trace,
+        history,
+        settled_at(trace, replicas.settled, e),
+        n,
+    )
 }
 
 /// The first row in which replica e's balances after number n aren't those of replica f.
 pub(crate) fn row_apart<'a>(
     alloc: Global,
     trace: &Trace<'a>,
-    histories: &[History<'_>],
-    settled: &[Settled<'_>],
+    replicas: Replicas<'_, '_>,
     e: u8,
     f: u8,
     n: u32,
 ) -> Result<Option<RowApart<'a>>, AllocError>
-    requires histories { histories.now ≡ section_histories trace.now }
-    requires settled { settled.now ≡ settlings trace.now }
+    requires histories { replicas.histories.now ≡ section_histories trace.now }
+    requires settled { replicas.settled.now ≡ settlings trace.now }
     requires there { e < length trace.now.sections }
     requires number { n ≤ length (settling trace.now e).numbers }
     requires its { f < length trace.now.sections }
@@ -85,8 +67,8 @@ pub(crate) fn row_apart<'a>(
         (balances_to trace.now f n))) }
     ensures none { IfOk result (λ x. IfNone x (balances_to trace.now e n ≡ balances_to trace.now f n)) }
 {
-    let own = balances_of(alloc, trace, histories, settled, e, n)?;
-    let its = balances_of(alloc, trace, histories, settled, f, n)?;
+    let own = balances_of(alloc, trace, replicas, e, n)?;
+    let its = balances_of(alloc, trace, replicas, f, n)?;
     Ok(first_apart(trace, &own, &its))
 }
 
@@ -94,25 +76,24 @@ pub(crate) fn row_apart<'a>(
 fn state_fault<'a>(
     alloc: Global,
     trace: &Trace<'a>,
-    histories: &[History<'_>],
-    settled: &[Settled<'_>],
+    replicas: Replicas<'_, '_>,
     e: u8,
     n: u32,
 ) -> Result<Option<StateFault<'a>>, AllocError>
-    requires histories { histories.now ≡ section_histories trace.now }
-    requires settled { settled.now ≡ settlings trace.now }
+    requires histories { replicas.histories.now ≡ section_histories trace.now }
+    requires settled { replicas.settled.now ≡ settlings trace.now }
     requires there { e < length trace.now.sections }
     requires number { n ≤ length (settling trace.now e).numbers }
     ensures told { IfOk result (λ x. IfSome x (TellsStateFault trace.now e n)) }
     ensures none { IfOk result (λ x. IfNone x (HasThoseOfFirst trace.now e n)) }
 {
-    let Some((first, attempt)) = first_committed(histories, n) else {
+    let Some(first) = first_committed(replicas.histories, n) else {
         return Ok(Some(StateFault::NoneCommitted));
     };
-    match row_apart(alloc, trace, histories, settled, e, first, n) {
+    match row_apart(alloc, trace, replicas, e, first.replica, n) {
         Ok(Some(apart)) => Ok(Some(StateFault::Row {
-            first,
-            first_at: attempt.offset(),
+            first: first.replica,
+            first_at: first.attempt.offset(),
             row: apart.row,
             found: apart.found,
             due: apart.due,
@@ -142,14 +123,13 @@ fn transferred<'a>(history: &History<'a>, n: u32) -> Option<TransferView<'a>>
 fn at_number<'a>(
     alloc: Global,
     trace: &Trace<'a>,
-    histories: &[History<'_>],
-    settled: &[Settled<'_>],
+    replicas: Replicas<'_, '_>,
     e: u8,
     n: u32,
     place: u64,
 ) -> Result<Option<Evidence<'a>>, AllocError>
-    requires histories { histories.now ≡ section_histories trace.now }
-    requires settled { settled.now ≡ settlings trace.now }
+    requires histories { replicas.histories.now ≡ section_histories trace.now }
+    requires settled { replicas.settled.now ≡ settlings trace.now }
     requires there { e < length trace.now.sections }
     requires one { 1 ≤ n }
     requires number { n ≤ length (settling trace.now e).numbers }
@@ -159,7 +139,7 @@ fn at_number<'a>(
     numbers_are_reached();
     states_are_the_balances();
     trace.recall_limits();
-    let history = history_at(trace, histories, e);
+    let history = history_at(trace, replicas.histories, e);
     history.recall_right();
     let Some(state) = transferred(history, n) else {
         return Ok(None);
@@ -167,7 +147,7 @@ fn at_number<'a>(
     if state.offset() != place {
         return Ok(None);
     }
-    match state_fault(alloc, trace, histories, settled, e, n) {
+    match state_fault(alloc, trace, replicas, e, n) {
         Ok(Some(wrong)) => Ok(Some(Evidence::TransferState {
             state: told_transfer(&state),
             wrong,
@@ -188,20 +168,19 @@ fn at_number<'a>(
 pub fn state_evidence<'a>(
     alloc: Global,
     trace: &Trace<'a>,
-    histories: &[History<'_>],
-    settled: &[Settled<'_>],
+    replicas: Replicas<'_, '_>,
     e: u8,
     place: u64,
 ) -> Result<Evidence<'a>, AllocError>
-    requires histories { histories.now ≡ section_histories trace.now }
-    requires settled { settled.now ≡ settlings trace.now }
+    requires histories { replicas.histories.now ≡ section_histories trace.now }
+    requires settled { replicas.settled.now ≡ settlings trace.now }
     requires there { e < length trace.now.sections }
     requires stands { StandsInAgreement code.TransferBalances trace.now e place }
     ensures told { IfOk result (TellsState trace.now e place) }
 {
-    let count = settled_at(trace, settled, e).committed();
+    let count = settled_at(trace, replicas.settled, e).committed();
     for n in 0..count {
-        match at_number(alloc, trace, histories, settled, e, n + 1, place) {
+        match at_number(alloc, trace, replicas, e, n + 1, place) {
             Ok(None) => {}
             Ok(Some(found)) => return Ok(found),
             Err(why) => return Err(why),

@@ -15,8 +15,8 @@ use crate::names::names_in_order;
 use crate::replicas::{histories_of, history_of};
 use eve_evidence::Evidence;
 use eve_evidence_outcomes::{
-    all_settled, majority_evidence, outcome_evidence, reply_evidence, restore_evidence, settled_of,
-    state_evidence, token_evidence,
+    Replicas, all_settled, majority_evidence, outcome_evidence, reply_evidence, restore_evidence,
+    settled_of, state_evidence, token_evidence,
 };
 use eve_grammar::laws::bytes_spell_one_trace;
 use eve_history::laws::right_sections_have_no_fault;
@@ -117,7 +117,11 @@ pub(crate) fn evidence_of_outcome<'a, R: Threads + Sync>(
     let histories = histories_of(alloc, trace, fault)?;
     let names = names_in_order(alloc, trace, random)?;
     let settled = all_settled(rt, alloc, trace, &histories, &names, jobs)?;
-    outcome_evidence(alloc, trace, &histories, &settled, e, fault.offset)
+    let replicas = Replicas {
+        histories: &histories,
+        settled: &settled,
+    };
+    outcome_evidence(alloc, trace, replicas, e, fault.offset)
 }
 
 /// The evidence of a state that was transferred and isn't the one that was committed.
@@ -141,5 +145,9 @@ pub(crate) fn evidence_of_state<'a, R: Threads + Sync>(
     let histories = histories_of(alloc, trace, fault)?;
     let names = names_in_order(alloc, trace, random)?;
     let settled = all_settled(rt, alloc, trace, &histories, &names, jobs)?;
-    state_evidence(alloc, trace, &histories, &settled, e, fault.offset)
+    let replicas = Replicas {
+        histories: &histories,
+        settled: &settled,
+    };
+    state_evidence(alloc, trace, replicas, e, fault.offset)
 }

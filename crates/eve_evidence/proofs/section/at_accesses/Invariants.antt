@@ -11,7 +11,8 @@ use Rattle.eve_evidence.proofs.section.at_accesses.Given as goal
 
 abbrev pub invariant-loop-i : goal.invariant-loop-i
 invariant-loop-i l =
-    (s : SectionState) (a : Attempt) → IsCourse s l.course → attempt_decoded l.attempt ≡ without_accesses a
-    → l.accesses ≡ accesses_at l.attempt.offset a
-    → ¬ SomePlace (take l.i l.accesses) (λ own x. (x.0 ≡ l.place) × WrongAccess l.code l.trace s l.attempt.offset a own
-    x.1)
+    let at = l.site in
+    (s : SectionState) (a : Attempt) → IsCourse s at.course.now → attempt_decoded at.attempt.now ≡ without_accesses a
+    → at.accesses.now ≡ accesses_at at.attempt.now.offset a
+    → ¬ SomePlace (take l.i at.accesses.now) (λ own x. (x.0 ≡ l.place)
+    × WrongAccess l.code at.trace.now s at.attempt.now.offset a own x.1)

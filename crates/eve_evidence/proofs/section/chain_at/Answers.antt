@@ -14,7 +14,7 @@ returns-in_default-clause-none c = λ x got s a is decoded xs.
     let y : ℕ × Access = (c.get-access.result.offset, access_decoded c.get-access.result) in
     let same : y ≡ x = same_Some y x (sym c.get-access.ensures.says ∙ got) in
     subst (λ (z : ℕ × Access). ¬ SomePlace z.1.entries (λ _ e. SeesAnother c.args.code
-    (visible_to c.args.trace.now (placed_in s c.args.attempt.now.offset a) z.1.index e.row) e)) same
+    (visible_to c.args.site.trace.now (placed_in s c.args.site.attempt.now.offset a) z.1.index e.row) e)) same
     (no_place_of_all (λ e. SeesAnother c.args.code
-    (visible_to c.args.trace.now (placed_in s c.args.attempt.now.offset a) y.1.index e.row) e) y.1.entries
+    (visible_to c.args.site.trace.now (placed_in s c.args.site.attempt.now.offset a) y.1.index e.row) e) y.1.entries
     (c.in_default.ensures.none s a is decoded xs))

@@ -10,16 +10,16 @@ pub seen_in-requires-clause-look : goal.seen_in-requires-clause-look
 seen_in-requires-clause-look c =
     let t = c.args.trace.now in
     let is = c.requires.look in
-    on_attempt c.in-Attempt.own c.in-Attempt.accesses is.1
+    on_attempt c.in-Attempt.attempt c.in-Attempt.accesses is.1
     (λ (y : ℕ × Step). steps_at t c.args.e ≡ is.0 ++ y ∷ is.2
-    → HasLook t c.args.e c.args.course.now c.in-Attempt.own c.in-Attempt.accesses)
+    → HasLook t c.args.e c.args.course.now c.in-Attempt.attempt c.in-Attempt.accesses)
     (subst (λ met. IsStep met is.1) c.in-Attempt.is is.4)
     (λ a decoded xs split. (is.0, is.2, a, split, is.5, decoded, xs)) is.3
 
 pub returns-in-Attempt : goal.returns-in-Attempt
 returns-in-Attempt c = λ prefix is behind split stands course.
     let t = c.args.trace.now in
-    on_attempt c.in-Attempt.own c.in-Attempt.accesses is
+    on_attempt c.in-Attempt.attempt c.in-Attempt.accesses is
     (λ (y : ℕ × Step). steps_at t c.args.e ≡ prefix ++ y ∷ behind
     → TellsSeenWith t prefix y behind c.args.evidence.now c.seen_in.result)
     (subst (λ met. IsStep met is) c.in-Attempt.is stands)

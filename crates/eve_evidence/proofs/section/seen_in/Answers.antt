@@ -6,8 +6,8 @@ use Rattle.eve_evidence.proofs.section.seen_in.Goals as goal
 
 pub returns-in-Chain : goal.returns-in-Chain
 returns-in-Chain c = λ prefix behind a split course decoded xs attempt request at wrong before is.
-    let t = c.args.trace.now in
-    let o = c.args.own.now.offset in
+    let t = c.args.site.trace.now in
+    let o = c.args.site.attempt.now.offset in
     let same_request : c.in-Chain.request ≡ request = cc (sym c.in-Chain.is ∙ is) in
     let same_wrong : c.in-Chain.wrong ≡ wrong = cc (sym c.in-Chain.is ∙ is) in
     subst (λ (r : ToldRequest). IsSeenFrom t (look prefix behind o a r.index wrong.row.row wrong.saw)

@@ -6,7 +6,7 @@ use Rattle.eve_evidence.proofs.seen.seen_from.Goals as goal
 
 pub elsewhere-requires-clause-look : goal.elsewhere-requires-clause-look
 elsewhere-requires-clause-look c =
-    let t = c.args.trace.now in
+    let t = c.args.site.trace.now in
     let is = c.requires.look in (
       is.0,
       is.1,
@@ -20,7 +20,7 @@ elsewhere-requires-clause-look c =
 
 pub returns-in-None : goal.returns-in-None
 returns-in-None c = λ prefix behind a split course decoded xs.
-    let t = c.args.trace.now in
+    let t = c.args.site.trace.now in
     subst (λ (n : ℕ). IsSeenFrom t (look prefix behind n a c.args.index c.args.row c.args.saw.now) c.elsewhere.result)
     c.offset.ensures
     (c.elsewhere.ensures prefix behind a c.args.index

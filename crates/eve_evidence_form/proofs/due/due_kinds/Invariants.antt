@@ -5,4 +5,4 @@ use Rattle.eve_evidence_form.proofs.due.due_kinds.Given as goal
 
 abbrev pub invariant-loop-i : goal.invariant-loop-i
 invariant-loop-i l = (length l.due ≡ 12)
-    × (take l.i l.due ≡ map (λ k. is_allowed l.head l.place (kind_byte k)) (take l.i l.kinds))
+    × (take l.i l.due ≡ map (λ k. is_allowed l.reached.head l.reached.place (kind_byte k)) (take l.i l.kinds))

@@ -6,9 +6,9 @@ use Rattle.eve_grammar.specs.Spelling.{batches_at}
 use Rattle.eve_views.specs.Form.{SomePlace}
 use Rattle.eve_evidence.proofs.Lists.{item_there, place_at, no_place_more}
 use Rattle.eve_evidence_form.specs.Requests.{requests_listed, NoneAgain}
+use Rattle.eve_history.proofs.OrderLaws.{batch_count}
 use Rattle.eve_history.proofs.Places.{no_place}
 use Rattle.eve_evidence_form.proofs.Lists.{some_is, none_is}
-use Rattle.eve_evidence_form.proofs.FrameCounts.{batch_count}
 use Rattle.eve_evidence_form.proofs.RequestSearches.{not_none_again}
 use Rattle.eve_evidence_form.proofs.requests.asked_again.Goals as goal
 

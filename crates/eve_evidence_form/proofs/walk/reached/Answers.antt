@@ -6,7 +6,7 @@ use Rattle.eve_evidence_form.proofs.FramesPassed.{IsPassed, all_passed, begins_t
 use Rattle.eve_evidence_form.proofs.walk.reached.Goals as goal
 
 pub frames-init : goal.frames-init
-frames-init c = λ r same. none_passed c.args.bytes.now c.args.at r _ refl refl
+frames-init c = λ r same. none_passed c.args.bytes.now c.args.at r _ c.start.ensures.place refl
 
 pub step-so_far-requires-clause-fits : goal.step-so_far-requires-clause-fits
 step-so_far-requires-clause-fits c =

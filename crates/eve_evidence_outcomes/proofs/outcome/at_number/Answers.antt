@@ -32,7 +32,7 @@ returns-in_default-first_committed-clause-none c =
 pub outcome_fault-requires-clause-its_number : goal.outcome_fault-requires-clause-its_number
 outcome_fault-requires-clause-its_number c =
     let t = c.args.trace.now in
-    let f = c.in-Some-first_committed.first in
+    let f = c.in-Some-first_committed.first.replica in
     let its = c.in-Some-first_committed.ensures.some t c.requires.histories in
     committed_settled t f c.args.n its.2.placed (settling t f) refl its.2.committed
 
@@ -41,8 +41,8 @@ returns-in-Ok-Some-clause-told c =
     let t = c.args.trace.now in
     let e = c.args.e in
     let a = c.in-Some.own in
-    let b = c.in-Some-first_committed.its in
-    let f = c.in-Some-first_committed.first in
+    let b = c.in-Some-first_committed.first.attempt in
+    let f = c.in-Some-first_committed.first.replica in
     let its = c.in-Some-first_committed.ensures.some t c.requires.histories in
     let at : a.offset ≡ c.args.place = omega (arith, c.if-offset-place.false, c.offset.ensures) in
     other_outcome t e c.args.n c.args.place a (c.in-Some.ensures.some t e c.history_at.ensures) f b its.1 its.2 at
@@ -56,8 +56,8 @@ returns-in-Ok-None-clause-none c =
     let t = c.args.trace.now in
     let e = c.args.e in
     let a = c.in-Some.own in
-    let b = c.in-Some-first_committed.its in
-    let f = c.in-Some-first_committed.first in
+    let b = c.in-Some-first_committed.first.attempt in
+    let f = c.in-Some-first_committed.first.replica in
     let its = c.in-Some-first_committed.ensures.some t c.requires.histories in
     let same = subst (λ o. IfNone o ((balances_to t e c.args.n ≡ balances_to t f c.args.n)
     × ((attempt_decoded a).replies ≡ (attempt_decoded b).replies))) c.in-Ok-None.field-0-is c.in-Ok-None.ensures.none in

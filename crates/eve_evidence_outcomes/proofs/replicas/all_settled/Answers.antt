@@ -1,4 +1,4 @@
-use Rattle.std.proofs.Common.{rules, ◌≡◌, ℕ, ◌<◌, ◌++◌, ◌∷◌, [], length, sym, ap, subst, ◌∙◌, arith}
+use Rattle.std.proofs.Common.{rules, ◌≡◌, ◌<◌, ◌++◌, ◌∷◌, [], length, sym, ap, subst, ◌∙◌, arith}
 use Rattle.std.proofs.lemmas.List.{take_all}
 use Rattle.eve_grammar.proofs.Lists.{take_one_more}
 use Rattle.eve_history.specs.SectionHistory.{section_history}
@@ -18,7 +18,8 @@ settled_of-requires-clause-none g c κs within =
     let t = c.args.trace.now in
     let e = c.loop-e.e in
     let there : e < length t.sections = search rules in
-    subst (HasNoFault t) (sym (replica_is t e c.history_at-history.result.now c.history_at-history.ensures)) (c.requires.none e there)
+    subst (HasNoFault t) (sym (replica_is t e c.history_at-history.result.now c.history_at-history.ensures))
+    (c.requires.none e there)
 
 pub loop-e-preserved : goal.loop-e-preserved
 loop-e-preserved g c =
@@ -26,7 +27,8 @@ loop-e-preserved g c =
     let e = c.loop-e.e in
     let there : e < length t.sections = search rules in
     let one : c.in_ok-settled.settled ≡ settling t e =
-    c.in_ok-settled.ensures ∙ ap (settling t) (replica_is t e c.history_at-history.result.now c.history_at-history.ensures) in
+    c.in_ok-settled.ensures
+    ∙ ap (settling t) (replica_is t e c.history_at-history.result.now c.history_at-history.ensures) in
     c.in_ok-push.ensures.items
     ∙ (λ j. c.loop-e.invariant j ++ one j ∷ [])
     ∙ sym (take_one_more (settlings t) e (settling t e) (settling_at t e there))

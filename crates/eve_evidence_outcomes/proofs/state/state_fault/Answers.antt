@@ -7,4 +7,5 @@ pub row_apart-requires-clause-its_number : goal.row_apart-requires-clause-its_nu
 row_apart-requires-clause-its_number c =
     let t = c.args.trace.now in
     let own = c.in-Some.ensures.some t c.requires.histories in
-    committed_settled t c.in-Some.first c.args.n own.2.placed (settling t c.in-Some.first) refl own.2.committed
+    let f = c.in-Some.first.replica in
+    committed_settled t f c.args.n own.2.placed (settling t f) refl own.2.committed

@@ -7,7 +7,7 @@ use Rattle.eve_history.proofs.RightSections.{as_many_told}
 use Rattle.eve_agree.specs.Agreement.{first_to_commit}
 use Rattle.eve_evidence_outcomes.specs.inner.Committed.{IsCommittedBy}
 use Rattle.eve_evidence_outcomes.proofs.FirstReplicas.{first_is, first_none, history_as, replica_is}
-use Rattle.eve_evidence_outcomes.proofs.state.first_committed.Goals as goal
+use Rattle.eve_evidence_outcomes.proofs.committed.first_committed.Goals as goal
 
 pub returns-in-Some-clause-some : goal.returns-in-Some-clause-some
 returns-in-Some-clause-some c = λ t is.
