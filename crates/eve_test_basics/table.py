@@ -1,5 +1,5 @@
 #!/usr/bin/env python3
-"""Answers the cases of eve_test_basics as its program must, and independently of it, but those of workloads.
+"""Answers the cases of eve_test_basics as its program must, and independently of it, but those of workloads and stamps.
 
   python3 table.py < stdin
 
@@ -301,7 +301,7 @@ TELL = {"token": tell_token, "writes": tell_writes, "random": tell_random}
 
 for line in sys.stdin.read().splitlines():
     what, *words = line.split(" ")
-    if what == "workload":
+    if what in ("workload", "stamps"):
         continue
     if what in SAID:
         print(f"{line}:{SAID[what](*words)}")

@@ -22,10 +22,11 @@
 //!   of each prefix of it; `workload mix NAME TEXT`: its batches cut by both mixers, by the numbers of their requests.
 //!   In a text `/` stands for a line feed
 //! - `workload greatest`: texts with the greatest numbers of customers, requests and batches, and more
+//! - `stamps CASE`: stripes, schedules, recorders and tickets; src/stamps.rt has the cases
 //!
 //! Where a word isn't as it must be, or memory is refused, nothing is printed of the line, and the program ends there.
 //! What must be printed is what table.py, beside the input, answers to the same lines; of workloads it follows from
-//! docs/TRACE.md, "Workload".
+//! docs/TRACE.md, "Workload", and of stamps it is that all is as it is due.
 #![tactic(auto)]
 
 mod buffer;
@@ -35,6 +36,7 @@ mod followed;
 mod money;
 mod names;
 mod roots;
+mod stamps;
 mod streams;
 mod workloads;
 
@@ -68,19 +70,16 @@ fn tell_line(rt: &HostRuntime, line: &str, said: &mut Text) {
     said.words("\n");
 }
 
-/// Prints what is said of a line.
-fn answer(rt: &HostRuntime, line: &str) -> io::Result<()> {
-    let mut said = Text::new(rt.alloc());
-    match line.strip_prefix("workload ") {
-        Some(asked) => workloads::tell(rt, asked, &mut said),
-        None => tell_line(rt, line, &mut said),
-    }
-    said.print(rt)
-}
-
 fn main(rt: HostRuntime) -> io::Result<()> {
     for line in rt.lines(rt.alloc()) {
-        answer(&rt, line?.as_str())?;
+        let line = line?;
+        let mut said = Text::new(rt.alloc());
+        match line.as_str().split_once(' ') {
+            Some(("workload", asked)) => workloads::tell(&rt, asked, &mut said),
+            Some(("stamps", case)) => stamps::tell(&rt, case, &mut said),
+            _ => tell_line(&rt, line.as_str(), &mut said),
+        }
+        said.print(&rt)?;
     }
     Ok(())
 }

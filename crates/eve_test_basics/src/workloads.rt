@@ -4,7 +4,7 @@ mod greatest;
 mod texts;
 
 use crate::workloads::greatest::greatest;
-use crate::workloads::texts::{bytes_of, cut, mixed, read};
+use crate::workloads::texts::{cut, mixed, read, text_of};
 use eve_testing::Text;
 use std::alloc::Global;
 use std::hash::RandomState;
@@ -22,7 +22,7 @@ fn tell_with(alloc: Global, keys: RandomState, line: &str, said: &mut Text) {
     let mut words = line.splitn(3, ' ');
     let what = words.next().unwrap_or("");
     let name = words.next().unwrap_or("");
-    let text = bytes_of(alloc, words.next().unwrap_or(""), said);
+    let text = text_of(alloc, words.next().unwrap_or(""), said);
     let text = text.as_slice();
     match what {
         "read" => read(alloc, name, text, 1, said),

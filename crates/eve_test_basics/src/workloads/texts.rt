@@ -2,6 +2,7 @@
 
 ghost use Rattle.std.specs.Prelude.{◌≤◌, length};
 
+use crate::cases::bytes_of;
 use eve_accounts::Names;
 use eve_testing::Text;
 use eve_workload::{Mixer, Workload, WorkloadFault, mix};
@@ -9,36 +10,15 @@ use eve_write::{BatchData, CustomerData, RequestData};
 use std::alloc::Global;
 use std::hash::RandomState;
 
-/// The bytes of a text as it is written on a line: `/` stands for a line feed, and `{7f}` for that byte.
-pub fn bytes_of(alloc: Global, written: &str, said: &mut Text) -> Vec<u8> {
-    let mut bytes = Vec::new(alloc);
-    let mut is_inside = false;
-    let mut value = 0u8;
-    for byte in written.as_bytes() {
-        match *byte {
-            b'{' => {
-                is_inside = true;
-                value = 0;
-            }
-            b'}' => is_inside = false,
-            b'/' => value = b'\n',
-            digit if is_inside => value = value.wrapping_mul(16).wrapping_add(digit_of(digit)),
-            other => value = other,
-        }
-        if !is_inside {
-            said.stored(bytes.push(value));
+/// The bytes of a text as it is written on a line: `/` stands for a line feed.
+pub fn text_of(alloc: Global, written: &str, said: &mut Text) -> Vec<u8> {
+    let mut bytes = bytes_of(alloc, written, said);
+    for byte in &mut bytes {
+        if *byte == b'/' {
+            *byte = b'\n';
         }
     }
     bytes
-}
-
-/// What a hexadecimal digit stands for.
-fn digit_of(digit: u8) -> u8 {
-    match digit {
-        b'0'..=b'9' => digit - b'0',
-        b'a'..=b'f' => digit - b'a' + 10,
-        _ => 0,
-    }
 }
 
 /// Says what the text comes to in this format.
