@@ -16,9 +16,9 @@ _eve() {
             elif [[ $word == -* ]]; then
                 case ${COMP_WORDS[1]} in
                     audit) words='--workers --json -h --help' ;;
-                    explain) words='--workers -h --help' ;;
+                    explain) words='--workers --json -h --help' ;;
                     run) words='--mixer --format -h --help' ;;
-                    show) words='--long -h --help' ;;
+                    show) words='--long --json -h --help' ;;
                 esac
             fi
             ;;

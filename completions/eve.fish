@@ -9,7 +9,7 @@ complete -c eve -n "not __fish_seen_subcommand_from $commands" -a help -d 'print
 complete -c eve -n "not __fish_seen_subcommand_from $commands" -s V -l version -d 'print version'
 complete -c eve -s h -l help -d 'print help'
 complete -c eve -n '__fish_seen_subcommand_from audit explain' -l workers -x -a '(seq 16)' -d 'how many threads judge'
-complete -c eve -n '__fish_seen_subcommand_from audit' -l json -d 'print JSON, an object a line'
+complete -c eve -n '__fish_seen_subcommand_from audit explain show' -l json -d 'print JSON, an object a line'
 complete -c eve -n '__fish_seen_subcommand_from run' -l mixer -x -a 'first whole' -d 'how to cut batches'
 complete -c eve -n '__fish_seen_subcommand_from run' -l format -x -a '1 2' -d 'the format of the trace'
 complete -c eve -n '__fish_seen_subcommand_from show' -l long -d 'print what each frame says, too'

@@ -1,8 +1,10 @@
 -- The words that are calls, each by the grammar of the command line.
 use Rattle.eve_tool_arguments.proofs.PlainArguments.{alone, asks, asks_help, asks_help_by_word, audit_call}
-use Rattle.eve_tool_arguments.proofs.PlainArguments.{explain_asks, explain_call, json_call, no_json, run_call, show_call}
+use Rattle.eve_tool_arguments.proofs.PlainArguments.{explain_asks, explain_call, json_call, no_json, run_call}
+use Rattle.eve_tool_arguments.proofs.PlainArguments.{show_call}
 use Rattle.eve_tool_arguments.proofs.PlainArguments.{asks_version, first_call, format_1_call, format_2_call, long_call}
 use Rattle.eve_tool_arguments.proofs.PlainArguments.{after_dashes, no_format, no_name, no_worker, too_many}
+use Rattle.eve_tool_arguments.proofs.PlainArguments.{explain_json_call, long_json_call, show_json_call}
 use Rattle.eve_tool_arguments.proofs.PlainArguments.{two_are_audited}
 use Rattle.eve_tool_arguments.proofs.PlainArguments.{two_are_not_run, two_formats, two_names, whole_call}
 use Rattle.eve_tool_arguments.proofs.PlainArguments.{whole_format_2_call}
@@ -14,8 +16,11 @@ words_are_calls = record {
   json = json_call;
   no_json = no_json;
   explain = explain_call;
+  explain_json = explain_json_call;
   show = show_call;
   show_long = long_call;
+  show_json = show_json_call;
+  show_long_json = long_json_call;
   run = run_call;
   run_whole = whole_call;
   run_first = first_call;

@@ -21,7 +21,10 @@ use Rattle.eve_tool.specs.declared.fault.ToolFault.{ToolFault}
 use Rattle.eve_tool.specs.declared.fault.ToolFault.TheVariants as fault
 use Rattle.eve_tool.specs.Audit.{Audits, AuditsAs, Judges}
 use Rattle.eve_tool.specs.Calls.{AsksForRandom, Leaves}
+use Rattle.eve_explain.specs.Explained.{verdict_in}
+use Rattle.eve_explain.specs.declared.explained.Explained.{Explained}
 use Rattle.eve_tool.specs.Explain.{Explains}
+use Rattle.eve_tool_arguments.specs.declared.style.Style.{Style}
 use Rattle.eve_tool.specs.Lines.{status_of_verdict}
 use Rattle.eve_grammar.specs.declared.limits.TheConstants.{MOST_BYTES}
 use Rattle.eve_tool.specs.Show.{Shows}
@@ -111,27 +114,27 @@ uncountable bytes long =
     none true = refl
     none false = refl
 
-header_lines : (xs ys : List ℕ) (f : Fault) (text : List ℕ) → 2 ^ 30 < length xs → 2 ^ 30 < length ys
-    → IsLeast (IsFaultOutside StandsInForm xs) f → AreLinesBefore f.code xs f.offset text
-    → AreLinesBefore f.code ys f.offset text
-header_lines xs ys f text long longer least are =
+header_lines : (style : Style) (xs ys : List ℕ) (f : Fault) (text : List ℕ) → 2 ^ 30 < length xs → 2 ^ 30 < length ys
+    → IsLeast (IsFaultOutside StandsInForm xs) f → AreLinesBefore style f.code xs f.offset text
+    → AreLinesBefore style f.code ys f.offset text
+header_lines style xs ys f text long longer least are =
     let prefix = at_prefix f (least.least length_fault (length_stands xs long)) in
     let is_its = is_length f.code prefix.1 in
-    let none : text ≡ [] = subst (λ (b : Bool). AreLinesIf b xs text) (uncountable xs long)
-    (subst (λ (c : Code). AreLinesBefore c xs f.offset text) is_its are) in
-    subst (λ (c : Code). AreLinesBefore c ys f.offset text) (sym is_its)
-    (subst (λ (b : Bool). AreLinesIf b ys text) (sym (uncountable ys longer)) none)
+    let none : text ≡ [] = subst (λ (b : Bool). AreLinesIf style b xs text) (uncountable xs long)
+    (subst (λ (c : Code). AreLinesBefore style c xs f.offset text) is_its are) in
+    subst (λ (c : Code). AreLinesBefore style c ys f.offset text) (sym is_its)
+    (subst (λ (b : Bool). AreLinesIf style b ys text) (sym (uncountable ys longer)) none)
 
 -- a number of bytes that no trace has is enough to say what is to be said of all of them
-pub ShowsLong-cut : (limit : ℕ) (bytes text : List ℕ) (status : ℕ) → 2 ^ 30 ≤ limit
-    → ShowsLong (take (limit + 1) bytes) text status → ShowsLong bytes text status
-ShowsLong-cut limit bytes text status enough shows =
+pub ShowsLong-cut : (style : Style) (limit : ℕ) (bytes text : List ℕ) (status : ℕ) → 2 ^ 30 ≤ limit
+    → ShowsLong style (take (limit + 1) bytes) text status → ShowsLong style bytes text status
+ShowsLong-cut style limit bytes text status enough shows =
     elim (cases_lt (limit + 1) (length bytes)) [
       | inl longer ↦ cut limit bytes text status enough longer shows
-      | inr all ↦ subst (λ (b : List ℕ). ShowsLong b text status) (take_all (limit + 1) bytes all) shows
+      | inr all ↦ subst (λ (b : List ℕ). ShowsLong style b text status) (take_all (limit + 1) bytes all) shows
     ] where
       cut : (limit : ℕ) (bytes text : List ℕ) (status : ℕ) → 2 ^ 30 ≤ limit → limit + 1 < length bytes
-          → ShowsLong (take (limit + 1) bytes) text status → ShowsLong bytes text status
+          → ShowsLong style (take (limit + 1) bytes) text status → ShowsLong style bytes text status
       cut limit bytes text status enough longer (inl trace) =
           let frames = spells_frames (take (limit + 1) bytes) trace.0.trace trace.0.spelled in
           absurd (omega (arith, length-take (limit + 1) bytes, frames.short))
@@ -144,7 +147,7 @@ ShowsLong-cut limit bytes text status enough shows =
               least = same_fault (take (limit + 1) bytes) bytes found.0.fault read long
                   found.0.least;
               before = found.0.before;
-              lines = header_lines (take (limit + 1) bytes) bytes found.0.fault found.0.before read long
+              lines = header_lines style (take (limit + 1) bytes) bytes found.0.fault found.0.before read long
                   found.0.least
                   found.0.lines;
               is = found.0.is;
@@ -284,10 +287,16 @@ pub audited_of : (printed : Verdict → List ℕ) (known : Option (List ℕ)) (o
 audited_of printed None old new status all is = tt
 audited_of printed (Some bytes) old new status all is = audited bytes all.text status all.said is
 
-pub explained_of : (known : Option (List ℕ)) (old new : Option (List ℕ)) (status : ℕ)
-    → WritesAllOf Explains known old new status → status ≡ 0 → IfSome known SpellsAudited
-explained_of None old new status all is = tt
-explained_of (Some bytes) old new status all is = audited bytes all.said.verdict status all.said.audits is
+pub explained_of : (printed : Explained → List ℕ) (known : Option (List ℕ)) (old new : Option (List ℕ)) (status : ℕ)
+    → WritesAllOf (Explains printed) known old new status → status ≡ 0 → IfSome known SpellsAudited
+explained_of printed None old new status all is = tt
+explained_of printed (Some bytes) old new status all is =
+    by (verdict_in all.said.explained) (sym all.said.ends ∙ is) all.said.judges.yes
+  where
+    by : (v : Verdict) → status_of_verdict v ≡ 0 → ((s : Summary) → v ≡ Yes s → SpellsAudited bytes)
+        → SpellsAudited bytes
+    by (Yes s) e said = said s refl
+    by (No f) e said = absurd (omega (arith, e))
 
 -- ---- what is left by a fault
 
@@ -312,17 +321,18 @@ show_left written failures known failed bytes old new fault.Memory cut (inl same
 show_left written failures known failed bytes old new fault.Memory cut (inr prefix) = inr (prefix.0, cut prefix.1)
 show_left written failures known failed bytes old new fault.Write cut left = (left.0, cut left.1)
 
-pub long_left : {O : Type 0} (written : O → Option (List ℕ)) (failures : O → ℕ) (known : Option (List ℕ))
-    (failed : Type 0) (bytes : List ℕ) (old new : O) (why : ToolFault)
-    → (WritesPrefix ShowsLong bytes (written old) (written new)
-    → WritesPrefixOf ShowsLong known (written old) (written new))
-    → Leaves MOST_BYTES written failures ShowLong (Some bytes) ⊥ old new why
-    → Leaves MOST_BYTES written failures ShowLong known failed old new why
-long_left written failures known failed bytes old new fault.Read cut left = absurd left.0
-long_left written failures known failed bytes old new (fault.Line number) cut left = absurd left.0
-long_left written failures known failed bytes old new fault.TooLong cut left = absurd left.0
-long_left written failures known failed bytes old new fault.Broken cut left = absurd left.0
-long_left written failures known failed bytes old new fault.Random cut left = absurd left.0
-long_left written failures known failed bytes old new fault.Memory cut (inl same) = inl same
-long_left written failures known failed bytes old new fault.Memory cut (inr prefix) = absurd prefix.0
-long_left written failures known failed bytes old new fault.Write cut left = (left.0, cut left.1)
+pub long_left : {O : Type 0} (style : Style) (written : O → Option (List ℕ)) (failures : O → ℕ)
+    (known : Option (List ℕ)) (failed : Type 0) (bytes : List ℕ) (old new : O) (why : ToolFault)
+    → (WritesPrefix (ShowsLong style) bytes (written old) (written new)
+    → WritesPrefixOf (ShowsLong style) known (written old) (written new))
+    → Leaves MOST_BYTES written failures (ShowLong style) (Some bytes) ⊥ old new why
+    → Leaves MOST_BYTES written failures (ShowLong style) known failed old new why
+long_left style written failures known failed bytes old new fault.Read cut left = absurd left.0
+long_left style written failures known failed bytes old new (fault.Line number) cut left = absurd left.0
+long_left style written failures known failed bytes old new fault.TooLong cut left = absurd left.0
+long_left style written failures known failed bytes old new fault.Broken cut left = absurd left.0
+long_left style written failures known failed bytes old new fault.Random cut left = absurd left.0
+long_left style written failures known failed bytes old new fault.Write cut left = (left.0, cut left.1)
+long_left style written failures known failed bytes old new fault.Memory cut (inl same) = inl same
+long_left style written failures known failed bytes old new fault.Memory cut (inr prefix) =
+    inr (prefix.0, cut prefix.1)

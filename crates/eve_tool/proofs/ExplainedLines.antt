@@ -1,10 +1,11 @@
 -- A verdict's line, and the lines behind it, sent one after another.
 use Rattle.std.proofs.Common.{◌≡◌, ◌≤◌, ◌+◌, ◌^◌, ℕ, zero, suc, List, [], ◌∷◌, ◌++◌, map, length, take, drop}
-use Rattle.std.proofs.Common.{Option, Some, inl, inr, refl, ap, sym, subst, ◌∙◌}
-use Rattle.std.proofs.Common.{append-nil, append_assoc, add-one, lit≤}
+use Rattle.std.proofs.Common.{Option, None, Some, inl, inr, refl, ap, sym, subst, ◌∙◌, ◌-◌, arith}
+use Rattle.std.proofs.Common.{append-nil, append_assoc, add-one, length-append, lit≤}
 use Rattle.std.specs.Prelude.{slice_get}
 use Rattle.std.specs.List.{flat_map}
-use Rattle.std.proofs.lemmas.List.{take-take, take_all}
+use Rattle.std.proofs.lemmas.List.{drop_all, take-take, take_all, take_at}
+use Rattle.json.specs.Token.{Token}
 use Rattle.std.proofs.KnownBytes.{Appends-trans}
 use Rattle.std.specs.Io.KnownBytes.{Appends}
 use Rattle.eve_grammar.specs.declared.limits.TheConstants.{MOST_BYTES}
@@ -15,9 +16,11 @@ use Rattle.eve_streams.specs.Prefix.{AppendsPrefix}
 use Rattle.eve_streams.proofs.JoinedSends.{AppendsPrefix-after, AppendsPrefix-more}
 use Rattle.eve_tool.specs.declared.fault.ToolFault.{ToolFault}
 use Rattle.eve_tool.specs.declared.fault.ToolFault.TheVariants as fault
-use Rattle.eve_tool.specs.Audit.{Audits}
 use Rattle.eve_tool.specs.Calls.{Leaves, StopsSending}
-use Rattle.eve_tool.specs.Explain.{Explains, lines_behind, text_behind}
+use Rattle.eve_tool.specs.Explain.{Explains, explained_text, lines_behind}
+use Rattle.eve_streams.specs.Failures.{after_failure}
+use Rattle.eve_write.specs.Writes.{Stopped}
+use Rattle.eve_tool_arguments.specs.declared.style.Style.{Style}
 use Rattle.eve_audit.specs.Verdict.{IsVerdict, SpellsAudited}
 use Rattle.eve_audit.specs.declared.verdict.Summary.{Summary}
 use Rattle.eve_audit.specs.declared.verdict.Verdict.{Verdict}
@@ -25,10 +28,10 @@ use Rattle.eve_audit.specs.declared.verdict.Verdict.TheVariants.{Yes}
 use Rattle.eve_explain.specs.Explained.{IsExplained, verdict_in}
 use Rattle.eve_explain.specs.declared.explained.Explained.{Explained}
 use Rattle.eve_explain.specs.declared.explained.Explained.TheVariants as explained
-use Rattle.eve_tool.specs.Lines.{status_of_verdict, verdict_line}
-use Rattle.eve_tool.specs.Writes.{WritesAll, WritesPrefix, WritesPrefixOf}
+use Rattle.eve_tool.specs.Lines.{status_of_verdict}
+use Rattle.eve_tool.specs.Writes.{WritesPrefix, WritesPrefixOf}
 use Rattle.eve_tool_arguments.specs.Arguments.{Explain}
-use Rattle.eve_tool.proofs.CutInput.{Audits-cut}
+use Rattle.eve_tool.proofs.CutInput.{Judges-cut}
 
 -- ---- lines
 
@@ -83,49 +86,74 @@ pub few_behind : (x : Explained) → length (lines_behind x) ≤ MOST_LINES
 few_behind (explained.Yes s counts) = few_counts counts
 few_behind (explained.No f evidence) = few_reasons evidence
 
--- ---- behind the verdict's line
+-- ---- objects of lines
 
--- the line of the verdict of an explanation is what is said of the bytes
-pub audits-of : (bytes : List ℕ) (x : Explained) (v : Verdict) (status : ℕ) → v ≡ verdict_in x
-    → status ≡ status_of_verdict v → IsVerdict bytes (verdict_in x)
-    → ((s : Summary) → verdict_in x ≡ Yes s → SpellsAudited bytes) → Audits bytes (verdict_line v) status
-audits-of bytes x v status is ends verdict spells = record {
-  verdict = v;
-  is = subst (IsVerdict bytes) (sym is) verdict;
-  yes = λ s e. spells s (sym is ∙ e);
-  line = refl;
+-- the words of a line are what stands before its line feed
+words_are : (words line : List ℕ) → line ≡ ended words → take (length line - 1) line ≡ words
+words_are words line is =
+    let len : length words ≡ length line - 1 = omega (arith, ap length is, length-append words (10 ∷ [])) in
+    ap (take (length line - 1)) is ∙ take_at words (10 ∷ []) (length line - 1) len
+
+-- the object of the line of a number was appended
+pub object_more : (item : List ℕ → List Token) (old new before all : List Token) (lines : List (List ℕ)) (i : ℕ)
+    (line : List ℕ) → Some line ≡ slice_get (map ended lines) i → new ≡ old ++ item (take (length line - 1) line)
+    → old ++ flat_map item (drop i lines) ≡ before ++ all → new ++ flat_map item (drop (i + 1) lines) ≡ before ++ all
+object_more item old new before all lines i line is came far =
+    ap (λ t. t ++ flat_map item (drop (i + 1) lines)) came ∙ append_assoc old _ _
+    ∙ ap (λ t. old ++ t) (rw (add-one i) (by lines i is)) ∙ far
+  where
+    by : (lines : List (List ℕ)) (i : ℕ) → Some line ≡ slice_get (map ended lines) i
+        → item (take (length line - 1) line) ++ flat_map item (drop (suc i) lines) ≡ flat_map item (drop i lines)
+    by [] i is = absurd cc
+    by (l ∷ rest) zero is =
+        let same : line ≡ ended l = cc in
+        ap (λ (w : List ℕ). item w ++ flat_map item rest) (words_are l line same)
+    by (l ∷ rest) (suc i) is = by rest i is
+
+-- all were
+pub objects_all : (item : List ℕ → List Token) (now before all : List Token) (lines : List (List ℕ)) (i : ℕ)
+    → length lines ≤ i → now ++ flat_map item (drop i lines) ≡ before ++ all → now ≡ before ++ all
+objects_all item now before all lines i few far =
+    sym (append-nil now) ∙ ap (λ (ls : List (List ℕ)). now ++ flat_map item ls) (sym (drop_all i lines few)) ∙ far
+
+-- where there is no line of a number, there are no more
+pub no_more : (lines : List (List ℕ)) (i : ℕ) → None ≡ slice_get (map ended lines) i → length lines ≤ i
+no_more [] i none = omega arith
+no_more (l ∷ rest) zero none = absurd cc
+no_more (l ∷ rest) (suc i) none = let more = no_more rest i none in omega arith
+
+-- an array behind other tokens
+pub array_behind : (first items : List Token) (named opens closes : Token)
+    → (((first ++ named ∷ []) ++ opens ∷ []) ++ items) ++ closes ∷ []
+    ≡ first ++ (named ∷ opens ∷ (items ++ closes ∷ []))
+array_behind first items named opens closes =
+    append_assoc ((first ++ named ∷ []) ++ opens ∷ []) items (closes ∷ [])
+    ∙ append_assoc (first ++ named ∷ []) (opens ∷ []) (items ++ closes ∷ [])
+    ∙ append_assoc first (named ∷ []) (opens ∷ (items ++ closes ∷ []))
+
+-- ---- what is printed of an explanation
+
+-- it is said of bytes that are read whole
+pub explains-of : (style : Style) (bytes : List ℕ) (x : Explained) (status : ℕ)
+    → status ≡ status_of_verdict (verdict_in x) → IsVerdict bytes (verdict_in x)
+    → ((s : Summary) → verdict_in x ≡ Yes s → SpellsAudited bytes) → IsExplained bytes x
+    → length bytes ≤ MOST_BYTES + 1 → Explains (explained_text style) bytes (explained_text style x) status
+explains-of style bytes x status ends verdict spells shown fits = record {
+  explained = x;
+  judges = record { is = verdict; yes = spells };
+  shown = subst (λ (b : List ℕ). IsExplained b x) (sym (take_all (MOST_BYTES + 1) bytes fits)) shown;
+  whole = refl;
   ends = ends;
 }
 
--- that line, and those behind it, are said of bytes that are read whole
-pub explains-of : (bytes : List ℕ) (x : Explained) (v : Verdict) (status : ℕ) → v ≡ verdict_in x
-    → Audits bytes (verdict_line v) status → IsExplained bytes x → length bytes ≤ MOST_BYTES + 1
-    → Explains bytes (verdict_line v ++ text_behind x) status
-explains-of bytes x v status is audits shown fits = record {
-  verdict = verdict_line v;
-  audits = audits;
-  explained = x;
-  line = ap verdict_line is;
-  shown = subst (λ (b : List ℕ). IsExplained b x) (sym (take_all (MOST_BYTES + 1) bytes fits)) shown;
-  whole = refl;
-}
-
-pub explained-all : (a b c : Option (List ℕ)) (bytes first more : List ℕ) (status : ℕ)
-    → Explains bytes (first ++ more) status → Appends a b first → Appends b c more → WritesAll Explains bytes a c status
-explained-all a b c bytes first more status said one two = record {
-  text = first ++ more;
-  said = said;
-  written = Appends-trans a b c first more one two;
-}
-
-pub explained-prefix : (a b c : Option (List ℕ)) (bytes first more : List ℕ) (status : ℕ)
-    → Explains bytes (first ++ more) status → Appends a b first → AppendsPrefix b c more
-    → WritesPrefix Explains bytes a c
-explained-prefix a b c bytes first more status said one two = record {
-  text = first ++ more;
-  status = status;
-  said = said;
-  written = AppendsPrefix-after a b c first more one two;
+-- a verdict's line, and then what stands behind it, was stopped there
+pub stops_behind : {O : Type 0} (written : O → Option (List ℕ)) (failures : O → ℕ) (start mid new : O)
+    (first more : List ℕ) → Appends (written start) (written mid) first → failures mid ≡ failures start
+    → AppendsPrefix (written mid) (written new) more → failures new ≡ after_failure (failures mid)
+    → Stopped written failures start new (first ++ more)
+stops_behind written failures start mid new first more sent fine prefix counted = record {
+  prefix = AppendsPrefix-after (written start) (written mid) (written new) first more sent prefix;
+  counted = counted ∙ ap after_failure fine;
 }
 
 -- where a text was not sent, one that begins with it wasn't
@@ -148,30 +176,29 @@ stops-further written failures old new text more fault.Write stopped =
 -- ---- bytes of which only a prefix was read
 
 -- a number of bytes that no trace has is enough to say what is to be said of all of them
-pub Explains-cut : (bytes text : List ℕ) (status : ℕ) → Explains (take (2 ^ 30 + 1) bytes) text status
-    → Explains bytes text status
-Explains-cut bytes text status said = record {
-  verdict = said.verdict;
-  audits = Audits-cut (2 ^ 30) bytes said.verdict status (lit≤ tt) said.audits;
+pub Explains-cut : (printed : Explained → List ℕ) (bytes text : List ℕ) (status : ℕ)
+    → Explains printed (take (2 ^ 30 + 1) bytes) text status → Explains printed bytes text status
+Explains-cut printed bytes text status said = record {
   explained = said.explained;
-  line = said.line;
+  judges = Judges-cut (2 ^ 30) bytes (verdict_in said.explained) (lit≤ tt) said.judges;
   shown = subst (λ (b : List ℕ). IsExplained b said.explained)
       (take-take (2 ^ 30 + 1) (2 ^ 30 + 1) bytes (lit≤ tt)) said.shown;
   whole = said.whole;
+  ends = said.ends;
 }
 
 -- what a call that reads no further than a limit left of the bytes that were read
-pub explain_left : {O : Type 0} (written : O → Option (List ℕ)) (failures : O → ℕ) (known : Option (List ℕ))
-    (failed : Type 0) (bytes : List ℕ) (old new : O) (why : ToolFault)
-    → (WritesPrefix Explains bytes (written old) (written new)
-    → WritesPrefixOf Explains known (written old) (written new))
-    → Leaves MOST_BYTES written failures Explain (Some bytes) ⊥ old new why
-    → Leaves MOST_BYTES written failures Explain known failed old new why
-explain_left written failures known failed bytes old new fault.Read cut left = absurd left.0
-explain_left written failures known failed bytes old new (fault.Line number) cut left = absurd left.0
-explain_left written failures known failed bytes old new fault.TooLong cut left = absurd left.0
-explain_left written failures known failed bytes old new fault.Broken cut left = absurd left.0
-explain_left written failures known failed bytes old new fault.Random cut left = left
-explain_left written failures known failed bytes old new fault.Memory cut (inl same) = inl same
-explain_left written failures known failed bytes old new fault.Memory cut (inr prefix) = absurd prefix.0
-explain_left written failures known failed bytes old new fault.Write cut left = (left.0, cut left.1)
+pub explain_left : {O : Type 0} (style : Style) (written : O → Option (List ℕ)) (failures : O → ℕ)
+    (known : Option (List ℕ)) (failed : Type 0) (bytes : List ℕ) (old new : O) (why : ToolFault)
+    → (WritesPrefix (Explains (explained_text style)) bytes (written old) (written new)
+    → WritesPrefixOf (Explains (explained_text style)) known (written old) (written new))
+    → Leaves MOST_BYTES written failures (Explain style) (Some bytes) ⊥ old new why
+    → Leaves MOST_BYTES written failures (Explain style) known failed old new why
+explain_left style written failures known failed bytes old new fault.Read cut left = absurd left.0
+explain_left style written failures known failed bytes old new (fault.Line number) cut left = absurd left.0
+explain_left style written failures known failed bytes old new fault.TooLong cut left = absurd left.0
+explain_left style written failures known failed bytes old new fault.Broken cut left = absurd left.0
+explain_left style written failures known failed bytes old new fault.Random cut left = left
+explain_left style written failures known failed bytes old new fault.Memory cut (inl same) = inl same
+explain_left style written failures known failed bytes old new fault.Memory cut (inr prefix) = absurd prefix.0
+explain_left style written failures known failed bytes old new fault.Write cut left = (left.0, cut left.1)

@@ -1,5 +1,5 @@
 -- What is put into a line that is sent where it is full.
-use Rattle.std.proofs.Common.{◌≡◌, ℕ, List, [], ◌++◌, Option, ap, sym, subst, ◌∙◌, append_assoc, refl}
+use Rattle.std.proofs.Common.{◌≡◌, ℕ, List, [], ◌++◌, Option, ap, sym, subst, ◌∙◌, append_assoc, append-nil, refl}
 use Rattle.std.specs.Io.KnownBytes.{Appends}
 use Rattle.std.proofs.KnownBytes.{Appends-nil, Appends-trans}
 use Rattle.eve_streams.specs.Prefix.{AppendsPrefix}
@@ -50,6 +50,15 @@ pub puts-held_stops : (a b c : Option (List ℕ)) (held kept text : List ℕ) �
     → AppendsPrefix b c kept → AppendsPrefix a c (held ++ text)
 puts-held_stops a b c held kept text puts stops =
     subst (AppendsPrefix a c) puts.whole (AppendsPrefix-after a b c puts.sent kept puts.appended stops)
+
+-- what was held was sent, and then a text
+pub puts-sent_whole : (a b c : Option (List ℕ)) (held kept text : List ℕ) → Appends a b held → kept ≡ []
+    → Appends b c text → PutsText a c held kept text
+puts-sent_whole a b c held kept text first none second = record {
+  sent = held ++ text;
+  appended = Appends-trans a b c held text first second;
+  whole = ap (λ l. (held ++ text) ++ l) none ∙ append-nil (held ++ text);
+}
 
 -- ---- a text, while it is put
 

@@ -23,6 +23,13 @@ use Rattle.eve_grammar.proofs.FrameLaws.{limits_text, Exact-header}
 use Rattle.eve_grammar.proofs.HeaderParts.{behind_magic, header_parts, in_parts, length-head_text, length-limits_text}
 use Rattle.eve_lines.specs.FrameLines.{frame_words}
 use Rattle.eve_lines.specs.Rest.{words_in}
+use Rattle.json.specs.Print.{print}
+use Rattle.json.specs.Token.{Token}
+use Rattle.eve_objects.specs.Bytes.{members_in}
+use Rattle.eve_objects.specs.Members.{object, object_line}
+use Rattle.eve_objects.specs.FrameObjects.{frame_members, frame_object, header_object}
+use Rattle.eve_tool_arguments.specs.declared.style.Style.{Style}
+use Rattle.eve_tool_arguments.specs.declared.style.Style.TheVariants.{Json, Plain}
 use Rattle.std.specs.Io.KnownBytes.{Appends}
 use Rattle.eve_streams.specs.Prefix.{AppendsPrefix}
 use Rattle.std.proofs.KnownBytes.{Appends-nil, Appends-trans}
@@ -81,12 +88,30 @@ line-stops_at_end a b c d held l k j m prefix words left room first begun put la
     (puts-stops b c d k m words line_feed (puts-begun b c k j m left words begun put)
     (AppendsPrefix-more c d m line_feed last)))
 
+-- ---- an object
+
+-- the line of an object is not empty
+pub object_line-some : (members : List Token) → 0 < length (object_line members)
+unfolding object_line
+object_line-some members = omega (arith, length-append (print (object members)) (10 ∷ []))
+
+pub header_object-some : (head : Head) → 0 < length (header_object head)
+unfolding header_object
+header_object-some head = object_line-some _
+
+pub held-some : (held : List ℕ) (members : List Token) → 0 < length (held ++ object_line members)
+held-some held members = omega (arith, object_line-some members, length-append held (object_line members))
+
 -- ---- the frame at a place
 
--- frames say their words
+-- frames say their words, and their members
 abbrev pub SayTheirWords : Type 0
 SayTheirWords = (h : Head) (p : Place) (f : Frame) (number : ℕ) → IsTrue (is_head h) → FitsAt h p f
     → words_in number (frame_text f) ≡ frame_words number f
+
+abbrev pub SayTheirMembers : Type 0
+SayTheirMembers = (h : Head) (p : Place) (f : Frame) (number : ℕ) → IsTrue (is_head h) → FitsAt h p f
+    → members_in number (frame_text f) ≡ frame_members number f
 
 -- a frame that stands in front of bytes has as many bytes as it says
 len_here : (h : Head) (p : Place) (f : Frame) (bytes rest : List ℕ) → FitsAt h p f → bytes ≡ frame_text f ++ rest
@@ -114,107 +139,120 @@ view_is bytes at h p f rest view stands cut =
     ∙ take_at (frame_text f) (frames_text rest) (length (frame_text f)) refl
 
 -- and so is its line
-line_is : SayTheirWords → (bytes : List ℕ) (at number : ℕ) (h : Head) (p : Place) (f : Frame) (rest : List Frame)
-    (view : FrameView) → IsTrue (is_head h) → StandsAt bytes at h p f rest → view.offset ≡ at
-    → view.bytes.now ≡ take (frame_len (drop at bytes)) (drop at bytes)
-    → line_of_view number view ≡ long_line number at f
-line_is say bytes at number h p f rest view right stands offset cut =
+line_is : SayTheirWords → SayTheirMembers → (style : Style) (bytes : List ℕ) (at number : ℕ) (h : Head) (p : Place)
+    (f : Frame) (rest : List Frame) (view : FrameView) → IsTrue (is_head h) → StandsAt bytes at h p f rest
+    → view.offset ≡ at → view.bytes.now ≡ take (frame_len (drop at bytes)) (drop at bytes)
+    → line_of_view style number view ≡ long_line style number at f
+unfolding frame_object
+line_is words_told told style bytes at number h p f rest view right stands offset cut =
     let text = view_is bytes at h p f rest view stands cut in
     let name : kind_name (slice_index view.bytes.now 0) ≡ kind_name (kind_of f) =
     ap (λ b. kind_name (slice_index b 0)) text in
     let len : length view.bytes.now - 5 ≡ length (body_text f) = omega (arith, ap length text, length-frame_text f) in
     let words : words_in number view.bytes.now ≡ frame_words number f =
-    ap (words_in number) text ∙ say h p f number right stands.fits in
-    rw (offset, name, len, words) refl
+    ap (words_in number) text ∙ words_told h p f number right stands.fits in
+    let members : members_in number view.bytes.now ≡ frame_members number f =
+    ap (members_in number) text ∙ told h p f number right stands.fits in
+    elim style as (λ (k : Style). line_of_view k number view ≡ long_line k number at f) [
+      | Plain ↦ rw (offset, name, len, words) refl
+      | Json ↦ rw (offset, name, len, members) refl
+    ]
 
 -- ---- the lines of frames, while they are put
 
 -- the frames from the one with this number on, at this byte, are still to come
-pub record ListsSoFar (old new : Option (List ℕ)) (held kept bytes : List ℕ) (at number : ℕ) (h : Head)
+pub record ListsSoFar (style : Style) (old new : Option (List ℕ)) (held kept bytes : List ℕ) (at number : ℕ) (h : Head)
     (frames : List Frame) : Type 0 where
   pub limits : IsTrue (is_head h)
   pub place : Place
   pub rest : List Frame
   pub right : Follow h place rest
   pub here : drop at bytes ≡ frames_text rest
-  pub puts : PutsUpTo old new held kept (lines_from 0 32 frames) (lines_from number at rest)
+  pub puts : PutsUpTo old new held kept (lines_from style 0 32 frames) (lines_from style number at rest)
 
-pub lists-none : (a : Option (List ℕ)) (held bytes : List ℕ) (h : Head) (frames : List Frame) → HasFrames bytes h frames
-    → ListsSoFar a a held held bytes 32 0 h frames
-lists-none a held bytes h frames has = record {
+pub lists-none : (style : Style) (a : Option (List ℕ)) (held bytes : List ℕ) (h : Head) (frames : List Frame)
+    → HasFrames bytes h frames
+    → ListsSoFar style a a held held bytes 32 0 h frames
+lists-none style a held bytes h frames has = record {
   limits = has.limits;
   place = start_place;
   rest = frames;
   right = has.right;
   here = has.spelled;
-  puts = up_to-none a held (lines_from 0 32 frames);
+  puts = up_to-none a held (lines_from style 0 32 frames);
 }
 
 -- the next line was put
-pub lists-more : SayTheirWords → (a b c : Option (List ℕ)) (held kept longer bytes : List ℕ) (at number : ℕ) (h : Head)
-    (frames : List Frame) (view : FrameView) → 5 ≤ length view.bytes.now → view.offset ≡ at
+pub lists-more : SayTheirWords → SayTheirMembers → (style : Style) (a b c : Option (List ℕ))
+    (held kept longer bytes : List ℕ) (at number : ℕ) (h : Head) (frames : List Frame) (view : FrameView)
+    → 5 ≤ length view.bytes.now → view.offset ≡ at
     → view.bytes.now ≡ take (frame_len (drop at bytes)) (drop at bytes)
-    → ListsSoFar a b held kept bytes at number h frames → PutsText b c kept longer (line_of_view number view)
-    → ListsSoFar a c held longer bytes (at + length view.bytes.now) (number + 1) h frames
-lists-more say a b c held kept longer bytes at number h frames view whole offset cut far put =
+    → ListsSoFar style a b held kept bytes at number h frames
+    → PutsText b c kept longer (line_of_view style number view)
+    → ListsSoFar style a c held longer bytes (at + length view.bytes.now) (number + 1) h frames
+lists-more words_told told style a b c held kept longer bytes at number h frames view whole offset cut far put =
     by far.place far.rest far.right far.here far.puts
   where
     by : (p : Place) (rest : List Frame) → Follow h p rest → drop at bytes ≡ frames_text rest
-        → PutsUpTo a b held kept (lines_from 0 32 frames) (lines_from number at rest)
-        → ListsSoFar a c held longer bytes (at + length view.bytes.now) (number + 1) h frames
+        → PutsUpTo a b held kept (lines_from style 0 32 frames) (lines_from style number at rest)
+        → ListsSoFar style a c held longer bytes (at + length view.bytes.now) (number + 1) h frames
     by p [] right here puts =
         absurd (omega (arith, ap length cut, length-take (frame_len (drop at bytes)) (drop at bytes), ap length here))
     by p (f ∷ fs) right here puts =
         let stands : StandsAt bytes at h p f fs = record { fits = right.0; here = here } in
         let text = view_is bytes at h p f fs view stands cut in
-        let line = line_is say bytes at number h p f fs view far.limits stands offset cut in
+        let line = line_is words_told told style bytes at number h p f fs view far.limits stands offset cut in
         let behind : drop (at + length (frame_text f)) bytes ≡ frames_text fs =
         sym (drop-drop (length (frame_text f)) at bytes) ∙ ap (drop (length (frame_text f))) here
         ∙ drop_at (frame_text f) (frames_text fs) (length (frame_text f)) refl in
-        subst (λ n. ListsSoFar a c held longer bytes (at + n) (number + 1) h frames) (sym (ap length text))
+        subst (λ n. ListsSoFar style a c held longer bytes (at + n) (number + 1) h frames) (sym (ap length text))
         (record {
           limits = far.limits;
           place = next_place p f;
           rest = fs;
           right = right.1;
           here = behind;
-          puts = up_to-more a b c held kept longer (lines_from 0 32 frames) (long_line number at f)
-              (lines_from (number + 1) (at + length (frame_text f)) fs) puts
+          puts = up_to-more a b c held kept longer (lines_from style 0 32 frames) (long_line style number at f)
+              (lines_from style (number + 1) (at + length (frame_text f)) fs) puts
               (subst (PutsText b c kept longer) line put);
         })
 
 -- the next line was stopped
-pub lists-stops : SayTheirWords → (a b c : Option (List ℕ)) (held kept bytes : List ℕ) (at number : ℕ) (h : Head)
-    (frames : List Frame) (view : FrameView) → 5 ≤ length view.bytes.now → view.offset ≡ at
+pub lists-stops : SayTheirWords → SayTheirMembers → (style : Style) (a b c : Option (List ℕ))
+    (held kept bytes : List ℕ) (at number : ℕ) (h : Head) (frames : List Frame) (view : FrameView)
+    → 5 ≤ length view.bytes.now → view.offset ≡ at
     → view.bytes.now ≡ take (frame_len (drop at bytes)) (drop at bytes)
-    → ListsSoFar a b held kept bytes at number h frames → AppendsPrefix b c (kept ++ line_of_view number view)
-    → AppendsPrefix a c (held ++ lines_from 0 32 frames)
-lists-stops say a b c held kept bytes at number h frames view whole offset cut far stops =
+    → ListsSoFar style a b held kept bytes at number h frames
+    → AppendsPrefix b c (kept ++ line_of_view style number view)
+    → AppendsPrefix a c (held ++ lines_from style 0 32 frames)
+lists-stops words_told told style a b c held kept bytes at number h frames view whole offset cut far stops =
     by far.place far.rest far.right far.here far.puts
   where
     by : (p : Place) (rest : List Frame) → Follow h p rest → drop at bytes ≡ frames_text rest
-        → PutsUpTo a b held kept (lines_from 0 32 frames) (lines_from number at rest)
-        → AppendsPrefix a c (held ++ lines_from 0 32 frames)
+        → PutsUpTo a b held kept (lines_from style 0 32 frames) (lines_from style number at rest)
+        → AppendsPrefix a c (held ++ lines_from style 0 32 frames)
     by p [] right here puts =
         absurd (omega (arith, ap length cut, length-take (frame_len (drop at bytes)) (drop at bytes), ap length here))
     by p (f ∷ fs) right here puts =
         let stands : StandsAt bytes at h p f fs = record { fits = right.0; here = here } in
-        let line = line_is say bytes at number h p f fs view far.limits stands offset cut in
-        up_to-stops a b c held kept (lines_from 0 32 frames) (long_line number at f)
-        (lines_from (number + 1) (at + length (frame_text f)) fs) puts
+        let line = line_is words_told told style bytes at number h p f fs view far.limits stands offset cut in
+        up_to-stops a b c held kept (lines_from style 0 32 frames) (long_line style number at f)
+        (lines_from style (number + 1) (at + length (frame_text f)) fs) puts
         (subst (λ l. AppendsPrefix b c (kept ++ l)) line stops)
 
 -- no frame lies there any more: all lines were put
-pub lists-all : (a b : Option (List ℕ)) (held kept bytes : List ℕ) (at number : ℕ) (h : Head) (frames : List Frame)
-    → length (drop at bytes) < frame_len (drop at bytes) → ListsSoFar a b held kept bytes at number h frames
-    → PutsText a b held kept (lines_from 0 32 frames)
-lists-all a b held kept bytes at number h frames short far =
+pub lists-all : (style : Style) (a b : Option (List ℕ)) (held kept bytes : List ℕ) (at number : ℕ) (h : Head)
+    (frames : List Frame)
+    → length (drop at bytes) < frame_len (drop at bytes) → ListsSoFar style a b held kept bytes at number h frames
+    → PutsText a b held kept (lines_from style 0 32 frames)
+lists-all style a b held kept bytes at number h frames short far =
     by far.place far.rest far.right far.here far.puts
   where
     by : (p : Place) (rest : List Frame) → Follow h p rest → drop at bytes ≡ frames_text rest
-        → PutsUpTo a b held kept (lines_from 0 32 frames) (lines_from number at rest)
-        → PutsText a b held kept (lines_from 0 32 frames)
-    by p [] right here puts = up_to-all a b held kept kept (lines_from 0 32 frames) [] puts (sym (append-nil kept))
+        → PutsUpTo a b held kept (lines_from style 0 32 frames) (lines_from style number at rest)
+        → PutsText a b held kept (lines_from style 0 32 frames)
+    by p [] right here puts =
+        up_to-all a b held kept kept (lines_from style 0 32 frames) [] puts (sym (append-nil kept))
     by p (f ∷ fs) right here puts =
         let len = len_here h p f (drop at bytes) (frames_text fs) right.0 here in
         absurd (omega (arith, len, ap length here, length-append (frame_text f) (frames_text fs)))
@@ -281,15 +319,16 @@ frames_cut bytes at r =
     }
 
 -- the header says a head, and frames that may stand there are the bytes up to the fault's
-pub record Before (bytes : List ℕ) (at : ℕ) (c : Code) : Type 0 where
+pub record Before (style : Style) (bytes : List ℕ) (at : ℕ) (c : Code) : Type 0 where
   pub reached : IsReached bytes at
   pub says : SaysHead (take at bytes) reached.head
   pub has : HasFrames (take at bytes) reached.head reached.prefix
-  pub are : (text : List ℕ) → text ≡ long_lines reached.head reached.prefix → AreLinesTo c bytes at text
+  pub are : (text : List ℕ) → text ≡ long_lines style reached.head reached.prefix → AreLinesTo style c bytes at text
 
-before_of : (bytes : List ℕ) (at : ℕ) (c : Code) (r : IsReached bytes at)
-    → ((text : List ℕ) → text ≡ long_lines r.head r.prefix → AreLinesTo c bytes at text) → Before bytes at c
-before_of bytes at c r are =
+before_of : (style : Style) (bytes : List ℕ) (at : ℕ) (c : Code) (r : IsReached bytes at)
+    → ((text : List ℕ) → text ≡ long_lines style r.head r.prefix → AreLinesTo style c bytes at text)
+    → Before style bytes at c
+before_of style bytes at c r are =
     let place = r.at_is in record {
       reached = r;
       says = says_cut bytes at r.head (omega arith) r.says;
@@ -298,45 +337,48 @@ before_of bytes at c r are =
     }
 
 -- where the fault is not the header's
-pub before : (c : Code) (bytes : List ℕ) (at : ℕ) → 32 ≤ at → StandsInForm c bytes at → Before bytes at c
-before code.Length bytes at behind stands = absurd (omega (arith, stands.0))
-before code.Magic bytes at behind stands = absurd (omega (arith, stands.0))
-before code.Head bytes at behind stands = absurd (omega (arith, stands.0))
-before code.Frame bytes at behind stands = before_of bytes at code.Frame stands.0 (λ text e. (stands.0, e))
-before code.Body bytes at behind stands = before_of bytes at code.Body stands.0 (λ text e. (stands.0, e))
-before _ bytes at behind stands = absurd stands
+pub before : (style : Style) (c : Code) (bytes : List ℕ) (at : ℕ) → 32 ≤ at → StandsInForm c bytes at
+    → Before style bytes at c
+before style code.Length bytes at behind stands = absurd (omega (arith, stands.0))
+before style code.Magic bytes at behind stands = absurd (omega (arith, stands.0))
+before style code.Head bytes at behind stands = absurd (omega (arith, stands.0))
+before style code.Frame bytes at behind stands = before_of style bytes at code.Frame stands.0 (λ text e. (stands.0, e))
+before style code.Body bytes at behind stands = before_of style bytes at code.Body stands.0 (λ text e. (stands.0, e))
+before style _ bytes at behind stands = absurd stands
 
 -- where it is
-pub none_before : (c : Code) (bytes : List ℕ) (at : ℕ) → at < 32 → StandsInForm c bytes at → AreLinesTo c bytes at []
-none_before code.Frame bytes at prefix stands = let place = stands.0.at_is in absurd (omega arith)
-none_before code.Body bytes at prefix stands = let place = stands.0.at_is in absurd (omega arith)
-none_before code.Length bytes at prefix stands = refl
-none_before code.Magic bytes at prefix stands = refl
-none_before code.Head bytes at prefix stands = refl
-none_before _ bytes at prefix stands = absurd stands
+pub none_before : (style : Style) (c : Code) (bytes : List ℕ) (at : ℕ) → at < 32 → StandsInForm c bytes at
+    → AreLinesTo style c bytes at []
+none_before style code.Frame bytes at prefix stands = let place = stands.0.at_is in absurd (omega arith)
+none_before style code.Body bytes at prefix stands = let place = stands.0.at_is in absurd (omega arith)
+none_before style code.Length bytes at prefix stands = refl
+none_before style code.Magic bytes at prefix stands = refl
+none_before style code.Head bytes at prefix stands = refl
+none_before style _ bytes at prefix stands = absurd stands
 
 -- of a fault that isn't the number of the bytes
-pub not_counted : (c : Code) (bytes : List ℕ) (at : ℕ) (text : List ℕ) → (c ≡ code.Length → ⊥)
-    → AreLinesTo c bytes at text → AreLinesBefore c bytes at text
-not_counted code.Length bytes at text other are = absurd (other refl)
-not_counted _ bytes at text other are = are
+pub not_counted : (style : Style) (c : Code) (bytes : List ℕ) (at : ℕ) (text : List ℕ) → (c ≡ code.Length → ⊥)
+    → AreLinesTo style c bytes at text → AreLinesBefore style c bytes at text
+not_counted style code.Length bytes at text other are = absurd (other refl)
+not_counted style _ bytes at text other are = are
 
 -- of one that is, where there are as many as a trace may have
-pub counted : (c : Code) (bytes : List ℕ) (at : ℕ) (text : List ℕ) → c ≡ code.Length → 32 ≤ length bytes
-    → length bytes ≤ 2 ^ 30 → AreLinesOf (with_total bytes) text → AreLinesBefore c bytes at text
-counted c bytes at text is long short are =
+pub counted : (style : Style) (c : Code) (bytes : List ℕ) (at : ℕ) (text : List ℕ) → c ≡ code.Length → 32 ≤ length bytes
+    → length bytes ≤ 2 ^ 30 → AreLinesOf style (with_total bytes) text
+    → AreLinesBefore style c bytes at text
+counted style c bytes at text is long short are =
     let countable : is_countable bytes ≡ true =
     and_from (leb 32 (length bytes)) (leb (length bytes) (2 ^ 30)) (le-leb 32 (length bytes) long)
     (le-leb (length bytes) (2 ^ 30) short) in
-    subst (λ (x : Code). AreLinesBefore x bytes at text) (sym is)
-    (subst (λ (b : Bool). AreLinesIf b bytes text) (sym countable) are)
+    subst (λ (x : Code). AreLinesBefore style x bytes at text) (sym is)
+    (subst (λ (b : Bool). AreLinesIf style b bytes text) (sym countable) are)
 
 -- and where there are not
-pub uncounted : (c : Code) (bytes : List ℕ) (at : ℕ) → c ≡ code.Length → is_countable bytes ≡ false
-    → AreLinesBefore c bytes at []
-uncounted c bytes at is few =
-    subst (λ (x : Code). AreLinesBefore x bytes at []) (sym is)
-    (subst (λ (b : Bool). AreLinesIf b bytes []) (sym few) refl)
+pub uncounted : (style : Style) (c : Code) (bytes : List ℕ) (at : ℕ) → c ≡ code.Length → is_countable bytes ≡ false
+    → AreLinesBefore style c bytes at []
+uncounted style c bytes at is few =
+    subst (λ (x : Code). AreLinesBefore style x bytes at []) (sym is)
+    (subst (λ (b : Bool). AreLinesIf style b bytes []) (sym few) refl)
 
 pub sends_none : (a : Option (List ℕ)) (Are : List ℕ → Type 0) → Are [] → SendsLines a a Are
 sends_none a Are are = record { text = []; are = are; sent = Appends-nil a }

@@ -10,6 +10,7 @@ use Rattle.eve_audit.specs.Verdict.{SpellsAudited}
 use Rattle.eve_streams.specs.Buffers.{held_bytes}
 use Rattle.eve_streams.specs.declared.buffered.Buffered.{Buffered}
 use Rattle.eve_tool.specs.Audit.{AuditsAs, Judges, named_text, verdict_text}
+use Rattle.eve_tool.specs.Explain.{explained_text}
 use Rattle.eve_tool.specs.Fault.{status_of}
 use Rattle.eve_tool.specs.Files.{AllSpellAudited, JudgesAll, JudgesFile, JudgesFiles, ServesCall, ServesFile}
 use Rattle.eve_tool.specs.Files.{StopsAmong}
@@ -308,11 +309,13 @@ serves_one remaining fetched told untold written failures bytes refuses (Audit s
     = is
 serves_one remaining fetched told untold written failures bytes refuses (Audit style) (n ∷ m ∷ names) a b old new status
     few is = let less = few style refl in absurd (omega (arith, less))
-serves_one remaining fetched told untold written failures bytes refuses Explain names a b old new status few is = is
+serves_one remaining fetched told untold written failures bytes refuses (Explain style) names a b old new status few
+    is = is
 serves_one remaining fetched told untold written failures bytes refuses (Run mixer format) names a b old new status few
     is = is
 serves_one remaining fetched told untold written failures bytes refuses Show names a b old new status few is = is
-serves_one remaining fetched told untold written failures bytes refuses ShowLong names a b old new status few is = is
+serves_one remaining fetched told untold written failures bytes refuses (ShowLong style) names a b old new status few
+    is = is
 
 -- a yes
 pub call_yes : {I E O : Type 0} (remaining : I → Option (List ℕ)) (fetched : I → ℕ)
@@ -334,14 +337,15 @@ call_yes remaining fetched told untold written failures bytes refuses style (n �
 
 pub explain_yes : {I E O : Type 0} (remaining : I → Option (List ℕ)) (fetched : I → ℕ)
     (told : E → Option (List ℕ)) (untold : E → ℕ) (written : O → Option (List ℕ)) (failures : O → ℕ)
-    (bytes : List ℕ → Option (List ℕ)) (refuses : List ℕ → OpenFault → Type 0) (names : List (List ℕ))
-    (name : List ℕ) (a b : E) (old new : Buffered O) (status : ℕ)
-    → ServesCall remaining fetched told untold written failures bytes refuses Explain names a b old new status
+    (bytes : List ℕ → Option (List ℕ)) (refuses : List ℕ → OpenFault → Type 0) (style : Style)
+    (names : List (List ℕ)) (name : List ℕ) (a b : E) (old new : Buffered O) (status : ℕ)
+    → ServesCall remaining fetched told untold written failures bytes refuses (Explain style) names a b old new status
     → names ≡ name ∷ [] → status ≡ 0 → IfSome (bytes name) SpellsAudited
-explain_yes remaining fetched told untold written failures bytes refuses names name a b old new status serves is zero =
-    let served : ServesFile remaining fetched told untold written failures bytes refuses Explain name a b old new
-    status =
-    subst (λ (ns : List (List ℕ)). ServesCall remaining fetched told untold written failures bytes refuses Explain ns a
-    b
-    old new status) is serves in
-    let said = served.said (omega (arith, zero)) in explained_of (bytes name) _ _ status said.0.said zero
+explain_yes remaining fetched told untold written failures bytes refuses style names name a b old new status serves is
+    zero =
+    let served : ServesFile remaining fetched told untold written failures bytes refuses (Explain style) name a b
+    old new status =
+    subst (λ (ns : List (List ℕ)). ServesCall remaining fetched told untold written failures bytes refuses
+    (Explain style) ns a b old new status) is serves in
+    let said = served.said (omega (arith, zero)) in
+    explained_of (explained_text style) (bytes name) _ _ status said.0.said zero

@@ -1,16 +1,17 @@
 -- What a call left where the text that it was to send was not sent.
 use Rattle.std.proofs.Common.{◌≡◌, ◌++◌, ℕ, List, Option, Some, Result, Ok}
-use Rattle.std.proofs.Common.{Err, IfErr, OnErr, inl, inr, ap, subst, sym, ◌∙◌}
-use Rattle.std.specs.Prelude.{IsErrAnd}
+use Rattle.std.proofs.Common.{Err, IfErr, OnErr, inl, inr, ap, refl, subst, sym, ◌∙◌}
+use Rattle.std.specs.Prelude.{IsErrAnd, ◌≢◌}
 use Rattle.eve_streams.specs.Failures.{after_failure}
 use Rattle.eve_streams.specs.Prefix.{AppendsPrefix}
 use Rattle.eve_tool.specs.declared.fault.ToolFault.{ToolFault}
 use Rattle.eve_tool.specs.declared.fault.ToolFault.TheVariants as fault
-use Rattle.eve_tool.specs.Calls.{Leaves, StopsInParts, StopsListing, StopsLong, StopsSending, CallSays}
+use Rattle.eve_tool.specs.Calls.{FailsLines, Leaves, StopsInParts, StopsListing, StopsLong, StopsSending, CallSays}
 use Rattle.eve_tool.proofs.LongLines.{stops-before, stops_as}
 use Rattle.eve_grammar.specs.declared.limits.TheConstants.{MOST_BYTES}
 use Rattle.eve_tool.specs.Long.{ShowsLong}
 use Rattle.eve_tool_arguments.specs.Arguments.{Subcommand, Show, ShowLong}
+use Rattle.eve_tool_arguments.specs.declared.style.Style.{Style}
 
 -- by a text that is sent at once
 pub sent_left : {O : Type 0} (written : O → Option (List ℕ)) (failures : O → ℕ) (call : Subcommand)
@@ -41,53 +42,77 @@ shown_left written failures bytes text status old new said fault.Memory stopped 
 shown_left written failures bytes text status old new said fault.Write stopped =
     (stopped.counted, record { text = text; status = status; said = said; written = stopped.prefix })
 
+-- by lines of this style, of which a prefix was sent
+pub lines_left : {O : Type 0} (style : Style) (written : O → Option (List ℕ)) (failures : O → ℕ) (bytes text : List ℕ)
+    (status : ℕ) (old new : O) → ShowsLong style bytes text status → AppendsPrefix (written old) (written new) text
+    → (why : ToolFault) → FailsLines style failures old new why
+    → Leaves MOST_BYTES written failures (ShowLong style) (Some bytes) ⊥ old new why
+lines_left style written failures bytes text status old new said prefix fault.Read fails = absurd fails
+lines_left style written failures bytes text status old new said prefix (fault.Line number) fails = absurd fails
+lines_left style written failures bytes text status old new said prefix fault.TooLong fails = absurd fails
+lines_left style written failures bytes text status old new said prefix fault.Broken fails = absurd fails
+lines_left style written failures bytes text status old new said prefix fault.Random fails = absurd fails
+lines_left style written failures bytes text status old new said prefix fault.Memory fails =
+    inr (fails.0, record { text = text; status = status; said = said; written = prefix })
+lines_left style written failures bytes text status old new said prefix fault.Write fails =
+    (fails, record { text = text; status = status; said = said; written = prefix })
+
+-- where it was no write, out did not fail
+pub fails_fine : {O : Type 0} (style : Style) (failures : O → ℕ) (old new : O) (why : ToolFault)
+    → FailsLines style failures old new why → why ≢ fault.Write → failures new ≡ failures old
+fails_fine style failures old new fault.Read fails other = absurd fails
+fails_fine style failures old new (fault.Line number) fails other = absurd fails
+fails_fine style failures old new fault.TooLong fails other = absurd fails
+fails_fine style failures old new fault.Broken fails other = absurd fails
+fails_fine style failures old new fault.Random fails other = absurd fails
+fails_fine style failures old new fault.Memory fails other = fails.1
+fails_fine style failures old new fault.Write fails other = absurd (other refl)
+
+pub long_fine : {O : Type 0} (style : Style) (written : O → Option (List ℕ)) (failures : O → ℕ)
+    (Are : List ℕ → Type 0) (last : List ℕ) (old new : O) (why : ToolFault)
+    → StopsLong style written failures old new Are last why → why ≢ fault.Write → failures new ≡ failures old
+long_fine style written failures Are last old new why (inl none) other = ap failures none.1
+long_fine style written failures Are last old new why (inr some) other =
+    fails_fine style failures old new why some.1 other
+
 -- by lines that end with this one
-pub long_stopped : {O : Type 0} (written : O → Option (List ℕ)) (failures : O → ℕ) (bytes : List ℕ)
+pub long_stopped : {O : Type 0} (style : Style) (written : O → Option (List ℕ)) (failures : O → ℕ) (bytes : List ℕ)
     (Are : List ℕ → Type 0) (last : List ℕ) (old new : O)
-    → ((before : List ℕ) → Are before → ShowsLong bytes (before ++ last) 1) → (why : ToolFault)
-    → StopsLong written failures old new Are last why → Leaves MOST_BYTES written failures ShowLong (Some bytes) ⊥ old
-    new why
-long_stopped written failures bytes Are last old new said fault.Read stopped = absurd stopped
-long_stopped written failures bytes Are last old new said (fault.Line number) stopped = absurd stopped
-long_stopped written failures bytes Are last old new said fault.TooLong stopped = absurd stopped
-long_stopped written failures bytes Are last old new said fault.Broken stopped = absurd stopped
-long_stopped written failures bytes Are last old new said fault.Random stopped = absurd stopped
-long_stopped written failures bytes Are last old new said fault.Memory stopped = inl stopped
-long_stopped written failures bytes Are last old new said fault.Write stopped = (
-  stopped.1,
-  record {
-    text = stopped.0.before ++ last;
-    status = 1;
-    said = said stopped.0.before stopped.0.are;
-    written = stopped.0.sent;
-  },
-)
+    → ((before : List ℕ) → Are before → ShowsLong style bytes (before ++ last) 1) → (why : ToolFault)
+    → StopsLong style written failures old new Are last why
+    → Leaves MOST_BYTES written failures (ShowLong style) (Some bytes) ⊥ old new why
+long_stopped style written failures bytes Are last old new said why (inl none) =
+    subst (λ (e : ToolFault). Leaves MOST_BYTES written failures (ShowLong style) (Some bytes) ⊥ old new e) (sym none.0)
+    (inl none.1)
+long_stopped style written failures bytes Are last old new said why (inr some) =
+    lines_left style written failures bytes (some.0.before ++ last) 1 old new (said some.0.before some.0.are)
+    some.0.sent why some.1
 
 -- by the lines before it
-pub listing_left : {O : Type 0} (written : O → Option (List ℕ)) (failures : O → ℕ) (Are : List ℕ → Type 0)
-    (last : List ℕ) (old new : O) (why : ToolFault) → StopsListing written failures old new Are why
-    → StopsLong written failures old new Are last why
-listing_left written failures Are last old new fault.Read stopped = absurd stopped
-listing_left written failures Are last old new (fault.Line number) stopped = absurd stopped
-listing_left written failures Are last old new fault.TooLong stopped = absurd stopped
-listing_left written failures Are last old new fault.Broken stopped = absurd stopped
-listing_left written failures Are last old new fault.Random stopped = absurd stopped
-listing_left written failures Are last old new fault.Memory stopped = stopped
-listing_left written failures Are last old new fault.Write stopped =
-    (stops-before (written old) (written new) Are last stopped.0, stopped.1)
+pub listing_left : {O : Type 0} (style : Style) (written : O → Option (List ℕ)) (failures : O → ℕ)
+    (Are : List ℕ → Type 0) (last : List ℕ) (old new : O) (why : ToolFault)
+    → StopsListing style written failures old new Are why → StopsLong style written failures old new Are last why
+listing_left style written failures Are last old new why (inl none) = inl none
+listing_left style written failures Are last old new why (inr some) =
+    inr (stops-before (written old) (written new) Are last some.0, some.1)
 
 -- of other lines, where the fact holds of these
-pub listing_as : {O : Type 0} (written : O → Option (List ℕ)) (failures : O → ℕ) (P Q : List ℕ → Type 0) (old new : O)
-    → ((text : List ℕ) → P text → Q text) → (why : ToolFault) → StopsListing written failures old new P why
-    → StopsListing written failures old new Q why
-listing_as written failures P Q old new said fault.Read stopped = absurd stopped
-listing_as written failures P Q old new said (fault.Line number) stopped = absurd stopped
-listing_as written failures P Q old new said fault.TooLong stopped = absurd stopped
-listing_as written failures P Q old new said fault.Broken stopped = absurd stopped
-listing_as written failures P Q old new said fault.Random stopped = absurd stopped
-listing_as written failures P Q old new said fault.Memory stopped = stopped
-listing_as written failures P Q old new said fault.Write stopped =
-    (stops_as (written old) (written new) P Q said stopped.0, stopped.1)
+pub listing_as : {O : Type 0} (style : Style) (written : O → Option (List ℕ)) (failures : O → ℕ)
+    (P Q : List ℕ → Type 0) (old new : O) → ((text : List ℕ) → P text → Q text) → (why : ToolFault)
+    → StopsListing style written failures old new P why → StopsListing style written failures old new Q why
+listing_as style written failures P Q old new said why (inl none) = inl none
+listing_as style written failures P Q old new said why (inr some) =
+    inr (stops_as (written old) (written new) P Q said some.0, some.1)
+
+-- of the lines of which the fact holds, by a prefix of them
+pub prefix_listed : {A O : Type 0} (style : Style) (written : O → Option (List ℕ)) (failures : O → ℕ)
+    (Are : List ℕ → Type 0) (text : List ℕ) (old new : O) (result : Result A ToolFault) → Are text
+    → OnErr result (AppendsPrefix (written old) (written new) text)
+    → IfErr result (FailsLines style failures old new)
+    → IfErr result (StopsListing style written failures old new Are)
+prefix_listed style written failures Are text old new (Ok x) are prefix fails = tt
+prefix_listed style written failures Are text old new (Err e) are prefix fails =
+    inr (record { text = text; are = are; sent = prefix }, fails)
 
 -- what stands of a fault stands of what is answered
 pub at_err : {A : Type 0} (result : Result A ToolFault) (P : ToolFault → Type 0) (why : ToolFault)

@@ -5,7 +5,8 @@ use Rattle.eve_audit.specs.declared.verdict.Verdict.{Verdict}
 use Rattle.eve_audit.specs.declared.verdict.Summary.{Summary}
 use Rattle.eve_audit.specs.declared.verdict.Verdict.TheVariants.{Yes}
 use Rattle.eve_tool.specs.Lines.{status_of_verdict, verdict_line}
-use Rattle.eve_tool.specs.Objects.{object_line, string_member}
+use Rattle.eve_objects.specs.Members.{string_member}
+use Rattle.eve_tool.specs.Objects.{verdict_object}
 use Rattle.eve_tool.specs.declared.fault.ToolFault.{ToolFault}
 use Rattle.eve_tool.specs.declared.fault.ToolFault.TheVariants as fault
 use Rattle.eve_tool_arguments.specs.declared.style.Style.{Style}
@@ -14,12 +15,12 @@ use Rattle.eve_tool_arguments.specs.declared.style.Style.TheVariants.{Json, Plai
 -- what is printed of a verdict
 abbrev pub verdict_text : Style → Verdict → List ℕ
 verdict_text Plain v = verdict_line v
-verdict_text Json v = object_line [] v
+verdict_text Json v = verdict_object [] v
 
 -- what is printed of the verdict on one of several files, which has this name
 abbrev pub named_text : Style → List ℕ → Verdict → List ℕ
 named_text Plain name v = name ++ (codes ": " ++ verdict_line v)
-named_text Json name v = object_line (string_member (codes "file") name) v
+named_text Json name v = verdict_object (string_member (codes "file") name) v
 
 -- the text is what is printed of the verdict on the bytes, and the number is the exit status; where the verdict is yes,
 -- the bytes spell a trace that is audited

@@ -10,11 +10,13 @@ use Rattle.eve_replica.specs.declared.fault.RunFault.TheVariants as ended
 use Rattle.eve_tool.specs.declared.fault.ToolFault.{ToolFault}
 use Rattle.eve_tool.specs.declared.fault.ToolFault.TheVariants as fault
 use Rattle.eve_tool.specs.Audit.{AuditsAs, verdict_text}
-use Rattle.eve_tool.specs.Explain.{Explains}
+use Rattle.eve_tool.specs.Explain.{Explains, explained_text}
 use Rattle.eve_tool.specs.Fault.{error_line, status_of}
 use Rattle.eve_tool.specs.Run.{Runs, IsTooLong, IsRunnable, EndsRun}
 use Rattle.eve_tool.specs.Show.{Shows}
 use Rattle.eve_tool.specs.Long.{ShowsLong, StopsInLines, StopsUpTo}
+use Rattle.eve_tool_arguments.specs.declared.style.Style.{Style}
+use Rattle.eve_tool_arguments.specs.declared.style.Style.TheVariants.{Json, Plain}
 use Rattle.eve_tool_arguments.specs.Formats.{version_of}
 use Rattle.eve_tool_arguments.specs.Arguments.{Subcommand, Audit, Explain, Run, Show, ShowLong, call_of}
 use Rattle.eve_tool.specs.Writes.{WritesPrefixOf}
@@ -26,10 +28,10 @@ Calls call arguments = call_of arguments ≡ Some call
 -- The text is what the call says of the bytes, and the number is the exit status. A run has at most `limit` bytes.
 abbrev pub CallSays : ℕ → Subcommand → List ℕ → List ℕ → ℕ → Type 0
 CallSays limit (Audit style) = AuditsAs (verdict_text style)
-CallSays limit Explain = Explains
+CallSays limit (Explain style) = Explains (explained_text style)
 CallSays limit (Run mixer asked) = Runs limit mixer asked
 CallSays limit Show = Shows
-CallSays limit ShowLong = ShowsLong
+CallSays limit (ShowLong style) = ShowsLong style
 
 -- the number is that of a bad line of the bytes, which `run` alone reads by lines, and only where they are not too long
 abbrev pub HasBadLine : ℕ → Subcommand → Option (List ℕ) → ℕ → Type 0
@@ -56,14 +58,20 @@ CallBreaks limit _ known = ⊥
 -- the call asks for random words, once the bytes are read
 abbrev pub AsksForRandom : ℕ → Subcommand → Option (List ℕ) → Type 0
 AsksForRandom limit (Audit style) known = ⊤
-AsksForRandom limit Explain known = ⊤
+AsksForRandom limit (Explain style) known = ⊤
 AsksForRandom limit (Run mixer asked) known = CallRuns limit (Run mixer asked) known
 AsksForRandom limit Show known = ⊥
-AsksForRandom limit ShowLong known = ⊥
+AsksForRandom limit (ShowLong style) known = ⊥
 
--- the call sends in parts what it says
+-- memory may run out while lines are sent in this style: each object is made in memory
+abbrev pub MakesLines : Style → Type 0
+MakesLines Plain = ⊥
+MakesLines Json = ⊤
+
+-- memory may run out while the call sends in parts what it says
 abbrev pub SendsInParts : Subcommand → Type 0
 SendsInParts Show = ⊤
+SendsInParts (ShowLong style) = MakesLines style
 SendsInParts _ = ⊥
 
 -- What a call left that ended by a fault: what stands of the bytes that were in the input, where they are `known`, and
@@ -97,21 +105,25 @@ StopsInParts written failures old new text fault.Memory =
 StopsInParts written failures old new text fault.Write = Stopped written failures old new text
 StopsInParts written failures old new text _ = ⊥
 
+-- why lines were not all sent, in this style: out failed, or there was no memory for an object
+abbrev pub FailsLines : {O : Type 0} → Style → (O → ℕ) → O → O → ToolFault → Type 0
+FailsLines style failures old new fault.Memory = MakesLines style × (failures new ≡ failures old)
+FailsLines style failures old new fault.Write = failures new ≡ after_failure (failures old)
+FailsLines style failures old new _ = ⊥
+
 -- what was left of lines of which the fact holds
-abbrev pub StopsListing : {O : Type 0} → (O → Option (List ℕ)) → (O → ℕ) → O → O → (List ℕ → Type 0) → ToolFault
-    → Type 0
-StopsListing written failures old new Are fault.Memory = new ≡ old
-StopsListing written failures old new Are fault.Write =
-    StopsInLines (written old) (written new) Are × (failures new ≡ after_failure (failures old))
-StopsListing written failures old new Are _ = ⊥
+abbrev pub StopsListing : {O : Type 0} → Style → (O → Option (List ℕ)) → (O → ℕ) → O → O → (List ℕ → Type 0)
+    → ToolFault → Type 0
+StopsListing style written failures old new Are why =
+    ((why ≡ fault.Memory) × (new ≡ old))
+    ⊎ (StopsInLines (written old) (written new) Are × FailsLines style failures old new why)
 
 -- what was left of lines of which the fact holds and then this one, which is made before any of them is sent
-abbrev pub StopsLong : {O : Type 0} → (O → Option (List ℕ)) → (O → ℕ) → O → O → (List ℕ → Type 0) → List ℕ → ToolFault
-    → Type 0
-StopsLong written failures old new Are last fault.Memory = new ≡ old
-StopsLong written failures old new Are last fault.Write =
-    StopsUpTo (written old) (written new) Are last × (failures new ≡ after_failure (failures old))
-StopsLong written failures old new Are last _ = ⊥
+abbrev pub StopsLong : {O : Type 0} → Style → (O → Option (List ℕ)) → (O → ℕ) → O → O → (List ℕ → Type 0) → List ℕ
+    → ToolFault → Type 0
+StopsLong style written failures old new Are last why =
+    ((why ≡ fault.Memory) × (new ≡ old))
+    ⊎ (StopsUpTo (written old) (written new) Are last × FailsLines style failures old new why)
 
 -- The input was read, where its bytes are `known`: to its end, but no further than `limit + 1` bytes. `left` is what is
 -- left of them.

@@ -1,22 +1,13 @@
 -- Verdicts as JSON, an object in a line: its tokens, of which json makes the text. docs/USING.md, "JSON".
-use Rattle.std.specs.Prelude.{ℕ, List, [], ◌∷◌, ◌++◌, Option, Some, None, codes, decimal}
+use Rattle.std.specs.Prelude.{ℕ, List, [], ◌++◌, Option, Some, None, codes, decimal}
 use Rattle.std.specs.Borrow.{Bor}
-use Rattle.json.specs.Token.{Token, begin_object, end_object, key, string, number}
-use Rattle.json.specs.Print.{print}
+use Rattle.json.specs.Token.{Token}
 use Rattle.eve_audit.specs.declared.verdict.Summary.{Summary}
 use Rattle.eve_audit.specs.declared.verdict.Verdict.{Verdict}
 use Rattle.eve_audit.specs.declared.verdict.Verdict.TheVariants.{Yes, No}
 use Rattle.eve_views.specs.Code.{code_name, code_number}
 use Rattle.eve_views.specs.declared.fault.Fault.{Fault}
-use Rattle.eve_tool.specs.Lines.{line_feed}
-
--- a member whose value is a text
-unfoldable pub string_member : List ℕ → List ℕ → List Token
-string_member name text = key name ∷ string text ∷ []
-
--- a member whose value is a number
-unfoldable pub number_member : List ℕ → ℕ → List Token
-number_member name n = key name ∷ number (decimal n) ∷ []
+use Rattle.eve_objects.specs.Members.{number_member, object_line, string_member}
 
 -- `"verdict":"yes","replicas":2,"batches":3,"committed":3`
 abbrev pub yes_members : Summary → List Token
@@ -46,7 +37,6 @@ abbrev pub file_member : Option (Bor (List ℕ)) → List Token
 file_member (Some name) = string_member (codes "file") name.now
 file_member None = []
 
--- the object of a verdict, with these members before its own
-abbrev pub object_line : List Token → Verdict → List ℕ
-object_line prefix v =
-    print ((begin_object ∷ prefix) ++ (verdict_members v ++ end_object ∷ [])) ++ line_feed
+-- the line of a verdict's object, with these members before its own
+abbrev pub verdict_object : List Token → Verdict → List ℕ
+verdict_object prefix v = object_line (prefix ++ verdict_members v)

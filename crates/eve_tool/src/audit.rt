@@ -6,13 +6,13 @@ ghost use Rattle.eve_streams.specs.Failures.{after_failure};
 ghost use Rattle.eve_tool.specs.Audit.{AuditsAs, Judges, StopsJudging, verdict_text};
 ghost use Rattle.eve_tool.specs.Calls.{WasRead, Leaves, StopsSending};
 ghost use Rattle.eve_tool.specs.Lines.{status_of_verdict, verdict_line, yes_line};
-ghost use Rattle.eve_tool.specs.Objects.{object_line};
+ghost use Rattle.eve_tool.specs.Objects.{verdict_object};
 ghost use Rattle.eve_tool.specs.Writes.{WritesAllOf};
 ghost use Rattle.eve_tool_arguments.specs.Arguments.{Audit};
 
 use crate::fault::ToolFault;
 use crate::lines::push_yes_line;
-use crate::objects::object_line;
+use crate::objects::verdict_object;
 use crate::random::random_words;
 use crate::sending::{send_fault, send_text};
 use eve_audit::{Summary, Verdict};
@@ -65,12 +65,12 @@ pub(crate) fn send_verdict<O: Sink>(
 
 /// Sends the object of a verdict.
 fn send_object<O: Sink>(alloc: Global, verdict: &Verdict, out: &mut O) -> Result<(), ToolFault>
-    ensures sent { OnOk result (Appends (O.written out.old) (O.written out.new) (object_line [] verdict.now)) }
+    ensures sent { OnOk result (Appends (O.written out.old) (O.written out.new) (verdict_object [] verdict.now)) }
     ensures fine { OnOk result (O.failures out.new ≡ O.failures out.old) }
     ensures stopped { IfErr result (StopsSending O.written O.failures out.old out.new
-        (object_line [] verdict.now)) }
+        (verdict_object [] verdict.now)) }
 {
-    let line = object_line(alloc, None, verdict)?;
+    let line = verdict_object(alloc, None, verdict)?;
     send_all(out, line.as_slice())?;
     Ok(())
 }

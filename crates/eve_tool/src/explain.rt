@@ -1,27 +1,37 @@
 //! The call `explain`: the verdict on a trace, and why it is so.
 
-ghost use Rattle.std.specs.Prelude.{◌≡◌, ◌≢◌, ◌+◌, ◌<◌, ◌≤◌, length, map, slice_get, Some, IfOk, IfErr, OnOk, OnErr};
+ghost use Rattle.std.specs.Prelude.{◌≡◌, ◌≢◌, ◌+◌, ◌-◌, ◌<◌, ◌≤◌, ◌++◌, length, map, slice_get, take, Some, IfOk};
+ghost use Rattle.std.specs.Prelude.{IfErr, OnOk, OnErr};
+ghost use Rattle.std.specs.List.{flat_map};
 ghost use Rattle.std.specs.Option.{option_map};
 ghost use Rattle.std.specs.Io.KnownBytes.{Appends};
 ghost use Rattle.eve_reasons.specs.Lines.{ended};
 ghost use Rattle.eve_streams.specs.Failures.{after_failure};
 ghost use Rattle.eve_streams.specs.Prefix.{AppendsPrefix};
-ghost use Rattle.eve_tool.specs.Calls.{WasRead, Leaves};
-ghost use Rattle.eve_tool.specs.Explain.{Explains, lines_behind, text_behind};
+ghost use Rattle.eve_explain.specs.Explained.{verdict_in};
+ghost use Rattle.eve_objects.specs.Evidence.{line_object};
+ghost use Rattle.eve_tool.specs.Calls.{WasRead, Leaves, StopsSending};
+ghost use Rattle.eve_tool.specs.Explain.{Explains, explained_object, explained_text, has_numbers, lines_behind};
+ghost use Rattle.eve_tool.specs.Explain.{tells_numbers, text_behind};
+ghost use Rattle.eve_tool.specs.Lines.{status_of_verdict};
 ghost use Rattle.eve_tool.specs.Writes.{WritesAll, WritesAllOf};
 ghost use Rattle.eve_tool_arguments.specs.Arguments.{Explain};
 
-use crate::audit::send_verdict;
+use crate::audit::{send_verdict, status_of};
 use crate::fault::ToolFault;
+use crate::objects::put_verdict;
 use crate::random::random_words;
+use eve_evidence::Evidence;
 use eve_explain::Explained;
 use eve_grammar::MOST_BYTES;
 use eve_lines::Line;
+use eve_objects::{begin_line, end_line, put_line_object};
 use eve_reasons::{MOST_LINES, count_line, reason_line};
 use eve_recorder::OpenGate;
 use eve_streams::{SendFault, Sink, Source, read_all, send_all};
-use eve_tool_arguments::WorkerCount;
-use std::alloc::Global;
+use eve_tool_arguments::{Style, WorkerCount};
+use json::Writer;
+use std::alloc::{AllocError, Global};
 use std::hash::RandomState;
 use std::random::RandomSource;
 use std::sync::Wait;
@@ -53,46 +63,134 @@ fn send_reasons<'e, O: Sink>(explained: &'e Explained<'e>, out: &mut O) -> Resul
     Ok(())
 }
 
-/// Sends the verdict on the bytes and why it is so, and returns the exit status.
+/// Whether a text of the evidence that is a number is told as one.
+fn tells_numbers(evidence: &Evidence<'_>) -> bool
+    ensures { result ≡ tells_numbers evidence.now }
+{
+    match evidence {
+        Evidence::Magic { .. } | Evidence::SameName { .. } => false,
+        _ => true,
+    }
+}
+
+/// The same of the lines behind the verdict's.
+fn has_numbers(explained: &Explained<'_>) -> bool
+    ensures { result ≡ has_numbers explained.now }
+{
+    match explained {
+        Explained::Yes(_, _) => true,
+        Explained::No(_, evidence) => tells_numbers(evidence),
+    }
+}
+
+/// The words of a line, without its line feed.
+fn words_of(line: &[u8]) -> &[u8]
+    ensures { result.now ≡ take (length line.now - 1) line.now }
+{
+    &line[..line.len().saturating_sub(1)]
+}
+
+/// Appends an object for each line behind the verdict's.
+fn put_evidence<'e>(writer: &mut Writer, explained: &'e Explained<'e>) -> Result<(), AllocError>
+    ensures tokens { OnOk result (writer.new.tokens ≡ writer.old.tokens
+        ++ flat_map (line_object (has_numbers explained.now)) (lines_behind explained.now)) }
+    ensures before { OnOk result (writer.new.before ≡ writer.old.before) }
+{
+    let numbers = has_numbers(explained);
+    'objects: for i in 0..MOST_LINES {
+        let Some(line) = line_behind(i, explained) else {
+            return Ok(());
+        };
+        put_line_object(writer, numbers, words_of(line.as_slice()))?;
+    }
+    Ok(())
+}
+
+/// The object of an explanation, with its line feed.
+#[tactic(auto, unfolding(eve_objects::specs::Members::array_member))]
+fn explained_object<'e>(alloc: Global, explained: &'e Explained<'e>) -> Result<Vec<u8>, AllocError>
+    ensures { IfOk result (λ line. line.items ≡ explained_object explained.now) }
+{
+    let mut writer = begin_line(Vec::new(alloc))?;
+    put_verdict(alloc, &mut writer, &explained.verdict())?;
+    writer.key("evidence")?;
+    writer.begin_array()?;
+    put_evidence(&mut writer, explained)?;
+    writer.end_array()?;
+    end_line(writer)
+}
+
+/// Sends what is printed of an explanation in this style, and returns the exit status.
+fn send_explained<'e, O: Sink>(
+    alloc: Global,
+    style: Style,
+    explained: &'e Explained<'e>,
+    out: &mut O,
+) -> Result<u8, ToolFault>
+    ensures sent { OnOk result (Appends (O.written out.old) (O.written out.new)
+        (explained_text style explained.now)) }
+    ensures status { IfOk result (λ status. status ≡ status_of_verdict (verdict_in explained.now)) }
+    ensures fine { OnOk result (O.failures out.new ≡ O.failures out.old) }
+    ensures stopped { IfErr result (StopsSending O.written O.failures out.old out.new
+        (explained_text style explained.now)) }
+{
+    match style {
+        Style::Plain => {
+            let status = send_verdict(alloc, &explained.verdict(), out)?;
+            send_reasons(explained, out)?;
+            Ok(status)
+        }
+        Style::Json => {
+            let object = explained_object(alloc, explained)?;
+            send_all(out, object.as_slice())?;
+            Ok(status_of(&explained.verdict()))
+        }
+    }
+}
+
+/// Sends the verdict on the bytes and why it is so, in this style, and returns the exit status.
 fn explain_bytes<R: Threads + Wait + Sync, O: Sink>(
     rt: &R,
     alloc: Global,
     bytes: &[u8],
     workers: WorkerCount,
+    style: Style,
     random: RandomState,
     out: &mut O,
 ) -> Result<u8, ToolFault>
     requires read { length bytes.now ≤ MOST_BYTES + 1 }
-    ensures all { IfOk result (WritesAll Explains bytes.now (O.written out.old) (O.written out.new)) }
+    ensures all { IfOk result (WritesAll (Explains (explained_text style)) bytes.now (O.written out.old)
+        (O.written out.new)) }
     ensures status { IfOk result (λ status. status < 2) }
     ensures fine { OnOk result (O.failures out.new ≡ O.failures out.old) }
-    ensures left { IfErr result (Leaves MOST_BYTES O.written O.failures Explain (Some bytes.now) ⊥ out.old out.new) }
+    ensures left { IfErr result (Leaves MOST_BYTES O.written O.failures (Explain style) (Some bytes.now) ⊥ out.old
+        out.new) }
     ensures wrote { IfErr result (λ why. why ≢ ToolFault.Write → O.failures out.new ≡ O.failures out.old) }
 {
     let Ok(explained) = eve_explain::explain(rt, alloc, bytes, workers.get(), random, &OpenGate)
     else {
         return Err(ToolFault::Memory);
     };
-    let status = send_verdict(alloc, &explained.verdict(), out)?;
-    send_reasons(&explained, out)?;
+    let status = send_explained(alloc, style, &explained, out)?;
     Ok(status)
 }
 
 /// Reads a trace, asks for random words, and sends the line of the verdict, which `workers` workers find, and then why
-/// it is so. Returns 0 where it is yes, and 1 where it is the first fault. It reads at most one byte more than a trace
-/// may have: the verdict is F1 Length then.
+/// it is so, or both as an object. Returns 0 where it is yes, and 1 where it is the first fault. It reads at most one
+/// byte more than a trace may have: the verdict is F1 Length then.
 pub(crate) fn explain<R: AllocGlobal + RandomSource + Threads + Wait + Sync, I: Source, O: Sink>(
     rt: &R,
     workers: WorkerCount,
+    style: Style,
     input: &mut I,
     out: &mut O,
 ) -> Result<u8, ToolFault>
-    ensures all { IfOk result (WritesAllOf Explains (I.remaining input.old) (O.written out.old)
+    ensures all { IfOk result (WritesAllOf (Explains (explained_text style)) (I.remaining input.old) (O.written out.old)
         (O.written out.new)) }
     ensures status { IfOk result (λ status. status < 2) }
     ensures fine { OnOk result ((I.failures input.new ≡ I.failures input.old)
         × (O.failures out.new ≡ O.failures out.old)) }
-    ensures left { IfErr result (Leaves MOST_BYTES O.written O.failures Explain (I.remaining input.old)
+    ensures left { IfErr result (Leaves MOST_BYTES O.written O.failures (Explain style) (I.remaining input.old)
         (I.failures input.new ≡ after_failure (I.failures input.old)) out.old out.new) }
     ensures read { IfErr result (λ why. why ≢ ToolFault.Read → I.failures input.new ≡ I.failures input.old) }
     ensures ended { IfErr result (λ why. why ≢ ToolFault.Read → why ≢ ToolFault.Memory
@@ -103,5 +201,5 @@ pub(crate) fn explain<R: AllocGlobal + RandomSource + Threads + Wait + Sync, I: 
     let alloc = rt.alloc();
     let bytes = read_all(alloc, input, MOST_BYTES as u32)?;
     let random = random_words(rt)?;
-    explain_bytes(rt, alloc, bytes.as_slice(), workers, random, out)
+    explain_bytes(rt, alloc, bytes.as_slice(), workers, style, random, out)
 }

@@ -21,7 +21,7 @@ ghost use Rattle.eve_tool_arguments.specs.declared.style.Style.{Style};
 use crate::audit::{status_of, verdict_on};
 use crate::fault::ToolFault;
 use crate::lines::push_verdict_line;
-use crate::objects::object_line;
+use crate::objects::verdict_object;
 use crate::program::{serve, stop};
 use crate::sending::tell;
 use eve_audit::Verdict;
@@ -154,7 +154,7 @@ fn named_line(
 {
     match style {
         Style::Plain => named_verdict(alloc, name, verdict),
-        Style::Json => object_line(alloc, Some(name), verdict),
+        Style::Json => verdict_object(alloc, Some(name), verdict),
     }
 }
 
@@ -335,7 +335,7 @@ fn several(call: Call, files: &[String]) -> Option<(WorkerCount, Style)>
                 None
             }
         }
-        Call::Explain(_) | Call::Run(_, _) | Call::Show | Call::ShowLong => None,
+        Call::Explain(_, _) | Call::Run(_, _) | Call::Show | Call::ShowLong(_) => None,
     }
 }
 
@@ -425,7 +425,7 @@ pub fn serve_files<
     // A yes is said where each file spells a trace that is audited.
     ensures yes { (style : Style) → CallsAudit style (map S.text arguments.now) → result ≡ 0
         → AllSpellAudited (F.bytes folder.now) (files_of (map S.text arguments.now)) }
-    ensures explained { CallsExplain (map S.text arguments.now) → (name : List ℕ)
+    ensures explained { (style : Style) → CallsExplain style (map S.text arguments.now) → (name : List ℕ)
         → files_of (map S.text arguments.now) ≡ name ∷ [] → result ≡ 0
         → IfSome (F.bytes folder.now name) SpellsAudited }
 

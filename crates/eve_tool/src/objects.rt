@@ -1,33 +1,14 @@
 //! Verdicts as JSON: an object in a line.
 
 ghost use Rattle.std.specs.Prelude.{◌≡◌, ◌++◌, OnOk, IfOk};
-ghost use Rattle.eve_tool.specs.Objects.{fault_members, number_member, object_line, replica_member, string_member};
-ghost use Rattle.eve_tool.specs.Objects.{file_member, verdict_members, yes_members};
+ghost use Rattle.eve_tool.specs.Objects.{fault_members, file_member, replica_member, verdict_members};
+ghost use Rattle.eve_tool.specs.Objects.{verdict_object, yes_members};
 
 use eve_audit::{Summary, Verdict};
+use eve_objects::{begin_line, end_line, put_number, put_string};
 use eve_views::Fault;
 use json::Writer;
 use std::alloc::{AllocError, Global};
-
-/// Appends a member whose value is a text.
-#[tactic(auto, unfolding(crate::specs::Objects::string_member))]
-fn put_string(writer: &mut Writer, name: &str, text: &str) -> Result<(), AllocError>
-    ensures tokens { OnOk result (writer.new.tokens ≡ writer.old.tokens ++ string_member name.now text.now) }
-    ensures before { OnOk result (writer.new.before ≡ writer.old.before) }
-{
-    writer.key(name)?;
-    writer.string(text)
-}
-
-/// Appends a member whose value is a number.
-#[tactic(auto, unfolding(crate::specs::Objects::number_member))]
-fn put_number(writer: &mut Writer, name: &str, number: u64) -> Result<(), AllocError>
-    ensures tokens { OnOk result (writer.new.tokens ≡ writer.old.tokens ++ number_member name.now number) }
-    ensures before { OnOk result (writer.new.before ≡ writer.old.before) }
-{
-    writer.key(name)?;
-    writer.u64(number)
-}
 
 /// Appends the members of a yes: how many replicas and batches there are, and the least last committed number over the
 /// replicas.
@@ -68,7 +49,11 @@ fn put_fault(alloc: Global, writer: &mut Writer, fault: &Fault) -> Result<(), Al
 }
 
 /// Appends the members of a verdict.
-fn put_verdict(alloc: Global, writer: &mut Writer, verdict: &Verdict) -> Result<(), AllocError>
+pub(crate) fn put_verdict(
+    alloc: Global,
+    writer: &mut Writer,
+    verdict: &Verdict,
+) -> Result<(), AllocError>
     ensures tokens { OnOk result (writer.new.tokens ≡ writer.old.tokens ++ verdict_members verdict.now) }
     ensures before { OnOk result (writer.new.before ≡ writer.old.before) }
 {
@@ -90,19 +75,15 @@ fn put_file(writer: &mut Writer, file: Option<&str>) -> Result<(), AllocError>
 }
 
 /// The object of a verdict, with its line feed; the first member is the file, if one is named.
-pub(crate) fn object_line(
+pub(crate) fn verdict_object(
     alloc: Global,
     file: Option<&str>,
     verdict: &Verdict,
 ) -> Result<Vec<u8>, AllocError>
-    ensures { IfOk result (λ line. line.items ≡ object_line (file_member file.entry) verdict.now) }
+    ensures { IfOk result (λ line. line.items ≡ verdict_object (file_member file.entry) verdict.now) }
 {
-    let mut writer = Writer::new(Vec::new(alloc));
-    writer.begin_object()?;
+    let mut writer = begin_line(Vec::new(alloc))?;
     put_file(&mut writer, file)?;
     put_verdict(alloc, &mut writer, verdict)?;
-    writer.end_object()?;
-    let mut line = writer.into_inner();
-    line.push(b'\n')?;
-    Ok(line)
+    end_line(writer)
 }

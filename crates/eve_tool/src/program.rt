@@ -56,10 +56,10 @@ fn answer_call<R: AllocGlobal + RandomSource + Threads + Wait + Sync, I: Source,
 {
     match call {
         Call::Audit(workers, style) => audit(rt, workers, style, input, out),
-        Call::Explain(workers) => explain(rt, workers, input, out),
+        Call::Explain(workers, style) => explain(rt, workers, style, input, out),
         Call::Run(mixer, format) => { run_within(rt, mixer, format, MOST_BYTES as u32, input, out) }
         Call::Show => show(rt.alloc(), input, out),
-        Call::ShowLong => show_long(rt.alloc(), input, out),
+        Call::ShowLong(style) => show_long(rt.alloc(), style, input, out),
     }
 }
 

@@ -25,9 +25,14 @@ pub no_json : (name : Text) → CallsNothing (name ∷ codes "run" ∷ codes "--
 unfolding call_of faults_of clap_on_literals
 no_json name = refl
 
-pub explain_call : (name : Text) → call_of (name ∷ codes "explain" ∷ []) ≡ Some Explain
+pub explain_call : (name : Text) → call_of (name ∷ codes "explain" ∷ []) ≡ Some (Explain Plain)
 unfolding call_of faults_of clap_on_literals
 explain_call name = refl
+
+pub explain_json_call : (name : Text)
+    → call_of (name ∷ codes "explain" ∷ codes "--json" ∷ []) ≡ Some (Explain Json)
+unfolding call_of faults_of clap_on_literals
+explain_json_call name = refl
 
 pub run_call : (name : Text) → call_of (name ∷ codes "run" ∷ []) ≡ Some (Run First One)
 unfolding call_of faults_of clap_on_literals
@@ -72,9 +77,18 @@ pub show_call : (name : Text) → call_of (name ∷ codes "show" ∷ []) ≡ Som
 unfolding call_of faults_of clap_on_literals
 show_call name = refl
 
-pub long_call : (name : Text) → call_of (name ∷ codes "show" ∷ codes "--long" ∷ []) ≡ Some ShowLong
+pub long_call : (name : Text) → call_of (name ∷ codes "show" ∷ codes "--long" ∷ []) ≡ Some (ShowLong Plain)
 unfolding call_of faults_of clap_on_literals
 long_call name = refl
+
+pub show_json_call : (name : Text) → call_of (name ∷ codes "show" ∷ codes "--json" ∷ []) ≡ Some (ShowLong Json)
+unfolding call_of faults_of clap_on_literals
+show_json_call name = refl
+
+pub long_json_call : (name : Text)
+    → call_of (name ∷ codes "show" ∷ codes "--long" ∷ codes "--json" ∷ []) ≡ Some (ShowLong Json)
+unfolding call_of faults_of clap_on_literals
+long_json_call name = refl
 
 help_fault : (name : Text) → faults_of (name ∷ codes "--help" ∷ []) ≡ kind.DisplayHelp ∷ []
 unfolding faults_of clap_on_literals

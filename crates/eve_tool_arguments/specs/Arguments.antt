@@ -57,15 +57,23 @@ audit_options = with_rule (with_rule (new_app (codes "audit")) workers) json
 abbrev pub audit : Shape
 audit = (with_rule audit_options files).top
 
+-- the subcommand `explain` but for its file
+abbrev pub explain_options : App
+explain_options = with_rule (with_rule (new_app (codes "explain")) workers) json
+
 abbrev pub explain : Shape
-explain = (with_rule (with_rule (new_app (codes "explain")) workers) file).top
+explain = (with_rule explain_options file).top
 
 -- the argument that asks for the fields of each frame
 abbrev pub long : Rule
 long = record (new_rule (codes "long")) { long = Some (codes "long"); action = Some SetTrue }
 
+-- the subcommand `show` but for its file
+abbrev pub show_options : App
+show_options = with_rule (with_rule (new_app (codes "show")) long) json
+
 abbrev pub show : Shape
-show = (with_rule (with_rule (new_app (codes "show")) long) file).top
+show = (with_rule show_options file).top
 
 -- the argument that names the mixer
 abbrev pub mixer : Rule
@@ -96,10 +104,10 @@ eve = with_subcommand (with_subcommand (with_subcommand (with_subcommand program
 
 pub data Subcommand : Type 0 where
   Audit : Style → Subcommand
-  Explain : Subcommand
+  Explain : Style → Subcommand
   Run : Mixer → Format → Subcommand
   Show : Subcommand
-  ShowLong : Subcommand
+  ShowLong : Style → Subcommand
 
 -- the first value of an argument among what was found
 abbrev pub value_given : Text → List Row → Option Text
@@ -138,23 +146,24 @@ is_long rows = is_set (codes "long") rows
 abbrev pub style_in : List Row → Style
 style_in rows = if is_set (codes "json") rows then Json else Plain
 
--- the subcommand `show`, with the fields of each frame or without
-abbrev pub listing : Bool → Subcommand
-listing is_long = if is_long then ShowLong else Show
+-- the subcommand `show`, with the fields of each frame or without: JSON has them
+abbrev pub listing : Bool → Style → Subcommand
+listing is_long Plain = if is_long then ShowLong Plain else Show
+listing is_long Json = ShowLong Json
 
 abbrev pub subcommand_named : Text × List Row → Option Subcommand
 subcommand_named found =
     if bytes_eq found.0 (codes "audit") then Some (Audit (style_in found.1))
-    else (if bytes_eq found.0 (codes "explain") then Some Explain else
+    else (if bytes_eq found.0 (codes "explain") then Some (Explain (style_in found.1)) else
     (if bytes_eq found.0 (codes "run") then run_in found.1 else
-    (if bytes_eq found.0 (codes "show") then Some (listing (is_long found.1)) else None)))
+    (if bytes_eq found.0 (codes "show") then Some (listing (is_long found.1) (style_in found.1)) else None)))
 
 abbrev pub subcommand_of_call : Call → Subcommand
 subcommand_of_call (call.Audit _ style) = Audit style
-subcommand_of_call (call.Explain _) = Explain
+subcommand_of_call (call.Explain _ style) = Explain style
 subcommand_of_call (call.Run mixer format) = Run mixer format
 subcommand_of_call call.Show = Show
-subcommand_of_call call.ShowLong = ShowLong
+subcommand_of_call (call.ShowLong style) = ShowLong style
 
 -- what clap finds wrong with the arguments, the program's name first, or a request for help or for the version
 unfoldable pub faults_of : List Text → Kinds
@@ -189,7 +198,7 @@ files_of arguments = files_behind (subcommand_of eve arguments)
 -- the call has this number of workers, if it is one that has any
 abbrev pub HasWorkers : Option ℕ → Call → Type 0
 HasWorkers asked_for (call.Audit found style) = asked_for ≡ Some found
-HasWorkers asked_for (call.Explain found) = asked_for ≡ Some found
+HasWorkers asked_for (call.Explain found style) = asked_for ≡ Some found
 HasWorkers _ _ = ⊤
 
 -- what is answered to arguments in which clap finds this wrong
@@ -202,13 +211,14 @@ SaysOf k (asked.Refused text) = (k ≢ kind.DisplayHelp) × (k ≢ kind.DisplayV
 abbrev pub CallsAudit : Style → List Text → Type 0
 CallsAudit style arguments = call_of arguments ≡ Some (Audit style)
 
--- the arguments are the call `explain`
-abbrev pub CallsExplain : List Text → Type 0
-CallsExplain arguments = call_of arguments ≡ Some Explain
+-- the arguments are the call `explain`, in this style
+abbrev pub CallsExplain : Style → List Text → Type 0
+CallsExplain style arguments = call_of arguments ≡ Some (Explain style)
 
 -- the arguments ask for a verdict: they are the call `audit` or the call `explain`
 abbrev pub AsksForVerdict : List Text → Type 0
-AsksForVerdict arguments = ((style : Style) × CallsAudit style arguments) ⊎ CallsExplain arguments
+AsksForVerdict arguments =
+    ((style : Style) × CallsAudit style arguments) ⊎ ((style : Style) × CallsExplain style arguments)
 
 -- the arguments are a call
 abbrev pub CallsSome : List Text → Type 0
@@ -233,7 +243,7 @@ AuditsBy n arguments = CallsAudit Plain arguments × (workers_of arguments ≡ S
 
 -- the arguments are the call `explain`, by `n` workers
 abbrev pub ExplainsBy : ℕ → List Text → Type 0
-ExplainsBy n arguments = CallsExplain arguments × (workers_of arguments ≡ Some n)
+ExplainsBy n arguments = CallsExplain Plain arguments × (workers_of arguments ≡ Some n)
 
 -- something else is wrong with the arguments
 pub record IsWrong (arguments : List Text) : Type 0 where

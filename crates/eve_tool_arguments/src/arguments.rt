@@ -5,7 +5,8 @@ ghost use Rattle.std.specs.Prelude.{option_map, pos};
 ghost use Rattle.std.specs.String.{string_bytes};
 ghost use Rattle.clap.specs.Words.{app_of, found_of, kind_of, rule_of, shape_of, subcommand_rows_of};
 ghost use Rattle.clap.specs.Walk.{rows_of};
-ghost use Rattle.eve_tool_arguments.specs.Arguments.{Answers, HasWorkers, SaysOf, audit, audit_options, eve, explain};
+ghost use Rattle.eve_tool_arguments.specs.Arguments.{Answers, HasWorkers, SaysOf, audit, audit_options, eve};
+ghost use Rattle.eve_tool_arguments.specs.Arguments.{explain, explain_options, show_options};
 ghost use Rattle.eve_tool_arguments.specs.Arguments.{file, files, files_behind, format, format_in, is_long, is_set};
 ghost use Rattle.eve_tool_arguments.specs.Arguments.{json, listing, long, mixer, mixer_in};
 ghost use Rattle.eve_tool_arguments.specs.Arguments.{program, run_in, run_options, run_shape, show, style_in};
@@ -27,14 +28,14 @@ use std::convert::AsStr;
 pub enum Call {
     /// Prints the verdict on each trace, found by this many workers, in this style.
     Audit(WorkerCount, Style),
-    /// Prints the verdict on a trace, found by this many workers, and why it is so.
-    Explain(WorkerCount),
+    /// Prints the verdict on a trace, found by this many workers, and why it is so, in this style.
+    Explain(WorkerCount, Style),
     /// Runs a workload of this format, whose batches this mixer cuts, and prints the trace.
     Run(Mixer, Format),
     /// Prints the frames of a trace.
     Show,
-    /// Prints the frames of a trace with their fields.
-    ShowLong,
+    /// Prints the frames of a trace with their fields, in this style.
+    ShowLong(Style),
 }
 
 /// What the arguments of a command line come to.
@@ -95,7 +96,8 @@ const EXPLAIN_EXAMPLES: &str = "Statuses:\n\
     \x20 3  no memory, no random words, or the output can't be written\n\n\
     Examples:\n\
     \x20 eve explain examples/two-deposits-in-frame-order.trace\n\
-    \x20 eve explain --workers 2 < examples/two-orders-agree.trace";
+    \x20 eve explain --workers 2 < examples/two-orders-agree.trace\n\
+    \x20 eve explain --json examples/two-deposits-in-frame-order.trace";
 
 const RUN_EXAMPLES: &str = "Statuses:\n\
     \x20 0  the trace is written\n\
@@ -112,7 +114,8 @@ const SHOW_EXAMPLES: &str = "Statuses:\n\
     \x20 3  no memory, or the output can't be written\n\n\
     Examples:\n\
     \x20 eve show < examples/empty-run.trace\n\
-    \x20 eve show --long examples/rollback-and-serial-rerun.trace";
+    \x20 eve show --long examples/rollback-and-serial-rerun.trace\n\
+    \x20 eve show --json examples/rollback-and-serial-rerun.trace";
 
 /// The numbers of workers that may be named.
 fn worker_counts<'a>() -> ValueParser<'a>
@@ -223,15 +226,25 @@ fn audit_command<'a>(alloc: Global) -> Result<Command<'a>, AllocError>
     command.arg(files_argument(alloc))
 }
 
-/// The subcommand that audits, and says why.
-fn explain_command<'a>(alloc: Global) -> Result<Command<'a>, AllocError>
-    ensures { IfOk result (λ c. shape_of c ≡ explain) }
+/// The subcommand that audits and says why, with no file yet.
+fn explain_options<'a>(alloc: Global) -> Result<Command<'a>, AllocError>
+    ensures { IfOk result (λ c. app_of c ≡ explain_options) }
 {
     let Ok(command) = Command::new(alloc, "explain")
         .about("Prints the verdict on a trace, and why it is so")
         .after_help(EXPLAIN_EXAMPLES)
         .arg(workers_argument(alloc))
     else {
+        return Err(AllocError);
+    };
+    command.arg(json_argument(alloc))
+}
+
+/// The subcommand that audits, and says why.
+fn explain_command<'a>(alloc: Global) -> Result<Command<'a>, AllocError>
+    ensures { IfOk result (λ c. shape_of c ≡ explain) }
+{
+    let Ok(command) = explain_options(alloc) else {
         return Err(AllocError);
     };
     command.arg(file_argument(alloc))
@@ -261,15 +274,25 @@ fn run_command<'a>(alloc: Global) -> Result<Command<'a>, AllocError>
     command.arg(file_argument(alloc))
 }
 
-/// The subcommand that prints the frames of a trace.
-fn show_command<'a>(alloc: Global) -> Result<Command<'a>, AllocError>
-    ensures { IfOk result (λ c. shape_of c ≡ show) }
+/// The subcommand that prints the frames of a trace, with no file yet.
+fn show_options<'a>(alloc: Global) -> Result<Command<'a>, AllocError>
+    ensures { IfOk result (λ c. app_of c ≡ show_options) }
 {
     let Ok(command) = Command::new(alloc, "show")
         .about("Prints the frames of a trace, a line for each")
         .after_help(SHOW_EXAMPLES)
         .arg(long_argument(alloc))
     else {
+        return Err(AllocError);
+    };
+    command.arg(json_argument(alloc))
+}
+
+/// The subcommand that prints the frames of a trace.
+fn show_command<'a>(alloc: Global) -> Result<Command<'a>, AllocError>
+    ensures { IfOk result (λ c. shape_of c ≡ show) }
+{
+    let Ok(command) = show_options(alloc) else {
         return Err(AllocError);
     };
     command.arg(file_argument(alloc))
@@ -366,15 +389,21 @@ fn style_of(found: &ArgMatches<'_>) -> Style
     }
 }
 
-/// The call `show`, with the fields of each frame or without.
+/// The call `show`, with the fields of each frame or without: JSON has them.
 fn show_of(found: &ArgMatches<'_>) -> Call
-    ensures call { subcommand_of_call result ≡ listing (is_long (rows_of (found_of found.now))) }
+    ensures call { subcommand_of_call result
+        ≡ listing (is_long (rows_of (found_of found.now))) (style_in (rows_of (found_of found.now))) }
     ensures workers { (n : Option ℕ) → HasWorkers n result }
 {
-    if is_set(found, "long") {
-        Call::ShowLong
-    } else {
-        Call::Show
+    match style_of(found) {
+        Style::Json => Call::ShowLong(Style::Json),
+        Style::Plain => {
+            if is_set(found, "long") {
+                Call::ShowLong(Style::Plain)
+            } else {
+                Call::Show
+            }
+        }
     }
 }
 
@@ -432,7 +461,7 @@ fn call_named(name: &str, found: &ArgMatches<'_>) -> Option<Call>
 {
     match name {
         "audit" => Some(Call::Audit(workers_of(found), style_of(found))),
-        "explain" => Some(Call::Explain(workers_of(found))),
+        "explain" => Some(Call::Explain(workers_of(found), style_of(found))),
         "run" => run_of(found),
         "show" => Some(show_of(found)),
         _ => None,

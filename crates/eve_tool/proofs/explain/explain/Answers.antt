@@ -1,6 +1,6 @@
 use Rattle.std.proofs.Common.{◌^◌}
 use Rattle.std.proofs.lemmas.Result.{IfErr-weaker, IfOk-weaker, on_ok_weaker}
-use Rattle.eve_tool.specs.Explain.{Explains}
+use Rattle.eve_tool.specs.Explain.{Explains, explained_text}
 use Rattle.eve_tool_arguments.specs.Arguments.{Explain}
 use Rattle.eve_tool.proofs.CutInput.{WritesAllOf-cut, WritesPrefixOf-cut, random_left}
 use Rattle.eve_tool.proofs.ExplainedLines.{Explains-cut, explain_left}
@@ -14,8 +14,8 @@ returns-clause-all g c =
     let old = g.O.Sink.written c.args.out.now in
     let new = g.O.Sink.written c.explain_bytes.new.out in
     IfOk-weaker c.explain_bytes.result _ _
-    (λ status all. WritesAllOf-cut Explains (2 ^ 30) known _ _ old new status
-    Explains-cut c.as_slice.ensures.value
+    (λ status all. WritesAllOf-cut (Explains (explained_text c.args.style)) (2 ^ 30) known _ _ old new status
+    (Explains-cut (explained_text c.args.style)) c.as_slice.ensures.value
     c.in_ok-bytes.ensures.bytes all)
     c.explain_bytes.ensures.all
 
@@ -25,10 +25,10 @@ returns-clause-left g c =
     let old = g.O.Sink.written c.args.out.now in
     let new = g.O.Sink.written c.explain_bytes.new.out in
     IfErr-weaker c.explain_bytes.result _ _
-    (λ why. explain_left g.O.Sink.written g.O.Sink.failures known _ c.as_slice.result.now c.args.out.now
+    (λ why. explain_left c.args.style g.O.Sink.written g.O.Sink.failures known _ c.as_slice.result.now c.args.out.now
     c.explain_bytes.new.out why
-    (λ prefix. WritesPrefixOf-cut Explains (2 ^ 30) known _ _ old new
-    Explains-cut c.as_slice.ensures.value
+    (λ prefix. WritesPrefixOf-cut (Explains (explained_text c.args.style)) (2 ^ 30) known _ _ old new
+    (Explains-cut (explained_text c.args.style)) c.as_slice.ensures.value
     c.in_ok-bytes.ensures.bytes prefix))
     c.explain_bytes.ensures.left
 
@@ -36,8 +36,8 @@ pub returns-in_err-random-clause-left : goal.returns-in_err-random-clause-left
 returns-in_err-random-clause-left g c =
     let why = c.in_err-random.field-0.0 in
     at_err c.from_residual-in_err-random.result _ why c.from_residual-in_err-random.ensures.1
-    (random_left g.O.Sink.written g.O.Sink.failures Explain (g.I.Source.remaining c.args.input.now) _ c.args.out.now
-    why tt
+    (random_left g.O.Sink.written g.O.Sink.failures (Explain c.args.style)
+    (g.I.Source.remaining c.args.input.now) _ c.args.out.now why tt
     c.in_err-random.ensures)
 
 pub returns-in_err-random-clause-ended : goal.returns-in_err-random-clause-ended

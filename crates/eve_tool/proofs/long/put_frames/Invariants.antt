@@ -9,7 +9,7 @@ use Rattle.eve_tool.proofs.long.put_frames.Given as goal
 abbrev pub invariant-frames : goal.invariant-frames
 invariant-frames g l =
     ((h : Head) (frames : List Frame) → HasFrames l.bytes h frames
-    → ListsSoFar (g.O.Sink.written l.initial.out) (g.O.Sink.written l.out) l.initial.line.items l.line.items l.bytes
-    l.at l.number h frames)
+    → ListsSoFar l.style (g.O.Sink.written l.initial.out) (g.O.Sink.written l.out) l.initial.line.items l.line.items
+    l.bytes l.at l.number h frames)
     × (l.number ≤ l.at)
     × (g.O.Sink.failures l.out ≡ g.O.Sink.failures l.initial.out)

@@ -1,27 +1,29 @@
 use Rattle.std.proofs.Common.{refl}
-use Rattle.std.proofs.lemmas.Result.{on_err_weaker, on_ok_weaker}
-use Rattle.eve_tool.specs.Long.{long_lines}
+use Rattle.std.proofs.lemmas.Result.{on_ok_weaker}
+use Rattle.eve_tool.specs.Long.{AreLinesTo, long_lines}
 use Rattle.eve_tool.proofs.LongLines.{before}
+use Rattle.eve_tool.proofs.UnsentText.{prefix_listed}
 use Rattle.eve_tool.proofs.long.send_before.Goals as goal
 
 pub returns-clause-sent : goal.returns-clause-sent
 returns-clause-sent g c =
     let fault = c.args.fault.now in
-    let b = before fault.code c.args.bytes.now fault.offset c.if-at-lt-HEADER_LEN.false c.requires.stands.stands in
+    let b = before c.args.style fault.code c.args.bytes.now fault.offset c.if-at-lt-HEADER_LEN.false
+    c.requires.stands.stands in
     on_ok_weaker c.send_lines.result (λ sent. record {
-      text = long_lines b.reached.head b.reached.prefix;
-      are = b.are (long_lines b.reached.head b.reached.prefix) refl;
+      text = long_lines c.args.style b.reached.head b.reached.prefix;
+      are = b.are (long_lines c.args.style b.reached.head b.reached.prefix) refl;
       sent = sent;
     })
     (c.send_lines.ensures.sent b.reached.head b.reached.prefix b.says b.has)
 
-pub returns-clause-prefix : goal.returns-clause-prefix
-returns-clause-prefix g c =
+pub returns-clause-stopped : goal.returns-clause-stopped
+returns-clause-stopped g c =
     let fault = c.args.fault.now in
-    let b = before fault.code c.args.bytes.now fault.offset c.if-at-lt-HEADER_LEN.false c.requires.stands.stands in
-    on_err_weaker c.send_lines.result (λ prefix. record {
-      text = long_lines b.reached.head b.reached.prefix;
-      are = b.are (long_lines b.reached.head b.reached.prefix) refl;
-      sent = prefix;
-    })
-    (c.send_lines.ensures.prefix b.reached.head b.reached.prefix b.says b.has)
+    let b = before c.args.style fault.code c.args.bytes.now fault.offset c.if-at-lt-HEADER_LEN.false
+    c.requires.stands.stands in
+    let text = long_lines c.args.style b.reached.head b.reached.prefix in
+    prefix_listed c.args.style g.O.Sink.written g.O.Sink.failures
+    (AreLinesTo c.args.style fault.code c.args.bytes.now fault.offset) text c.args.out.now c.send_lines.new.out
+    c.send_lines.result (b.are text refl)
+    (c.send_lines.ensures.prefix b.reached.head b.reached.prefix b.says b.has) c.send_lines.ensures.stopped

@@ -11,8 +11,8 @@ returns-clause-all g c =
     let old = g.O.Sink.written c.args.out.now in
     let new = g.O.Sink.written c.show_long_bytes.new.out in
     IfOk-weaker c.show_long_bytes.result _ _
-    (λ status all. WritesAllOf-cut ShowsLong (2 ^ 30) known _ _ old new status
-    (λ bytes text s. ShowsLong-cut (2 ^ 30) bytes text s (lit≤ tt)) c.as_mut_slice.ensures.value
+    (λ status all. WritesAllOf-cut (ShowsLong c.args.style) (2 ^ 30) known _ _ old new status
+    (λ bytes text s. ShowsLong-cut c.args.style (2 ^ 30) bytes text s (lit≤ tt)) c.as_mut_slice.ensures.value
     c.in_ok-bytes.ensures.bytes
     all)
     c.show_long_bytes.ensures.all
@@ -23,10 +23,10 @@ returns-clause-left g c =
     let old = g.O.Sink.written c.args.out.now in
     let new = g.O.Sink.written c.show_long_bytes.new.out in
     IfErr-weaker c.show_long_bytes.result _ _
-    (λ why. long_left g.O.Sink.written g.O.Sink.failures known _ c.as_mut_slice.result.now c.args.out.now
+    (λ why. long_left c.args.style g.O.Sink.written g.O.Sink.failures known _ c.as_mut_slice.result.now c.args.out.now
     c.show_long_bytes.new.out why
-    (λ prefix. WritesPrefixOf-cut ShowsLong (2 ^ 30) known _ _ old new
-    (λ bytes text s. ShowsLong-cut (2 ^ 30) bytes text s (lit≤ tt)) c.as_mut_slice.ensures.value
+    (λ prefix. WritesPrefixOf-cut (ShowsLong c.args.style) (2 ^ 30) known _ _ old new
+    (λ bytes text s. ShowsLong-cut c.args.style (2 ^ 30) bytes text s (lit≤ tt)) c.as_mut_slice.ensures.value
     c.in_ok-bytes.ensures.bytes
     prefix))
     c.show_long_bytes.ensures.left

@@ -1,31 +1,35 @@
 use Rattle.std.proofs.Common.{inl, inr, refl}
+use Rattle.eve_audit.specs.declared.verdict.Verdict.TheVariants.{No}
 use Rattle.eve_grammar.specs.Frames.{frames_of}
-use Rattle.eve_tool.specs.Lines.{fault_line}
+use Rattle.eve_tool.specs.Audit.{verdict_text}
 use Rattle.eve_tool.specs.Long.{AreLinesBefore, long_lines}
-use Rattle.eve_tool.specs.declared.fault.ToolFault.TheVariants.{Write}
-use Rattle.eve_tool.proofs.UnsentText.{at_err, long_stopped}
+use Rattle.eve_tool.proofs.UnsentText.{at_err, fails_fine, lines_left, long_fine, long_stopped}
 use Rattle.eve_tool.proofs.LongLines.{trace_has, trace_says}
 use Rattle.eve_tool.proofs.long.show_long_bytes.Goals as goal
 
 pub returns-in_err-send_lines-in-Ok-clause-left : goal.returns-in_err-send_lines-in-Ok-clause-left
 returns-in_err-send_lines-in-Ok-clause-left g c =
     let t = c.in-Ok.trace in
+    let why = c.in_err-send_lines-in-Ok.field-0.0 in
     let prefix = c.in_err-send_lines-in-Ok.ensures.prefix t.head (frames_of t)
     (trace_says c.bytes.result.now t c.bytes.ensures) (trace_has c.bytes.result.now t c.bytes.ensures) in
-    at_err c.from_residual.result _ Write c.from_residual.ensures.1 (
-      c.in_err-send_lines-in-Ok.ensures.counted,
-      record {
-        text = long_lines t.head (frames_of t);
-        status = 0;
-        said = inl (record { trace = t; spelled = c.in-Ok.ensures.trace; lines = refl }, refl);
-        written = prefix;
-      },
-    )
+    at_err c.from_residual.result _ why c.from_residual.ensures.1
+    (lines_left c.args.style g.O.Sink.written g.O.Sink.failures c.args.bytes.now
+    (long_lines c.args.style t.head (frames_of t)) 0 c.args.out.now c.send_lines.new.out
+    (inl (record { trace = t; spelled = c.in-Ok.ensures.trace; lines = refl }, refl)) prefix why
+    c.in_err-send_lines-in-Ok.ensures.stopped)
+
+pub returns-in_err-send_lines-in-Ok-clause-wrote : goal.returns-in_err-send_lines-in-Ok-clause-wrote
+returns-in_err-send_lines-in-Ok-clause-wrote g c =
+    let why = c.in_err-send_lines-in-Ok.field-0.0 in
+    at_err c.from_residual.result _ why c.from_residual.ensures.1
+    (fails_fine c.args.style g.O.Sink.failures c.args.out.now c.send_lines.new.out why
+    c.in_err-send_lines-in-Ok.ensures.stopped)
 
 pub returns-in-Ok-clause-all : goal.returns-in-Ok-clause-all
 returns-in-Ok-clause-all g c =
     let t = c.in-Ok.trace in record {
-      text = long_lines t.head (frames_of t);
+      text = long_lines c.args.style t.head (frames_of t);
       said = inl (record { trace = t; spelled = c.in-Ok.ensures.trace; lines = refl }, refl);
       written = c.in_ok-send_lines-in-Ok.ensures.sent t.head (frames_of t)
           (trace_says c.bytes.result.now t c.bytes.ensures) (trace_has c.bytes.result.now t c.bytes.ensures);
@@ -36,8 +40,9 @@ returns-in_err-send_faulty-clause-left g c =
     let why = c.in_err-send_faulty.field-0.0 in
     let fault = c.in-Err-Found.fault in
     at_err c.from_residual-in_err-send_faulty.result _ why c.from_residual-in_err-send_faulty.ensures.1
-    (long_stopped g.O.Sink.written g.O.Sink.failures c.args.bytes.now
-    (AreLinesBefore fault.code c.args.bytes.now fault.offset) (fault_line fault) c.args.out.now c.send_faulty.new.out
+    (long_stopped c.args.style g.O.Sink.written g.O.Sink.failures c.args.bytes.now
+    (AreLinesBefore c.args.style fault.code c.args.bytes.now fault.offset) (verdict_text c.args.style (No fault))
+    c.args.out.now c.send_faulty.new.out
     (λ before are. inr (
       record {
         fault = fault;
@@ -49,3 +54,12 @@ returns-in_err-send_faulty-clause-left g c =
       refl,
     ))
     why c.in_err-send_faulty.ensures.stopped)
+
+pub returns-in_err-send_faulty-clause-wrote : goal.returns-in_err-send_faulty-clause-wrote
+returns-in_err-send_faulty-clause-wrote g c =
+    let why = c.in_err-send_faulty.field-0.0 in
+    let fault = c.in-Err-Found.fault in
+    at_err c.from_residual-in_err-send_faulty.result _ why c.from_residual-in_err-send_faulty.ensures.1
+    (long_fine c.args.style g.O.Sink.written g.O.Sink.failures
+    (AreLinesBefore c.args.style fault.code c.args.bytes.now fault.offset) (verdict_text c.args.style (No fault))
+    c.args.out.now c.send_faulty.new.out why c.in_err-send_faulty.ensures.stopped)

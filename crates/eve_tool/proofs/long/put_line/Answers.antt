@@ -3,14 +3,15 @@ use Rattle.std.proofs.lemmas.Result.{on_err_weaker, on_ok_weaker}
 use Rattle.eve_lines.specs.Rest.{words_in, words_left}
 use Rattle.eve_streams.proofs.JoinedSends.{AppendsPrefix-more}
 use Rattle.eve_tool.specs.Long.{line_of_view}
+use Rattle.eve_tool_arguments.specs.declared.style.Style.TheVariants.{Plain}
 use Rattle.eve_tool.proofs.LongLines.{at_any_err, prefix_put, line-put}
 use Rattle.eve_tool.proofs.LongLines.{line-stops_at_end, line-stops_in_words}
-use Rattle.eve_tool.proofs.long.put_frame.Goals as goal
+use Rattle.eve_tool.proofs.long.put_line.Goals as goal
 
 pub returns-in_err-make_room-clause-prefix : goal.returns-in_err-make_room-clause-prefix
 returns-in_err-make_room-clause-prefix g c =
     at_any_err c.from_residual.result
-    (AppendsPrefix-more _ _ c.args.line.now.items (line_of_view c.args.number c.args.frame.now)
+    (AppendsPrefix-more _ _ c.args.line.now.items (line_of_view Plain c.args.number c.args.frame.now)
     c.in_err-make_room.ensures.prefix)
 
 pub returns-in_err-put_words-clause-prefix : goal.returns-in_err-put_words-clause-prefix

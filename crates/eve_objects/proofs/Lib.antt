@@ -1,0 +1,4 @@
+mod Colons
+mod Items
+mod MembersOfFrames
+mod Names

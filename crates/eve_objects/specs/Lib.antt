@@ -1,0 +1,4 @@
+pub mod Members
+pub mod Evidence
+pub mod FrameObjects
+pub mod Bytes
