@@ -7,8 +7,8 @@ use Rattle.eve_grammar.specs.Trace.{Batch}
 use Rattle.eve_stamps.specs.Applied.{Applied}
 use Rattle.eve_write.specs.Data.{batch as plain}
 use Rattle.eve_workload.specs.declared.mixer.MixedBatch.{MixedBatch}
-use Rattle.eve_replica_crew.specs.declared.assignment.Assignment.{Assignment}
-use Rattle.eve_replica_crew.specs.Recording.{AreNotedOf, IsNotedFor}
+use Rattle.eve_floor.specs.declared.assignment.Assignment.{Assignment}
+use Rattle.eve_floor.specs.Recording.{AreNotedOf, IsNotedFor}
 use Rattle.eve_replica.specs.declared.fault.AttemptFault.{AttemptFault}
 use Rattle.eve_replica.specs.inner.RunInvariant.{IsNotedAs}
 

@@ -9,7 +9,7 @@ use Rattle.eve_attempts.specs.declared.prefix.AttemptPrefix.{AttemptPrefix}
 use Rattle.eve_attempts.specs.Ledgers.{Ledger}
 use Rattle.eve_attempts.specs.ClosedAttempts.{touched_in_batch, AreMismatched, Closes}
 use Rattle.eve_attempts.specs.CommitsAndRollbacks.{Commits}
-use Rattle.eve_replica_crew.specs.Recording.{AreNotedOf}
+use Rattle.eve_floor.specs.Recording.{AreNotedOf}
 use Rattle.eve_replica.specs.declared.fault.AttemptFault.{AttemptFault}
 use Rattle.eve_replica.specs.declared.fault.AttemptFault.TheVariants as attempt_fault
 

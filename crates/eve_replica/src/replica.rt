@@ -23,7 +23,7 @@ use eve_attempts::{AttemptPrefix, CloseFault as Unclosed, Ledger};
 use eve_floor::Floor;
 use eve_grammar::{MOST_BATCHES, MOST_WINDOW, MOST_WORKERS, TransferData};
 use eve_recorder::Gate;
-use eve_replica_crew::Workers;
+use eve_floor::Workers;
 use eve_smallbank::Versioned;
 use eve_stamps::AccessRecord;
 use eve_workload::look_up;

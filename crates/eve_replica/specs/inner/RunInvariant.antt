@@ -20,7 +20,7 @@ use Rattle.eve_write.specs.declared.vote.VoteData.{VoteData}
 use Rattle.eve_write.specs.declared.sent.SentData.{SentData}
 use Rattle.eve_workload.specs.declared.mixer.MixedBatch.{MixedBatch}
 use Rattle.eve_stamps.specs.Applied.{Applied}
-use Rattle.eve_replica_crew.specs.Recording.{AreNotedOf}
+use Rattle.eve_floor.specs.Recording.{AreNotedOf}
 use Rattle.eve_replica.specs.Replicas.{MismatchesDue, Replica}
 use Rattle.eve_replica.specs.Decisions.{is_some_of, token_given_up, AreUndecided}
 use Rattle.eve_replica.specs.Sections.{RunPlan, GoesThrough, AreVotesOf, place_due, commit_vote, rollback_vote}

@@ -5,8 +5,8 @@ use Rattle.eve_grammar.specs.Trace.{Batch}
 use Rattle.eve_write.specs.Data.{batch}
 use Rattle.eve_write.specs.declared.batch.BatchData.{BatchData}
 use Rattle.eve_workload.specs.declared.mixer.MixedBatch.{MixedBatch}
-use Rattle.eve_replica_crew.specs.declared.assignment.Assignment.{Assignment}
-use Rattle.eve_replica_crew.specs.Assignments.{IsRightAssignment}
+use Rattle.eve_floor.specs.declared.assignment.Assignment.{Assignment}
+use Rattle.eve_floor.specs.Assignments.{IsRightAssignment}
 use Rattle.eve_replica.proofs.attempting.assignments_of.Goals as goal
 
 pub loop-mixed-preserved : goal.loop-mixed-preserved

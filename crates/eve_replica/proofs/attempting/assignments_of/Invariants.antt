@@ -1,6 +1,6 @@
 use Rattle.std.proofs.Common.{◌≡◌, ◌≤◌, All, length, map, take, vec_len, vec_capacity}
 use Rattle.eve_write.specs.Data.{batch as plain}
-use Rattle.eve_replica_crew.specs.Assignments.{IsRightAssignment}
+use Rattle.eve_floor.specs.Assignments.{IsRightAssignment}
 use Rattle.eve_replica.proofs.attempting.assignments_of.Given as goal
 
 abbrev pub invariant-loop-mixed : goal.invariant-loop-mixed

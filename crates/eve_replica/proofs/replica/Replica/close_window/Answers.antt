@@ -7,7 +7,7 @@ use Rattle.eve_replica.specs.declared.standing.Standing.{Standing}
 use Rattle.eve_replica.specs.inner.RunInvariant.{GoesOn, IsNotedAs, IsRightMixed, MismatchesAmid, attempt_move}
 use Rattle.eve_replica.specs.inner.RunInvariant.{server_with}
 use Rattle.eve_stamps.specs.Applied.{Applied}
-use Rattle.eve_replica_crew.specs.Recording.{AreNotedOf}
+use Rattle.eve_floor.specs.Recording.{AreNotedOf}
 use Rattle.eve_replica.specs.Replicas.{MismatchesDue, Replica}
 use Rattle.eve_replica.proofs.Moves.{one_more}
 use Rattle.eve_replica.proofs.Mismatches.{mismatch_so, still_due}

@@ -1,7 +1,7 @@
 use Rattle.std.proofs.Common.{IfOk, ℕ, List, subst}
 use Rattle.std.specs.List.{AllZip}
-use Rattle.eve_replica_crew.specs.declared.assignment.Assignment.{Assignment}
-use Rattle.eve_replica_crew.specs.Recording.{IsNotedFor}
+use Rattle.eve_floor.specs.declared.assignment.Assignment.{Assignment}
+use Rattle.eve_floor.specs.Recording.{IsNotedFor}
 use Rattle.eve_replica.proofs.Noted.{noted_as_ok}
 use Rattle.eve_replica.proofs.replica.Replica.run_window.Goals as goal
 

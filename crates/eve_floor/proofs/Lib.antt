@@ -1,0 +1,6 @@
+mod Assigned
+mod Records
+mod Requests
+mod UnusedSeats
+mod Sizes
+mod Zipped

@@ -1,5 +1,0 @@
-mod Assigned
-mod Records
-mod Requests
-mod Sizes
-mod Zipped

@@ -1,7 +1,0 @@
-use Rattle.std.proofs.Common.{arith}
-use Rattle.eve_replica_crew.proofs.Requests.{batch_counted}
-use Rattle.eve_replica_crew.proofs.room.count_of.Goals as goal
-
-pub returns-clause-range : goal.returns-clause-range
-returns-clause-range c = let both = batch_counted c.args.batch.now c.requires in
-    (omega (arith, both.0, c.len.ensures), omega (arith, both.1, c.len.ensures))

@@ -1,6 +1,0 @@
-use Rattle.std.proofs.Common.{◌≡◌, drop}
-use Rattle.eve_replica_crew.specs.Crews.{fault_of_lowest}
-use Rattle.eve_replica_crew.proofs.workers.lowest_fault.Given as goal
-
-abbrev pub invariant-loop-member : goal.invariant-loop-member
-invariant-loop-member l = fault_of_lowest l.members ≡ fault_of_lowest (drop l.member-index l.members)

@@ -1,4 +1,0 @@
-pub mod Assignments
-pub mod Crews
-pub mod Recording
-pub mod Rooms
