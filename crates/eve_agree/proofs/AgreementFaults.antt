@@ -22,7 +22,7 @@ use Rattle.eve_agree.specs.Agreement.{first_to_commit, HaveSameOutcome, HasBalan
 use Rattle.eve_agree.specs.Agreement.{StandsInAgreement}
 use Rattle.eve_agree.specs.inner.NumbersJudged.{AgreesIn, offset_of, code_of, IsApart, IsFirstFrom, bound_by, bound_of}
 use Rattle.eve_agree.specs.inner.NumbersJudged.{JudgedTo}
-use Rattle.eve_agree.proofs.Offsets.{each_reached_rise, sections_rise}
+use Rattle.eve_agree.proofs.Offsets.{ways_reached_rise, sections_rise}
 use Rattle.eve_agree.proofs.Outcomes.{IsOf, last_told, first_there}
 use Rattle.eve_agree.proofs.ByNumber.{some_there, there_some, how_reached_low, how_reached_there, replica_there}
 
@@ -153,7 +153,7 @@ module _ (t : Trace) (e n : ℕ) where
         | inl less ↦ absurd (place.apart (before place.n less))
         | inr ge ↦ elim (cases_lt n place.n) [
           | inl later ↦
-              inl (each_reached_rise t e n place.n f.offset g.offset is.how_reached place.how_reached is.at place.is
+              inl (ways_reached_rise t e n place.n f.offset g.offset is.how_reached place.how_reached is.at place.is
               is.offset place.offset later)
           | inr le ↦
               let one : n ≡ place.n = omega arith in
@@ -322,7 +322,7 @@ only_first test (x ∷ y ∷ ys) f few is = absurd (omega arith)
 pub alone_agrees : (t : Trace) (hs : List SectionHistory) → hs ≡ section_histories t → length hs < 2
     → ((e : ℕ) (h : SectionHistory) → slice_get hs e ≡ Some h → h.transfers ≡ [])
     → ((e n at : ℕ) (x : Transfer) → how_reached_at t e n ≡ Some (ByTransfer at x) → (i : ℕ)
-    × (slice_get (section_history t e).each_reached (n - 1) ≡ Some (ReachedFrom i))
+    × (slice_get (section_history t e).ways_reached (n - 1) ≡ Some (ReachedFrom i))
     × (slice_get (section_history t e).transfers i ≡ Some (at, x)))
     → (e n : ℕ) → AgreesIn t e n
 alone_agrees t hs told few none law e n = record {

@@ -16,13 +16,13 @@ use Rattle.eve_history.specs.SectionHistory.{ExecutedAttempt, executed_attempt, 
 use Rattle.eve_history.specs.SectionHistory.{ToldReached, ReachedBy, ReachedFrom, NotReached, is_by_attempt}
 use Rattle.eve_history.specs.SectionHistory.{told_reached_at}
 use Rattle.eve_history.specs.SectionHistory.{placed_at, history, how_reached_at, attempt_by, committed_at}
-use Rattle.eve_history.specs.SectionHistory.{is_how_reached}
+use Rattle.eve_history.specs.SectionHistory.{was_reached}
 use Rattle.eve_history.specs.SectionHistory.{is_reached, IsRightSection, ByAttemptsTo}
 use Rattle.eve_history.proofs.ReachedNumbers.{committed_told, told_committed, committed_after_reached}
 use Rattle.eve_chains.specs.CommittedValues.{Settling, settling}
 use Rattle.eve_chains.proofs.LinkedPaths.{how_reached_by, last_committed, batches_counted, take_length, none≢some}
 use Rattle.eve_agree.specs.ByNumber.{told_by, told_at, told_state, told_state_at, SomeCommitted}
-use Rattle.eve_agree.proofs.Offsets.{each_reached_rise, none_there}
+use Rattle.eve_agree.proofs.Offsets.{ways_reached_rise, none_there}
 
 -- ---- options
 
@@ -68,9 +68,9 @@ told_attempt h zero there = absurd (false≢true there)
 told_attempt h (suc n) there = (omega arith, by_attempt_told (told_reached_at h (suc n)) ∙ there)
 
 pub told_from : (h : SectionHistory) (n : ℕ) (r : ExecutedAttempt) → 1 ≤ n
-    → slice_get h.each_reached (n - 1) ≡ Some (ReachedBy r) → told_at h n ≡ Some r
+    → slice_get h.ways_reached (n - 1) ≡ Some (ReachedBy r) → told_at h n ≡ Some r
 told_from h zero r one at = absurd (omega arith)
-told_from h (suc n) r one at = ap told_by (get_or_from_slice_get h.each_reached (suc n - 1) (ReachedBy r) NotReached at)
+told_from h (suc n) r one at = ap told_by (get_or_from_slice_get h.ways_reached (suc n - 1) (ReachedBy r) NotReached at)
 
 -- ---- along the numbers that were reached
 
@@ -97,8 +97,8 @@ module _ (t : Trace) (e : ℕ) where
   told_item h zero r is at = none≢some r at
   told_item h (suc n) r is at =
       let got = told_committed t e (suc n) r (omega arith)
-      (ap (λ (x : SectionHistory). slice_get x.each_reached (suc n - 1)) (sym is)
-      ∙ told_item_at h.each_reached (suc n - 1) r at) in
+      (ap (λ (x : SectionHistory). slice_get x.ways_reached (suc n - 1)) (sym is)
+      ∙ told_item_at h.ways_reached (suc n - 1) r at) in
       (got.0, got.1, sym got.2)
 
   pub told_is : (h : SectionHistory) (n : ℕ) → h ≡ section_history t e
@@ -115,7 +115,7 @@ module _ (t : Trace) (e : ℕ) where
           → told_at h (suc n) ≡ option_map (λ p. executed_attempt (placed_at p)) o
       by None none = not_told none (told_at h (suc n)) refl
       by (Some p) here = told_from h (suc n) (executed_attempt (placed_at p)) (omega arith)
-          (ap (λ (x : SectionHistory). slice_get x.each_reached (suc n - 1)) is ∙ committed_told t e (suc n) p here)
+          (ap (λ (x : SectionHistory). slice_get x.ways_reached (suc n - 1)) is ∙ committed_told t e (suc n) p here)
 
   pub told_same : (h : SectionHistory) (n : ℕ) → h ≡ section_history t e
       → is_some (told_at h n) ≡ is_some (committed_at t e n)
@@ -132,21 +132,21 @@ module _ (t : Trace) (e : ℕ) where
   -- ---- in the list
 
   -- of each of them, where it holds along the list
-  pub all_each : (P : Placed → Type 0) → AllByRecursion P (attempts_by (history t e).each_reached)
+  pub all_each : (P : Placed → Type 0) → AllByRecursion P (attempts_by (history t e).ways_reached)
       → (n : ℕ) (p : Placed)
       → committed_at t e n ≡ Some p → P p
   all_each P all zero p at = none≢some p at
-  all_each P all (suc n) p at = along_each P (history t e).each_reached n p all at
+  all_each P all (suc n) p at = along_each P (history t e).ways_reached n p all at
 
   -- one of them, by its number or by its place
   pub some_from_place : (at : ℕ) (Q : ℕ → Placed → Type 0)
-      → SomePlace (history t e).each_reached (λ before l. IsBy (λ p. (p.offset ≡ at) × Q (suc (length before)) p) l)
+      → SomePlace (history t e).ways_reached (λ before l. IsBy (λ p. (p.offset ≡ at) × Q (suc (length before)) p) l)
       → SomeCommitted t e at Q
   some_from_place at Q place = by place.item
       (ap (λ (ls : List HowReached). slice_get ls (length place.before)) place.is
       ∙ get_between place.before place.item place.rest) place.holds
     where
-      by : (l : HowReached) → slice_get (history t e).each_reached (length place.before) ≡ Some l
+      by : (l : HowReached) → slice_get (history t e).ways_reached (length place.before) ≡ Some l
           → IsBy (λ p. (p.offset ≡ at) × Q (suc (length place.before)) p) l → SomeCommitted t e at Q
       by (ByAttempt p) is holds = record {
         n = suc (length place.before);
@@ -159,22 +159,22 @@ module _ (t : Trace) (e : ℕ) where
       by Skipped is holds = absurd holds
 
   pub place_from_some : (at : ℕ) (Q : ℕ → Placed → Type 0) → SomeCommitted t e at Q
-      → SomePlace (history t e).each_reached (λ before l. IsBy (λ p. (p.offset ≡ at) × Q (suc (length before)) p) l)
+      → SomePlace (history t e).ways_reached (λ before l. IsBy (λ p. (p.offset ≡ at) × Q (suc (length before)) p) l)
   place_from_some at Q some = by some.n some.item some.is some.offset some.holds
     where
       by : (n : ℕ) (p : Placed) → committed_at t e n ≡ Some p → p.offset ≡ at → Q n p
-          → SomePlace (history t e).each_reached (λ before l. IsBy (λ q. (q.offset ≡ at) × Q (suc (length before)) q) l)
+          → SomePlace (history t e).ways_reached (λ before l. IsBy (λ q. (q.offset ≡ at) × Q (suc (length before)) q) l)
       by zero p is offset holds = none≢some p is
       by (suc n) p is offset holds =
-          let got = how_reached_by (slice_get (history t e).each_reached n) p is in
+          let got = how_reached_by (slice_get (history t e).ways_reached n) p is in
           record {
-            before = take n (history t e).each_reached;
+            before = take n (history t e).ways_reached;
             item = ByAttempt p;
-            rest = drop (suc n) (history t e).each_reached;
-            is = cut_at (history t e).each_reached n (ByAttempt p) got;
+            rest = drop (suc n) (history t e).ways_reached;
+            is = cut_at (history t e).ways_reached n (ByAttempt p) got;
             holds = (
               offset,
-              subst (λ (m : ℕ). Q (suc m) p) (sym (take_length (history t e).each_reached n (ByAttempt p) got)) holds,
+              subst (λ (m : ℕ). Q (suc m) p) (sym (take_length (history t e).ways_reached n (ByAttempt p) got)) holds,
             );
           }
 
@@ -183,7 +183,7 @@ module _ (t : Trace) (e : ℕ) where
       → p.offset ≤ q.offset
   offsets_rise m n p q at also le = elim (cases_lt m n) [
     | inl lt ↦
-        let less = each_reached_rise t e m n p.offset q.offset (ByAttempt p) (ByAttempt q)
+        let less = ways_reached_rise t e m n p.offset q.offset (ByAttempt p) (ByAttempt q)
         (how_reached_by (how_reached_at t e m) p at) (how_reached_by (how_reached_at t e n) q also) refl refl lt in
         omega arith
     | inr ge ↦
@@ -199,7 +199,7 @@ module _ (t : Trace) (e : ℕ) where
       ≤ (history t e).last
   how_reached_low zero l right at = omega arith
   how_reached_low (suc n) l right at =
-      let lt = slice_get_within (history t e).each_reached n l at in
+      let lt = slice_get_within (history t e).ways_reached n l at in
       let last = last_committed t e right in
       omega arith
 
@@ -217,10 +217,10 @@ module _ (t : Trace) (e : ℕ) where
   replica_there n p at = how_reached_there n (ByAttempt p) (how_reached_by (how_reached_at t e n) p at)
 
   -- where all numbers so far were reached by attempts, it reached each number up to the last
-  pub reached_up : (n : ℕ) → ByAttemptsTo t e n → n ≤ length (history t e).each_reached → IsTrue (is_reached t e n)
+  pub reached_up : (n : ℕ) → ByAttemptsTo t e n → n ≤ length (history t e).ways_reached → IsTrue (is_reached t e n)
   reached_up zero by le = refl
   reached_up (suc n) by le =
-      let got = get_there (history t e).each_reached n (omega arith) in
+      let got = get_there (history t e).ways_reached n (omega arith) in
       own got.0 got.1 (by (suc n) got.0 (omega arith) got.1)
     where
       get_there : (ls : List HowReached) (k : ℕ) → k < length ls → (l : HowReached) × (slice_get ls k ≡ Some l)
@@ -229,8 +229,8 @@ module _ (t : Trace) (e : ℕ) where
       get_there (l ∷ ls) (suc k) lt = get_there ls k (omega arith)
 
       own : (l : HowReached) → how_reached_at t e (suc n) ≡ Some l → IsByAttempt l
-          → IsTrue (is_how_reached (how_reached_at t e (suc n)))
-      own (ByAttempt p) is there = ap is_how_reached is
+          → IsTrue (was_reached (how_reached_at t e (suc n)))
+      own (ByAttempt p) is there = ap was_reached is
       own (ByTransfer at x) is there = absurd there
       own Skipped is there = absurd there
 
@@ -240,7 +240,7 @@ module _ (t : Trace) (e : ℕ) where
       ⊎ ((at : ℕ) × (x : Transfer) × (how_reached_at t e (suc n) ≡ Some (ByTransfer at x)))
   reached_so n there = by (how_reached_at t e (suc n)) refl there
     where
-      by : (o : Option HowReached) → how_reached_at t e (suc n) ≡ o → is_how_reached o ≡ true
+      by : (o : Option HowReached) → how_reached_at t e (suc n) ≡ o → was_reached o ≡ true
           → ((p : Placed) × (committed_at t e (suc n) ≡ Some p))
           ⊎ ((at : ℕ) × (x : Transfer) × (how_reached_at t e (suc n) ≡ Some (ByTransfer at x)))
       by None is told_reached = absurd (false≢true told_reached)
@@ -269,7 +269,7 @@ module _ (t : Trace) (e : ℕ) where
       → n ≤ length s.numbers
   how_reached_settled zero l s is at = omega arith
   how_reached_settled (suc n) l s is at =
-      let lt = slice_get_within (history t e).each_reached n l at in
+      let lt = slice_get_within (history t e).ways_reached n l at in
       let count = batches_counted t e in
       let many = ap (λ (x : Settling). length x.numbers) is in
       omega arith
@@ -282,11 +282,11 @@ module _ (t : Trace) (e : ℕ) where
 
 -- what a section tells of a number that was reached by a state
 abbrev pub ToldFrom : Trace → ℕ → ℕ → ℕ → ℕ → Transfer → Type 0
-ToldFrom t e n i at x = (slice_get (section_history t e).each_reached (n - 1) ≡ Some (ReachedFrom i))
+ToldFrom t e n i at x = (slice_get (section_history t e).ways_reached (n - 1) ≡ Some (ReachedFrom i))
     × (slice_get (section_history t e).transfers i ≡ Some (at, x))
 
 abbrev pub TellsStates : Trace → ℕ → ℕ → Type 0
-TellsStates t e n = (i : ℕ) → 1 ≤ n → slice_get (section_history t e).each_reached (n - 1) ≡ Some (ReachedFrom i)
+TellsStates t e n = (i : ℕ) → 1 ≤ n → slice_get (section_history t e).ways_reached (n - 1) ≡ Some (ReachedFrom i)
     → (at : ℕ) × (x : Transfer) × (how_reached_at t e n ≡ Some (ByTransfer at x))
     × (slice_get (section_history t e).transfers i ≡ Some (at, x))
 
@@ -307,12 +307,12 @@ module _ (t : Trace) (e n : ℕ) (h : SectionHistory) (is : h ≡ section_histor
       by (ReachedBy r) told_reached = none≢some (at, x) (sym (ap (told_state h) told_reached) ∙ told ∙ here)
       by NotReached told_reached = none≢some (at, x) (sym (ap (told_state h) told_reached) ∙ told ∙ here)
       by (ReachedFrom i) told_reached =
-          let one : slice_get h.each_reached (suc m - 1) ≡ Some (ReachedFrom i) =
-          told_from_at h.each_reached (suc m - 1) i told_reached in
+          let one : slice_get h.ways_reached (suc m - 1) ≡ Some (ReachedFrom i) =
+          told_from_at h.ways_reached (suc m - 1) i told_reached in
           let less : suc m - 1 ≡ n - 1 = omega arith in
           both i (tells i (omega arith)
-          (sym (ap (λ (y : SectionHistory). slice_get y.each_reached (n - 1)) is)
-          ∙ sym (ap (slice_get h.each_reached) less) ∙ one))
+          (sym (ap (λ (y : SectionHistory). slice_get y.ways_reached (n - 1)) is)
+          ∙ sym (ap (slice_get h.ways_reached) less) ∙ one))
           (sym (ap (λ (y : SectionHistory). slice_get y.transfers i) is) ∙ sym (ap (told_state h) told_reached) ∙ told
           ∙ here)
 
@@ -330,7 +330,7 @@ module _ (t : Trace) (e n : ℕ) (h : SectionHistory) (is : h ≡ section_histor
       by (suc m) same =
           let less : n - 1 ≡ suc m - 1 = omega arith in
           let told_reached : told_reached_at h (suc m) ≡ ReachedFrom i =
-          get_or_from_slice_get h.each_reached (suc m - 1) (ReachedFrom i) NotReached
-          (ap (slice_get h.each_reached) (sym less) ∙ ap (λ (y : SectionHistory). slice_get y.each_reached (n - 1)) is
+          get_or_from_slice_get h.ways_reached (suc m - 1) (ReachedFrom i) NotReached
+          (ap (slice_get h.ways_reached) (sym less) ∙ ap (λ (y : SectionHistory). slice_get y.ways_reached (n - 1)) is
           ∙ from.0) in
           ap (told_state h) told_reached ∙ ap (λ (y : SectionHistory). slice_get y.transfers i) is ∙ from.1

@@ -29,17 +29,17 @@ use Rattle.eve_agree.specs.Tables.{committed_rows, entries_of, open_entries}
 
 -- each open attempt stands on what came by the numbers that were reached, and on the open ones before it
 abbrev IsPlaced : SectionState → Type 0
-IsPlaced s = ArePlaced (flat_map came_by s.each_reached) s.pending
+IsPlaced s = ArePlaced (flat_map came_by s.ways_reached) s.pending
 
 placed_next : (s : SectionState) (step : ℕ × Step) → IsPlaced s → IsPlaced (next s step)
-placed_next s (at, Attempts a) placed = placed_push (flat_map came_by s.each_reached) s.pending
+placed_next s (at, Attempts a) placed = placed_push (flat_map came_by s.ways_reached) s.pending
     (record { offset = at; attempt = a; path = path_of s }) placed refl
 placed_next s (at, Commits c) placed = by s.pending refl
   where
     by : (pending : List Placed) → s.pending ≡ pending → IsPlaced (committing s pending)
     by [] e = placed
-    by (p ∷ ps) e = subst (λ (path : List Came). ArePlaced path ps) (sym (came_by_push s.each_reached p))
-        (subst (ArePlaced (flat_map came_by s.each_reached)) e placed).1
+    by (p ∷ ps) e = subst (λ (path : List Came). ArePlaced path ps) (sym (came_by_push s.ways_reached p))
+        (subst (ArePlaced (flat_map came_by s.ways_reached)) e placed).1
 placed_next s (at, RollsBack r) placed = tt
 placed_next s (at, Transfers x) placed = tt
 
@@ -90,7 +90,7 @@ module _ (t : Trace) (e : ℕ) (prefix : List (ℕ × Step)) (at : ℕ) (r : Rol
   unfolding history
   gets_settled p i =
       let s = state_after start prefix in
-      in_right (attempts_by (history t e).each_reached) _
+      in_right (attempts_by (history t e).ways_reached) _
       (subst (λ (o : SectionState). In p o.discarded)
       (sym (ap (state_after start) split ∙ state_after-append start prefix ((at, RollsBack r) ∷ rest)))
       (stays_discarded (next s (at, RollsBack r)) rest p (in_right s.discarded _ i)))
@@ -99,7 +99,7 @@ module _ (t : Trace) (e : ℕ) (prefix : List (ℕ × Step)) (at : ℕ) (r : Rol
       (executions t (attempts_of (state_after start prefix).pending))
   follows_committed sound =
       let s = state_after start prefix in
-      follows_path t (flat_map came_by s.each_reached) s.pending (placed_after start prefix tt)
+      follows_path t (flat_map came_by s.ways_reached) s.pending (placed_after start prefix tt)
       (λ p i. all_in (IsSoundAlong t) sound (gets_settled p i))
 
   -- ---- what is read of them

@@ -69,39 +69,39 @@ spots_skipped (suc n) at x = spots_skipped n at x
 
 -- they, and those of the open attempts
 abbrev all_spots : SectionState → List ℕ
-all_spots s = spots s.each_reached ++ map (λ p. p.offset) s.pending
+all_spots s = spots s.ways_reached ++ map (λ p. p.offset) s.pending
 
 climbs_next : (low at to : ℕ) (s : SectionState) (step : Step) → at < to → Climbs low (all_spots s) at
     → Climbs low (all_spots (next s (at, step))) to
 climbs_next low at to s (Attempts a) lt climbs =
     subst (λ (xs : List ℕ). Climbs low xs to)
-    (append_assoc (spots s.each_reached) (map (λ (p : Placed). p.offset) s.pending) (at ∷ [])
-    ∙ ap (λ (xs : List ℕ). spots s.each_reached ++ xs) (sym (map-append (λ (p : Placed). p.offset) s.pending _)))
+    (append_assoc (spots s.ways_reached) (map (λ (p : Placed). p.offset) s.pending) (at ∷ [])
+    ∙ ap (λ (xs : List ℕ). spots s.ways_reached ++ xs) (sym (map-append (λ (p : Placed). p.offset) s.pending _)))
     (climbs_push low at to (all_spots s) lt climbs)
 climbs_next low at to s (Commits c) lt climbs = by s.pending refl
   where
     by : (pending : List Placed) → s.pending ≡ pending → Climbs low (all_spots (committing s pending)) to
     by [] is = climbs_higher low at to (all_spots s) (omega arith) climbs
     by (p ∷ ps) is = climbs_higher low at to
-        (spots (s.each_reached ++ ByAttempt p ∷ []) ++ map (λ (q : Placed). q.offset) ps) (omega arith)
+        (spots (s.ways_reached ++ ByAttempt p ∷ []) ++ map (λ (q : Placed). q.offset) ps) (omega arith)
         (subst (λ (xs : List ℕ). Climbs low xs at)
-        (ap (λ (qs : List Placed). spots s.each_reached ++ map (λ (q : Placed). q.offset) qs) is
-        ∙ sym (append_assoc (spots s.each_reached) (p.offset ∷ []) (map (λ (q : Placed). q.offset) ps))
+        (ap (λ (qs : List Placed). spots s.ways_reached ++ map (λ (q : Placed). q.offset) qs) is
+        ∙ sym (append_assoc (spots s.ways_reached) (p.offset ∷ []) (map (λ (q : Placed). q.offset) ps))
         ∙ ap (λ (xs : List ℕ). xs ++ map (λ (q : Placed). q.offset) ps)
-        (sym (spots-append s.each_reached (ByAttempt p ∷ []))))
+        (sym (spots-append s.ways_reached (ByAttempt p ∷ []))))
         climbs)
 climbs_next low at to s (RollsBack r) lt climbs =
-    subst (λ (xs : List ℕ). Climbs low xs to) (sym (append-nil (spots s.each_reached)))
-    (climbs_higher low at to (spots s.each_reached) (omega arith)
-    (climbs_prefix low at (spots s.each_reached) (map (λ (p : Placed). p.offset) s.pending) climbs))
+    subst (λ (xs : List ℕ). Climbs low xs to) (sym (append-nil (spots s.ways_reached)))
+    (climbs_higher low at to (spots s.ways_reached) (omega arith)
+    (climbs_prefix low at (spots s.ways_reached) (map (λ (p : Placed). p.offset) s.pending) climbs))
 climbs_next low at to s (Transfers x) lt climbs =
     let skips : List HowReached = replicate (x.seq - (s.last + 1)) Skipped in
     subst (λ (xs : List ℕ). Climbs low xs to)
-    (sym (append-nil (spots (s.each_reached ++ (skips ++ ByTransfer at x ∷ [])))
-    ∙ spots-append s.each_reached (skips ++ ByTransfer at x ∷ [])
-    ∙ ap (λ (xs : List ℕ). spots s.each_reached ++ xs) (spots_skipped (x.seq - (s.last + 1)) at x)))
-    (climbs_push low at to (spots s.each_reached) lt
-    (climbs_prefix low at (spots s.each_reached) (map (λ (p : Placed). p.offset) s.pending) climbs))
+    (sym (append-nil (spots (s.ways_reached ++ (skips ++ ByTransfer at x ∷ [])))
+    ∙ spots-append s.ways_reached (skips ++ ByTransfer at x ∷ [])
+    ∙ ap (λ (xs : List ℕ). spots s.ways_reached ++ xs) (spots_skipped (x.seq - (s.last + 1)) at x)))
+    (climbs_push low at to (spots s.ways_reached) lt
+    (climbs_prefix low at (spots s.ways_reached) (map (λ (p : Placed). p.offset) s.pending) climbs))
 
 has_text : (from : ℕ) (step : Step) → from < from + length (step_text step)
 has_text from step = by step
@@ -188,11 +188,11 @@ starts_behind t e i lt =
     omega arith
 
 -- a replica that is not there reached nothing
-pub none_there : (t : Trace) (e : ℕ) → length t.sections ≤ e → (history t e).each_reached ≡ []
+pub none_there : (t : Trace) (e : ℕ) → length t.sections ≤ e → (history t e).ways_reached ≡ []
 unfolding history
-none_there t e past = ap (λ (xs : List (ℕ × Step)). (state_after start xs).each_reached) (none_at t e past)
+none_there t e past = ap (λ (xs : List (ℕ × Step)). (state_after start xs).ways_reached) (none_at t e past)
 
-section_climbs : (t : Trace) (e : ℕ) → Climbs (section_start t e) (spots (history t e).each_reached)
+section_climbs : (t : Trace) (e : ℕ) → Climbs (section_start t e) (spots (history t e).ways_reached)
     (section_start t (suc e))
 unfolding history steps_at
 section_climbs t e = elim (cases_lt e (length t.sections)) [
@@ -208,9 +208,9 @@ section_climbs t e = elim (cases_lt e (length t.sections)) [
       ap (λ (m : ℕ). length (section_text (m, steps))) here in
       let is = section_is e steps in
       let at_start : Climbs from (all_spots start) from = omega arith in
-      climbs_higher (section_start t e) end (section_start t (suc e)) (spots last.each_reached) (omega arith)
-      (climbs_lower from end (section_start t e) (spots last.each_reached) (omega arith)
-      (climbs_prefix from end (spots last.each_reached) (map (λ (p : Placed). p.offset) last.pending)
+      climbs_higher (section_start t e) end (section_start t (suc e)) (spots last.ways_reached) (omega arith)
+      (climbs_lower from end (section_start t e) (spots last.ways_reached) (omega arith)
+      (climbs_prefix from end (spots last.ways_reached) (map (λ (p : Placed). p.offset) last.pending)
       (climbs_after from from start steps at_start)))
   | inr past ↦
       subst (λ (ls : List HowReached). Climbs (section_start t e) (spots ls) (section_start t (suc e)))
@@ -274,13 +274,13 @@ lies_before low high (Skipped ∷ ls) (suc m) (suc n) o q l k climbs own its at 
     lies_before low high ls m n o q l k climbs own its at also (omega arith)
 
 -- in one section the frames stand in the order of their numbers
-pub each_reached_rise : (t : Trace) (e m n o q : ℕ) (l k : HowReached) → how_reached_at t e m ≡ Some l
+pub ways_reached_rise : (t : Trace) (e m n o q : ℕ) (l k : HowReached) → how_reached_at t e m ≡ Some l
     → how_reached_at t e n ≡ Some k
     → offset_of l ≡ Some o → offset_of k ≡ Some q → m < n → o < q
-each_reached_rise t e zero n o q l k own its at also lt = none≢some l own
-each_reached_rise t e (suc m) zero o q l k own its at also lt = none≢some k its
-each_reached_rise t e (suc m) (suc n) o q l k own its at also lt =
-    lies_before (section_start t e) (section_start t (suc e)) (history t e).each_reached m n o q l k
+ways_reached_rise t e zero n o q l k own its at also lt = none≢some l own
+ways_reached_rise t e (suc m) zero o q l k own its at also lt = none≢some k its
+ways_reached_rise t e (suc m) (suc n) o q l k own its at also lt =
+    lies_before (section_start t e) (section_start t (suc e)) (history t e).ways_reached m n o q l k
     (section_climbs t e)
     own its at also (omega arith)
 
@@ -288,7 +288,7 @@ lies_in : (t : Trace) (e n at : ℕ) (l : HowReached) → how_reached_at t e n �
     → (section_start t e ≤ at) × (at < section_start t (suc e))
 lies_in t e zero at l own offset = none≢some l own
 lies_in t e (suc n) at l own offset =
-    lies_between (section_start t e) (section_start t (suc e)) (history t e).each_reached n at l (section_climbs t e)
+    lies_between (section_start t e) (section_start t (suc e)) (history t e).ways_reached n at l (section_climbs t e)
     own
     offset
 

@@ -125,20 +125,20 @@ along_committing : (t : Trace) (s : SectionState) (pending : List Placed) → s.
     ≡ along t (committing s pending)
 along_committing t s [] e = refl
 along_committing t s (p ∷ ps) e = ap (rows_after t)
-    (ap (λ (qs : List Placed). flat_map came_by s.each_reached ++ map (λ q. Ran q.attempt) qs) e
-    ∙ path_committed s.each_reached p ps)
+    (ap (λ (qs : List Placed). flat_map came_by s.ways_reached ++ map (λ q. Ran q.attempt) qs) e
+    ∙ path_committed s.ways_reached p ps)
 
 along_pushed : (t : Trace) (s : SectionState) (at : ℕ) (a : Attempt) → table_after_all (along t s) (execution t a)
     ≡ along t (next s (at, Attempts a))
 along_pushed t s at a =
-    sym (ap (rows_after t) (path_attempted s.each_reached s.pending
+    sym (ap (rows_after t) (path_attempted s.ways_reached s.pending
     (record { offset = at; attempt = a; path = path_of s }))
     ∙ rows_after-push t (path_of s) a)
 
 along_restored : (t : Trace) (s : SectionState) (rs : List Restore) → are_right_restores t s rs ≡ true
     → restored (along t s) rs ≡ committed_rows t s
 along_restored t s rs right =
-    ap (λ (table : Table). restored table rs) (rows_after-placed t (flat_map came_by s.each_reached) s.pending)
+    ap (λ (table : Table). restored table rs) (rows_after-placed t (flat_map came_by s.ways_reached) s.pending)
     ∙ restored_rows t s rs right
 
 found_step : (x y : ℕ × Step) → Some x ≡ Some y → x.1 ≡ y.1
@@ -159,9 +159,9 @@ along_transferred : (t : Trace) (s : SectionState) (at : ℕ) (x : Transfer) →
 along_transferred t s at x =
     let skips : List HowReached = replicate (x.seq - (s.last + 1)) Skipped in
     sym (ap (rows_after t)
-    (append-nil (flat_map came_by (s.each_reached ++ (skips ++ ByTransfer at x ∷ [])))
-    ∙ path_transferred s.each_reached (x.seq - (s.last + 1)) at x)
-    ∙ rows_after-transferred t (flat_map came_by s.each_reached) x.rows [])
+    (append-nil (flat_map came_by (s.ways_reached ++ (skips ++ ByTransfer at x ∷ [])))
+    ∙ path_transferred s.ways_reached (x.seq - (s.last + 1)) at x)
+    ∙ rows_after-transferred t (flat_map came_by s.ways_reached) x.rows [])
 
 -- what the replica works on is what its attempts leave that are not discarded
 works_along : (t : Trace) (s : SectionState) (table : Table) (steps : List (ℕ × Step)) (k at : ℕ) (r : Rollback)
@@ -192,7 +192,7 @@ works_along t s table ((o, RollsBack q) ∷ steps) (suc k) at r right e found =
     right in
     works_along t (next s (o, RollsBack q)) (restored table q.restores) steps k at r parts.1
     (ap (λ (old : Table). restored old q.restores) e ∙ along_restored t s q.restores parts.0
-    ∙ ap (rows_after t) (sym (append-nil (flat_map came_by s.each_reached)))) found
+    ∙ ap (rows_after t) (sym (append-nil (flat_map came_by s.ways_reached)))) found
 
 pub restored_after : (t : Trace) (e : ℕ) → RestoresAreRight t e → (k : ℕ) → IsRestored t e k
 unfolding working_table committed_table

@@ -15,7 +15,7 @@ abbrev pub first_to_commit : Trace → ℕ → Option ℕ
 first_to_commit t n = find (λ e. is_some (committed_at t e n)) (map (λ s. s.0) (sections_of t))
 
 -- two replicas have the same balances after the batch, and the same replies by request index
--- F80 Outcome.
+-- Where it isn't so, F80 Outcome stands.
 pub record HaveSameOutcome (t : Trace) (e f n : ℕ) : Type 0 where
   pub balances : balances_to t e n ≡ balances_to t f n
   pub replies : option_map (λ p. p.attempt.replies) (committed_at t e n) ≡ option_map (λ p. p.attempt.replies)
@@ -26,7 +26,7 @@ abbrev pub HasCommitted : Trace → ℕ → ℕ → Type 0
 HasCommitted t e n = IsTrue (is_some (committed_at t e n))
 
 -- a replica committed batch n, and the state has the balances after it of the lowest-numbered that did
--- F81 TransferBalances.
+-- Where it isn't so, F81 TransferBalances stands.
 abbrev pub HasBalancesOfFirst : Trace → ℕ → Transfer → Type 0
 HasBalancesOfFirst t n x = (f : ℕ) × (first_to_commit t n ≡ Some f) × (map (λ v. v.value) x.rows ≡ balances_to t f n)
 

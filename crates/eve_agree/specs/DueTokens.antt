@@ -10,7 +10,7 @@ use Rattle.eve_chains.specs.Committed.{balances_to}
 use Rattle.eve_agree.specs.ByNumber.{SomeCommitted}
 
 -- the version's token of the balances after the attempt's batch, as replica e committed it, and of its replies
--- F60 Token.
+-- Another one is F60 Token.
 abbrev pub due_token : Trace → ℕ → Placed → List ℕ
 due_token t e p = token_of t.head.version p.attempt.seq (balances_to t e p.attempt.seq) p.attempt.replies
 

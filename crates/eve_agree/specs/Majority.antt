@@ -10,7 +10,7 @@ use Rattle.eve_history.specs.Structure.{OfCommit, OfRollback, OfTransfer}
 use Rattle.eve_votes.specs.Votes.{IsDecided, IsRolledBack}
 
 -- some commit of the number is decided in this view, whatever its token
--- F74 TransferNoMajority.
+-- Where it isn't so, F74 TransferNoMajority stands.
 abbrev pub SomeDecided : Trace → ℕ → ℕ → Type 0
 SomeDecided t n view = (token : List ℕ) × IsDecided t n view token
 

@@ -10,7 +10,7 @@ use Rattle.eve_history.specs.Section.{Placed, batch_at}
 use Rattle.eve_history.specs.SectionHistory.{committed_at}
 
 -- the replica committed the batch, and by its attempt the client's request has this reply
--- F90 Reply.
+-- Where it isn't so, F90 Reply stands.
 pub record IsReplied (t : Trace) (s : Sent) : Type 0 where
   pub placed : Placed
   pub index : ℕ

@@ -31,7 +31,7 @@ worked t table ((at, Transfers x) ∷ steps) = worked t (transferred_table x.row
 
 -- what came by the numbers that were reached leaves
 abbrev pub committed_rows : Trace → SectionState → Table
-committed_rows t s = rows_after t (flat_map came_by s.each_reached)
+committed_rows t s = rows_after t (flat_map came_by s.ways_reached)
 
 -- after the first k steps of replica e: what it works on
 unfoldable pub working_table : Trace → ℕ → ℕ → Table
@@ -67,7 +67,7 @@ are_written_in table es rs =
     && list_all (λ e. not (is_write e.kind) || list_any (λ r. r.row == e.row) rs) es
 
 -- the rows that open attempts wrote, as they are committed; that rows rise is a matter of form
--- F50 Restore.
+-- Where it isn't so, F50 Restore stands.
 abbrev pub are_right_restores : Trace → SectionState → List Restore → Bool
 are_right_restores t s rs = are_written_in (committed_rows t s) (open_entries t s) rs
 

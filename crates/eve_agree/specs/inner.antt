@@ -1,4 +1,4 @@
--- Devices of this crate's proofs: no promise of `audit`, `serve` or `run` rests on them.
+-- Devices of proofs: no promise of `audit`, `serve` or `run` rests on them.
 pub mod NumbersJudged
 pub mod HashedRows
 pub mod Unbacked

@@ -245,7 +245,7 @@ fn has_outcome_of(
 }
 
 /// Whether the balances of replica e are those of the first that committed the batch; no others are where none did.
-/// F81 TransferBalances.
+/// Decides F81 TransferBalances.
 fn has_balances_of(all: &[Balances], first: Option<usize>, e: usize) -> bool
     requires there { e < length all.now }
     requires first { IfSome first (λ f. f < length all.now) }
@@ -329,7 +329,7 @@ fn transferred_state<'a>(history: &History<'a>, n: u32) -> Option<TransferView<'
 
 /// Whether two replicas' attempts of batch n have the same replies, and the balances after them are the same. Those
 /// after the batch before are.
-/// F80 Outcome.
+/// Decides F80 Outcome.
 fn is_same(
     attempt: &AttemptView<'_>,
     settled: &Settled<'_>,

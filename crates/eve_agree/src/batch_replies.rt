@@ -44,7 +44,7 @@ impl<'a> BatchReplies<'a> {
     }
 
     /// Whether the replica that sent a reply committed it. Turns to its batch, if another is at hand.
-    /// F90 Reply.
+    /// Decides F90 Reply.
     pub fn have(
         &mut self,
         trace: &Trace<'_>,
@@ -105,7 +105,7 @@ impl<'a> BatchReplies<'a> {
 }
 
 /// The replies of the attempt by which a replica committed a batch, as they stand; none where it didn't.
-/// F90 Reply.
+/// Decides F90 Reply.
 fn committed_replies<'a>(history: &History<'a>, batch: u32) -> &'a [u8]
     ensures { (t : TraceValue) (e : ℕ) → history.now ≡ section_history t e
         → AreSpelled (replies_at t e batch) result.now }

@@ -36,7 +36,7 @@ const LEAST_BATCHES: u32 = 16;
 const ROWS_A_REQUEST: usize = 4;
 
 /// Whether the attempt has the version's token of these balances and of its replies.
-/// F60 Token.
+/// Decides F60 Token.
 fn is_due(attempt: &AttemptView<'_>, version: u16, rows: &mut HashedRows) -> bool
     requires can { IsTrue (can_hash version rows.old) }
     ensures due { IsTrue result ↔ ((attempt_decoded attempt.now).token

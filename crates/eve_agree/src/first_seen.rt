@@ -80,7 +80,7 @@ impl FirstSeen {
     }
 
     /// Takes one entry.
-    /// F50 Restore.
+    /// Decides F50 Restore.
     fn note_one(&mut self, entry: &Entry)
         requires { IsTrue (is_entry (length self.old) entry.now) }
         ensures as_many { length self.new ≡ length self.old }
@@ -155,7 +155,7 @@ impl FirstSeen {
     }
 
     /// Whether these are exactly the rows that are marked, each as it is marked; then no mark is left.
-    /// F50 Restore.
+    /// Decides F50 Restore.
     pub fn take_all(&mut self, restores: Restores<'_>) -> bool
         requires rows { IsTrue (list_all (is_restore (length self.old)) restores) }
         requires rising { IsTrue (is_rising restores) }

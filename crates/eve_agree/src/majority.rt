@@ -18,7 +18,7 @@ use eve_views::{CheckFault, Code, Fault, Step, Trace, first_of};
 use eve_votes::Tally;
 
 /// Whether a majority decided what is committed: the batch, in that view, with that token.
-/// F72 NoMajority.
+/// Decides F72 NoMajority.
 fn is_decided(tally: &Tally<'_, '_>, commit: &CommitView<'_>) -> bool
     ensures { IsTrue result ↔ IsDecided tally.now (commit_decoded commit.now).seq
         (commit_decoded commit.now).view (commit_decoded commit.now).token }
@@ -31,7 +31,7 @@ fn is_decided(tally: &Tally<'_, '_>, commit: &CommitView<'_>) -> bool
 }
 
 /// Whether a majority rolled back the batch after the one that a rollback goes back to, in the view before.
-/// F73 RollbackNoMajority.
+/// Decides F73 RollbackNoMajority.
 fn is_rolled_back(tally: &Tally<'_, '_>, rollback: &RollbackView<'_>) -> bool
     requires next { (rollback_decoded rollback.now).to + 1 < 2 ^ 32 }
     requires view { 1 ≤ (rollback_decoded rollback.now).view }
@@ -42,7 +42,7 @@ fn is_rolled_back(tally: &Tally<'_, '_>, rollback: &RollbackView<'_>) -> bool
 }
 
 /// Whether a majority decided some commit of the number whose state is transferred, in the state's view.
-/// F74 TransferNoMajority.
+/// Decides F74 TransferNoMajority.
 fn is_some_decided(tally: &Tally<'_, '_>, transfer: &TransferView<'_>) -> bool
     ensures { IsTrue result ↔ SomeDecided tally.now (transfer_decoded transfer.now).seq
         (transfer_decoded transfer.now).view }

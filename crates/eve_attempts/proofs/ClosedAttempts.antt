@@ -18,7 +18,7 @@ use Rattle.eve_grammar.specs.Certificate.{is_permutation, is_certificate, keeps_
 use Rattle.eve_grammar.proofs.GroupOrder.{some_requests}
 use Rattle.eve_stamps.specs.Applied.{Applied}
 use Rattle.eve_token.specs.Token.{token_of}
-use Rattle.eve_attempts.specs.declared.prefix.AttemptPrefix.{AttemptPrefix}
+use Rattle.eve_attempts.specs.declared.prefix.AttemptHead.{AttemptHead}
 use Rattle.eve_attempts.specs.declared.taken.Taken.{Taken}
 use Rattle.eve_attempts.specs.Ledgers.{Opened, Rows, Ledger, ledger_rows, table_of_rows, table_now, values_before}
 use Rattle.eve_attempts.specs.Ledgers.{writes_in}
@@ -41,7 +41,7 @@ small_numbers r (x ∷ xs) le all =
     and_from (is_number 2 x) _ (lt-ltb x 65536 (omega arith)) (small_numbers r xs le parts.1)
 
 -- what the attempt says
-abbrev pub attempt_of : AttemptPrefix → Taken → List ℕ → Attempt
+abbrev pub attempt_of : AttemptHead → Taken → List ℕ → Attempt
 attempt_of prefix t token =
     record {
       seq = prefix.seq;
@@ -53,7 +53,7 @@ attempt_of prefix t token =
       accesses = t.accesses;
     }
 
-module _ (prefix : AttemptPrefix) (b : Batch) (touched : List Touched) (records : List Applied) (t : Taken)
+module _ (prefix : AttemptHead) (b : Batch) (touched : List Touched) (records : List Applied) (t : Taken)
     (workers rows : ℕ) (right : IsTrue (is_batch b)) (noted : AreNoted workers rows b touched records)
     (taken : IsTakenOf records t)
     (order : IsTrue (is_certificate b.sizes (length b.requests) prefix.serial t.certificate.items)) where
@@ -117,7 +117,7 @@ module _ (prefix : AttemptPrefix) (b : Batch) (touched : List Touched) (records 
 -- ---- the ledger
 
 -- what is kept of an attempt while it is open
-abbrev pub kept_as : AttemptPrefix → List ℕ → List Entry → Opened
+abbrev pub kept_as : AttemptHead → List ℕ → List Entry → Opened
 kept_as prefix token written = record { view = prefix.view; token = token; written = written }
 
 -- with these rows, and with these attempts open

@@ -1,4 +1,4 @@
--- What becomes of the records that were taken of a batch. docs/MODEL.md, "Certificate order, keeps the groups".
+-- What becomes of the records that were taken of a batch. docs/DEPLOYMENT.md, "A replica's ledger".
 use Rattle.std.specs.Prelude.{◌≡◌, ℕ, ℤ, nat_lt, ◌==◌, Bool, true, false, ◌&&◌, ◌||◌, IsTrue, if◌then◌else◌, ⊤, List}
 use Rattle.std.specs.Prelude.{[], ◌∷◌, ◌++◌, map, filter, length, slice_get, Some}
 use Rattle.std.specs.List.{AllByRecursion, flat_map, list_all}
@@ -14,7 +14,7 @@ use Rattle.eve_grammar.specs.Certificate.{is_certificate}
 use Rattle.eve_grammar.specs.Accesses.{is_new_access, is_right_place}
 use Rattle.eve_stamps.specs.Applied.{Applied, executed_as}
 use Rattle.eve_token.specs.Token.{token_of}
-use Rattle.eve_attempts.specs.declared.prefix.AttemptPrefix.{AttemptPrefix}
+use Rattle.eve_attempts.specs.declared.prefix.AttemptHead.{AttemptHead}
 use Rattle.eve_attempts.specs.Ledgers.{Opened, Ledger, ledger_rows, table_now, rows_committed}
 
 -- ---- the batch
@@ -93,7 +93,7 @@ pub record AreRight (s : Ledger) (serial : Bool) (b : Batch) (touched : List Tou
 
 -- What the attempt says: number, view and mode as handed in; the indexes in the order of ticks; each record's reply at
 -- its index; the version's token of these balances; the records as they came. It lies within the limits of the format.
-pub record IsAttemptOf (prefix : AttemptPrefix) (version rows : ℕ) (balances : List ℤ) (records ordered : List Applied)
+pub record IsAttemptOf (prefix : AttemptHead) (version rows : ℕ) (balances : List ℤ) (records ordered : List Applied)
     (a : Attempt) : Type 0 where
   pub seq : a.seq ≡ prefix.seq
   pub view : a.view ≡ prefix.view
@@ -121,7 +121,7 @@ pub record Opens (old new : Ledger) (b : Batch) (ordered : List Applied) (a : At
   pub committed : rows_committed new ≡ rows_committed old
 
 -- The records of a batch became an attempt.
-pub record Closes (prefix : AttemptPrefix) (old new : Ledger) (b : Batch) (touched : List Touched)
+pub record Closes (prefix : AttemptHead) (old new : Ledger) (b : Batch) (touched : List Touched)
     (records : List Applied) (a : Attempt) : Type 0 where
   pub ordered : List Applied
   pub by_ticks : IsByTicks records ordered
@@ -130,6 +130,6 @@ pub record Closes (prefix : AttemptPrefix) (old new : Ledger) (b : Batch) (touch
   pub opens : Opens old new b ordered a
 
 -- In no order of their ticks are the records an attempt.
-abbrev pub AreMismatched : AttemptPrefix → Ledger → Batch → List Touched → List Applied → Type 0
+abbrev pub AreMismatched : AttemptHead → Ledger → Batch → List Touched → List Applied → Type 0
 AreMismatched prefix s b touched records =
     (ordered : List Applied) → IsByTicks records ordered → ¬ AreRight s prefix.serial b touched records ordered

@@ -1,5 +1,4 @@
--- What commits and rollbacks make of a ledger. docs/MODEL.md, "Section state, fate" and "Working table, committed
--- table".
+-- What commits and rollbacks make of a ledger. docs/DEPLOYMENT.md, "A replica's ledger".
 use Rattle.std.specs.Prelude.{◌≡◌, ℕ, ◌+◌, ◌==◌, true, IsTrue, List, [], ◌∷◌}
 use Rattle.std.specs.List.{AllByRecursion, list_any}
 use Rattle.eve_smallbank.specs.Access.{writes_row}

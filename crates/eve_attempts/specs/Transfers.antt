@@ -1,4 +1,4 @@
--- States that ledgers lend, and that are transferred to them. docs/MODEL.md, "A replica's ledger".
+-- States that ledgers lend, and that are transferred to them. docs/DEPLOYMENT.md, "A replica's ledger".
 use Rattle.std.specs.Prelude.{◌≡◌, ◌<◌, ◌≤◌, false, List, [], map, length}
 use Rattle.eve_smallbank.specs.declared.versioned.Versioned.{Versioned}
 use Rattle.eve_grammar.specs.Trace.{Transfer}

@@ -13,7 +13,7 @@ ghost use Rattle.eve_attempts.specs.Transfers.{IsStateOf, Transfers};
 
 use crate::fault::{CloseFault, NotDue, NotOpen};
 use crate::opened::OpenAttempt;
-use crate::prefix::AttemptPrefix;
+use crate::prefix::AttemptHead;
 use crate::replies::view_fits;
 use crate::restores::{restore_all, undo_all, written_rows};
 use crate::rows::Rows;
@@ -30,7 +30,7 @@ use std::marker::Model;
 /// Version and balance of each row as the open attempts left them, with what is kept of these attempts: a commit needs
 /// their views and tokens, a rollback what they wrote.
 ///
-/// docs/MODEL.md, "Section state, fate" and "Working table, committed table". Contracts see `Ledger` of the specs:
+/// docs/DEPLOYMENT.md, "A replica's ledger". Contracts see `Ledger` of the specs:
 /// `table_now` is what the rows have, `rows_committed` what they have as they are committed.
 #[derive(Drop)]
 pub struct Ledger {
@@ -194,7 +194,7 @@ impl Ledger {
     pub fn close(
         &mut self,
         alloc: Global,
-        prefix: AttemptPrefix,
+        prefix: AttemptHead,
         batch: &BatchData,
         touched: &[Touched],
         records: &[AccessRecord],
@@ -289,7 +289,8 @@ impl Ledger {
     /// Applies a state of a batch that isn't committed here, in a view that isn't behind: rows, number and view are
     /// its, nothing is open any more, and the next attempt is parallel. It takes no memory.
     ///
-    /// docs/MODEL.md, "Section state, fate". `NotDue` comes where the state is of no later batch or of an earlier view,
+    /// docs/DEPLOYMENT.md, "A replica's ledger". `NotDue` comes where the state is of no later batch or of an earlier
+    /// view,
     /// and changes nothing.
     pub fn apply_transfer(&mut self, state: &TransferData) -> Result<(), NotDue>
         requires rows { length state.now.rows.items ≡ ledger_rows self.old }

@@ -19,4 +19,4 @@ mod walk;
 
 pub use fault::{CloseFault, NotDue, NotOpen};
 pub use ledger::Ledger;
-pub use prefix::AttemptPrefix;
+pub use prefix::AttemptHead;

@@ -4,7 +4,7 @@
 ///
 /// docs/MODEL.md, "Section state, fate".
 #[derive(Clone, Copy)]
-pub struct AttemptPrefix {
+pub struct AttemptHead {
     /// The batch's number, from 1.
     pub seq: u32,
     /// The view.

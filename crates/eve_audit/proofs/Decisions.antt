@@ -45,8 +45,8 @@ decided-push t ls q decided last n p at = elim (pushed ls q n p at) [
 ]
 
 record IsDecidedTo (t : Trace) (s : SectionState) : Type 0 where
-  decided : AreDecided t s.each_reached
-  last : s.last ≡ length s.each_reached
+  decided : AreDecided t s.ways_reached
+  last : s.last ≡ length s.ways_reached
 
 decided_committing : (t : Trace) (s : SectionState) (c : Commit) (pending : List Placed) → c.seq ≡ s.last + 1
     → commits_first pending c ≡ true → IsDecided t c.seq c.view c.token
@@ -57,12 +57,12 @@ decided_committing t s c (p ∷ ps) number first by holds =
     let view = eqb-true p.attempt.view c.view parts.0 in
     let token = same_text p.attempt.token c.token (sym parts.1) in
     record {
-      decided = decided-push t s.each_reached p holds.decided
+      decided = decided-push t s.ways_reached p holds.decided
           (subst (λ n. IsDecided t n p.attempt.view p.attempt.token)
-          (number ∙ place s.last (length s.each_reached) holds.last)
+          (number ∙ place s.last (length s.ways_reached) holds.last)
           (subst (λ v. IsDecided t c.seq v p.attempt.token) (sym view)
           (subst (IsDecided t c.seq c.view) (sym token) by)));
-      last = one_more s.last s.each_reached holds.last;
+      last = one_more s.last s.ways_reached holds.last;
     }
   where
     place : (n m : ℕ) → n ≡ m → n + 1 ≡ suc m
@@ -89,9 +89,9 @@ decided_transferring : (t : Trace) (s : SectionState) (at : ℕ) (x : Transfer) 
     → IsDecidedTo t (after_transfer s at x)
 decided_transferring t s at x above holds = record {
   decided = λ n p there. holds.decided n p
-      (none_pushed s.each_reached (replicate (x.seq - (s.last + 1)) Skipped ++ ByTransfer at x ∷ [])
+      (none_pushed s.ways_reached (replicate (x.seq - (s.last + 1)) Skipped ++ ByTransfer at x ∷ [])
       (no_attempt_transferred (x.seq - (s.last + 1)) at x) n p there);
-  last = as_many s.each_reached s.last x.seq holds.last above;
+  last = as_many s.ways_reached s.last x.seq holds.last above;
 }
   where
     as_many : (ls : List HowReached) (last seq : ℕ) → last ≡ length ls → last < seq

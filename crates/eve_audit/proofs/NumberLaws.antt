@@ -12,7 +12,7 @@ use Rattle.eve_grammar.specs.Frames.{OfReplica}
 use Rattle.eve_grammar.specs.Spelling.{frame_text, located, step_text, section_start, steps_at}
 use Rattle.eve_history.specs.Section.{Placed, HowReached, ByAttempt, ByTransfer, Skipped, SectionState, start}
 use Rattle.eve_history.specs.Section.{state_after}
-use Rattle.eve_history.specs.SectionHistory.{history, how_reached_at, attempt_by, committed_at, is_how_reached}
+use Rattle.eve_history.specs.SectionHistory.{history, how_reached_at, attempt_by, committed_at, was_reached}
 use Rattle.eve_history.specs.SectionHistory.{is_reached}
 use Rattle.eve_agree.specs.Agreement.{first_to_commit}
 
@@ -47,7 +47,7 @@ pub data IsReachedBy (t : Trace) (e n : ℕ) : Type 0 where
 pub reached_by : (t : Trace) (e n : ℕ) → IsTrue (is_reached t e (suc n)) → IsReachedBy t e (suc n)
 reached_by t e n reached = by (how_reached_at t e (suc n)) refl reached
   where
-    by : (o : Option HowReached) → how_reached_at t e (suc n) ≡ o → IsTrue (is_how_reached o) → IsReachedBy t e (suc n)
+    by : (o : Option HowReached) → how_reached_at t e (suc n) ≡ o → IsTrue (was_reached o) → IsReachedBy t e (suc n)
     by (Some (ByAttempt p)) is so = by_attempt p (ap attempt_by is)
     by (Some (ByTransfer at x)) is so = by_state at x is
     by (Some Skipped) is so = absurd (false≢true so)
@@ -70,7 +70,7 @@ committed_there t e (suc n) p at = elim (cases_lt e (length t.sections)) [
   | inl lt ↦ lt
   | inr le ↦
       none_there p
-      (sym (ap (λ (s : SectionState). attempt_by (slice_get s.each_reached n)) (state_of_none t e le)) ∙ at)
+      (sym (ap (λ (s : SectionState). attempt_by (slice_get s.ways_reached n)) (state_of_none t e le)) ∙ at)
 ]
 
 -- ---- the first to commit

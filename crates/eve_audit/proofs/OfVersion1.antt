@@ -4,7 +4,7 @@ use Rattle.std.specs.Prelude.{IsTrue, IsFalse}
 use Rattle.eve_grammar.specs.Trace.{Trace}
 use Rattle.eve_grammar.specs.Frames.{has_transfers}
 use Rattle.eve_history.specs.Section.{Placed}
-use Rattle.eve_history.specs.SectionHistory.{how_reached_at, committed_at, is_how_reached, is_reached}
+use Rattle.eve_history.specs.SectionHistory.{how_reached_at, committed_at, was_reached, is_reached}
 use Rattle.eve_chains.specs.Committed.{bank_after}
 use Rattle.eve_audit.specs.Audited.{IsAudited}
 use Rattle.eve_audit.proofs.NumberLaws.{none_there, told_reached_by}
@@ -14,7 +14,7 @@ none_transferred_at_all version is = ap has_transfers is
 
 committed_reached : (t : Trace) (e n : ℕ) (p : Placed) → committed_at t e n ≡ Some p → IsTrue (is_reached t e n)
 committed_reached t e zero p at = none_there p at
-committed_reached t e (suc n) p at = ap is_how_reached (told_reached_by (how_reached_at t e (suc n)) p at)
+committed_reached t e (suc n) p at = ap was_reached (told_reached_by (how_reached_at t e (suc n)) p at)
 
 pub committed_agree : (t : Trace) (e f n : ℕ) (p q : Placed) → IsAudited t → committed_at t e n ≡ Some p
     → committed_at t f n ≡ Some q

@@ -107,11 +107,11 @@ module _ (t : Trace) (sections : List (List Step)) (verifiers : List (List Vote)
 
   committed_alone : (n : ℕ) → committed_at t e n ≡ committed_at (besides t sections verifiers sent) e n
   committed_alone zero = refl
-  committed_alone (suc n) = ap (λ (s : SectionState). attempt_by (slice_get s.each_reached n)) same_history
+  committed_alone (suc n) = ap (λ (s : SectionState). attempt_by (slice_get s.ways_reached n)) same_history
 
   balances_alone : (n : ℕ) → balances_to t e n ≡ balances_to (besides t sections verifiers sent) e n
   balances_alone n = ap (λ (s : SectionState). first_rows (2 * length t.customers)
-      (λ row. (rows_after t (flat_map came_by (take n s.each_reached)) row).value)) same_history
+      (λ row. (rows_after t (flat_map came_by (take n s.ways_reached)) row).value)) same_history
 
   tokens_alone : (c : Code) (at : ℕ) → StandsInTokens c t e at
       → StandsInTokens c (besides t sections verifiers sent) e at

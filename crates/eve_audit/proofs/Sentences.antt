@@ -43,7 +43,7 @@ module _ (t : Trace) (accepted : IsAccepted t) where
     pub head : HasHeadLimits (head_of t)
     pub numbers : (e n : ℕ) (p : Placed) → committed_at t e n ≡ Some p → p.attempt.seq ≡ n
     pub before : (e n : ℕ) (p : Placed) → committed_at t e (suc n) ≡ Some p → IsTrue (is_reached t e n)
-    pub lands : (e k at : ℕ) (x : Transfer) → slice_get (steps_at t e) k ≡ Some (at, Transfers x)
+    pub reaches : (e k at : ℕ) (x : Transfer) → slice_get (steps_at t e) k ≡ Some (at, Transfers x)
         → how_reached_at t e x.seq ≡ Some (ByTransfer at x)
     pub states : (e n at : ℕ) (x : Transfer) → how_reached_at t e n ≡ Some (ByTransfer at x)
         → balances_to t e n ≡ map (λ v. v.value) x.rows
@@ -66,7 +66,7 @@ module _ (t : Trace) (accepted : IsAccepted t) where
     transferred : (e k at : ℕ) (x : Transfer) → slice_get (steps_at t e) k ≡ Some (at, Transfers x)
         → HasBalancesOfFirst t x.seq x × SomeDecided t x.seq x.view
     transferred e k at x there = (
-      accepted.agree.states e x.seq at x (laws.lands e k at x there),
+      accepted.agree.states e x.seq at x (laws.reaches e k at x there),
       transfer_backed t (steps_at t e) k at x (accepted.backed e) there,
     )
 
@@ -83,7 +83,7 @@ module _ (t : Trace) (accepted : IsAccepted t) where
       keeps_groups = laws.groups;
       agree = all_agree t accepted.agree laws.states;
       same_replies = replies_agree t accepted.agree;
-      reached = laws.lands;
+      reached = laws.reaches;
       transferred = transferred;
       restored = laws.restored;
       apart = accepted.apart;

@@ -113,16 +113,16 @@ module _ (t : Trace) (e : ℕ) (P : ℕ → HowReached → Type 0) (decided : (n
           decided_as (λ holds. (l, is, holds))
           (λ found. subst (P n) (same_Some found.0 l (sym found.1 ∙ is)) found.2) (decided n l)
 
-  number_low : (n : ℕ) (l : HowReached) → how_reached_at t e n ≡ Some l → n < suc (length (history t e).each_reached)
+  number_low : (n : ℕ) (l : HowReached) → how_reached_at t e n ≡ Some l → n < suc (length (history t e).ways_reached)
   number_low zero l is = omega arith
-  number_low (suc n) l is = (let low = slice_get_within (history t e).each_reached n l is in omega (arith, low))
+  number_low (suc n) l is = (let low = slice_get_within (history t e).ways_reached n l is in omega (arith, low))
 
   some_number : Decided ((n : ℕ) × (l : HowReached) × (how_reached_at t e n ≡ Some l) × P n l)
   unfolding AtNumber
   some_number =
       decided_as (λ found. (found.0, found.2.0, found.2.1, found.2.2))
       (λ found. (found.0, number_low found.0 found.1 found.2, (found.1, found.2, found.3)))
-      (below_or_none AtNumber number_decided (suc (length (history t e).each_reached)))
+      (below_or_none AtNumber number_decided (suc (length (history t e).ways_reached)))
 
 -- what holds where a number was reached by an attempt, or by a state
 abbrev IsBy : (Placed → Type 0) → HowReached → Type 0

@@ -35,7 +35,7 @@ abbrev pub first_executions : Trace → ℕ → List Executed
 first_executions t zero = []
 first_executions t (suc n) = first_executions t n ++ execution_of t (suc n) (first_to_commit t (suc n))
 
--- the numbers that commits and states transferred name, in the order of their frames
+-- the numbers of commits and transfers, in the order of their frames
 abbrev pub named_numbers : List (ℕ × Step) → List ℕ
 named_numbers [] = []
 named_numbers ((at, Attempts a) ∷ steps) = named_numbers steps
@@ -64,7 +64,7 @@ pub record IsAudited (t : Trace) : Type 0 where
       → IsSerialBetween (bank_after t e (n - 1)) (bank_after t e n) (execution t p.attempt)
   -- and that before it is one that the replica reached
   pub before : (e n : ℕ) (p : Placed) → committed_at t e n ≡ Some p → IsTrue (is_reached t e (n - 1))
-  -- all of them, from the opening balances, up to where a replica had a state transferred first
+  -- all of them, from the opening balances, up to the first state that was transferred to the replica
   pub from_opening : (e n : ℕ) → ByAttemptsTo t e n
       → Leads (opening_bank t) (executions t (committed_to t e n)) (bank_after t e n)
   -- And behind that: after whatever number a replica reached, its bank comes from the opening balances by all batches

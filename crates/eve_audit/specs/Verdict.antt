@@ -61,7 +61,7 @@ pub record IsFirst (bytes : List ℕ) (f : Fault) : Type 0 where
   pub judged : IsJudged bytes f
   pub first : (g : Fault) → IsJudged bytes g → Precedes f g
 
--- how many replicas and batches there are, and the least last committed number over the replicas
+-- how many replicas and batches there are, and the least, over the replicas, of the last number that each reached
 pub record IsSummary (t : Trace) (s : Summary) : Type 0 where
   pub replicas : s.replicas ≡ length t.sections
   pub batches : s.batches ≡ length t.batches

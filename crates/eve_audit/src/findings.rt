@@ -292,7 +292,7 @@ fn place_of_most(findings: &[Finding<'_>]) -> Option<usize>
 
 /// How many batches a replica committed.
 pub fn batches_of(history: &History<'_>) -> u32
-    ensures { result ≤ length history.now.each_reached }
+    ensures { result ≤ length history.now.ways_reached }
 {
     let mut batches = 0;
     for before in 0..history.committed() {

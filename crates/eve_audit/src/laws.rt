@@ -148,7 +148,7 @@ pub fn accepted_traces_are_audited()
     rollbacks_restore_what_is_committed();
 }
 
-/// In version 1 of the format no replica has a state transferred: each replica reached each of its numbers by an
+/// In version 1 of the format no state is transferred to a replica: each replica reached each of its numbers by an
 /// attempt. So what `IsAudited` says of numbers that were reached it says of committed batches, and each replica's bank
 /// after each of its batches comes from the opening balances by its own attempts.
 ///

@@ -141,7 +141,7 @@ pub as_settled : (t : Trace) (e : ℕ) (x : ℕ × Attempt)
     ⊎ In x (picked is_discarded (attempts_among (steps_at t e)) (fates_from 0 (steps_at t e)))
     → SettledAs t e x
 as_settled t e x (inl i) =
-    let s = in_source placed_at (attempts_by (history t e).each_reached)
+    let s = in_source placed_at (attempts_by (history t e).ways_reached)
     (subst (λ (xs : List (ℕ × Attempt)). In x xs) (sym (committed_are_picked t e)) i) in
     record { placed = s.item; there_is = in_prefix (history t e).discarded s.there_is; is = s.is }
 as_settled t e x (inr i) =
@@ -149,7 +149,7 @@ as_settled t e x (inr i) =
     (subst (λ (xs : List (ℕ × Attempt)). In x xs) (sym (discarded_are_picked t e)) i) in
     record {
       placed = s.item;
-      there_is = in_right (attempts_by (history t e).each_reached) (history t e).discarded s.there_is;
+      there_is = in_right (attempts_by (history t e).ways_reached) (history t e).discarded s.there_is;
       is = s.is;
     }
 
@@ -157,9 +157,9 @@ pub from_settled : (t : Trace) (e : ℕ) (p : Placed) → In p (settled (history
     → In (placed_at p) (picked is_committed (attempts_among (steps_at t e)) (fates_from 0 (steps_at t e)))
     ⊎ In (placed_at p) (picked is_discarded (attempts_among (steps_at t e)) (fates_from 0 (steps_at t e)))
 from_settled t e p i =
-    elim (in_split (attempts_by (history t e).each_reached) (history t e).discarded i) [
+    elim (in_split (attempts_by (history t e).ways_reached) (history t e).discarded i) [
       | inl j ↦ inl (subst (λ (xs : List (ℕ × Attempt)). In (placed_at p) xs) (committed_are_picked t e)
-          (in_map placed_at (attempts_by (history t e).each_reached) j))
+          (in_map placed_at (attempts_by (history t e).ways_reached) j))
       | inr j ↦ inr (subst (λ (xs : List (ℕ × Attempt)). In (placed_at p) xs) (discarded_are_picked t e)
           (in_map placed_at (history t e).discarded j))
     ]

@@ -20,9 +20,9 @@ pub advance_along : (t : Trace) (e n : ℕ) (p : Placed) → HasLimits t → IsR
     ≡ Some p
     → values_to t e (suc n) ≡ values_after (values_to t e n) (entries_along (ordered p.offset p.attempt))
 advance_along t e n p limits right at =
-    let how_reached = how_reached_by (slice_get (history t e).each_reached n) p at in
+    let how_reached = how_reached_by (slice_get (history t e).ways_reached n) p at in
     let i : In p (settled (history t e)) = in_prefix (history t e).discarded
-    (in_attempts (history t e).each_reached n p how_reached) in
-    ap values_of (rows_next t (history t e).each_reached n (ByAttempt p) how_reached
+    (in_attempts (history t e).ways_reached n p how_reached) in
+    ap values_of (rows_next t (history t e).ways_reached n (ByAttempt p) how_reached
     ∙ left_by_records t p (right_one t e p right i) (complete_one t e p limits i) (rows_after t (path_to t e n)))
     ∙ values_of-table_after (rows_after t (path_to t e n)) (entries_along (own p))

@@ -16,7 +16,7 @@ use Rattle.eve_smallbank.specs.declared.versioned.Versioned.{Versioned}
 use Rattle.eve_smallbank.proofs.Members.{all_in}
 use Rattle.std.proofs.Math.ListN.{get_or-map}
 use Rattle.eve_history.specs.Section.{Placed, HowReached, ByAttempt, ByTransfer, Skipped, came_by}
-use Rattle.eve_history.specs.SectionHistory.{ordered, history, names_of, IsRightSection, attempt_by, is_how_reached}
+use Rattle.eve_history.specs.SectionHistory.{ordered, history, names_of, IsRightSection, attempt_by, was_reached}
 use Rattle.eve_history.specs.SectionHistory.{is_reached}
 use Rattle.eve_history.proofs.Lookups.{get_mapped}
 use Rattle.eve_chains.specs.Visible.{transferred_table, rows_after}
@@ -62,7 +62,7 @@ map_no_more f xs n none = take_no_more (map f xs) n (slice_get-map f xs n ∙ ap
 
 abbrev values_settled : Trace → ℕ → ℕ → ℕ → ℤ
 values_settled t e n = fold values_with (balance_of_row (opening_rows t.customers))
-    (take n (map (change_at t) (history t e).each_reached))
+    (take n (map (change_at t) (history t e).ways_reached))
 
 -- entries that lie within the rows that there are
 rows_below : (rows : ℕ) (es : List Entry) → list_all (is_entry rows) es ≡ true → AllByRecursion (λ e. e.row < rows) es
@@ -87,14 +87,14 @@ all_below rows (x ∷ xs) all =
 
 -- what a committed batch changes is what its entries write
 changed_is_written : (t : Trace) (e n : ℕ) (p : Placed) (values : ℕ → ℤ) → HasLimits t
-    → slice_get (history t e).each_reached n ≡ Some (ByAttempt p)
+    → slice_get (history t e).ways_reached n ≡ Some (ByAttempt p)
     → values_with values (change_at t (ByAttempt p))
     ≡ values_after values (entries_along (ordered p.offset p.attempt))
 changed_is_written t e n p values limits at =
     values_same values (entries_along (ordered p.offset p.attempt)) (2 * length t.customers)
     (all_below (2 * length t.customers) (ordered p.offset p.attempt)
     (all_in (λ q. AreWithin (row_count (head_of t)) (ordered q.offset q.attempt)) (batches_within t e limits)
-    (in_attempts (history t e).each_reached n p at)))
+    (in_attempts (history t e).ways_reached n p at)))
 
 -- a state that was transferred has the values of its rows
 pub values_transferred : (rows : List Versioned) → balance_of_row (map (λ v. v.value) rows)
@@ -102,49 +102,49 @@ pub values_transferred : (rows : List Versioned) → balance_of_row (map (λ v. 
 values_transferred rows = λ i row. get_or-map (λ (v : Versioned). v.value) rows row
     (record { version = 0; value = pos 0 }) i
 
-stays : (t : Trace) (e n : ℕ) → slice_get (history t e).each_reached n ≡ None → values_to t e (suc n) ≡ values_to t e n
+stays : (t : Trace) (e n : ℕ) → slice_get (history t e).ways_reached n ≡ None → values_to t e (suc n) ≡ values_to t e n
 stays t e n none =
     let values : List HowReached → ℕ → ℤ = λ ls row. (rows_after t (flat_map came_by ls) row).value in
-    ap values (take_no_more (history t e).each_reached n none)
+    ap values (take_no_more (history t e).ways_reached n none)
 
 module _ (t : Trace) (e n : ℕ) (limits : HasLimits t) (right : IsRightSection t e)
     (before : values_settled t e n ≡ values_to t e n) where
-  changed_next : (l : HowReached) → slice_get (history t e).each_reached n ≡ Some l
+  changed_next : (l : HowReached) → slice_get (history t e).ways_reached n ≡ Some l
       → values_settled t e (suc n) ≡ values_with (values_to t e n) (change_at t l)
   changed_next l at =
-      one_more (balance_of_row (opening_rows t.customers)) (map (change_at t) (history t e).each_reached) n
+      one_more (balance_of_row (opening_rows t.customers)) (map (change_at t) (history t e).ways_reached) n
       (change_at t l)
-      (get_mapped (change_at t) (history t e).each_reached n l at)
+      (get_mapped (change_at t) (history t e).ways_reached n l at)
       ∙ ap (λ (values : ℕ → ℤ). values_with values (change_at t l)) before
 
-  one_settled : (o : Option HowReached) → slice_get (history t e).each_reached n ≡ o
+  one_settled : (o : Option HowReached) → slice_get (history t e).ways_reached n ≡ o
       → values_settled t e (suc n) ≡ values_to t e (suc n)
   one_settled None none =
       ap (fold values_with (balance_of_row (opening_rows t.customers)))
-      (map_no_more (change_at t) (history t e).each_reached n none) ∙ before ∙ sym (stays t e n none)
+      (map_no_more (change_at t) (history t e).ways_reached n none) ∙ before ∙ sym (stays t e n none)
   one_settled (Some (ByAttempt p)) at =
       changed_next (ByAttempt p) at ∙ changed_is_written t e n p (values_to t e n) limits at
       ∙ sym (advance_along t e n p limits right (ap attempt_by at))
   one_settled (Some (ByTransfer offset x)) at =
       changed_next (ByTransfer offset x) at ∙ values_transferred x.rows
-      ∙ ap values_of (sym (rows_next t (history t e).each_reached n (ByTransfer offset x) at))
+      ∙ ap values_of (sym (rows_next t (history t e).ways_reached n (ByTransfer offset x) at))
   one_settled (Some Skipped) at =
-      changed_next Skipped at ∙ ap values_of (sym (rows_next t (history t e).each_reached n Skipped at))
+      changed_next Skipped at ∙ ap values_of (sym (rows_next t (history t e).ways_reached n Skipped at))
 
 settled_are : (t : Trace) (e n : ℕ) → HasLimits t → IsRightSection t e → values_settled t e n ≡ values_to t e n
 settled_are t e zero limits right = refl
 settled_are t e (suc n) limits right = one_settled t e n limits right (settled_are t e n limits right)
-    (slice_get (history t e).each_reached n) refl
+    (slice_get (history t e).ways_reached n) refl
 
 -- there are balances after a number that was reached
 pub reached_is_defined : (t : Trace) (e n : ℕ) → defined (settling t e) n ≡ is_reached t e n
 unfolding settling
 reached_is_defined t e zero = refl
 reached_is_defined t e (suc n) =
-    ap is_change (slice_get-map (change_at t) (history t e).each_reached n)
-    ∙ by (slice_get (history t e).each_reached n)
+    ap is_change (slice_get-map (change_at t) (history t e).ways_reached n)
+    ∙ by (slice_get (history t e).ways_reached n)
   where
-    by : (o : Option HowReached) → is_change (option_map (change_at t) o) ≡ is_how_reached o
+    by : (o : Option HowReached) → is_change (option_map (change_at t) o) ≡ was_reached o
     by (Some (ByAttempt p)) = refl
     by (Some (ByTransfer at x)) = refl
     by (Some Skipped) = refl

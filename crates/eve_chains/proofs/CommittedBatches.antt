@@ -21,11 +21,11 @@ all_placed P (p ∷ ps) all = (all.0, all_placed P ps all.1)
 -- they are of the rows that the customers have
 pub batches_within : (t : Trace) (e : ℕ) → HasLimits t
     → AllByRecursion (λ p. AreWithin (row_count (head_of t)) (ordered p.offset p.attempt))
-    (attempts_by (history t e).each_reached)
+    (attempts_by (history t e).ways_reached)
 batches_within t e limits =
     let rows = row_count (head_of t) in
-    within_own rows (attempts_by (history t e).each_reached)
-    (all_placed (IsWithin rows) (attempts_by (history t e).each_reached)
+    within_own rows (attempts_by (history t e).ways_reached)
+    (all_placed (IsWithin rows) (attempts_by (history t e).ways_reached)
     (subst (AllByRecursion (IsWithin rows)) (sym (committed_are_picked t e))
     (all_picked (IsWithin rows) is_committed (attempts_among (steps_at t e)) (fates_from 0 (steps_at t e))
     (within_section t e limits))))

@@ -239,7 +239,7 @@ along_batches t row m before (Skipped ∷ ls) ys cs linked many are all =
 module _ (t : Trace) (e : ℕ) (right : IsRightSection t e) where
   -- the entries of the attempt by which each number was reached
   abbrev pub batch_entries : List (List Entry)
-  batch_entries = entries_of_all (history t e).each_reached
+  batch_entries = entries_of_all (history t e).ways_reached
 
   along_row : (from count : ℕ)
       → changes_along (rows_changes from count batch_entries) (of_row (from + count) (all_noted (told_of t e)))
@@ -249,7 +249,7 @@ module _ (t : Trace) (e : ℕ) (right : IsRightSection t e) where
       let cs = rows_changes from count batch_entries in
       committed_only cs (of_row row (all_noted (told_of t e)))
       ∙ ap (changes_along cs) (committed_notes row (told_of t e))
-      ∙ along_batches t row 0 [] (history t e).each_reached (filter will_commit (told_of t e)) cs
+      ∙ along_batches t row 0 [] (history t e).ways_reached (filter will_commit (told_of t e)) cs
       (linked_history t e right) refl (committed_told t e right) (rows_earlier 1 from count batch_entries)
 
   pub along_rows : (from count : ℕ)
@@ -296,7 +296,7 @@ module _ (t : Trace) (e : ℕ) (right : IsRightSection t e) where
       ∙ (λ i. rows_changes (reaches.0 i) (all i) batch_entries))
 
   counted : length batch_entries ≡ reached t e
-  counted = length-map (history t e).each_reached _
+  counted = length-map (history t e).ways_reached _
 
   -- ---- one range
 
@@ -369,9 +369,9 @@ unfolding section_history history
 last_told t e = refl
 
 -- as many numbers as the history tells
-pub each_reached_counted : (t : Trace) (e : ℕ) (h : SectionHistory) → IsRightSection t e
+pub ways_reached_counted : (t : Trace) (e : ℕ) (h : SectionHistory) → IsRightSection t e
     → ((u : Trace) (f : ℕ) → IsRightSection u f
-    → length (section_history u f).each_reached ≡ (section_history u f).committed)
-    → h ≡ section_history t e → length h.each_reached ≡ length (history t e).each_reached
-each_reached_counted t e h right count is =
-    ap (λ (v : SectionHistory). length v.each_reached) is ∙ count t e right ∙ last_told t e ∙ last_committed t e right
+    → length (section_history u f).ways_reached ≡ (section_history u f).committed)
+    → h ≡ section_history t e → length h.ways_reached ≡ length (history t e).ways_reached
+ways_reached_counted t e h right count is =
+    ap (λ (v : SectionHistory). length v.ways_reached) is ∙ count t e right ∙ last_told t e ∙ last_committed t e right

@@ -203,8 +203,8 @@ pub once : (t : Trace) (e : ℕ) → IsRightSection t e → AllPairs (λ a b. a 
     → AllPairs (λ a b. a ≢ b) (committed_request_ids t e)
 unfolding batch_request_ids committed_request_ids
 once t e right distinct =
-    distinct_pairs (ids_by t (history t e).each_reached)
-    (committed_distinct t [] (history t e).each_reached (linked_history t e right)
+    distinct_pairs (ids_by t (history t e).ways_reached)
+    (committed_distinct t [] (history t e).ways_reached (linked_history t e right)
     (pairs_distinct (flat_map (λ b. map request_id b.requests) t.batches) distinct))
 
 -- ---- the order of a committed batch

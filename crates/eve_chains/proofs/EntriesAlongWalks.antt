@@ -21,7 +21,7 @@ use Rattle.eve_chains.specs.Visible.{rows_after}
 use Rattle.eve_chains.specs.Along.{entries_along}
 use Rattle.eve_chains.proofs.Distinct.{in_map, in_right}
 use Rattle.eve_chains.specs.Rows.{Fated, told_of, settles, Noted, noted_by, noted_in, all_noted}
-use Rattle.eve_chains.specs.Rows.{bases_of, of_row, checked_against, pair_after}
+use Rattle.eve_chains.specs.Rows.{bases_of, of_row, due_on_row, pair_after}
 use Rattle.eve_chains.proofs.AttemptRecords.{own}
 use Rattle.eve_chains.proofs.LeftByRecords.{left_by_all}
 use Rattle.eve_chains.proofs.Paths.{all_placed, counts_in, counting, will_commit, will_fall, view_of, number_of}
@@ -330,7 +330,7 @@ module _ (t : Trace) (e : ℕ) (limits : HasLimits t) (right : IsRightSection t 
           (in_map (λ (z : Fated). z.placed) (filter will_commit (told_of t e))
           (in_filter will_commit (told_of t e) i (ap is_committed is))))
       by Discarded is =
-          in_right (attempts_by (history t e).each_reached) (history t e).discarded
+          in_right (attempts_by (history t e).ways_reached) (history t e).discarded
           (subst (In y.placed) (discarded_told t e right)
           (in_map (λ (z : Fated). z.placed) (filter will_fall (told_of t e))
           (in_filter will_fall (told_of t e) i (ap is_discarded is))))
@@ -373,7 +373,7 @@ module _ (t : Trace) (e : ℕ) (limits : HasLimits t) (right : IsRightSection t 
     -- what the row's walk meets after the attempts before it and some of its own records
     pub meets_visible : (xs : List (ℕ × Access)) (row : ℕ) (n : Noted) → n.transferred ≡ x.transferred → n.view
         ≡ view_of x
-        → checked_against (bases_of t e row) (pair_after (bases_of t e row)
+        → due_on_row (bases_of t e row) (pair_after (bases_of t e row)
         (of_row row (all_noted before ++
         flat_map (noted_by x.transferred (view_of x) (number_of x) (is_committed x.fate)) xs))) n
         ≡ table_after (rows_after t x.placed.path) (entries_along xs) row

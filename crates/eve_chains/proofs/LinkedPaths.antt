@@ -97,7 +97,7 @@ placed_push before (p ∷ ps) q placed is = (
 
 -- how each number will be reached, where all open attempts are committed
 abbrev how_reached_so : SectionState → List HowReached
-how_reached_so s = s.each_reached ++ map ByAttempt s.pending
+how_reached_so s = s.ways_reached ++ map ByAttempt s.pending
 
 -- and what comes by them
 came_so : (ls : List HowReached) (ps : List Placed) → flat_map came_by (ls ++ map ByAttempt ps)
@@ -112,15 +112,15 @@ came_so ls ps = flat_map-append came_by ls (map ByAttempt ps) ∙ ap (λ (cs : L
 -- what holds of a section's state while all steps are right
 record IsOrdered (t : Trace) (s : SectionState) : Type 0 where
   linked : AreLinked t [] (how_reached_so s)
-  last : s.last ≡ length s.each_reached
+  last : s.last ≡ length s.ways_reached
 
 ordered_committing : (t : Trace) (s : SectionState) (pending : List Placed) → s.pending ≡ pending → IsOrdered t s
     → IsOrdered t (committing s pending)
 ordered_committing t s [] e ordered = ordered
 ordered_committing t s (p ∷ ps) e ordered = record {
-  linked = subst (AreLinked t []) (ap (λ (qs : List Placed). s.each_reached ++ map ByAttempt qs) e
-      ∙ sym (append_assoc s.each_reached (ByAttempt p ∷ []) (map ByAttempt ps))) ordered.linked;
-  last = one_more s.last s.each_reached ordered.last;
+  linked = subst (AreLinked t []) (ap (λ (qs : List Placed). s.ways_reached ++ map ByAttempt qs) e
+      ∙ sym (append_assoc s.ways_reached (ByAttempt p ∷ []) (map ByAttempt ps))) ordered.linked;
+  last = one_more s.last s.ways_reached ordered.last;
 }
   where
     one_more : (n : ℕ) (ls : List HowReached) → n ≡ length ls → n + 1 ≡ length (ls ++ ByAttempt p ∷ [])
@@ -136,11 +136,11 @@ linked_attempt t s at a ordered due certificate =
     let first = and_parts (a.seq == s.last + 1 + length s.pending) _ due in
     let second = and_parts (nat_le a.seq (length t.batches)) _ first.1 in
     record {
-      path = sym (came_so s.each_reached s.pending);
-      number = counted s.last (length s.pending) (length s.each_reached) a.seq
+      path = sym (came_so s.ways_reached s.pending);
+      number = counted s.last (length s.pending) (length s.ways_reached) a.seq
           (eqb-true a.seq (s.last + 1 + length s.pending) first.0) ordered.last
-          ∙ ap suc (sym (length-append s.each_reached (map ByAttempt s.pending)
-          ∙ ap (λ (n : ℕ). length s.each_reached + n) (length-map s.pending ByAttempt)));
+          ∙ ap suc (sym (length-append s.ways_reached (map ByAttempt s.pending)
+          ∙ ap (λ (n : ℕ). length s.ways_reached + n) (length-map s.pending ByAttempt)));
       there = leb-true a.seq (length t.batches) second.0;
       certificate = certificate;
     }
@@ -154,16 +154,16 @@ ordered_next t s (at, Attempts a) right ordered =
     let due = (and_parts (is_due t s a) _ parts.0).0 in
     let placed : Placed = record { offset = at; attempt = a; path = path_of s } in
     record {
-      linked = subst (AreLinked t []) (append_assoc s.each_reached (map ByAttempt s.pending) (ByAttempt placed ∷ [])
-          ∙ ap (λ (ls : List HowReached). s.each_reached ++ ls) (sym (map-append ByAttempt s.pending (placed ∷ []))))
+      linked = subst (AreLinked t []) (append_assoc s.ways_reached (map ByAttempt s.pending) (ByAttempt placed ∷ [])
+          ∙ ap (λ (ls : List HowReached). s.ways_reached ++ ls) (sym (map-append ByAttempt s.pending (placed ∷ []))))
           (linked-push t [] (how_reached_so s) (ByAttempt placed) ordered.linked
           (linked_attempt t s at a ordered due certificate));
       last = ordered.last;
     }
 ordered_next t s (at, Commits c) right ordered = ordered_committing t s s.pending refl ordered
 ordered_next t s (at, RollsBack r) right ordered = record {
-  linked = subst (AreLinked t []) (sym (append-nil s.each_reached))
-      (linked-prefix t [] s.each_reached (map ByAttempt s.pending) ordered.linked);
+  linked = subst (AreLinked t []) (sym (append-nil s.ways_reached))
+      (linked-prefix t [] s.ways_reached (map ByAttempt s.pending) ordered.linked);
   last = ordered.last;
 }
 ordered_next t s (at, Transfers x) right ordered =
@@ -172,10 +172,10 @@ ordered_next t s (at, Transfers x) right ordered =
     let behind : s.last < x.seq = ltb-true s.last x.seq parts.0 in
     record {
       linked = subst (AreLinked t [])
-          (sym (append-nil (s.each_reached ++ transferring skipped at x)))
-          (linked-transferring t [] s.each_reached skipped at x
-          (linked-prefix t [] s.each_reached (map ByAttempt s.pending) ordered.linked));
-      last = sym (length-append s.each_reached (transferring skipped at x)
+          (sym (append-nil (s.ways_reached ++ transferring skipped at x)))
+          (linked-transferring t [] s.ways_reached skipped at x
+          (linked-prefix t [] s.ways_reached (map ByAttempt s.pending) ordered.linked));
+      last = sym (length-append s.ways_reached (transferring skipped at x)
           ∙ (λ i. sym ordered.last i + (length-append (replicate skipped Skipped) (ByTransfer at x ∷ [])
           ∙ ap (λ (n : ℕ). n + 1) (length-replicate skipped)) i) ∙ up s.last x.seq behind);
     }
@@ -198,12 +198,12 @@ ordered_history : (t : Trace) (e : ℕ) → IsRightSection t e → IsOrdered t (
 unfolding history
 ordered_history t e right = ordered_after t start (steps_at t e) right (record { linked = tt; last = refl })
 
-pub linked_history : (t : Trace) (e : ℕ) → IsRightSection t e → AreLinked t [] (history t e).each_reached
-linked_history t e right = linked-prefix t [] (history t e).each_reached (map ByAttempt (history t e).pending)
+pub linked_history : (t : Trace) (e : ℕ) → IsRightSection t e → AreLinked t [] (history t e).ways_reached
+linked_history t e right = linked-prefix t [] (history t e).ways_reached (map ByAttempt (history t e).pending)
     (ordered_history t e right).linked
 
 -- it is told of each number up to the last how it was reached
-pub last_committed : (t : Trace) (e : ℕ) → IsRightSection t e → (history t e).last ≡ length (history t e).each_reached
+pub last_committed : (t : Trace) (e : ℕ) → IsRightSection t e → (history t e).last ≡ length (history t e).ways_reached
 last_committed t e right = (ordered_history t e right).last
 
 -- ---- one committed attempt
@@ -234,9 +234,9 @@ how_reached_by None p e = none≢some p e
 
 -- what a committed attempt is linked to
 pub linked_number : (t : Trace) (e n : ℕ) (p : Placed) → IsRightSection t e → committed_at t e (suc n) ≡ Some p
-    → IsLinked t (take n (history t e).each_reached) p
-linked_number t e n p right at = linked_at t [] (history t e).each_reached n p (linked_history t e right)
-    (how_reached_by (slice_get (history t e).each_reached n) p at)
+    → IsLinked t (take n (history t e).ways_reached) p
+linked_number t e n p right at = linked_at t [] (history t e).ways_reached n p (linked_history t e right)
+    (how_reached_by (slice_get (history t e).ways_reached n) p at)
 
 -- it is among the attempts by which numbers were reached
 pub in_attempts : (ls : List HowReached) (n : ℕ) (p : Placed) → slice_get ls n ≡ Some (ByAttempt p)
@@ -267,9 +267,9 @@ take_length (y ∷ xs) zero x e = refl
 take_length (y ∷ xs) (suc n) x e = ap suc (take_length xs n x e)
 
 -- of each number what it changed is kept
-pub batches_counted : (t : Trace) (e : ℕ) → length (settling t e).numbers ≡ length (history t e).each_reached
+pub batches_counted : (t : Trace) (e : ℕ) → length (settling t e).numbers ≡ length (history t e).ways_reached
 unfolding settling
-batches_counted t e = length-map (history t e).each_reached _
+batches_counted t e = length-map (history t e).ways_reached _
 
 -- the attempt by which batch n was committed has that number
 pub committed_number : (t : Trace) (e n : ℕ) (p : Placed) → IsRightSection t e → committed_at t e n ≡ Some p
@@ -277,5 +277,5 @@ pub committed_number : (t : Trace) (e n : ℕ) (p : Placed) → IsRightSection t
 committed_number t e zero p right at = none≢some p at
 committed_number t e (suc n) p right at =
     (linked_number t e n p right at).number
-    ∙ ap suc (take_length (history t e).each_reached n (ByAttempt p)
-    (how_reached_by (slice_get (history t e).each_reached n) p at))
+    ∙ ap suc (take_length (history t e).ways_reached n (ByAttempt p)
+    (how_reached_by (slice_get (history t e).ways_reached n) p at))

@@ -109,15 +109,15 @@ states_transferring zero at x = refl
 states_transferring (suc n) at x = states_transferring n at x
 
 pub state_more : (s : SectionState) (at : ℕ) (x : Transfer)
-    → states_by (after_transfer s at x).each_reached ≡ states_by s.each_reached ++ x.rows ∷ []
-state_more s at x = states_more s.each_reached (transferring (x.seq - (s.last + 1)) at x)
-    ∙ ap (λ (xs : List (List Versioned)). states_by s.each_reached ++ xs)
+    → states_by (after_transfer s at x).ways_reached ≡ states_by s.ways_reached ++ x.rows ∷ []
+state_more s at x = states_more s.ways_reached (transferring (x.seq - (s.last + 1)) at x)
+    ∙ ap (λ (xs : List (List Versioned)). states_by s.ways_reached ++ xs)
     (states_transferring (x.seq - (s.last + 1)) at x)
 
 pub one_more_state : (s : SectionState) (at : ℕ) (x : Transfer)
-    → length (states_by (after_transfer s at x).each_reached) ≡ suc (length (states_by s.each_reached))
+    → length (states_by (after_transfer s at x).ways_reached) ≡ suc (length (states_by s.ways_reached))
 one_more_state s at x = ap (λ (xs : List (List Versioned)). length xs) (state_more s at x)
-    ∙ length-append (states_by s.each_reached) (x.rows ∷ []) ∙ omega arith
+    ∙ length-append (states_by s.ways_reached) (x.rows ∷ []) ∙ omega arith
 
 since_transferring : (ps : List Placed) (skipped at : ℕ) (x : Transfer) → fold since_next ps (transferring skipped at x)
     ≡ []
@@ -136,14 +136,14 @@ states_among ((at, Commits c) ∷ steps) = states_among steps
 states_among ((at, RollsBack r) ∷ steps) = states_among steps
 states_among ((at, Transfers x) ∷ steps) = x.rows ∷ states_among steps
 
-states_committing : (s : SectionState) (ps : List Placed) → states_by (committing s ps).each_reached
-    ≡ states_by s.each_reached
+states_committing : (s : SectionState) (ps : List Placed) → states_by (committing s ps).ways_reached
+    ≡ states_by s.ways_reached
 states_committing s [] = refl
-states_committing s (p ∷ ps) = transferred_more s.each_reached p
+states_committing s (p ∷ ps) = transferred_more s.ways_reached p
 
 states_after : (s : SectionState) (steps : List (ℕ × Step))
-    → states_by (state_after s steps).each_reached ≡ states_by s.each_reached ++ states_among steps
-states_after s [] = sym (append-nil (states_by s.each_reached))
+    → states_by (state_after s steps).ways_reached ≡ states_by s.ways_reached ++ states_among steps
+states_after s [] = sym (append-nil (states_by s.ways_reached))
 states_after s ((at, Attempts a) ∷ steps) = states_after (next s (at, Attempts a)) steps
 states_after s ((at, Commits c) ∷ steps) =
     states_after (next s (at, Commits c)) steps
@@ -152,7 +152,7 @@ states_after s ((at, RollsBack r) ∷ steps) = states_after (next s (at, RollsBa
 states_after s ((at, Transfers x) ∷ steps) =
     states_after (next s (at, Transfers x)) steps
     ∙ ap (λ (xs : List (List Versioned)). xs ++ states_among steps) (state_more s at x)
-    ∙ append_assoc (states_by s.each_reached) (x.rows ∷ []) (states_among steps)
+    ∙ append_assoc (states_by s.ways_reached) (x.rows ∷ []) (states_among steps)
 
 item_behind : {A : Type 0} (xs : List A) (x : A) (ys : List A) (d : A) → get_or (xs ++ x ∷ ys) (length xs) d ≡ x
 item_behind [] x ys d = refl
@@ -242,8 +242,8 @@ record HasCome (transferred view : ℕ) (behind done pending discarded : List Pl
 
 -- the section has come to this state by them
 abbrev AreCome : SectionState → List (ℕ × Step) → List Fated → Type 0
-AreCome s rest xs = HasCome (length (states_by s.each_reached)) s.view (since s.each_reached)
-    (attempts_by s.each_reached) s.pending
+AreCome s rest xs = HasCome (length (states_by s.ways_reached)) s.view (since s.ways_reached)
+    (attempts_by s.ways_reached) s.pending
     s.discarded rest xs
 
 -- those of the list, and of one more
@@ -470,7 +470,7 @@ module _ (t : Trace) where
   abbrev new : SectionState → ℕ → Attempt → List (ℕ × Step) → Fated
   new s at a rest = record {
     placed = record { offset = at; attempt = a; path = path_of s };
-    transferred = length (states_by s.each_reached);
+    transferred = length (states_by s.ways_reached);
     fate = fate_in rest (length s.pending);
   }
 
@@ -479,7 +479,7 @@ module _ (t : Trace) where
       → (xs : List Fated) → AreCome s ((at, Attempts a) ∷ rest) xs
       → AreCome (next s (at, Attempts a)) rest (xs ++ new s at a rest ∷ [])
   attempt_comes s at a rest right xs known =
-      come_attempt (length (states_by s.each_reached)) s.view (since s.each_reached) (attempts_by s.each_reached)
+      come_attempt (length (states_by s.ways_reached)) s.view (since s.ways_reached) (attempts_by s.ways_reached)
       s.pending
       s.discarded
       at a rest (new s at a rest) refl (its_view s a right) refl xs known
@@ -489,27 +489,27 @@ module _ (t : Trace) where
       → AreCome s ((at, Commits c) ∷ rest) xs → AreCome (committing s pending) rest xs
   commit_comes s at c rest [] is right xs known = absurd (false≢true right)
   commit_comes s at c rest (p ∷ ps) is right xs known =
-      let k = length (states_by s.each_reached) in
-      let now : HasCome k s.view (since s.each_reached ++ p ∷ []) (attempts_by s.each_reached ++ p ∷ []) ps s.discarded
+      let k = length (states_by s.ways_reached) in
+      let now : HasCome k s.view (since s.ways_reached ++ p ∷ []) (attempts_by s.ways_reached ++ p ∷ []) ps s.discarded
       rest
       xs =
-      come_commit k s.view (since s.each_reached) (attempts_by s.each_reached) s.discarded p ps at c rest xs
-      (subst (λ (qs : List Placed). HasCome k s.view (since s.each_reached) (attempts_by s.each_reached) qs s.discarded
+      come_commit k s.view (since s.ways_reached) (attempts_by s.ways_reached) s.discarded p ps at c rest xs
+      (subst (λ (qs : List Placed). HasCome k s.view (since s.ways_reached) (attempts_by s.ways_reached) qs s.discarded
       ((at, Commits c) ∷ rest) xs) is known) in
-      subst (λ (m : ℕ). HasCome m s.view (since (s.each_reached ++ ByAttempt p ∷ []))
-      (attempts_by (s.each_reached ++ ByAttempt p ∷ [])) ps s.discarded rest xs)
-      (sym (ap (λ (xs : List (List Versioned)). length xs) (transferred_more s.each_reached p)))
-      (subst (λ (qs : List Placed). HasCome k s.view qs (attempts_by (s.each_reached ++ ByAttempt p ∷ [])) ps
+      subst (λ (m : ℕ). HasCome m s.view (since (s.ways_reached ++ ByAttempt p ∷ []))
+      (attempts_by (s.ways_reached ++ ByAttempt p ∷ [])) ps s.discarded rest xs)
+      (sym (ap (λ (xs : List (List Versioned)). length xs) (transferred_more s.ways_reached p)))
+      (subst (λ (qs : List Placed). HasCome k s.view qs (attempts_by (s.ways_reached ++ ByAttempt p ∷ [])) ps
       s.discarded rest
-      xs) (sym (fold-append since_next [] s.each_reached (ByAttempt p ∷ [])))
-      (subst (λ (qs : List Placed). HasCome k s.view (since s.each_reached ++ p ∷ []) qs ps s.discarded rest xs)
-      (sym (attempts_by_push s.each_reached p)) now))
+      xs) (sym (fold-append since_next [] s.ways_reached (ByAttempt p ∷ [])))
+      (subst (λ (qs : List Placed). HasCome k s.view (since s.ways_reached ++ p ∷ []) qs ps s.discarded rest xs)
+      (sym (attempts_by_push s.ways_reached p)) now))
 
   rollback_comes : (s : SectionState) (at : ℕ) (r : Rollback) (rest : List (ℕ × Step)) → IsTrue
       (is_right_rollback t s r)
       → (xs : List Fated) → AreCome s ((at, RollsBack r) ∷ rest) xs → AreCome (next s (at, RollsBack r)) rest xs
   rollback_comes s at r rest right xs known =
-      come_rollback (length (states_by s.each_reached)) s.view (since s.each_reached) (attempts_by s.each_reached)
+      come_rollback (length (states_by s.ways_reached)) s.view (since s.ways_reached) (attempts_by s.ways_reached)
       s.pending
       s.discarded at r rest xs (later_view s r right) known
 
@@ -517,18 +517,18 @@ module _ (t : Trace) where
       (is_right_transfer t s x)
       → (xs : List Fated) → AreCome s ((at, Transfers x) ∷ rest) xs → AreCome (next s (at, Transfers x)) rest xs
   transfer_comes s at x rest right xs known =
-      let k = length (states_by s.each_reached) in
+      let k = length (states_by s.ways_reached) in
       let skipped = x.seq - (s.last + 1) in
-      let ls = s.each_reached ++ transferring skipped at x in
+      let ls = s.ways_reached ++ transferring skipped at x in
       let fell = s.discarded ++ s.pending in
-      let now : HasCome (suc k) x.view [] (attempts_by s.each_reached) [] fell rest xs =
-      come_transfer k s.view (since s.each_reached) (attempts_by s.each_reached) s.pending s.discarded at x rest xs
+      let now : HasCome (suc k) x.view [] (attempts_by s.ways_reached) [] fell rest xs =
+      come_transfer k s.view (since s.ways_reached) (attempts_by s.ways_reached) s.pending s.discarded at x rest xs
       (no_lower_view s x right) known in
       subst (λ (m : ℕ). HasCome m x.view (since ls) (attempts_by ls) [] fell rest xs) (sym (one_more_state s at x))
       (subst (λ (qs : List Placed). HasCome (suc k) x.view qs (attempts_by ls) [] fell rest xs)
-      (sym (none_since s.each_reached skipped at x))
+      (sym (none_since s.ways_reached skipped at x))
       (subst (λ (qs : List Placed). HasCome (suc k) x.view [] qs [] fell rest xs)
-      (sym (attempts_transferring s.each_reached skipped at x)) now))
+      (sym (attempts_transferring s.ways_reached skipped at x)) now))
 
   -- ---- what the rows have
 
@@ -542,37 +542,37 @@ module _ (t : Trace) where
   ran_more table ps qs = ap (fold (with_came t) table) (map-append (λ (p : Placed). Ran p.attempt) ps qs)
       ∙ fold-append (with_came t) table (ran ps) (ran qs)
 
-  based_commit : (bases : ℕ → Table) (s : SectionState) (pending : List Placed) → AreBased bases s.each_reached
-      → AreBased bases (committing s pending).each_reached
+  based_commit : (bases : ℕ → Table) (s : SectionState) (pending : List Placed) → AreBased bases s.ways_reached
+      → AreBased bases (committing s pending).ways_reached
   based_commit bases s [] based = based
   based_commit bases s (p ∷ ps) based =
-      ap (rows_after t) (flat_map-append came_by s.each_reached (ByAttempt p ∷ []))
-      ∙ rows_after-push t (flat_map came_by s.each_reached) p.attempt
+      ap (rows_after t) (flat_map-append came_by s.ways_reached (ByAttempt p ∷ []))
+      ∙ rows_after-push t (flat_map came_by s.ways_reached) p.attempt
       ∙ ap (λ (table : Table). table_after_all table (execution t p.attempt)) based
-      ∙ sym (ran_more (bases (length (states_by s.each_reached))) (since s.each_reached) (p ∷ []))
-      ∙ (λ i. fold (with_came t) (bases (length (sym (transferred_more s.each_reached p) i)))
-      (ran (sym (fold-append since_next [] s.each_reached (ByAttempt p ∷ [])) i)))
+      ∙ sym (ran_more (bases (length (states_by s.ways_reached))) (since s.ways_reached) (p ∷ []))
+      ∙ (λ i. fold (with_came t) (bases (length (sym (transferred_more s.ways_reached p) i)))
+      (ran (sym (fold-append since_next [] s.ways_reached (ByAttempt p ∷ [])) i)))
 
   based_transfer : (bases : ℕ → Table) (s : SectionState) (at : ℕ) (x : Transfer)
-      → bases (suc (length (states_by s.each_reached))) ≡ transferred_table x.rows → AreBased bases
-      (next s (at, Transfers x)).each_reached
+      → bases (suc (length (states_by s.ways_reached))) ≡ transferred_table x.rows → AreBased bases
+      (next s (at, Transfers x)).ways_reached
   based_transfer bases s at x has =
       let skipped = x.seq - (s.last + 1) in
-      ap (rows_after t) (flat_map-append came_by s.each_reached (transferring skipped at x)
-      ∙ ap (λ (cs : List Came). flat_map came_by s.each_reached ++ cs) (came_transferring skipped at x))
-      ∙ fold-append (with_came t) (opening_table t) (flat_map came_by s.each_reached) (Transferred x.rows ∷ [])
+      ap (rows_after t) (flat_map-append came_by s.ways_reached (transferring skipped at x)
+      ∙ ap (λ (cs : List Came). flat_map came_by s.ways_reached ++ cs) (came_transferring skipped at x))
+      ∙ fold-append (with_came t) (opening_table t) (flat_map came_by s.ways_reached) (Transferred x.rows ∷ [])
       ∙ sym has
       ∙ (λ i. fold (with_came t) (bases (sym (one_more_state s at x) i))
-      (ran (sym (none_since s.each_reached skipped at x) i)))
+      (ran (sym (none_since s.ways_reached skipped at x) i)))
 
   -- after the path of an attempt
-  based_path : (bases : ℕ → Table) (s : SectionState) → AreBased bases s.each_reached
+  based_path : (bases : ℕ → Table) (s : SectionState) → AreBased bases s.ways_reached
       → rows_after t (path_of s)
-      ≡ fold (with_came t) (bases (length (states_by s.each_reached))) (ran (since s.each_reached ++ s.pending))
+      ≡ fold (with_came t) (bases (length (states_by s.ways_reached))) (ran (since s.ways_reached ++ s.pending))
   based_path bases s based =
-      fold-append (with_came t) (opening_table t) (flat_map came_by s.each_reached) (ran s.pending)
+      fold-append (with_came t) (opening_table t) (flat_map came_by s.ways_reached) (ran s.pending)
       ∙ ap (λ (table : Table). fold (with_came t) table (ran s.pending)) based
-      ∙ sym (ran_more (bases (length (states_by s.each_reached))) (since s.each_reached) s.pending)
+      ∙ sym (ran_more (bases (length (states_by s.ways_reached))) (since s.ways_reached) s.pending)
 
   -- ---- all of them
 
@@ -614,26 +614,26 @@ module _ (t : Trace) where
   HaveStates bases states = (k : ℕ) → bases (suc k) ≡ transferred_table (get_or states k [])
 
   come_all : (bases : ℕ → Table) (s : SectionState) (rest : List (ℕ × Step)) (xs : List Fated)
-      → IsTrue (are_right t s rest) → AreCome s rest xs → AreBased bases s.each_reached
-      → HaveStates bases (states_by s.each_reached ++ states_among rest)
+      → IsTrue (are_right t s rest) → AreCome s rest xs → AreBased bases s.ways_reached
+      → HaveStates bases (states_by s.ways_reached ++ states_among rest)
       → AreCounting t bases xs (to_come s rest)
   come_all bases s [] xs right known based has = tt
   come_all bases s ((at, Attempts a) ∷ rest) xs right known based has =
       let parts = and_parts (is_right t s (Attempts a)) (are_right t (next s (at, Attempts a)) rest) right in
-      let k = length (states_by s.each_reached) in
+      let k = length (states_by s.ways_reached) in
       let steps = (at, Attempts a) ∷ rest in
       let view : a.view ≡ s.view = its_view s a parts.0 in
-      let count : counting k a.view xs ≡ map (sure k) (since s.each_reached) ++ opened k 0 steps s.pending =
+      let count : counting k a.view xs ≡ map (sure k) (since s.ways_reached) ++ opened k 0 steps s.pending =
       ap (λ (v : ℕ). counting k v xs) view ∙ known.counts in
-      let placed : all_placed (counting k a.view xs) ≡ since s.each_reached ++ s.pending =
+      let placed : all_placed (counting k a.view xs) ≡ since s.ways_reached ++ s.pending =
       ap all_placed count
-      ∙ map-append (λ (y : Fated). y.placed) (map (sure k) (since s.each_reached)) (opened k 0 steps s.pending)
-      ∙ (λ i. placed_sure k (since s.each_reached) i ++ placed_opened k 0 steps s.pending i) in (
+      ∙ map-append (λ (y : Fated). y.placed) (map (sure k) (since s.ways_reached)) (opened k 0 steps s.pending)
+      ∙ (λ i. placed_sure k (since s.ways_reached) i ++ placed_opened k 0 steps s.pending i) in (
         based_path bases s based ∙ ap (λ (ps : List Placed). fold (with_came t) (bases k) (ran ps)) (sym placed),
         subst (λ (v : ℕ). AllByRecursion (IsNoLater k v) xs) (sym view) known.within,
         λ done. subst (AllByRecursion (λ y. settles y ≡ true)) (sym count)
-            (all-append (λ y. settles y ≡ true) (map (sure k) (since s.each_reached)) (opened k 0 steps s.pending)
-            (sure_settle k (since s.each_reached))
+            (all-append (λ y. settles y ≡ true) (map (sure k) (since s.ways_reached)) (opened k 0 steps s.pending)
+            (sure_settle k (since s.ways_reached))
             (all_settle k steps 0 (length s.pending) s.pending none done)),
         come_all bases (next s (at, Attempts a)) rest (xs ++ new s at a rest ∷ []) parts.1
             (attempt_comes s at a rest parts.0 xs known) based has,
@@ -657,24 +657,24 @@ module _ (t : Trace) where
       let parts = and_parts (is_right t s (Transfers x)) (are_right t (next s (at, Transfers x)) rest) right in
       come_all bases (next s (at, Transfers x)) rest xs parts.1 (transfer_comes s at x rest parts.0 xs known)
       (based_transfer bases s at x
-      (has (length (states_by s.each_reached))
-      ∙ ap transferred_table (item_behind (states_by s.each_reached) x.rows (states_among rest) [])))
+      (has (length (states_by s.ways_reached))
+      ∙ ap transferred_table (item_behind (states_by s.ways_reached) x.rows (states_among rest) [])))
       (subst (HaveStates bases) (sym (ap (λ (states : List (List Versioned)). states ++ states_among rest)
-      (state_more s at x) ∙ append_assoc (states_by s.each_reached) (x.rows ∷ []) (states_among rest))) has)
+      (state_more s at x) ∙ append_assoc (states_by s.ways_reached) (x.rows ∷ []) (states_among rest))) has)
 
   -- where the section ends
   record HasEnded (s : SectionState) (xs : List Fated) : Type 0 where
-    committed : all_placed (filter will_commit xs) ≡ attempts_by s.each_reached
+    committed : all_placed (filter will_commit xs) ≡ attempts_by s.ways_reached
     discarded : all_placed (filter will_fall xs) ≡ s.discarded
 
   come_end : (s : SectionState) (rest : List (ℕ × Step)) (xs : List Fated) → IsTrue (are_right t s rest)
       → AreCome s rest xs → HasEnded (state_after s rest) (xs ++ to_come s rest)
   come_end s [] xs right known =
-      let k = length (states_by s.each_reached) in
+      let k = length (states_by s.ways_reached) in
       record {
         committed = ap (λ (ys : List Fated). all_placed (filter will_commit ys)) (append-nil xs) ∙ known.commit
-            ∙ ap (λ (ys : List Fated). attempts_by s.each_reached ++ all_placed ys) (none_commits_at_end k 0 s.pending)
-            ∙ append-nil (attempts_by s.each_reached);
+            ∙ ap (λ (ys : List Fated). attempts_by s.ways_reached ++ all_placed ys) (none_commits_at_end k 0 s.pending)
+            ∙ append-nil (attempts_by s.ways_reached);
         discarded = ap (λ (ys : List Fated). all_placed (filter will_fall ys)) (append-nil xs) ∙ known.fall
             ∙ ap (λ (qs : List Placed). s.discarded ++ qs) (none_falls_at_end k 0 s.pending) ∙ append-nil s.discarded;
       }
@@ -712,7 +712,7 @@ module _ (t : Trace) where
       (states_after start (steps_at t e)))
 
   pub committed_told : (e : ℕ) → IsRightSection t e → all_placed (filter will_commit (told_of t e))
-      ≡ attempts_by (history t e).each_reached
+      ≡ attempts_by (history t e).ways_reached
   unfolding history
   committed_told e right = (come_end start (steps_at t e) [] right (none_came (steps_at t e))).committed
 

@@ -16,7 +16,7 @@ use Rattle.eve_chains.specs.declared.numbered.Numbered.{Numbered}
 use Rattle.eve_chains.specs.Changes.{changes_below, changes_in_ranges, ranges_by_number}
 use Rattle.eve_chains.specs.ReachedChanges.{transfer_at, values_decoded, transferred_values, change_in, changes_in}
 use Rattle.eve_chains.specs.ReachedChanges.{IsStateAmong}
-use Rattle.eve_chains.specs.ReachedChanges.{AreEachReached}
+use Rattle.eve_chains.specs.ReachedChanges.{AreWaysReached}
 use Rattle.eve_chains.specs.CommittedValues.{Change, Wrote, TransferredValues, Nothing, Settling, change_at, settling}
 use Rattle.eve_chains.specs.CommittedValues.{is_change}
 use Rattle.eve_chains.specs.CommittedValues.{defined}
@@ -56,7 +56,7 @@ at_place (y ∷ xs) (suc i) x lt is = at_place xs i x (omega (arith, lt)) is
 
 -- what is kept of a number
 pub change_kept : (rows count : ℕ) (states : List TransferView) (ls : List told.HowReached) (xs : List Numbered) (n : ℕ)
-    (l k : told.HowReached) → AreEachReached rows count states ls → n < count → l ≡ get_or ls n l → l ≡ k
+    (l k : told.HowReached) → AreWaysReached rows count states ls → n < count → l ≡ get_or ls n l → l ≡ k
     → slice_get (changes_in states ls (ranges_by_number count xs)) n
     ≡ Some (change_in states k (changes_in_ranges n xs))
 change_kept rows count states ls xs n l k known lt is same =
@@ -65,14 +65,14 @@ change_kept rows count states ls xs n l k known lt is same =
     ∙ ap (λ (x : told.HowReached). Some (change_in states x (changes_in_ranges n xs))) same
 
 pub kept_counted : (rows count : ℕ) (states : List TransferView) (ls : List told.HowReached) (xs : List Numbered)
-    → AreEachReached rows count states ls → length (changes_in states ls (ranges_by_number count xs)) ≡ count
+    → AreWaysReached rows count states ls → length (changes_in states ls (ranges_by_number count xs)) ≡ count
 kept_counted rows count states ls xs known =
     changes_counted states ls (ranges_by_number count xs) (known.many ∙ sym (ranges_counted count xs)) ∙ known.many
 
 -- a state by which a number was reached is there
 pub state_among : (rows count : ℕ) (states : List TransferView) (ls : List told.HowReached) (n i : ℕ)
     (l : told.HowReached)
-    → AreEachReached rows count states ls → n < count → l ≡ get_or ls n l → l ≡ how_reached.Transfer i → i
+    → AreWaysReached rows count states ls → n < count → l ≡ get_or ls n l → l ≡ how_reached.Transfer i → i
     < length states
 state_among rows count states ls n i l known lt is same =
     subst (IsStateAmong (length states)) same
@@ -217,10 +217,10 @@ module _ (t : Trace) (h : SectionHistory) (states : List TransferView) where
 
   -- of a section's history
   pub numbers_told : (e : ℕ) (ls : List told.HowReached) (css : List (List (ℕ × ℤ))) → h ≡ section_history t e
-      → map transfer_at states ≡ h.transfers → AllZip (IsToldOf h) ls h.each_reached
-      → css ≡ written_by (history t e).each_reached → changes_in states ls css ≡ (settling t e).numbers
+      → map transfer_at states ≡ h.transfers → AllZip (IsToldOf h) ls h.ways_reached
+      → css ≡ written_by (history t e).ways_reached → changes_in states ls css ≡ (settling t e).numbers
   unfolding section_history settling history
   numbers_told e ls css is are each wrote =
       ap (changes_in states ls) wrote
-      ∙ same_changes [] (history t e).each_reached ls (are ∙ ap (λ (k : SectionHistory). k.transfers) is)
-      (subst (λ (k : SectionHistory). AllZip (IsToldOf h) ls k.each_reached) is each)
+      ∙ same_changes [] (history t e).ways_reached ls (are ∙ ap (λ (k : SectionHistory). k.transfers) is)
+      (subst (λ (k : SectionHistory). AllZip (IsToldOf h) ls k.ways_reached) is each)

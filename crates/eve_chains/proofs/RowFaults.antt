@@ -34,7 +34,7 @@ use Rattle.eve_chains.proofs.Faultless.{Standing, place_of, in_place, standing, 
 use Rattle.eve_chains.proofs.LeftByRecords.{left_before, right_one, complete_one}
 use Rattle.eve_chains.proofs.Attempts.{in_ordered, from_ordered, located_in}
 use Rattle.eve_chains.specs.Rows.{Fated, told_of, settles, Noted, noted_by, noted_in, all_noted, of_row}
-use Rattle.eve_chains.specs.Rows.{checked_against}
+use Rattle.eve_chains.specs.Rows.{due_on_row}
 use Rattle.eve_chains.specs.Rows.{bases_of, pair_after, IsWrongOnRow, EachSees}
 use Rattle.eve_chains.proofs.AttemptRecords.{own}
 use Rattle.eve_chains.proofs.Paths.{all_placed, view_of, number_of, committed_told, discarded_told}
@@ -127,7 +127,7 @@ module _ (t : Trace) (e : ℕ) (limits : HasLimits t) (right : IsRightSection t 
       ≡ true
       → (xs : List (ℕ × Access)) (x : ℕ × Access) (zs : List (ℕ × Access)) → own y.placed ≡ xs ++ x ∷ zs
       → (row : ℕ) (n : Noted) → n.transferred ≡ y.transferred → n.view ≡ view_of y
-      → checked_against (bases_of t e row) (pair_after (bases_of t e row)
+      → due_on_row (bases_of t e row) (pair_after (bases_of t e row)
       (of_row row (all_noted prefix ++ flat_map (noted_by y.transferred (view_of y) (number_of y) (is_committed y.fate))
       xs))) n
       ≡ visible_to t y.placed x.1.index row
@@ -177,9 +177,9 @@ module _ (t : Trace) (e : ℕ) (limits : HasLimits t) (right : IsRightSection t 
       ∙ ap (λ (ks : List Noted). of_row row (all_noted c.prefix ++ mine) ++ ks) none
       ∙ append-nil (of_row row (all_noted c.prefix ++ mine)) in
       let table : Table = visible_to t b.item.placed d.item.1.index in
-      let checked : checked_against (bases_of t e row) (pair_after (bases_of t e row) place.before) n
+      let checked : due_on_row (bases_of t e row) (pair_after (bases_of t e row) place.before) n
       ≡ table n.entry.row =
-      ap (λ (ks : List Noted). checked_against (bases_of t e row) (pair_after (bases_of t e row) ks) n) before
+      ap (λ (ks : List Noted). due_on_row (bases_of t e row) (pair_after (bases_of t e row) ks) n) before
       ∙ meets_must c.prefix b.item c.back c.is c.passes d.earlier d.item d.later d.is row n
       (ap (λ (k : Noted). k.transferred) m.it) (ap (λ (k : Noted). k.view) m.it) ∙ ap table (sym its) in
       let other : SeesAnother f.code (table n.entry.row) n.entry =
@@ -203,7 +203,7 @@ module _ (t : Trace) (e : ℕ) (limits : HasLimits t) (right : IsRightSection t 
 
   its_place : (p : Placed) → In p (settled (history t e)) → ToldAt (told_of t e) p
   its_place p i =
-      elim (in_split (attempts_by (history t e).each_reached) (history t e).discarded i) [
+      elim (in_split (attempts_by (history t e).ways_reached) (history t e).discarded i) [
         | inl j ↦ told_at (told_of t e) is_committed committed_settles p
             (subst (In p) (sym (committed_told t e right)) j)
         | inr j ↦ told_at (told_of t e) is_discarded discarded_settles p
@@ -293,7 +293,7 @@ module _ (t : Trace) (e : ℕ) (limits : HasLimits t) (right : IsRightSection t 
             (apart y there_is done x record_there)) refl)
             ∙ append-nil (of_row en.row (all_noted prefix ++ mine))
 
-    checked : checked_against (bases_of t e en.row)
+    checked : due_on_row (bases_of t e en.row)
         (pair_after (bases_of t e en.row) (of_row en.row (all_noted prefix ++ mine))) note
         ≡ visible_to t y.placed x.1.index en.row
     checked = meets_must prefix y back is done xs x zs its en.row note refl refl

@@ -9,7 +9,7 @@ use Rattle.eve_smallbank.specs.declared.entry.Entry.{Entry}
 use Rattle.eve_smallbank.specs.Access.{is_write, writes_row}
 use Rattle.eve_smallbank.specs.Chain.{Table, after_own, left_by, table_after}
 use Rattle.eve_smallbank.specs.declared.versioned.Versioned.{Versioned}
-use Rattle.eve_chains.specs.Rows.{Noted, Pair, kept_by, checked_against, next_pair, at_first, pair_after}
+use Rattle.eve_chains.specs.Rows.{Noted, Pair, kept_by, due_on_row, next_pair, at_first, pair_after}
 use Rattle.eve_grammar.proofs.Lists.{all-append}
 
 -- ---- what counts
@@ -142,7 +142,7 @@ module _ (bases : ℕ → Versioned) where
           (same_or_more p.transferred n.transferred follows.0 e) known.within))
 
   -- what is met there is what counts
-  meets : (done : List Noted) (p : Pair) (n : Noted) → HasPair done p → Follows p n → checked_against bases p n
+  meets : (done : List Noted) (p : Pair) (n : Noted) → HasPair done p → Follows p n → due_on_row bases p n
       ≡ left n.transferred (counts n.transferred n.view) done
   meets done p n known follows = by (n.transferred == p.transferred) (n.view == p.view) refl refl
     where
@@ -223,7 +223,7 @@ module _ (bases : ℕ → Versioned) where
 
   -- what an entry of the row meets is what counts of the row's entries before it
   pub meets_what_counts : (ns : List Noted) (n : Noted) → AreRising ns → AllByRecursion (λ m. IsUpTo m n) ns
-      → checked_against bases (pair_after bases ns) n
+      → due_on_row bases (pair_after bases ns) n
       ≡ after_all (bases n.transferred) (entries (filter (counts n.transferred n.view) ns))
   meets_what_counts ns n rising up = meets ns (pair_after bases ns) n (pair_is ns rising)
       (reached ns (at_first bases) n (omega arith, omega arith) up)

@@ -76,30 +76,30 @@ rows_next t ls n l e =
 -- ---- the law
 
 module _ (t : Trace) (e : ℕ) (right : IsRightSection t e) (sound : SettledAreSound t e) (n : ℕ) where
-  committed_serial : (p : Placed) → slice_get (history t e).each_reached n ≡ Some (ByAttempt p)
+  committed_serial : (p : Placed) → slice_get (history t e).ways_reached n ≡ Some (ByAttempt p)
       → IsSerial (names_of t) (rows_after t (path_to t e n)) [] (execution t p.attempt)
   committed_serial p at =
       let own = all_in (IsSoundAlong t)
-      (all-prefix (IsSoundAlong t) (attempts_by (history t e).each_reached) (history t e).discarded sound)
-      (in_attempts (history t e).each_reached n p at) in
-      let along = (linked_at t [] (history t e).each_reached n p (linked_history t e right) at).path in
+      (all-prefix (IsSoundAlong t) (attempts_by (history t e).ways_reached) (history t e).discarded sound)
+      (in_attempts (history t e).ways_reached n p at) in
+      let along = (linked_at t [] (history t e).ways_reached n p (linked_history t e right) at).path in
       serial (names_of t) (rows_after t (path_to t e n)) [] (execution t p.attempt)
       (subst (λ path. IsSound (names_of t) (rows_after t path) [] (execution t p.attempt)) along own)
 
-  bank_next : (p : Placed) → slice_get (history t e).each_reached n ≡ Some (ByAttempt p)
+  bank_next : (p : Placed) → slice_get (history t e).ways_reached n ≡ Some (ByAttempt p)
       → bank_at (names_of t) (rows_after t (path_to t e n)) (before_rest [] (execution t p.attempt))
       ≡ bank_after t e (suc n)
   unfolding bank_after
   bank_next p at = ap (λ (table : Table). bank_of (names_of t) (values_of table))
       (visible_at-before_rest (rows_after t (path_to t e n)) [] (execution t p.attempt)
-      ∙ sym (rows_next t (history t e).each_reached n (ByAttempt p) at))
+      ∙ sym (rows_next t (history t e).ways_reached n (ByAttempt p) at))
 
   bank_now : bank_after t e n ≡ bank_at (names_of t) (rows_after t (path_to t e n)) []
   unfolding bank_after
   bank_now = refl
 
   -- a run from the rows after the path is one between the banks
-  run_between : (p : Placed) → slice_get (history t e).each_reached n ≡ Some (ByAttempt p)
+  run_between : (p : Placed) → slice_get (history t e).ways_reached n ≡ Some (ByAttempt p)
       → (requests : List Request) (replies : List Reply)
       → run (bank_at (names_of t) (rows_after t (path_to t e n)) []) requests
       ≡ (
@@ -110,7 +110,7 @@ module _ (t : Trace) (e : ℕ) (right : IsRightSection t e) (sound : SettledAreS
   run_between p at requests replies runs =
       ap (λ (bank : Bank). run bank requests) bank_now ∙ runs ∙ ap (λ (bank : Bank). (bank, replies)) (bank_next p at)
 
-  serial_next : (p : Placed) → slice_get (history t e).each_reached n ≡ Some (ByAttempt p)
+  serial_next : (p : Placed) → slice_get (history t e).ways_reached n ≡ Some (ByAttempt p)
       → IsSerialBetween (bank_after t e n) (bank_after t e (suc n)) (execution t p.attempt)
   serial_next p at =
       let own = committed_serial p at in
@@ -123,10 +123,10 @@ module _ (t : Trace) (e : ℕ) (right : IsRightSection t e) (sound : SettledAreS
       }
 
   -- past the last number the bank stays
-  bank_stays : slice_get (history t e).each_reached n ≡ None → bank_after t e n ≡ bank_after t e (suc n)
+  bank_stays : slice_get (history t e).ways_reached n ≡ None → bank_after t e n ≡ bank_after t e (suc n)
   unfolding bank_after
   bank_stays none = ap (λ (ls : List HowReached). bank_of (names_of t) (values_of (rows_after t (flat_map came_by ls))))
-      (sym (take_no_more (history t e).each_reached n none))
+      (sym (take_no_more (history t e).ways_reached n none))
 
 pub serial_between : (t : Trace) (e : ℕ) → IsRightSection t e → SettledAreSound t e → (n : ℕ) (p : Placed)
     → committed_at t e n ≡ Some p
@@ -134,7 +134,7 @@ pub serial_between : (t : Trace) (e : ℕ) → IsRightSection t e → SettledAre
 serial_between t e right sound zero p at = none≢some p at
 serial_between t e right sound (suc n) p at =
     subst (λ (m : ℕ). IsSerialBetween (bank_after t e m) (bank_after t e (suc n)) (execution t p.attempt)) (same n)
-    (serial_next t e right sound n p (how_reached_by (slice_get (history t e).each_reached n) p at))
+    (serial_next t e right sound n p (how_reached_by (slice_get (history t e).ways_reached n) p at))
   where
     same : (n : ℕ) → n ≡ suc n - 1
     same n = omega arith
@@ -169,17 +169,17 @@ module _ (t : Trace) (e : ℕ) (right : IsRightSection t e) (sound : SettledAreS
   abbrev leads : ℕ → Type 0
   leads n = Leads (opening_bank t) (executions t (committed_to t e n)) (bank_after t e n)
 
-  leads_next : (n : ℕ) → leads n → (o : Option HowReached) → slice_get (history t e).each_reached n ≡ o
-      → ((l : HowReached) → slice_get (history t e).each_reached n ≡ Some l → IsByAttempt l) → leads (suc n)
+  leads_next : (n : ℕ) → leads n → (o : Option HowReached) → slice_get (history t e).ways_reached n ≡ o
+      → ((l : HowReached) → slice_get (history t e).ways_reached n ≡ Some l → IsByAttempt l) → leads (suc n)
   leads_next n before None none alone =
       subst (λ (ls : List HowReached). Leads (opening_bank t) (executions t (attempts_of (attempts_by ls)))
       (bank_after t e (suc n)))
-      (sym (take_no_more (history t e).each_reached n none))
+      (sym (take_no_more (history t e).ways_reached n none))
       (subst (λ (bank : Bank). Leads (opening_bank t) (executions t (committed_to t e n)) bank)
       (bank_stays t e right sound n none) before)
   leads_next n before (Some (ByAttempt p)) at alone =
       subst (λ (xs : List Executed). Leads (opening_bank t) xs (bank_after t e (suc n)))
-      (sym (one_more t (history t e).each_reached n p at))
+      (sym (one_more t (history t e).ways_reached n p at))
       (leads-append (opening_bank t) (bank_after t e n) (bank_after t e (suc n)) (executions t (committed_to t e n))
       (execution t p.attempt) before
       (serial_next t e right sound n p at).serial)
@@ -188,10 +188,10 @@ module _ (t : Trace) (e : ℕ) (right : IsRightSection t e) (sound : SettledAreS
 
   -- where every number up to n was reached by an attempt
   leads_by_attempts : (n : ℕ)
-      → ((m : ℕ) (l : HowReached) → m < n → slice_get (history t e).each_reached m ≡ Some l → IsByAttempt l) → leads n
+      → ((m : ℕ) (l : HowReached) → m < n → slice_get (history t e).ways_reached m ≡ Some l → IsByAttempt l) → leads n
   leads_by_attempts zero alone = ap (λ (bank : Bank). (bank, [])) (opening_is_first t e)
   leads_by_attempts (suc n) alone =
-      leads_next n (leads_by_attempts n (λ m l less. alone m l (omega arith))) (slice_get (history t e).each_reached n)
+      leads_next n (leads_by_attempts n (λ m l less. alone m l (omega arith))) (slice_get (history t e).ways_reached n)
       refl
       (λ l. alone n l (omega arith))
 

@@ -25,7 +25,7 @@ IfAttempt (Attempts a) P = P a
 IfAttempt _ P = ⊤
 
 record AreAll (P : Attempt → Type 0) (s : SectionState) : Type 0 where
-  committed : AllByRecursion (λ p. P p.attempt) (attempts_by s.each_reached)
+  committed : AllByRecursion (λ p. P p.attempt) (attempts_by s.ways_reached)
   pending : AllByRecursion (λ p. P p.attempt) s.pending
   discarded : AllByRecursion (λ p. P p.attempt) s.discarded
 
@@ -34,8 +34,8 @@ all_committing : (P : Attempt → Type 0) (s : SectionState) (pending : List Pla
 all_committing P s [] all known = known
 all_committing P s (p ∷ ps) all known =
     record {
-      committed = subst (AllByRecursion (λ q. P q.attempt)) (sym (attempts_by_push s.each_reached p))
-          (all-append (λ q. P q.attempt) (attempts_by s.each_reached) (p ∷ []) known.committed (all.0, tt));
+      committed = subst (AllByRecursion (λ q. P q.attempt)) (sym (attempts_by_push s.ways_reached p))
+          (all-append (λ q. P q.attempt) (attempts_by s.ways_reached) (p ∷ []) known.committed (all.0, tt));
       pending = all.1;
       discarded = known.discarded;
     }
@@ -59,7 +59,7 @@ all_next P s (at, RollsBack r) own known =
 all_next P s (at, Transfers x) own known =
     record {
       committed = subst (AllByRecursion (λ q. P q.attempt))
-          (sym (attempts_transferring s.each_reached (x.seq - (s.last + 1)) at x)) known.committed;
+          (sym (attempts_transferring s.ways_reached (x.seq - (s.last + 1)) at x)) known.committed;
       pending = tt;
       discarded = all-append (λ q. P q.attempt) s.discarded s.pending known.discarded known.pending;
     }
@@ -74,7 +74,7 @@ all_settled : (t : Trace) (e : ℕ) (P : Attempt → Type 0) → AllByRecursion 
 unfolding history
 all_settled t e P own =
     let known = all_after P start (steps_at t e) own (record { committed = tt; pending = tt; discarded = tt }) in
-    all-append (λ p. P p.attempt) (attempts_by (history t e).each_reached) (history t e).discarded known.committed
+    all-append (λ p. P p.attempt) (attempts_by (history t e).ways_reached) (history t e).discarded known.committed
     known.discarded
 
 -- ---- right steps

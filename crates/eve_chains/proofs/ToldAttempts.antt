@@ -51,7 +51,7 @@ first_noted x xs = by (settles x)
     by false = refl
 
 told_along : (s : SectionState) (transferred : ℕ) (steps : List (ℕ × Step)) → transferred
-    ≡ length (states_by s.each_reached)
+    ≡ length (states_by s.ways_reached)
     → noted_of_steps transferred (length s.pending) steps ≡ all_noted (to_come s steps)
 unfolding noted_of_steps
 told_along s transferred [] as_many = refl
@@ -64,7 +64,7 @@ told_along s transferred ((at, Attempts a) ∷ rest) as_many =
     q = record { offset = at; attempt = a; path = path_of s }
 
     x : Fated
-    x = record { placed = q; transferred = length (states_by s.each_reached); fate = fate_in rest (length s.pending) }
+    x = record { placed = q; transferred = length (states_by s.ways_reached); fate = fate_in rest (length s.pending) }
 
     as_noted : ℕ → List Noted
     as_noted k = noted_in (record { placed = q; transferred = k; fate = fate_in rest (length s.pending) })
@@ -75,9 +75,9 @@ told_along s transferred ((at, Commits c) ∷ rest) as_many =
     ap (λ (n : ℕ). noted_of_steps transferred n rest) (one_less s.pending)
     ∙ told_along (next s (at, Commits c)) transferred rest (as_many ∙ by s.pending)
   where
-    by : (ps : List Placed) → length (states_by s.each_reached) ≡ length (states_by (committing s ps).each_reached)
+    by : (ps : List Placed) → length (states_by s.ways_reached) ≡ length (states_by (committing s ps).ways_reached)
     by [] = refl
-    by (p ∷ ps) = ap (λ (xs : List (List Versioned)). length xs) (sym (transferred_more s.each_reached p))
+    by (p ∷ ps) = ap (λ (xs : List (List Versioned)). length xs) (sym (transferred_more s.ways_reached p))
 
     one_less : (ps : List Placed) → length s.pending - 1 ≡ length (committing s s.pending).pending
     one_less ps = by s.pending refl

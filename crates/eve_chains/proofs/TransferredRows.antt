@@ -46,7 +46,7 @@ rows_among rows ((at, Transfers x) ∷ steps) fit =
     (rows_in rows x parts.0, rows_among rows steps parts.1)
 
 pub states_have_rows : (t : Trace) (e : ℕ) → HasLimits t
-    → HaveRows (row_count (head_of t)) (transfers_by (history t e).each_reached)
+    → HaveRows (row_count (head_of t)) (transfers_by (history t e).ways_reached)
 states_have_rows t e limits =
     subst (HaveRows (row_count (head_of t))) (sym (transfers_of_steps t e))
     (rows_among (row_count (head_of t)) (steps_at t e) (steps_fit t e limits))
@@ -101,7 +101,7 @@ balances_are_the_state t e (suc n) at x limits right is =
     let rows = 2 * length t.customers in
     let values : List ℤ = map (λ v. v.value) x.rows in
     let many : rows ≡ length values =
-    sym (length-map x.rows _ ∙ state_has_rows rows (history t e).each_reached n at x is (states_have_rows t e limits))
+    sym (length-map x.rows _ ∙ state_has_rows rows (history t e).ways_reached n at x is (states_have_rows t e limits))
     in
-    ap (first_rows rows) (ap values_of (rows_next t (history t e).each_reached n (ByTransfer at x) is)
+    ap (first_rows rows) (ap values_of (rows_next t (history t e).ways_reached n (ByTransfer at x) is)
     ∙ sym (values_transferred x.rows)) ∙ all_rows values rows many

@@ -17,7 +17,7 @@ use Rattle.eve_views.proofs.Firsts.{up_to-trans}
 use Rattle.eve_grammar.specs.Trace.{Trace}
 use Rattle.eve_chains.specs.Along.{SeesAnother, fault_if}
 use Rattle.eve_chains.specs.Rows.{bases_of}
-use Rattle.eve_chains.specs.Rows.{Noted, checked_against, next_pair, pair_after, at_first, IsWrongOnRow, EachSees}
+use Rattle.eve_chains.specs.Rows.{Noted, due_on_row, next_pair, pair_after, at_first, IsWrongOnRow, EachSees}
 use Rattle.eve_chains.specs.Changes.{change_by, changes_along}
 use Rattle.eve_chains.specs.declared.changed.Changed.{Changed}
 use Rattle.eve_chains.specs.inner.Stretches.{IsWithin, Reaches, AreStretches}
@@ -123,14 +123,14 @@ first_here e v n (Some c) is = record {
 
 module _ (e : ℕ) (bases : ℕ → Versioned) (ns : List Noted) (n : Noted) where
   abbrev checked : Versioned
-  checked = checked_against bases (pair_after bases ns) n
+  checked = due_on_row bases (pair_after bases ns) n
 
   sees_more : EachSees bases ns → SeesHere checked n → EachSees bases (ns ++ n ∷ [])
   sees_more each here before m rest is =
       elim (split_last ns n before m rest is) [
-        | inl last ↦ subst (λ (bs : List Noted). SeesHere (checked_against bases (pair_after bases bs) m) m)
+        | inl last ↦ subst (λ (bs : List Noted). SeesHere (due_on_row bases (pair_after bases bs) m) m)
             (sym last.0)
-            (subst (λ (k : Noted). SeesHere (checked_against bases (pair_after bases ns) k) k) (sym last.1) here)
+            (subst (λ (k : Noted). SeesHere (due_on_row bases (pair_after bases ns) k) k) (sym last.1) here)
         | inr prefix ↦ each before m prefix.0 prefix.1
       ]
 
@@ -160,9 +160,9 @@ module _ (e : ℕ) (bases : ℕ → Versioned) (ns : List Noted) (n : Noted) whe
       elim (split_last ns n place.before place.item place.rest place.is) [
         | inl last ↦ inr (record {
           at = ap (λ (k : Noted). k.offset) (sym last.1) ∙ place.holds.0;
-          other = subst (λ (k : Noted). SeesAnother f.code (checked_against bases (pair_after bases ns) k) k.entry)
+          other = subst (λ (k : Noted). SeesAnother f.code (due_on_row bases (pair_after bases ns) k) k.entry)
               last.1
-              (subst (λ (bs : List Noted). SeesAnother f.code (checked_against bases (pair_after bases bs) place.item)
+              (subst (λ (bs : List Noted). SeesAnother f.code (due_on_row bases (pair_after bases bs) place.item)
               place.item.entry)
               last.0 place.holds.1);
           inside = wrong.inside;

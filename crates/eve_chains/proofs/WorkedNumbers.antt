@@ -14,7 +14,7 @@ use Rattle.eve_history.specs.Section.{Came, Ran, Transferred, Placed, HowReached
 use Rattle.eve_history.specs.Section.{came_by}
 use Rattle.eve_history.specs.Section.{start, state_after}
 use Rattle.eve_chains.specs.Visible.{rows_after, visible_to}
-use Rattle.eve_chains.specs.Rows.{Noted, to_come, checked_against, pair_after}
+use Rattle.eve_chains.specs.Rows.{Noted, to_come, due_on_row, pair_after}
 use Rattle.eve_chains.specs.CommittedValues.{Settling, change_at, values_in, defined}
 
 -- five batches of a deposit of five cents each
@@ -106,12 +106,12 @@ abbrev both_noted : List Noted
 both_noted = as_noted 0 1 false (deposit 0 0) ∷ as_noted 0 2 false (deposit 1 5) ∷ []
 
 -- the first entry behind the state meets the state, though no view began
-the_state_is_met : checked_against bases (pair_after bases both_noted) (as_noted 1 4 true (deposit 3 15))
+the_state_is_met : due_on_row bases (pair_after bases both_noted) (as_noted 1 4 true (deposit 3 15))
     ≡ record { version = 3; value = pos 15 }
 the_state_is_met = refl
 
 -- and without the state it would have met what the open attempts left
-without_the_state : checked_against bases (pair_after bases both_noted) (as_noted 0 3 true (deposit 2 10))
+without_the_state : due_on_row bases (pair_after bases both_noted) (as_noted 0 3 true (deposit 2 10))
     ≡ record { version = 2; value = pos 10 }
 without_the_state = refl
 
@@ -162,7 +162,7 @@ paths_of_each : map (λ y. length y.placed.path) (to_come start steps_over) ≡ 
 paths_of_each = refl
 
 -- the numbers before the state's are skipped
-how_numbers_are_reached : (state_after start steps_over).each_reached
+how_numbers_are_reached : (state_after start steps_over).ways_reached
     ≡ Skipped ∷ Skipped ∷ ByTransfer 60 state_of_three
     ∷ ByAttempt (record { offset = 80; attempt = fourth; path = Transferred rows_of_three ∷ [] }) ∷ []
 how_numbers_are_reached = refl

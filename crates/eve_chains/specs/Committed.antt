@@ -18,11 +18,11 @@ attempts_of ps = map (λ p. p.attempt) ps
 
 -- the attempts by which replica e reached numbers up to n
 abbrev pub committed_to : Trace → ℕ → ℕ → List Attempt
-committed_to t e n = attempts_of (attempts_by (take n (history t e).each_reached))
+committed_to t e n = attempts_of (attempts_by (take n (history t e).ways_reached))
 
 -- what happened to replica e's rows where it reached the numbers up to n
 abbrev pub path_to : Trace → ℕ → ℕ → List Came
-path_to t e n = flat_map came_by (take n (history t e).each_reached)
+path_to t e n = flat_map came_by (take n (history t e).ways_reached)
 
 -- the opening balances with what came up to number n, by row
 abbrev pub values_to : Trace → ℕ → ℕ → ℕ → ℤ
@@ -66,7 +66,7 @@ request_ids_in t a = map (λ index. request_id (asked_in t a index)) a.certifica
 
 -- of all that replica e committed, in order
 unfoldable pub committed_request_ids : Trace → ℕ → List RequestId
-committed_request_ids t e = flat_map (request_ids_in t) (attempts_of (attempts_by (history t e).each_reached))
+committed_request_ids t e = flat_map (request_ids_in t) (attempts_of (attempts_by (history t e).ways_reached))
 
 -- those of all batches
 unfoldable pub batch_request_ids : Trace → List RequestId

@@ -34,7 +34,7 @@ change_at t Skipped = Nothing
 unfoldable pub settling : Trace → ℕ → Settling
 settling t e = record {
   opening = opening_rows t.customers;
-  numbers = map (change_at t) (history t e).each_reached;
+  numbers = map (change_at t) (history t e).ways_reached;
 }
 
 -- what each replica committed, in the order of the replicas

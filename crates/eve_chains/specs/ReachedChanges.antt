@@ -52,7 +52,7 @@ IsStateAmong count (how_reached.Transfer i) = i < count
 IsStateAmong count how_reached.Skipped = ⊤
 
 -- there is one for each number, and each state is there and has all rows
-pub record AreEachReached (rows count : ℕ) (states : List TransferView) (ls : List told.HowReached) : Type 0 where
+pub record AreWaysReached (rows count : ℕ) (states : List TransferView) (ls : List told.HowReached) : Type 0 where
   pub many : length ls ≡ count
   pub there : All (IsStateAmong (length states)) ls
   pub whole : All (HasRows rows) states

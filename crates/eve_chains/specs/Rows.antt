@@ -21,13 +21,13 @@ use Rattle.eve_chains.specs.Records.{is_settled}
 
 -- where numbers were reached so, in order
 abbrev pub states_by : List HowReached → List (List Versioned)
-states_by each_reached = map (λ x. x.1.rows) (transfers_by each_reached)
+states_by ways_reached = map (λ x. x.1.rows) (transfers_by ways_reached)
 
 -- what a row of replica e has after this many of them: the opening balance after none, and else what the last of them
 -- has
 abbrev pub bases_of : Trace → ℕ → ℕ → ℕ → Versioned
 bases_of t e row zero = opening_table t row
-bases_of t e row (suc k) = transferred_table (slice_index_or (states_by (history t e).each_reached) k []) row
+bases_of t e row (suc k) = transferred_table (slice_index_or (states_by (history t e).ways_reached) k []) row
 
 -- ---- attempts and what becomes of them
 
@@ -42,7 +42,7 @@ to_come s [] = []
 to_come s ((at, Attempts a) ∷ rest) =
     record {
       placed = record { offset = at; attempt = a; path = path_of s };
-      transferred = length (states_by s.each_reached);
+      transferred = length (states_by s.ways_reached);
       fate = fate_in rest (length s.pending);
     }
     ∷ to_come (next s (at, Attempts a)) rest
@@ -112,8 +112,8 @@ abbrev pub kept_by : (ℕ → Versioned) → Pair → Noted → Versioned
 kept_by bases p n = if n.transferred == p.transferred then p.committed else bases n.transferred
 
 -- and with the open attempts: with a new view a rollback came, and the open pair is what the committed one is
-abbrev pub checked_against : (ℕ → Versioned) → Pair → Noted → Versioned
-checked_against bases p n = if (n.transferred == p.transferred)
+abbrev pub due_on_row : (ℕ → Versioned) → Pair → Noted → Versioned
+due_on_row bases p n = if (n.transferred == p.transferred)
     && (n.view == p.view) then p.working else kept_by bases p n
 
 -- where the next entry comes, before it
@@ -122,7 +122,7 @@ arrived_by bases p n = record {
   transferred = n.transferred;
   view = n.view;
   committed = kept_by bases p n;
-  working = checked_against bases p n;
+  working = due_on_row bases p n;
 }
 
 -- with its write, if it is one
@@ -150,12 +150,12 @@ pair_after bases ns = fold (next_pair bases) (at_first bases) ns
 pub record IsWrongOnRow (e : ℕ) (bases : ℕ → Versioned) (ns : List Noted) (f : Fault) : Type 0 where
   pub stands : SomePlace ns
       (λ before n. (n.offset ≡ f.offset)
-      × SeesAnother f.code (checked_against bases (pair_after bases before) n) n.entry)
+      × SeesAnother f.code (due_on_row bases (pair_after bases before) n) n.entry)
   pub inside : f.replica ≡ Some e
 
 -- each of these entries of such a row sees what the row's walk meets there
 abbrev pub EachSees : (ℕ → Versioned) → List Noted → Type 0
 EachSees bases ns =
     (before : List Noted) (n : Noted) (rest : List Noted) → ns ≡ before ++ n ∷ rest
-    → (n.entry.version ≡ (checked_against bases (pair_after bases before) n).version)
-    × (n.entry.seen ≡ (checked_against bases (pair_after bases before) n).value)
+    → (n.entry.version ≡ (due_on_row bases (pair_after bases before) n).version)
+    × (n.entry.seen ≡ (due_on_row bases (pair_after bases before) n).value)

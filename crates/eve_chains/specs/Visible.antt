@@ -74,7 +74,7 @@ before_index index (j ∷ order) = if j == index then [] else j ∷ before_index
 
 -- What the request with this index must see: the rows as the path leaves them, and in the attempt itself the requests
 -- that stand before this index in the certificate.
--- F40 Version and F41 Value.
+-- What is seen instead is F40 Version or F41 Value.
 abbrev pub visible_to : Trace → Placed → ℕ → Table
 visible_to t p index = table_after_all (rows_after t p.path)
     (executed_in t p.attempt (before_index index p.attempt.certificate))

@@ -177,7 +177,7 @@ impl RowWalk {
             × IsMismatch self.old.working (as_noted note.now).entry wrong
             × (self.new.first ≡ first_of self.old.first (fault_if replica note.now.at wrong)) }
     {
-        if let Some(code) = mismatch(&self.working, note) {
+        if let Some(code) = wrong_sight(&self.working, note) {
             self.tell(Fault {
                 code,
                 offset: u64::from(note.at),
@@ -200,8 +200,8 @@ impl RowWalk {
 }
 
 /// What is wrong with what an entry sees, where its row has this: the version before the value.
-/// F40 Version and F41 Value.
-fn mismatch(row: &Versioned, note: &Note) -> Option<Code>
+/// Decides F40 Version and F41 Value.
+fn wrong_sight(row: &Versioned, note: &Note) -> Option<Code>
     ensures { IsMismatch row.now (as_noted note.now).entry result }
 {
     if note.version != row.version {

@@ -43,7 +43,7 @@ pub struct Settled<'a> {
     // what the numbers up to it changed, range of rows after range
     ranges: Vec<Numbered>,
     // how each number was reached, from 1 on
-    each_reached: Vec<HowReached>,
+    ways_reached: Vec<HowReached>,
     // the states that were transferred
     transfers: Vec<TransferView<'a>>,
 }
@@ -63,18 +63,18 @@ impl<'a> Model for Settled<'a> {
     ghost use Rattle.std.specs.Prelude.{All, length};
     ghost use Rattle.eve_chains.specs.Changes.{ranges_by_number};
     ghost use Rattle.eve_chains.specs.Numbered.{HasNumbersTo};
-    ghost use Rattle.eve_chains.specs.ReachedChanges.{AreEachReached, changes_in};
+    ghost use Rattle.eve_chains.specs.ReachedChanges.{AreWaysReached, changes_in};
     ghost use Rattle.eve_chains.specs.CommittedValues.{Settling};
 
     ghost Value = { Settling };
 
     ghost view = { λ s. record {
       opening = s.opening;
-      numbers = changes_in s.transfers.items s.each_reached.items (ranges_by_number s.count s.ranges.items);
+      numbers = changes_in s.transfers.items s.ways_reached.items (ranges_by_number s.count s.ranges.items);
     } };
 
     ghost invariant = { λ s. All (HasNumbersTo (length s.opening) s.count) s.ranges.items
-        × AreEachReached (length s.opening) s.count s.transfers.items s.each_reached.items };
+        × AreWaysReached (length s.opening) s.count s.transfers.items s.ways_reached.items };
 }
 
 impl<'a> Settled<'a> {
@@ -94,13 +94,13 @@ impl<'a> Settled<'a> {
         trace.recall_limits();
         history.recall_right();
         numbers_are_reached();
-        let each_reached = each_reached_of(alloc, history)?;
+        let ways_reached = ways_reached_of(alloc, history)?;
         let transfers = transfers_of(alloc, history)?;
         Ok(Settled {
             opening,
             count: history.committed(),
             ranges,
-            each_reached,
+            ways_reached,
             transfers,
         })
     }
@@ -125,7 +125,7 @@ impl<'a> Settled<'a> {
         if self.count < n {
             return false;
         }
-        match self.each_reached[n as usize - 1] {
+        match self.ways_reached[n as usize - 1] {
             HowReached::Attempt(_) => true,
             HowReached::Transfer(_) => true,
             HowReached::Skipped => false,
@@ -139,7 +139,7 @@ impl<'a> Settled<'a> {
         ensures says { slice_get self.now.numbers (n - 1) ≡ Some (change_decoded n result) }
         ensures rows { IsOfRows (length self.now.opening) n result }
     {
-        match self.each_reached[n as usize - 1] {
+        match self.ways_reached[n as usize - 1] {
             HowReached::Attempt(_) => Change::Wrote(&self.ranges),
             HowReached::Transfer(i) => Change::Transferred(self.transfers[i as usize]),
             HowReached::Skipped => Change::Nothing,
@@ -261,15 +261,15 @@ impl<'a> Settled<'a> {
 }
 
 /// How each number was reached, from 1 on.
-fn each_reached_of(alloc: Global, history: &History<'_>) -> Result<Vec<HowReached>, AllocError>
-    ensures { IfOk result (λ each_reached. AllZip (IsToldOf history.now) each_reached.items history.now.each_reached) }
+fn ways_reached_of(alloc: Global, history: &History<'_>) -> Result<Vec<HowReached>, AllocError>
+    ensures { IfOk result (λ ways_reached. AllZip (IsToldOf history.now) ways_reached.items history.now.ways_reached) }
 {
     let count = history.committed();
-    let mut each_reached = Vec::with_capacity(alloc, count as usize)?;
+    let mut ways_reached = Vec::with_capacity(alloc, count as usize)?;
     for before in 0..count {
-        each_reached.push(history.how_reached(before + 1))?;
+        ways_reached.push(history.how_reached(before + 1))?;
     }
-    Ok(each_reached)
+    Ok(ways_reached)
 }
 
 /// The states that were transferred.

@@ -25,7 +25,7 @@ use Rattle.eve_history.proofs.StructureLaws.{accesses_of-at}
 use Rattle.eve_evidence.specs.declared.course.Course.{Course}
 use Rattle.eve_evidence.specs.declared.course.OnPath.{OnPath}
 use Rattle.eve_evidence.specs.Course.{placed_on, IsOnPath, standing, IsCourse, later_state, last_state}
-use Rattle.eve_evidence.specs.Course.{state_number, and_how_reached, attempts_behind}
+use Rattle.eve_evidence.specs.Course.{state_number, with_reached, attempts_behind}
 use Rattle.eve_evidence.proofs.Lists.{all-take}
 
 -- an attempt that was met, with its access records
@@ -36,13 +36,13 @@ attempt_whole at decoded a xs is accesses =
     ∙ ap (λ (ys : List (ℕ × Access)). record a { accesses = accesses_of ys }) accesses
     ∙ ap (λ (ys : List Access). record a { accesses = ys }) (accesses_of-at at a)
 
-pub standing_count : (s : SectionState) → length (standing s) ≡ length (attempts_behind s.each_reached)
+pub standing_count : (s : SectionState) → length (standing s) ≡ length (attempts_behind s.ways_reached)
     + length s.pending
-standing_count s = length-map (attempts_behind s.each_reached ++ s.pending) placed_at
-    ∙ length-append (attempts_behind s.each_reached) s.pending
+standing_count s = length-map (attempts_behind s.ways_reached ++ s.pending) placed_at
+    ∙ length-append (attempts_behind s.ways_reached) s.pending
 
 pub path_count : (s : SectionState) (c : Course) → IsCourse s c → length c.path.items
-    ≡ length (attempts_behind s.each_reached) + length s.pending
+    ≡ length (attempts_behind s.ways_reached) + length s.pending
 path_count s c is = sym (length-map c.path.items placed_on) ∙ ap length is.path ∙ standing_count s
 
 take-append-here : {A : Type 0} (xs ys : List A) → take (length xs) (xs ++ ys) ≡ xs
@@ -109,8 +109,8 @@ attempt_comes s c (at, Attempts a) attempt xs path is stands more =
       path = ap (map placed_on) more ∙ map-append placed_on c.path.items (new ∷ [])
           ∙ ap (λ (ys : List (ℕ × Attempt)). ys ++ placed_on new ∷ []) is.path
           ∙ ap (λ (y : ℕ × Attempt). standing s ++ y ∷ []) whole
-          ∙ sym (map-append placed_at (attempts_behind s.each_reached ++ s.pending) (p ∷ []))
-          ∙ ap (map placed_at) (append_assoc (attempts_behind s.each_reached) s.pending (p ∷ []));
+          ∙ sym (map-append placed_at (attempts_behind s.ways_reached ++ s.pending) (p ∷ []))
+          ∙ ap (map placed_at) (append_assoc (attempts_behind s.ways_reached) s.pending (p ∷ []));
       framed = subst (AllByRecursion IsOnPath) (sym more)
           (all-push IsOnPath c.path.items new is.framed
           (stands.2 ∙ ap (λ (y : ℕ × Attempt). accesses_at y.0 y.1) (sym whole)));
@@ -123,16 +123,16 @@ attempt_comes s c (at, Transfers x) attempt xs path is stands more = elim stands
 one_committed : (s : SectionState) (c : Course) (p : Placed) (ps : List Placed) → IsCourse s c → s.pending ≡ p ∷ ps
     → IsCourse (committing s (p ∷ ps)) (record c { committed = c.committed + 1 })
 one_committed s c p ps is first =
-    let push : attempts_behind (s.each_reached ++ ByAttempt p ∷ []) ≡ attempts_behind s.each_reached ++ p ∷ [] =
-    fold-append and_how_reached [] s.each_reached (ByAttempt p ∷ []) in
-    let state : last_state (s.each_reached ++ ByAttempt p ∷ []) ≡ last_state s.each_reached =
-    fold-append later_state None s.each_reached (ByAttempt p ∷ []) in
-    let number : state_number (last_state (s.each_reached ++ ByAttempt p ∷ []))
-    ≡ state_number (last_state s.each_reached) =
+    let push : attempts_behind (s.ways_reached ++ ByAttempt p ∷ []) ≡ attempts_behind s.ways_reached ++ p ∷ [] =
+    fold-append with_reached [] s.ways_reached (ByAttempt p ∷ []) in
+    let state : last_state (s.ways_reached ++ ByAttempt p ∷ []) ≡ last_state s.ways_reached =
+    fold-append later_state None s.ways_reached (ByAttempt p ∷ []) in
+    let number : state_number (last_state (s.ways_reached ++ ByAttempt p ∷ []))
+    ≡ state_number (last_state s.ways_reached) =
     ap state_number state in
-    let longer : length (attempts_behind (s.each_reached ++ ByAttempt p ∷ [])) ≡ length (attempts_behind s.each_reached)
+    let longer : length (attempts_behind (s.ways_reached ++ ByAttempt p ∷ [])) ≡ length (attempts_behind s.ways_reached)
     + 1 =
-    ap length push ∙ length-append (attempts_behind s.each_reached) (p ∷ []) in
+    ap length push ∙ length-append (attempts_behind s.ways_reached) (p ∷ []) in
     record {
       view = is.view;
       rolled_back = is.rolled_back;
@@ -140,8 +140,8 @@ one_committed s c p ps is first =
       committed = ap (λ (n : ℕ). n + 1) is.committed ∙ sym longer;
       last = omega (arith, is.last, number, longer);
       path = is.path
-          ∙ ap (λ (qs : List Placed). map placed_at (attempts_behind s.each_reached ++ qs)) first
-          ∙ ap (map placed_at) (sym (append_assoc (attempts_behind s.each_reached) (p ∷ []) ps))
+          ∙ ap (λ (qs : List Placed). map placed_at (attempts_behind s.ways_reached ++ qs)) first
+          ∙ ap (map placed_at) (sym (append_assoc (attempts_behind s.ways_reached) (p ∷ []) ps))
           ∙ ap (λ (qs : List Placed). map placed_at (qs ++ ps)) (sym push);
       framed = is.framed;
     }
@@ -174,19 +174,19 @@ rollback_comes s c (at, RollsBack r) rollback view path is stands view_is kept =
   path = ap (map placed_on) kept ∙ sym (take-map placed_on c.committed c.path.items)
       ∙ ap (take c.committed) is.path
       ∙ ap (λ (n : ℕ). take n (standing s)) is.committed
-      ∙ ap (take (length (attempts_behind s.each_reached)))
-      (map-append placed_at (attempts_behind s.each_reached) s.pending)
+      ∙ ap (take (length (attempts_behind s.ways_reached)))
+      (map-append placed_at (attempts_behind s.ways_reached) s.pending)
       ∙ prefix
-      ∙ ap (map placed_at) (sym (append-nil (attempts_behind s.each_reached)));
+      ∙ ap (map placed_at) (sym (append-nil (attempts_behind s.ways_reached)));
   framed = subst (AllByRecursion IsOnPath) (sym kept) (all-take IsOnPath c.committed c.path.items is.framed);
 }
   where
-    prefix : take (length (attempts_behind s.each_reached))
-        (map placed_at (attempts_behind s.each_reached) ++ map placed_at s.pending)
-        ≡ map placed_at (attempts_behind s.each_reached)
-    prefix = ap (λ (n : ℕ). take n (map placed_at (attempts_behind s.each_reached) ++ map placed_at s.pending))
-        (sym (length-map (attempts_behind s.each_reached) placed_at))
-        ∙ take-append-here (map placed_at (attempts_behind s.each_reached)) (map placed_at s.pending)
+    prefix : take (length (attempts_behind s.ways_reached))
+        (map placed_at (attempts_behind s.ways_reached) ++ map placed_at s.pending)
+        ≡ map placed_at (attempts_behind s.ways_reached)
+    prefix = ap (λ (n : ℕ). take n (map placed_at (attempts_behind s.ways_reached) ++ map placed_at s.pending))
+        (sym (length-map (attempts_behind s.ways_reached) placed_at))
+        ∙ take-append-here (map placed_at (attempts_behind s.ways_reached)) (map placed_at s.pending)
 rollback_comes s c (at, Attempts a) rollback view path is stands view_is kept = elim stands [ ]
 rollback_comes s c (at, Commits d) rollback view path is stands view_is kept = elim stands [ ]
 rollback_comes s c (at, Transfers x) rollback view path is stands view_is kept = elim stands [ ]
@@ -198,13 +198,13 @@ pub state_comes : (s : SectionState) (step : ℕ × Step) (state : TransferView)
     (record { view = view; rolled_back = false; transferred = Some state; committed = 0; path = path })
 state_comes s (at, Transfers x) state view path stands view_is none =
     let skipped : List HowReached = replicate (x.seq - (s.last + 1)) Skipped in
-    let all : List HowReached = s.each_reached ++ (skipped ++ ByTransfer at x ∷ []) in
+    let all : List HowReached = s.ways_reached ++ (skipped ++ ByTransfer at x ∷ []) in
     let behind : attempts_behind all ≡ [] =
-    fold-append and_how_reached [] s.each_reached (skipped ++ ByTransfer at x ∷ [])
-    ∙ fold-append and_how_reached (attempts_behind s.each_reached) skipped (ByTransfer at x ∷ []) in
+    fold-append with_reached [] s.ways_reached (skipped ++ ByTransfer at x ∷ [])
+    ∙ fold-append with_reached (attempts_behind s.ways_reached) skipped (ByTransfer at x ∷ []) in
     let last : last_state all ≡ Some (at, x) =
-    fold-append later_state None s.each_reached (skipped ++ ByTransfer at x ∷ [])
-    ∙ fold-append later_state (last_state s.each_reached) skipped (ByTransfer at x ∷ []) in
+    fold-append later_state None s.ways_reached (skipped ++ ByTransfer at x ∷ [])
+    ∙ fold-append later_state (last_state s.ways_reached) skipped (ByTransfer at x ∷ []) in
     let number : state_number (last_state all) ≡ x.seq = ap state_number last in
     let count : length (attempts_behind all) ≡ 0 = ap length behind in
     record {

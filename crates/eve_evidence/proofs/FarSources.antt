@@ -20,7 +20,7 @@ use Rattle.eve_evidence.specs.declared.prefix.Prefix.{Prefix}
 use Rattle.eve_evidence.specs.declared.prefix.LastSource.{LastSource}
 use Rattle.eve_evidence.specs.declared.prefix.Since.TheVariants as since
 use Rattle.eve_evidence.specs.declared.sought.Sought.TheVariants.{Left}
-use Rattle.eve_evidence.specs.Course.{last_state, later_state, attempts_behind, and_how_reached, standing}
+use Rattle.eve_evidence.specs.Course.{last_state, later_state, attempts_behind, with_reached, standing}
 use Rattle.eve_evidence.specs.Sources.{Passed, passed_in, state_table}
 use Rattle.eve_evidence.specs.Sought.{RecordMeets, NoneFound, IsLastFound}
 use Rattle.eve_evidence.specs.Seen.{Look, look, base_before, NoneNear, NoneNearer, NoneInPrefix, IsSeenFrom}
@@ -43,30 +43,30 @@ all_back P (x ∷ xs) ys all = all_back P xs ys all.1
 -- ---- where no state was transferred
 
 -- an attempt by which a number was reached
-how_reached_counts : (each_reached : List HowReached) (ps : List Placed) (state : Option (ℕ × Transfer))
-    → fold later_state state each_reached ≡ None → (state ≡ None)
-    × (fold and_how_reached ps each_reached ≡ ps ++ attempts_by each_reached)
+how_reached_counts : (ways_reached : List HowReached) (ps : List Placed) (state : Option (ℕ × Transfer))
+    → fold later_state state ways_reached ≡ None → (state ≡ None)
+    × (fold with_reached ps ways_reached ≡ ps ++ attempts_by ways_reached)
 how_reached_counts [] ps state none = (none, sym (append-nil ps))
-how_reached_counts (ByAttempt p ∷ each_reached) ps state none =
-    let more = how_reached_counts each_reached (ps ++ p ∷ []) state none in
-    (more.0, more.1 ∙ append_assoc ps (p ∷ []) (attempts_by each_reached))
-how_reached_counts (ByTransfer at x ∷ each_reached) ps state none =
-    let more = how_reached_counts each_reached [] (Some (at, x)) none in absurd (cc more.0)
-how_reached_counts (Skipped ∷ each_reached) ps state none = how_reached_counts each_reached ps state none
+how_reached_counts (ByAttempt p ∷ ways_reached) ps state none =
+    let more = how_reached_counts ways_reached (ps ++ p ∷ []) state none in
+    (more.0, more.1 ∙ append_assoc ps (p ∷ []) (attempts_by ways_reached))
+how_reached_counts (ByTransfer at x ∷ ways_reached) ps state none =
+    let more = how_reached_counts ways_reached [] (Some (at, x)) none in absurd (cc more.0)
+how_reached_counts (Skipped ∷ ways_reached) ps state none = how_reached_counts ways_reached ps state none
 
-all_behind : (s : SectionState) → last_state s.each_reached ≡ None → attempts_behind s.each_reached
-    ≡ attempts_by s.each_reached
-all_behind s none = (how_reached_counts s.each_reached [] None none).1
+all_behind : (s : SectionState) → last_state s.ways_reached ≡ None → attempts_behind s.ways_reached
+    ≡ attempts_by s.ways_reached
+all_behind s none = (how_reached_counts s.ways_reached [] None none).1
 
 -- a state that was transferred is followed by none but others
 abbrev HasState : SectionState → Type 0
-HasState s = last_state s.each_reached ≢ None
+HasState s = last_state s.ways_reached ≢ None
 
-still_has : (each_reached more : List HowReached) → last_state each_reached ≢ None → last_state (each_reached ++ more)
+still_has : (ways_reached more : List HowReached) → last_state ways_reached ≢ None → last_state (ways_reached ++ more)
     ≢ None
-still_has each_reached more some none =
-    some (how_reached_counts more [] (last_state each_reached)
-    (sym (fold-append later_state None each_reached more) ∙ none)).0
+still_has ways_reached more some none =
+    some (how_reached_counts more [] (last_state ways_reached)
+    (sym (fold-append later_state None ways_reached more) ∙ none)).0
 
 has_after : (s : SectionState) (steps : List (ℕ × Step)) → HasState s → HasState (state_after s steps)
 has_after s [] has = has
@@ -75,17 +75,17 @@ has_after s ((at, Commits c) ∷ steps) has = has_after (next s (at, Commits c))
   where
     by : (ps : List Placed) → HasState (committing s ps)
     by [] = has
-    by (p ∷ ps) = still_has s.each_reached (ByAttempt p ∷ []) has
+    by (p ∷ ps) = still_has s.ways_reached (ByAttempt p ∷ []) has
 has_after s ((at, RollsBack r) ∷ steps) has = has_after (next s (at, RollsBack r)) steps has
 has_after s ((at, Transfers x) ∷ steps) has =
-    has_after (next s (at, Transfers x)) steps (still_has s.each_reached _ has)
+    has_after (next s (at, Transfers x)) steps (still_has s.ways_reached _ has)
 
 has_now : (s : SectionState) (at : ℕ) (x : Transfer) → HasState (next s (at, Transfers x))
 has_now s at x none =
     let skipped : List HowReached = replicate (x.seq - (s.last + 1)) Skipped in
-    let last : last_state (s.each_reached ++ (skipped ++ ByTransfer at x ∷ [])) ≡ Some (at, x) =
-    fold-append later_state None s.each_reached (skipped ++ ByTransfer at x ∷ [])
-    ∙ fold-append later_state (last_state s.each_reached) skipped (ByTransfer at x ∷ []) in
+    let last : last_state (s.ways_reached ++ (skipped ++ ByTransfer at x ∷ [])) ≡ Some (at, x) =
+    fold-append later_state None s.ways_reached (skipped ++ ByTransfer at x ∷ [])
+    ∙ fold-append later_state (last_state s.ways_reached) skipped (ByTransfer at x ∷ []) in
     cc (sym last ∙ none)
 
 has_behind : (prefix before behind : List (ℕ × Step)) (at : ℕ) (x : Transfer) → prefix ≡ before ++ (at, Transfers x)
@@ -141,30 +141,30 @@ module _ (t : Trace) (prefix behind : List (ℕ × Step)) (at : ℕ) (a : Attemp
 
   module _ (near : NoneNear t l) where
     -- an attempt that stands has none
-    not_standing : (b : ℕ × Attempt) (source : Source) → SomePlace (attempts_behind s.each_reached ++ s.pending)
+    not_standing : (b : ℕ × Attempt) (source : Source) → SomePlace (attempts_behind s.ways_reached ++ s.pending)
         (λ _ p. placed_at p ≡ b) → IsLastFound (Left row has) (passed_in b) source → ⊥
     not_standing b source place last =
         no_last row has b source
         (none_of_standing row has (standing s) _ b near.on_way.way
-        (placed_among (attempts_behind s.each_reached ++ s.pending) b place)) last
+        (placed_among (attempts_behind s.ways_reached ++ s.pending) b place)) last
 
     not_open : (b : ℕ × Attempt) (source : Source) (count : ℕ) → IsOpenAfter s b count
         → IsLastFound (Left row has) (passed_in b) source → ⊥
     not_open b source count is last =
         not_standing b source (record {
-          before = attempts_behind s.each_reached ++ is.before;
+          before = attempts_behind s.ways_reached ++ is.before;
           item = is.item;
           rest = is.behind;
-          is = ap (λ (ps : List Placed). attempts_behind s.each_reached ++ ps) is.is
-              ∙ sym (append_assoc (attempts_behind s.each_reached) is.before (is.item ∷ is.behind));
+          is = ap (λ (ps : List Placed). attempts_behind s.ways_reached ++ ps) is.is
+              ∙ sym (append_assoc (attempts_behind s.ways_reached) is.before (is.item ∷ is.behind));
           holds = is.same;
         }) last
 
     not_committed : (b : ℕ × Attempt) (source : Source) → base_before l ≡ None
-        → SomePlace (attempts_by s.each_reached) (λ _ p. placed_at p ≡ b)
+        → SomePlace (attempts_by s.ways_reached) (λ _ p. placed_at p ≡ b)
         → IsLastFound (Left row has) (passed_in b) source → ⊥
     not_committed b source none place last =
-        not_standing b source (place_grows (λ _ p. placed_at p ≡ b) (attempts_behind s.each_reached) s.pending
+        not_standing b source (place_grows (λ _ p. placed_at p ≡ b) (attempts_behind s.ways_reached) s.pending
         (subst (λ (ps : List Placed). SomePlace ps (λ _ p. placed_at p ≡ b)) (sym (all_behind s none)) place)) last
 
     module _ (f : Prefix) (is : IsPrefix t row has prefix f) where

@@ -54,12 +54,12 @@ attempts_by-append (ByAttempt p ∷ xs) ys = ap (λ (ps : List Placed). p ∷ ps
 attempts_by-append (ByTransfer at x ∷ xs) ys = attempts_by-append xs ys
 attempts_by-append (Skipped ∷ xs) ys = attempts_by-append xs ys
 
-committed_grows : (each_reached more : List HowReached) (b : ℕ × Attempt)
-    → SomePlace (attempts_by each_reached) (λ _ p. placed_at p ≡ b)
-    → SomePlace (attempts_by (each_reached ++ more)) (λ _ p. placed_at p ≡ b)
-committed_grows each_reached more b place =
-    subst (λ (ps : List Placed). SomePlace ps (λ _ p. placed_at p ≡ b)) (sym (attempts_by-append each_reached more))
-    (place_grows (λ _ p. placed_at p ≡ b) (attempts_by each_reached) (attempts_by more) place)
+committed_grows : (ways_reached more : List HowReached) (b : ℕ × Attempt)
+    → SomePlace (attempts_by ways_reached) (λ _ p. placed_at p ≡ b)
+    → SomePlace (attempts_by (ways_reached ++ more)) (λ _ p. placed_at p ≡ b)
+committed_grows ways_reached more b place =
+    subst (λ (ps : List Placed). SomePlace ps (λ _ p. placed_at p ≡ b)) (sym (attempts_by-append ways_reached more))
+    (place_grows (λ _ p. placed_at p ≡ b) (attempts_by ways_reached) (attempts_by more) place)
 
 module _ (steps : List (ℕ × Step)) (step : ℕ × Step) where
   came : state_after start (steps ++ step ∷ []) ≡ next (state_after start steps) step
@@ -187,7 +187,7 @@ module _ (row : ℕ) (steps : List (ℕ × Step)) (at : ℕ) (a : Attempt) where
         open_is = opened_is ∙ ap (λ (n : ℕ). n + 1) is.open_is ∙ sym (length-append s.pending (placed_a ∷ []))
             ∙ ap open_count (sym (came steps step_a));
         base_is = is.base_is
-            ∙ ap (λ (st : SectionState). option_map (λ (y : ℕ × Transfer). y.0) (last_state st.each_reached))
+            ∙ ap (λ (st : SectionState). option_map (λ (y : ℕ × Transfer). y.0) (last_state st.ways_reached))
             (sym (came steps step_a));
         restored_is = subst (λ (rs : List (ℕ × Rollback)). IsRestoredBy row has rs f.restored)
             (sym (rollbacks_came steps step_a)) is.restored_is;
@@ -209,8 +209,8 @@ module _ (row : ℕ) (steps : List (ℕ × Step)) (at : ℕ) (c : Commit) where
       → length before ≡ 0 → IsCommittedIn (committing before_c (before ++ p ∷ behind)) b
   first_commits b [] p behind same none =
       subst (λ (ps : List Placed). SomePlace ps (λ _ q. placed_at q ≡ b))
-      (sym (attempts_by-append before_c.each_reached (ByAttempt p ∷ []))) (record {
-        before = attempts_by before_c.each_reached;
+      (sym (attempts_by-append before_c.ways_reached (ByAttempt p ∷ []))) (record {
+        before = attempts_by before_c.ways_reached;
         item = p;
         rest = [];
         is = refl;
@@ -235,7 +235,7 @@ module _ (row : ℕ) (steps : List (ℕ × Step)) (at : ℕ) (c : Commit) where
   stays_committed : (b : ℕ × Attempt) (ps : List Placed) → IsCommittedIn before_c b
       → IsCommittedIn (committing before_c ps) b
   stays_committed b [] is = is
-  stays_committed b (p ∷ ps) is = committed_grows before_c.each_reached (ByAttempt p ∷ []) b is
+  stays_committed b (p ∷ ps) is = committed_grows before_c.ways_reached (ByAttempt p ∷ []) b is
 
   since_committed : (b : ℕ × Attempt) (w : Since) → IsSince row steps b w
       → IsSince row (steps ++ step_c ∷ []) b (since_commit w)
@@ -257,9 +257,9 @@ module _ (row : ℕ) (steps : List (ℕ × Step)) (at : ℕ) (c : Commit) where
   fewer n [] e = omega (arith, e)
   fewer n (p ∷ ps) e = omega (arith, e)
 
-  same_base : (ps : List Placed) → last_state (committing before_c ps).each_reached ≡ last_state before_c.each_reached
+  same_base : (ps : List Placed) → last_state (committing before_c ps).ways_reached ≡ last_state before_c.ways_reached
   same_base [] = refl
-  same_base (p ∷ ps) = fold-append later_state None before_c.each_reached (ByAttempt p ∷ [])
+  same_base (p ∷ ps) = fold-append later_state None before_c.ways_reached (ByAttempt p ∷ [])
 
   pub prefix_commit : (t : Trace) (has : Versioned) (f : Prefix) (many : ℕ) (last : Option LastSource)
       → many ≡ f.pending - 1 → last ≡ last_with since_commit f.last → IsPrefix t row has steps f
@@ -268,7 +268,7 @@ module _ (row : ℕ) (steps : List (ℕ × Step)) (at : ℕ) (c : Commit) where
   prefix_commit t has f many last open_is last_is is = record {
     open_is = open_is ∙ fewer f.pending before_c.pending is.open_is ∙ ap open_count (sym (came steps step_c));
     base_is = is.base_is ∙ ap (option_map (λ (y : ℕ × Transfer). y.0)) (sym (same_base before_c.pending)
-        ∙ ap (λ (s : SectionState). last_state s.each_reached) (sym (came steps step_c)));
+        ∙ ap (λ (s : SectionState). last_state s.ways_reached) (sym (came steps step_c)));
     restored_is = subst (λ (rs : List (ℕ × Rollback)). IsRestoredBy row has rs f.restored)
         (sym (rollbacks_came steps step_c)) is.restored_is;
     last_is = subst (IsLastSource t row has (steps ++ step_c ∷ [])) (sym last_is)
@@ -319,7 +319,7 @@ module _ (row : ℕ) (steps : List (ℕ × Step)) (at : ℕ) (r : Rollback) wher
   prefix_rollback t has f restored restores last names last_is again is = record {
     open_is = ap open_count (sym (came steps step_r));
     base_is = is.base_is
-        ∙ ap (λ (st : SectionState). option_map (λ (y : ℕ × Transfer). y.0) (last_state st.each_reached))
+        ∙ ap (λ (st : SectionState). option_map (λ (y : ℕ × Transfer). y.0) (last_state st.ways_reached))
         (sym (came steps step_r));
     restored_is = subst (λ (rs : List (ℕ × Rollback)). IsRestoredBy row has rs restored)
         (sym (rollbacks_came steps step_r)) again;
@@ -342,18 +342,18 @@ module _ (row : ℕ) (steps : List (ℕ × Step)) (at : ℕ) (x : Transfer) wher
   since_over b (since.Open count) is = (x, discarded_now steps step_x b count is)
   since_over b since.Settled is =
       subst (λ (s : SectionState). IsCommittedIn s b) (sym (came steps step_x))
-      (committed_grows before_x.each_reached (over before_x at x) b is)
+      (committed_grows before_x.ways_reached (over before_x at x) b is)
   since_over b (since.RolledBack by restores) is = (is.0, discarded_grows steps step_x b _ is.1, is.2)
   since_over b (since.Discarded by) is = (is.0, discarded_grows steps step_x b _ is.1)
 
   base_now : Some at ≡ option_map (λ (y : ℕ × Transfer). y.0)
-      (last_state (state_after start (steps ++ step_x ∷ [])).each_reached)
+      (last_state (state_after start (steps ++ step_x ∷ [])).ways_reached)
   base_now =
       let skipped : List HowReached = replicate (x.seq - (before_x.last + 1)) Skipped in
       ap (option_map (λ (y : ℕ × Transfer). y.0))
-      (sym (fold-append later_state None before_x.each_reached (skipped ++ ByTransfer at x ∷ [])
-      ∙ fold-append later_state (last_state before_x.each_reached) skipped (ByTransfer at x ∷ []))
-      ∙ ap (λ (s : SectionState). last_state s.each_reached) (sym (came steps step_x)))
+      (sym (fold-append later_state None before_x.ways_reached (skipped ++ ByTransfer at x ∷ [])
+      ∙ fold-append later_state (last_state before_x.ways_reached) skipped (ByTransfer at x ∷ []))
+      ∙ ap (λ (s : SectionState). last_state s.ways_reached) (sym (came steps step_x)))
 
   pub prefix_state : (t : Trace) (has : Versioned) (last : Option LastSource)
       → IsLastSource t row has (steps ++ step_x ∷ []) last

@@ -170,20 +170,20 @@ pub first_open : (s : SectionState) (c : Course) (o : OnPath) → IsCourse s c �
     → FirstOpen s o
 first_open s c o is got = by s.pending refl
   where
-    there : slice_get (standing s) (length (attempts_behind s.each_reached)) ≡ Some (placed_on o)
-    there = ap (λ (xs : List (ℕ × Attempt)). slice_get xs (length (attempts_behind s.each_reached))) (sym is.path)
+    there : slice_get (standing s) (length (attempts_behind s.ways_reached)) ≡ Some (placed_on o)
+    there = ap (λ (xs : List (ℕ × Attempt)). slice_get xs (length (attempts_behind s.ways_reached))) (sym is.path)
         ∙ ap (slice_get (map placed_on c.path.items)) (sym is.committed)
         ∙ slice_get-map placed_on c.path.items c.committed ∙ ap (option_map placed_on) got
 
     behind : slice_get (map placed_at s.pending) 0 ≡ Some (placed_on o)
     behind =
-        sym (slice_get-behind (map placed_at (attempts_behind s.each_reached)) (map placed_at s.pending) 0)
-        ∙ ap (slice_get (map placed_at (attempts_behind s.each_reached) ++ map placed_at s.pending))
-        (add-zero (length (map placed_at (attempts_behind s.each_reached)))
-        ∙ length-map (attempts_behind s.each_reached)
+        sym (slice_get-behind (map placed_at (attempts_behind s.ways_reached)) (map placed_at s.pending) 0)
+        ∙ ap (slice_get (map placed_at (attempts_behind s.ways_reached) ++ map placed_at s.pending))
+        (add-zero (length (map placed_at (attempts_behind s.ways_reached)))
+        ∙ length-map (attempts_behind s.ways_reached)
         placed_at)
-        ∙ ap (λ (xs : List (ℕ × Attempt)). slice_get xs (length (attempts_behind s.each_reached)))
-        (sym (map-append placed_at (attempts_behind s.each_reached) s.pending))
+        ∙ ap (λ (xs : List (ℕ × Attempt)). slice_get xs (length (attempts_behind s.ways_reached)))
+        (sym (map-append placed_at (attempts_behind s.ways_reached) s.pending))
         ∙ there
 
     none-some : {A : Type 0} (x : A) → ◌≡◌ {A = Option A} None (Some x) → ⊥

@@ -138,7 +138,7 @@ structure_along t c e at stands apart = absurd stands
 
 -- it is one of the state's attempts
 abbrev Has : Placed → SectionState → Type 0
-Has p s = In p (attempts_by s.each_reached) ⊎ (In p s.pending ⊎ In p s.discarded)
+Has p s = In p (attempts_by s.ways_reached) ⊎ (In p s.pending ⊎ In p s.discarded)
 
 -- at this step, where the section has come to this state, it comes
 abbrev Comes : Placed → SectionState → ℕ × Step → Type 0
@@ -151,8 +151,8 @@ only (there i) = elim i [ ]
 commits_from : (p : Placed) (s : SectionState) (ps : List Placed) → ((q : Placed) → In q ps → Has q s)
     → Has p (committing s ps) → Has p s
 commits_from p s [] old has = has
-commits_from p s (q ∷ ps) old (inl i) = elim (in_split (attempts_by s.each_reached) (q ∷ [])
-    (subst (In p) (attempts_by_push s.each_reached q) i)) [
+commits_from p s (q ∷ ps) old (inl i) = elim (in_split (attempts_by s.ways_reached) (q ∷ [])
+    (subst (In p) (attempts_by_push s.ways_reached q) i)) [
       | inl j ↦ inl j
       | inr j ↦ subst (λ (x : Placed). Has x s) (sym (only j)) (old q here)
     ]
@@ -205,7 +205,7 @@ settled_comes t e p i = elim (has_after p start (steps_at t e) has) [
 ]
   where
     has : Has p (state_after start (steps_at t e))
-    has = elim (in_split (attempts_by (state_after start (steps_at t e)).each_reached)
+    has = elim (in_split (attempts_by (state_after start (steps_at t e)).ways_reached)
         (state_after start (steps_at t e)).discarded i) [
           | inl j ↦ inl j
           | inr j ↦ inr (inr j)

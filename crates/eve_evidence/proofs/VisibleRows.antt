@@ -40,7 +40,7 @@ module _ (t : Trace) (s : SectionState) (course : Course) (decoded a : Attempt) 
   whole i = flat_map passed_in (is.path i) ++ own_is i
 
   abbrev state : Option (ℕ × Transfer)
-  state = last_state s.each_reached
+  state = last_state s.ways_reached
 
   from_last : (l : Left) → IsLast row (path ++ own) l → IsLeftBy state row (way_to (standing s) at a index) l.by
   from_last l last =

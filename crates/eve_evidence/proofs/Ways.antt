@@ -14,7 +14,7 @@ use Rattle.eve_history.specs.Section.{SectionState, path_of}
 use Rattle.eve_history.specs.SectionHistory.{access_with, placed_at}
 use Rattle.eve_chains.specs.Visible.{entries_with, executed_in, with_came, rows_after, opening_table}
 use Rattle.eve_chains.specs.Visible.{before_index, visible_to}
-use Rattle.eve_evidence.specs.Course.{later_state, last_state, and_how_reached, attempts_behind, standing}
+use Rattle.eve_evidence.specs.Course.{later_state, last_state, with_reached, attempts_behind, standing}
 use Rattle.eve_evidence.specs.Told.{placed_in}
 use Rattle.eve_evidence.specs.Sources.{passed, passed_in, way_to, state_table, table_after_way}
 use Rattle.eve_evidence.proofs.LastWrites.{along-append}
@@ -58,36 +58,36 @@ module _ (t : Trace) where
       ∙ sym (along-append 0 table own (flat_map passed_in (map placed_at ps)))
 
   -- what came by numbers that were reached is what their last state has, and what the attempts behind it did
-  each_reached_table : (state : Option (ℕ × Transfer)) (ps : List Placed) (ls : List HowReached)
+  ways_reached_table : (state : Option (ℕ × Transfer)) (ps : List Placed) (ls : List HowReached)
       → fold (with_came t) (fold (with_came t) (state_table t state) (map ran ps)) (flat_map came_by ls)
-      ≡ fold (with_came t) (state_table t (fold later_state state ls)) (map ran (fold and_how_reached ps ls))
-  each_reached_table state ps [] = refl
-  each_reached_table state ps (ByAttempt p ∷ ls) =
+      ≡ fold (with_came t) (state_table t (fold later_state state ls)) (map ran (fold with_reached ps ls))
+  ways_reached_table state ps [] = refl
+  ways_reached_table state ps (ByAttempt p ∷ ls) =
       ap (λ (now : Table). fold (with_came t) now (flat_map came_by ls))
       (sym (fold-append (with_came t) (state_table t state) (map ran ps) (ran p ∷ []))
       ∙ ap (fold (with_came t) (state_table t state)) (sym (map-append ran ps (p ∷ []))))
-      ∙ each_reached_table state (ps ++ p ∷ []) ls
-  each_reached_table state ps (ByTransfer at x ∷ ls) = each_reached_table (Some (at, x)) [] ls
-  each_reached_table state ps (Skipped ∷ ls) = each_reached_table state ps ls
+      ∙ ways_reached_table state (ps ++ p ∷ []) ls
+  ways_reached_table state ps (ByTransfer at x ∷ ls) = ways_reached_table (Some (at, x)) [] ls
+  ways_reached_table state ps (Skipped ∷ ls) = ways_reached_table state ps ls
 
   path_rows : (s : SectionState) → rows_after t (path_of s)
-      ≡ fold (with_came t) (state_table t (last_state s.each_reached))
-      (map ran (attempts_behind s.each_reached ++ s.pending))
+      ≡ fold (with_came t) (state_table t (last_state s.ways_reached))
+      (map ran (attempts_behind s.ways_reached ++ s.pending))
   path_rows s =
-      let first = state_table t (last_state s.each_reached) in
-      fold-append (with_came t) (opening_table t) (flat_map came_by s.each_reached) (map ran s.pending)
-      ∙ ap (λ (now : Table). fold (with_came t) now (map ran s.pending)) (each_reached_table None [] s.each_reached)
-      ∙ sym (fold-append (with_came t) first (map ran (attempts_behind s.each_reached)) (map ran s.pending))
-      ∙ ap (fold (with_came t) first) (sym (map-append ran (attempts_behind s.each_reached) s.pending))
+      let first = state_table t (last_state s.ways_reached) in
+      fold-append (with_came t) (opening_table t) (flat_map came_by s.ways_reached) (map ran s.pending)
+      ∙ ap (λ (now : Table). fold (with_came t) now (map ran s.pending)) (ways_reached_table None [] s.ways_reached)
+      ∙ sym (fold-append (with_came t) first (map ran (attempts_behind s.ways_reached)) (map ran s.pending))
+      ∙ ap (fold (with_came t) first) (sym (map-append ran (attempts_behind s.ways_reached) s.pending))
 
   -- what an entry must see is what the records on its way leave
   pub way_table : (s : SectionState) (at : ℕ) (a : Attempt) (index : ℕ)
       → visible_to t (placed_in s at a) index
-      ≡ table_after_way (state_table t (last_state s.each_reached)) (way_to (standing s) at a index)
+      ≡ table_after_way (state_table t (last_state s.ways_reached)) (way_to (standing s) at a index)
   way_table s at a index =
       let own = before_index index a.certificate in
-      let first = state_table t (last_state s.each_reached) in
+      let first = state_table t (last_state s.ways_reached) in
       ap (λ (now : Table). table_after_all now (executed_in t a own))
-      (path_rows s ∙ path_table first (attempts_behind s.each_reached ++ s.pending))
+      (path_rows s ∙ path_table first (attempts_behind s.ways_reached ++ s.pending))
       ∙ order_table (table_after_way first (flat_map passed_in (standing s))) at a own
       ∙ sym (along-append 0 first (flat_map passed_in (standing s)) (passed a.seq (accesses_at at a) own))

@@ -35,6 +35,6 @@ pub record IsWrongEntry (t : Trace) (c : Code) (table : Table) (state : Option (
 abbrev pub IsFirstWrongEntry : Trace → Code → SectionState → ℕ → Attempt → Access → WrongEntry → Type 0
 IsFirstWrongEntry t c s at a x w =
     SomePlace x.entries (λ before e. IsWrongEntry t c (visible_to t (placed_in s at a) x.index)
-    (last_state s.each_reached)
+    (last_state s.ways_reached)
     (way_to (standing s) at a x.index) (passed a.seq (accesses_at at a) (before_index x.index a.certificate)) before e
     w)

@@ -22,7 +22,7 @@ later_state state Skipped = state
 
 -- the last state that was transferred, with its frame's offset, if there is one
 abbrev pub last_state : List HowReached → Option (ℕ × Transfer)
-last_state each_reached = fold later_state None each_reached
+last_state ways_reached = fold later_state None ways_reached
 
 -- the number that it has; 0 where there is none
 abbrev pub state_number : Option (ℕ × Transfer) → ℕ
@@ -30,18 +30,18 @@ state_number None = 0
 state_number (Some x) = x.1.seq
 
 -- an attempt by which a number is reached follows those before it; no earlier one counts behind a state
-abbrev pub and_how_reached : List Placed → HowReached → List Placed
-and_how_reached ps (ByAttempt p) = ps ++ p ∷ []
-and_how_reached ps (ByTransfer at x) = []
-and_how_reached ps Skipped = ps
+abbrev pub with_reached : List Placed → HowReached → List Placed
+with_reached ps (ByAttempt p) = ps ++ p ∷ []
+with_reached ps (ByTransfer at x) = []
+with_reached ps Skipped = ps
 
 -- the attempts by which numbers were reached behind that state, in order
 abbrev pub attempts_behind : List HowReached → List Placed
-attempts_behind each_reached = fold and_how_reached [] each_reached
+attempts_behind ways_reached = fold with_reached [] ways_reached
 
 -- the attempts behind that state that no rollback discarded, with the offsets of their frames
 abbrev pub standing : SectionState → List (ℕ × Attempt)
-standing s = map placed_at (attempts_behind s.each_reached ++ s.pending)
+standing s = map placed_at (attempts_behind s.ways_reached ++ s.pending)
 
 -- ---- what is kept
 
@@ -61,8 +61,8 @@ state_decoded state = option_map (λ x. (x.offset, transfer_decoded x)) state
 pub record IsCourse (s : SectionState) (c : Course) : Type 0 where
   pub view : c.view ≡ s.view
   pub rolled_back : c.rolled_back ≡ s.rolled_back
-  pub transferred : state_decoded c.transferred ≡ last_state s.each_reached
-  pub committed : c.committed ≡ length (attempts_behind s.each_reached)
-  pub last : s.last ≡ state_number (last_state s.each_reached) + length (attempts_behind s.each_reached)
+  pub transferred : state_decoded c.transferred ≡ last_state s.ways_reached
+  pub committed : c.committed ≡ length (attempts_behind s.ways_reached)
+  pub last : s.last ≡ state_number (last_state s.ways_reached) + length (attempts_behind s.ways_reached)
   pub path : map placed_on c.path.items ≡ standing s
   pub framed : AllByRecursion IsOnPath c.path.items

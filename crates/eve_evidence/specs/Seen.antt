@@ -46,7 +46,7 @@ state_of l = state_after start l.prefix
 
 -- the last state that was transferred before
 abbrev pub base_before : Look → Option (ℕ × Transfer)
-base_before l = last_state (state_of l).each_reached
+base_before l = last_state (state_of l).ways_reached
 
 -- the records on its way: of the attempts that stand, and its own attempt's up to it
 abbrev pub way_of : Look → List Passed
@@ -169,7 +169,7 @@ IsDiscardedBy steps b by = SomePlace steps (λ before step. (step ≡ by) × IsO
 
 -- it is committed
 abbrev pub IsCommittedIn : SectionState → ℕ × Attempt → Type 0
-IsCommittedIn s b = SomePlace (attempts_by s.each_reached) (λ _ p. placed_at p ≡ b)
+IsCommittedIn s b = SomePlace (attempts_by s.ways_reached) (λ _ p. placed_at p ≡ b)
 
 -- ---- in which order the sources are told
 

@@ -716,7 +716,7 @@ pub enum Evidence<'a> {
 pub struct ReplicaCounts {
     /// How many numbers it committed by an attempt.
     pub committed: u32,
-    /// How many states it got by a transfer: none in version 1.
+    /// How many states were transferred to it: none in version 1.
     pub transferred: u32,
     /// How many attempts it discarded.
     pub discarded: u32,

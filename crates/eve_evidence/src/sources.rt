@@ -246,7 +246,7 @@ pub fn left_to(
     requires { (s : SectionState) × IsCourse s course.now }
     ensures by { (s : SectionState) (a : AttemptValue) → IsCourse s course.now
         → attempt_decoded attempt.now ≡ without_accesses a → accesses.now ≡ accesses_at attempt.now.offset a
-        → IsLeftBy (last_state s.each_reached) row (way_to (standing s) attempt.now.offset a index) result.by }
+        → IsLeftBy (last_state s.ways_reached) row (way_to (standing s) attempt.now.offset a index) result.by }
     ensures has { (s : SectionState) (a : AttemptValue) → IsCourse s course.now
         → attempt_decoded attempt.now ≡ without_accesses a → accesses.now ≡ accesses_at attempt.now.offset a
         → result.has ≡ visible_to trace.now (placed_in s attempt.now.offset a) index row }

@@ -14,18 +14,18 @@ use Rattle.eve_grammar.specs.Readers.{header_of}
 use Rattle.eve_grammar.specs.declared.head.Head.{Head}
 use Rattle.eve_grammar.specs.declared.place.Place.{Place}
 use Rattle.eve_grammar.proofs.FrameLaws.{Exact-header}
-use Rattle.eve_views.specs.Form.{IsReached, SaysHead, decoded_by}
+use Rattle.eve_views.specs.Form.{IsReached, SaysHead, head_bytes}
 use Rattle.eve_views.proofs.FrameLaws.{length-frame_text}
 use Rattle.eve_views.specs.inner.Places.{accesses_in}
 use Rattle.eve_evidence_form.specs.Records.{TellsRecords, records_after}
 use Rattle.eve_evidence_form.specs.inner.Walk.{BeginsWith}
 use Rattle.eve_evidence_form.specs.declared.walk.PlaceReached.{PlaceReached}
-use Rattle.eve_evidence_form.proofs.Headers.{decoded_by_text}
+use Rattle.eve_evidence_form.proofs.Headers.{head_bytes_text}
 use Rattle.eve_evidence_form.proofs.Records.{few_found, no_records, told_after}
 
 -- what a header says is read
-pub head_again : (bytes : List ℕ) (h : Head) → SaysHead bytes h → header_of (decoded_by bytes) ≡ Some h
-head_again bytes h s = ap header_of (s.decoded ∙ decoded_by_text h) ∙ Exact-header.again h s.limits
+pub head_again : (bytes : List ℕ) (h : Head) → SaysHead bytes h → header_of (head_bytes bytes) ≡ Some h
+head_again bytes h s = ap header_of (s.decoded ∙ head_bytes_text h) ∙ Exact-header.again h s.limits
 
 -- the frames up to the byte `next` have been gone over
 pub record IsPassed (bytes : List ℕ) (at : ℕ) (r : IsReached bytes at) (next : ℕ) (so_far : PlaceReached) : Type 0 where

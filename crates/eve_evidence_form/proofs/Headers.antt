@@ -14,7 +14,7 @@ use Rattle.eve_grammar.proofs.Codec.{IsBytes, IsBytes-drop, IsBytes-take}
 use Rattle.eve_grammar.proofs.FrameLaws.{limits_text}
 use Rattle.eve_grammar.proofs.HeaderParts.{header_parts, length-limits_text, behind_magic}
 use Rattle.eve_grammar.proofs.HeadLimits.{head_from_limits}
-use Rattle.eve_views.specs.Form.{decoded_by, SaysHead}
+use Rattle.eve_views.specs.Form.{head_bytes, SaysHead}
 use Rattle.eve_views.proofs.Bytes.{number_back}
 use Rattle.eve_evidence_form.specs.Header.{decoded, head_numbers, LiesWithin}
 
@@ -120,7 +120,7 @@ is_right bytes (
     })
 
 limits_decoded : (bytes : List ℕ) → IsBytes bytes → 24 ≤ length bytes → AllByRecursion LiesWithin (head_numbers bytes)
-    → limits_text (head_in bytes) ≡ decoded_by bytes
+    → limits_text (head_in bytes) ≡ head_bytes bytes
 limits_decoded bytes fits long (version, (replicas, (verifiers, (quorum, (window, (workers, (z, (y, (x, rest))))))))) =
     let batches = four_at 20 bytes fits (omega arith) in
     let customers = chunk 4 4 16 bytes _ _ (four_at 16 bytes fits (omega arith)) batches in
@@ -131,14 +131,14 @@ limits_decoded bytes fits long (version, (replicas, (verifiers, (quorum, (window
     (one_at 10 13 bytes _ fits (omega arith) (one_at 11 12 bytes _ fits (omega arith)
     (one_at 12 11 bytes _ fits (omega arith) zeros)))))
 
-pub decoded_by_text : (h : Head) → decoded_by (head_text h 0) ≡ limits_text h
-decoded_by_text h =
-    ap decoded_by (sym (append-nil (head_text h 0)) ∙ header_parts h 0 []) ∙ ap (take 18) (behind_magic h 0 [])
+pub head_bytes_text : (h : Head) → head_bytes (head_text h 0) ≡ limits_text h
+head_bytes_text h =
+    ap head_bytes (sym (append-nil (head_text h 0)) ∙ header_parts h 0 []) ∙ ap (take 18) (behind_magic h 0 [])
     ∙ take_at (limits_text h) (big_bytes 8 0 ++ []) 18 (length-limits_text h)
 
 pub says_head : (bytes : List ℕ) → IsBytes bytes → 24 ≤ length bytes → AllByRecursion LiesWithin (head_numbers bytes)
     → SaysHead bytes (head_in bytes)
 says_head bytes fits long all = record {
   limits = is_right bytes all;
-  decoded = sym (limits_decoded bytes fits long all) ∙ sym (decoded_by_text (head_in bytes));
+  decoded = sym (limits_decoded bytes fits long all) ∙ sym (head_bytes_text (head_in bytes));
 }

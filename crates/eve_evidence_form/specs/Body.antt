@@ -36,12 +36,12 @@ body_fault h p kind.Sent body = first_wrong_field 26 (sent_fields h.replicas h.b
 body_fault h p kind.End body = first_wrong_field 0 []
 
 -- the body of the frame at the beginning of bytes
-abbrev pub body_in_prefix : List ℕ → List ℕ
-body_in_prefix bytes = take (big_number 4 (drop 1 bytes)) (drop FRAME_HEAD_LEN bytes)
+abbrev pub first_body : List ℕ → List ℕ
+first_body bytes = take (big_number 4 (drop 1 bytes)) (drop FRAME_HEAD_LEN bytes)
 
 -- the frame at this byte is of this kind, and the first wrong field of its body begins at that byte
 abbrev pub TellsBody : List ℕ → ℕ → FrameKind → BodyField → ℕ → Type 0
 TellsBody bytes at k own own_at =
     (r : IsReached bytes at) × (f : FieldThere) × (kind_byte k ≡ slice_index (drop at bytes) 0)
-    × (f ≡ body_fault r.head (place_at r) k (body_in_prefix (drop at bytes))) × (own ≡ f.field)
+    × (f ≡ body_fault r.head (place_at r) k (first_body (drop at bytes))) × (own ≡ f.field)
     × (own_at ≡ at + FRAME_HEAD_LEN + f.at)

@@ -28,7 +28,8 @@ IsFrameFault h p bytes (wrong.Cut k body left) =
     IsFalse p.ended × IsTrue (is_allowed h p (kind_byte k)) × (kind_byte k ≡ slice_index bytes 0)
     × (body ≡ big_number 4 (drop 1 bytes)) × (FRAME_HEAD_LEN + left ≡ length bytes) × (left < body)
 
--- what stands at this byte, where the frames before it have come so far, which kinds of frames may stand there, and with
+-- what stands at this byte, where the frames before it have come so far, which kinds of frames may stand there, and
+-- with
 -- which access records those frames end
 abbrev pub TellsFrame : List ℕ → ℕ → FrameFault → List Bool → Option RecordsBefore → Type 0
 TellsFrame bytes at found due records =

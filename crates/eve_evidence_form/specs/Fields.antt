@@ -60,15 +60,15 @@ stands_amount at body = stand 8 at body && is_amount (cast_signed w64 (decoded 8
 -- ---- parts
 
 -- how many bytes come before the first that no name has
-abbrev pub printable_prefix : List ℕ → ℕ
-printable_prefix [] = 0
-printable_prefix (b ∷ bs) = if is_printable b then printable_prefix bs + 1 else 0
+abbrev pub printable_len : List ℕ → ℕ
+printable_len [] = 0
+printable_len (b ∷ bs) = if is_printable b then printable_len bs + 1 else 0
 
 -- a name of n bytes: where they stand there, its place is that of the first byte that no name has
 abbrev pub name_field : BodyField → ℕ → ℕ → List ℕ → FieldThere
 name_field own n at body =
-    if stand n at body then field own (at + printable_prefix (take n (drop at body)))
-    (printable_prefix (take n (drop at body)) == n) else field own at false
+    if stand n at body then field own (at + printable_len (take n (drop at body)))
+    (printable_len (take n (drop at body)) == n) else field own at false
 
 -- a length, and a name of that length
 abbrev pub named_fields : BodyField → BodyField → ℕ → List ℕ → List FieldThere

@@ -5,7 +5,7 @@ ghost use Rattle.byteorder.specs.Endian.{big_number};
 ghost use Rattle.eve_grammar.specs.Kinds.{kind_byte};
 ghost use Rattle.eve_grammar.specs.declared.limits.TheConstants.{MOST_BYTES, MOST_CUSTOMERS};
 ghost use Rattle.eve_views.specs.Form.{IsReached, HasWrongBody, place_at};
-ghost use Rattle.eve_evidence_form.specs.Body.{body_fault, body_in_prefix, TellsBody};
+ghost use Rattle.eve_evidence_form.specs.Body.{body_fault, first_body, TellsBody};
 
 use crate::access_body::access_fault;
 use crate::attempt_body::attempt_fault;
@@ -74,7 +74,7 @@ fn body_len(bytes: &[u8]) -> usize
 /// The body of the frame that lies there as a whole.
 fn body_there<'a>(head: &Head, place: &Place, bytes: &'a [u8]) -> &'a [u8]
     requires { HasWrongBody head.now place.now bytes.now }
-    ensures { result.now ≡ body_in_prefix bytes.now }
+    ensures { result.now ≡ first_body bytes.now }
 {
     sliced(bytes, FRAME_HEAD_LEN, body_len(bytes))
 }

@@ -8,7 +8,7 @@ ghost use Rattle.eve_accounts.specs.Names.{is_printable};
 ghost use Rattle.eve_evidence_form.specs.Header.{decoded};
 ghost use Rattle.eve_evidence_form.specs.Fields.{field, first_wrong_there, first_wrong_field, stand, stands_between};
 ghost use Rattle.eve_evidence_form.specs.Fields.{stands_below, stands_balance, stands_saving, stands_amount};
-ghost use Rattle.eve_evidence_form.specs.Fields.{printable_prefix, name_field, named_fields, reply_fields};
+ghost use Rattle.eve_evidence_form.specs.Fields.{printable_len, name_field, named_fields, reply_fields};
 
 use byteorder::{BigEndian, ByteOrder};
 use eve_accounts::{FIRST_NAME_BYTE, LAST_NAME_BYTE, MOST_AMOUNT, MOST_BALANCE, MOST_NAME_BYTES};
@@ -185,8 +185,8 @@ fn is_printable(byte: u8) -> bool
 }
 
 /// How many bytes come before the first that no name has.
-fn printable_prefix(bytes: &[u8]) -> usize
-    ensures prefix { result ≡ printable_prefix bytes.now }
+fn printable_len(bytes: &[u8]) -> usize
+    ensures prefix { result ≡ printable_len bytes.now }
     ensures within { result ≤ length bytes.now }
 {
     for i in 0..bytes.len() {
@@ -213,7 +213,7 @@ fn name_there(body: &[u8], own: BodyField, n: usize, at: usize) -> FieldThere
     if !stand(body, n, at) {
         return there(own, at, false);
     }
-    let prefix = printable_prefix(sliced(body, at, n));
+    let prefix = printable_len(sliced(body, at, n));
     there(own, at + prefix, prefix == n)
 }
 

@@ -38,7 +38,7 @@ pub fn head_decoded(bytes: &[u8]) -> Head
 }
 
 /// The kind of the frame with which the bytes begin.
-fn kind_in_prefix(bytes: &[u8]) -> FrameKind
+fn first_kind(bytes: &[u8]) -> FrameKind
     requires { (f : Frame) × BeginsWith bytes.now f }
     ensures { (f : Frame) → BeginsWith bytes.now f → kind_byte result ≡ kind_of f }
 {
@@ -49,7 +49,7 @@ fn kind_in_prefix(bytes: &[u8]) -> FrameKind
 }
 
 /// How many bytes the frame has with which the bytes begin.
-fn len_in_prefix(bytes: &[u8]) -> usize
+fn first_len(bytes: &[u8]) -> usize
     requires { (f : Frame) × BeginsWith bytes.now f }
     ensures { (f : Frame) → BeginsWith bytes.now f → result ≡ length (frame_text f) }
 {
@@ -57,7 +57,7 @@ fn len_in_prefix(bytes: &[u8]) -> usize
 }
 
 /// How many access frames have to follow the frame of this kind with which the bytes begin.
-fn accesses_in_prefix(bytes: &[u8], kind: FrameKind) -> usize
+fn first_accesses(bytes: &[u8], kind: FrameKind) -> usize
     requires { (f : Frame) × BeginsWith bytes.now f × (kind_byte kind ≡ kind_of f) }
     ensures { (f : Frame) → BeginsWith bytes.now f → kind_byte kind ≡ kind_of f → result ≡ accesses_in f }
 {
@@ -105,8 +105,8 @@ fn step(head: &Head, so_far: PlaceReached, bytes: &[u8], at: usize) -> PlaceReac
     ensures records { (f : Frame) → BeginsWith bytes.now f
         → result.records ≡ records_after so_far.records (kind_of f) at (accesses_in f) }
 {
-    let kind = kind_in_prefix(bytes);
-    let accesses = accesses_in_prefix(bytes, kind);
+    let kind = first_kind(bytes);
+    let accesses = first_accesses(bytes, kind);
     let mut reached = Reached {
         head: *head,
         place: so_far.place,
@@ -134,7 +134,7 @@ pub fn reached(head: &Head, bytes: &[u8], at: usize) -> PlaceReached
     'frames: while next < at {
         let frame = &bytes[next..];
         so_far = step(head, so_far, frame, next);
-        next += len_in_prefix(frame);
+        next += first_len(frame);
     }
     so_far
 }

@@ -17,7 +17,7 @@ use Rattle.eve_evidence_outcomes.specs.Outcomes.{IsTransferredAt, HasThoseOfFirs
 
 module _ (t : Trace) (e n place : ℕ) (h : SectionHistory) (is : h ≡ section_history t e) (one : 1 ≤ n)
     (told : (at : ℕ) (x : Transfer) → how_reached_at t e n ≡ Some (ByTransfer at x)
-    → (i : ℕ) × (slice_get (section_history t e).each_reached (n - 1) ≡ Some (ReachedFrom i))
+    → (i : ℕ) × (slice_get (section_history t e).ways_reached (n - 1) ≡ Some (ReachedFrom i))
     × (slice_get (section_history t e).transfers i ≡ Some (at, x))) where
   told_there : (x : Transfer) → how_reached_at t e n ≡ Some (ByTransfer place x) → told_state_at h n ≡ Some (place, x)
   told_there x told_reached =

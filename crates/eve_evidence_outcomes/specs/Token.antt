@@ -28,7 +28,8 @@ ordered_replies a = map (λ i. slice_index_or a.replies i Done) a.certificate
 abbrev pub made_so : TokenMatch → List ℕ → MadeToken
 made_so what token = record { what = what; token = token }
 
--- the tokens that are tried, in this order: of the balances before the batch, of the replies in the certificate's order,
+-- the tokens that are tried, in this order: of the balances before the batch, of the replies in the certificate's
+-- order,
 -- of both, of the number before, of the number after, and of the other version
 abbrev pub made_tokens : ℕ → ℕ → List ℤ → List ℤ → List Reply → List Reply → List MadeToken
 made_tokens version n before after replies ordered =

@@ -1,4 +1,4 @@
--- A batch that a crew is to run, and how many workers take part. docs/MODEL.md, "Executions".
+-- A batch that a crew is to run, and how many workers take part. docs/DEPLOYMENT.md, "Executions".
 use Rattle.std.specs.Prelude.{◌≡◌, ℕ, IsTrue, ◌≤◌, max, min, Bool, if◌then◌else◌, List, [], ◌∷◌, map}
 use Rattle.eve_write.specs.Data.{batch as plain}
 use Rattle.eve_smallbank.specs.declared.rows.Touched.{Touched}

@@ -1,4 +1,4 @@
--- The workers of a replica. docs/MODEL.md, "Executions".
+-- The workers of a replica. docs/DEPLOYMENT.md, "Executions".
 use Rattle.std.specs.Prelude.{ℕ, List, [], ◌∷◌, Option, None}
 use Rattle.std.specs.Option.{option_or}
 use Rattle.eve_recorder.specs.TicketViews.{TicketSource}

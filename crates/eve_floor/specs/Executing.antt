@@ -1,4 +1,4 @@
--- A worker as contracts see it, and what one execution makes of it. docs/MODEL.md, "Executions".
+-- A worker as contracts see it, and what one execution makes of it. docs/DEPLOYMENT.md, "Executions".
 use Rattle.std.specs.Prelude.{◌≡◌, ℕ, ◌⊎◌, IsSome, List, [], ◌∷◌, ◌++◌, length, Option, None, Some}
 use Rattle.std.specs.Prelude.{Result, Ok, Err}
 use Rattle.eve_smallbank.specs.SmallBank.{Request}

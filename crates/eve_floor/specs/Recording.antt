@@ -1,4 +1,4 @@
--- What workers note of a batch. docs/MODEL.md, "Executions".
+-- What workers note of a batch. docs/DEPLOYMENT.md, "Executions".
 use Rattle.std.specs.Prelude.{ℕ, ◌+◌, ⊤, List, [], ◌∷◌, Vec}
 use Rattle.std.specs.declared.alloc.Global.{Global}
 use Rattle.eve_stamps.specs.Applied.{Applied}

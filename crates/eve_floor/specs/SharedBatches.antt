@@ -1,4 +1,4 @@
--- Batches as several workers share them, and the seats that workers have there. docs/MODEL.md, "Executions".
+-- Batches as several workers share them, and the seats that workers have there. docs/DEPLOYMENT.md, "Executions".
 use Rattle.std.specs.Prelude.{◌≡◌, ℕ, IsTrue, ◌≤◌, All, IfSome, List, [], length, Option, None, Some, slice_index_or}
 use Rattle.std.specs.List.{AllZip}
 use Rattle.eve_recorder.specs.TicketViews.{Drawer, TicketSource}

@@ -1,4 +1,4 @@
--- A request of a batch that is to be executed, and what is drawn for it. docs/MODEL.md, "Executions".
+-- A request of a batch that is to be executed, and what is drawn for it. docs/DEPLOYMENT.md, "Executions".
 use Rattle.std.specs.Prelude.{◌≡◌, ℕ, ◌<◌, List, length, Result, Ok, Err}
 use Rattle.eve_smallbank.specs.Touch.{touched_of}
 use Rattle.eve_grammar.specs.Trace.{request_with}

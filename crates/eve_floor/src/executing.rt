@@ -25,7 +25,7 @@ use std::sync::Wait;
 /// leave the stripes as they were. Last comes Full, where the queue was full: the request stands, and its record waits.
 /// May wait for other threads.
 ///
-/// docs/MODEL.md, "Executions".
+/// docs/DEPLOYMENT.md, "Executions".
 pub fn execute<R: Wait, G: Gate>(
     rt: &R,
     floor: &Floor,
@@ -66,7 +66,7 @@ pub fn execute<R: Wait, G: Gate>(
 /// Notes the record that waits, if there is one. It is refused with `Full` alone, where the queue is full at one
 /// moment. May wait for other threads.
 ///
-/// docs/MODEL.md, "Executions".
+/// docs/DEPLOYMENT.md, "Executions".
 pub fn flush<R: Wait>(rt: &R, recorder: &Recorder, worker: &mut Worker) -> Result<(), ExecFault>
     requires { worker.old.seat.recorder ≡ recorder.now.recorder }
     ensures flushes { Flushes recorder.now worker.old worker.new result }

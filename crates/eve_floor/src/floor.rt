@@ -15,7 +15,7 @@ use std::sync::Mutex;
 /// The rows of all customers in sixteen stripes, both rows of customer c in stripe c mod 16, each stripe behind a lock
 /// of its own; and the customers' names. Contracts see the names; of what a lock holds they know that it is a stripe.
 ///
-/// docs/MODEL.md, "Executions".
+/// docs/DEPLOYMENT.md, "Executions".
 #[derive(Drop)]
 pub struct Floor<'n> {
     pub(crate) names: &'n Names<'n>,
@@ -74,7 +74,7 @@ impl<'n> Floor<'n> {
     /// Applies a state: each row that the state has gets its version and its value, committed and now, and nothing
     /// is journaled any more, in all stripes. It takes no memory and can't be refused.
     ///
-    /// docs/MODEL.md, "Executions". No version of the state is above `MOST_VERSIONS`.
+    /// docs/DEPLOYMENT.md, "Executions". No version of the state is above `MOST_VERSIONS`.
     pub fn install(&mut self, transfer: &TransferData)
         requires versions { HaveRightVersions (plain transfer.now).rows }
         ensures { self.new ≡ self.old }

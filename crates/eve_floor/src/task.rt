@@ -53,7 +53,7 @@ impl Task<'_> {
 /// Executes the task, as `execute` does its request, and returns the record, which is noted nowhere. So it is never
 /// `Full`.
 ///
-/// docs/MODEL.md, "Executions".
+/// docs/DEPLOYMENT.md, "Executions".
 pub fn execute_task<R: Wait, G: Gate>(
     rt: &R,
     floor: &Floor,

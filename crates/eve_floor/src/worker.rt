@@ -10,7 +10,7 @@ use std::marker::Model;
 /// A worker of a floor: its seat at a recorder, its seat at the tickets that give ticks, and the record that waits
 /// since the queue was full. Contracts see these three (`Executor`).
 ///
-/// docs/MODEL.md, "Executions".
+/// docs/DEPLOYMENT.md, "Executions".
 #[derive(Drop)]
 pub struct Worker {
     pub(crate) seat: WorkerSeat,

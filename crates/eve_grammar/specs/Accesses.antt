@@ -9,5 +9,6 @@ is_new_access workers count before x =
     nat_lt x.worker workers && (nat_lt x.index count && not (list_any (λ y. y.index == x.index) before))
 
 -- a worker's places count from 0
+-- Where it isn't so, F23 WorkerOrder stands.
 abbrev pub is_right_place : List Access → Access → Bool
 is_right_place before x = x.place == count_by (λ y. y.worker == x.worker) before

@@ -38,5 +38,6 @@ counts_from n [] = true
 counts_from n (i ∷ order) = (i == n) && counts_from (suc n) order
 
 -- it keeps the groups, and in serial mode it is the listed order
+-- Where it isn't so, F21 Certificate stands.
 abbrev pub is_certificate : List ℕ → ℕ → Bool → List ℕ → Bool
 is_certificate sizes r serial order = keeps_groups sizes r order && (if serial then counts_from 0 order else true)

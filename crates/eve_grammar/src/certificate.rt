@@ -8,6 +8,7 @@ ghost use Rattle.eve_grammar.specs.inner.Groups.{AreGroupNumbers};
 use crate::limits::MOST_REQUESTS;
 
 /// Whether each number below their count stands in the order once.
+/// Decides F21 Certificate.
 pub(crate) fn is_permutation(order: &[u16]) -> bool
     requires { length order.now ≤ MOST_REQUESTS }
     ensures { result ≡ is_permutation (length order.now) order.now }
@@ -24,6 +25,7 @@ pub(crate) fn is_permutation(order: &[u16]) -> bool
 }
 
 /// Whether no index stands after one of a later parallelBatch, where those are the indexes' parallelBatches.
+/// Decides F21 Certificate.
 fn is_grouped(groups: &[u8; MOST_REQUESTS], order: &[u16]) -> bool
     requires { AllByRecursion (λ i. i < MOST_REQUESTS) order.now }
     ensures { (sizes : List ℕ) → AreGroupNumbers sizes order.now groups.now → result ≡ is_grouped sizes order.now }

@@ -40,6 +40,7 @@ pub struct Head {
 
 impl Head {
     /// Whether the numbers lie in their ranges.
+    /// Decides F3 Head.
     pub fn is_right(&self) -> bool
         ensures { result ≡ is_head self.now }
     {

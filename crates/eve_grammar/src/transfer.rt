@@ -1,4 +1,4 @@
-//! States that replicas get by a transfer, and the body of a Transfer frame.
+//! States that are transferred to replicas, and the body of a Transfer frame.
 
 ghost use Rattle.std.specs.Prelude.{◌≡◌, is_some};
 ghost use Rattle.eve_grammar.specs.Limits.{is_no_debt};

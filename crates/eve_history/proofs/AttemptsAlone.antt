@@ -21,30 +21,30 @@ one_more_attempt : (ls : List HowReached) (p : Placed) → AllByRecursion IsByAt
 one_more_attempt [] p by = (tt, tt)
 one_more_attempt (l ∷ ls) p by = (by.0, one_more_attempt ls p by.1)
 
-attempts_commit : (s : SectionState) (pending : List Placed) → AllByRecursion IsByAttempt s.each_reached
-    → AllByRecursion IsByAttempt (committing s pending).each_reached
+attempts_commit : (s : SectionState) (pending : List Placed) → AllByRecursion IsByAttempt s.ways_reached
+    → AllByRecursion IsByAttempt (committing s pending).ways_reached
 attempts_commit s [] by = by
-attempts_commit s (p ∷ ps) by = one_more_attempt s.each_reached p by
+attempts_commit s (p ∷ ps) by = one_more_attempt s.ways_reached p by
 
 -- in a version without transfers
 attempts_next : (version : ℕ) (s : SectionState) (step : ℕ × Step) → has_transfers version ≡ false
-    → is_of_version version step.1 ≡ true → AllByRecursion IsByAttempt s.each_reached
-    → AllByRecursion IsByAttempt (next s step).each_reached
+    → is_of_version version step.1 ≡ true → AllByRecursion IsByAttempt s.ways_reached
+    → AllByRecursion IsByAttempt (next s step).ways_reached
 attempts_next version s (at, Attempts a) none kind by = by
 attempts_next version s (at, Commits c) none kind by = attempts_commit s s.pending by
 attempts_next version s (at, RollsBack r) none kind by = by
 attempts_next version s (at, Transfers x) none kind by = absurd (false≢true (sym none ∙ kind))
 
 attempts_after : (version : ℕ) (s : SectionState) (steps : List (ℕ × Step)) → has_transfers version ≡ false
-    → list_all (λ x. is_of_version version x.1) steps ≡ true → AllByRecursion IsByAttempt s.each_reached
-    → AllByRecursion IsByAttempt (state_after s steps).each_reached
+    → list_all (λ x. is_of_version version x.1) steps ≡ true → AllByRecursion IsByAttempt s.ways_reached
+    → AllByRecursion IsByAttempt (state_after s steps).ways_reached
 attempts_after version s [] none kinds by = by
 attempts_after version s (step ∷ steps) none kinds by =
     let parts = and_parts (is_of_version version step.1) (list_all (λ x. is_of_version version x.1) steps) kinds in
     attempts_after version (next s step) steps none parts.1 (attempts_next version s step none parts.0 by)
 
 pub all_by_attempts : (t : Trace) (e : ℕ) → HasLimits t → IsFalse (has_transfers t.head.version)
-    → AllByRecursion IsByAttempt (history t e).each_reached
+    → AllByRecursion IsByAttempt (history t e).ways_reached
 unfolding history
 all_by_attempts t e limits none = attempts_after t.head.version start (steps_at t e) none
     (steps_all (is_of_version t.head.version) t e limits.kinds) tt
@@ -55,7 +55,7 @@ by_attempts_to t e n limits none = each
   where
     each : ByAttemptsTo t e n
     each zero l few e = absurd (cc)
-    each (suc m) l few got = all-slice_get IsByAttempt (history t e).each_reached m l (all_by_attempts t e limits none)
+    each (suc m) l few got = all-slice_get IsByAttempt (history t e).ways_reached m l (all_by_attempts t e limits none)
         got
 
 pub attempt_at : (ls : List HowReached) (n : ℕ) → AllByRecursion IsByAttempt ls → n < length ls

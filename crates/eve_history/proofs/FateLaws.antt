@@ -92,48 +92,48 @@ attempts_by_over skipped at x (ByTransfer o y ∷ ls) = attempts_by_over skipped
 attempts_by_over skipped at x (Skipped ∷ ls) = attempts_by_over skipped at x ls
 
 pub attempts_by_transferring : (s : SectionState) (at : ℕ) (x : Transfer)
-    → attempts_by (after_transfer s at x).each_reached
-    ≡ attempts_by s.each_reached
-attempts_by_transferring s at x = attempts_by_over (x.seq - (s.last + 1)) at x s.each_reached
+    → attempts_by (after_transfer s at x).ways_reached
+    ≡ attempts_by s.ways_reached
+attempts_by_transferring s at x = attempts_by_over (x.seq - (s.last + 1)) at x s.ways_reached
 
 committed_after : (s : SectionState) (steps : List (ℕ × Step))
-    → map placed_at (attempts_by (state_after s steps).each_reached)
-    ≡ map placed_at (attempts_by s.each_reached) ++ picked_from is_committed s.pending steps
+    → map placed_at (attempts_by (state_after s steps).ways_reached)
+    ≡ map placed_at (attempts_by s.ways_reached) ++ picked_from is_committed s.pending steps
 committed_after s [] = sym
-    (ap (λ (xs : List (ℕ × Attempt)). map placed_at (attempts_by s.each_reached) ++ xs)
+    (ap (λ (xs : List (ℕ × Attempt)). map placed_at (attempts_by s.ways_reached) ++ xs)
     (at_end is_committed s.pending refl)
-    ∙ append-nil (map placed_at (attempts_by s.each_reached)))
+    ∙ append-nil (map placed_at (attempts_by s.ways_reached)))
 committed_after s ((at, Attempts a) ∷ rest) =
     committed_after (next s (at, Attempts a)) rest
-    ∙ ap (λ (xs : List (ℕ × Attempt)). map placed_at (attempts_by s.each_reached) ++ xs)
+    ∙ ap (λ (xs : List (ℕ × Attempt)). map placed_at (attempts_by s.ways_reached) ++ xs)
     (sym (at_attempt is_committed at a rest s.pending (record { offset = at; attempt = a; path = path_of s }) refl))
 committed_after s ((at, Commits c) ∷ rest) = committed_after (committing s s.pending) rest ∙ by s.pending refl
   where
     by : (pending : List Placed) → s.pending ≡ pending
-        → map placed_at (attempts_by (committing s pending).each_reached) ++
+        → map placed_at (attempts_by (committing s pending).ways_reached) ++
         picked_from is_committed (committing s pending).pending rest
-        ≡ map placed_at (attempts_by s.each_reached) ++ picked_from is_committed pending ((at, Commits c) ∷ rest)
-    by [] is = ap (λ (ps : List Placed). map placed_at (attempts_by s.each_reached) ++ picked_from is_committed ps rest)
+        ≡ map placed_at (attempts_by s.ways_reached) ++ picked_from is_committed pending ((at, Commits c) ∷ rest)
+    by [] is = ap (λ (ps : List Placed). map placed_at (attempts_by s.ways_reached) ++ picked_from is_committed ps rest)
         is
     by (p ∷ ps) is =
         ap (λ (ls : List Placed). map placed_at ls ++ picked_from is_committed ps rest)
-        (attempts_by_push s.each_reached p)
+        (attempts_by_push s.ways_reached p)
         ∙ ap (λ (xs : List (ℕ × Attempt)). xs ++ picked_from is_committed ps rest)
-        (map-append placed_at (attempts_by s.each_reached) (p ∷ []))
-        ∙ append_assoc (map placed_at (attempts_by s.each_reached)) (placed_at p ∷ [])
+        (map-append placed_at (attempts_by s.ways_reached) (p ∷ []))
+        ∙ append_assoc (map placed_at (attempts_by s.ways_reached)) (placed_at p ∷ [])
         (picked_from is_committed ps rest)
-        ∙ ap (λ (xs : List (ℕ × Attempt)). map placed_at (attempts_by s.each_reached) ++ xs)
+        ∙ ap (λ (xs : List (ℕ × Attempt)). map placed_at (attempts_by s.ways_reached) ++ xs)
         (sym (at_commit is_committed at c rest p ps))
 committed_after s ((at, RollsBack r) ∷ rest) =
     committed_after (next s (at, RollsBack r)) rest
-    ∙ ap (λ (xs : List (ℕ × Attempt)). map placed_at (attempts_by s.each_reached) ++ xs)
+    ∙ ap (λ (xs : List (ℕ × Attempt)). map placed_at (attempts_by s.ways_reached) ++ xs)
     (sym (ap (λ (fs : List Fate). picked is_committed (map placed_at s.pending ++ attempts_among rest)
     (fs ++ fates_from 0 rest)) (open_rollback at r rest 0 (length s.pending))
     ∙ picked-same is_committed Discarded s.pending (attempts_among rest) (fates_from 0 rest) refl))
 committed_after s ((at, Transfers x) ∷ rest) =
     committed_after (next s (at, Transfers x)) rest
     ∙ ap (λ (ps : List Placed). map placed_at ps ++ picked_from is_committed [] rest) (attempts_by_transferring s at x)
-    ∙ ap (λ (xs : List (ℕ × Attempt)). map placed_at (attempts_by s.each_reached) ++ xs)
+    ∙ ap (λ (xs : List (ℕ × Attempt)). map placed_at (attempts_by s.ways_reached) ++ xs)
     (sym (ap (λ (fs : List Fate). picked is_committed (map placed_at s.pending ++ attempts_among rest)
     (fs ++ fates_from 0 rest)) (open_transfer at x rest 0 (length s.pending))
     ∙ picked-same is_committed Discarded s.pending (attempts_among rest) (fates_from 0 rest) refl))
@@ -176,7 +176,7 @@ discarded_after s ((at, Transfers x) ∷ rest) =
     (fs ++ fates_from 0 rest)) (open_transfer at x rest 0 (length s.pending))
     ∙ picked-all is_discarded Discarded s.pending (attempts_among rest) (fates_from 0 rest) refl))
 
-pub committed_are_picked : (t : Trace) (e : ℕ) → map placed_at (attempts_by (history t e).each_reached)
+pub committed_are_picked : (t : Trace) (e : ℕ) → map placed_at (attempts_by (history t e).ways_reached)
     ≡ picked is_committed (attempts_among (steps_at t e)) (fates_from 0 (steps_at t e))
 unfolding history
 committed_are_picked t e = committed_after start (steps_at t e)

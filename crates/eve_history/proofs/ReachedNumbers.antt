@@ -14,7 +14,7 @@ use Rattle.eve_history.specs.Section.{is_right_attempt, is_right_certificate, ar
 use Rattle.eve_history.specs.SectionHistory.{ExecutedAttempt, executed_attempt, placed_at, ToldReached, ReachedBy}
 use Rattle.eve_history.specs.SectionHistory.{ReachedFrom, NotReached, told_reached_from, section_history, history}
 use Rattle.eve_history.specs.SectionHistory.{how_reached_at}
-use Rattle.eve_history.specs.SectionHistory.{IsRightSection, attempt_by, committed_at, is_how_reached, is_reached}
+use Rattle.eve_history.specs.SectionHistory.{IsRightSection, attempt_by, committed_at, was_reached, is_reached}
 use Rattle.eve_history.proofs.Transfers.{over, transfers_of_steps, transfers_told, transfer_step, step_transfer}
 use Rattle.eve_history.proofs.Transfers.{transfer_how_reached}
 
@@ -136,7 +136,7 @@ no_attempt_next (ByTransfer at x ∷ ls) p reached e = cc
 no_attempt_next (Skipped ∷ ls) p reached e = cc
 
 reached_before : (before : Bool) (ls : List HowReached) (n : ℕ) (p : Placed) → reaches before ls ≡ true
-    → slice_get ls (suc n) ≡ Some (ByAttempt p) → is_how_reached (slice_get ls n) ≡ true
+    → slice_get ls (suc n) ≡ Some (ByAttempt p) → was_reached (slice_get ls n) ≡ true
 reached_before before [] n p reached e = absurd (cc)
 reached_before before (ByAttempt q ∷ ls) zero p reached e = refl
 reached_before before (ByTransfer at x ∷ ls) zero p reached e = refl
@@ -149,10 +149,10 @@ reached_before before (Skipped ∷ ls) (suc n) p reached e = reached_before fals
 -- ---- while all steps are right
 
 record IsCounted (s : SectionState) : Type 0 where
-  numbered : AreOfTheirNumbers 0 s.each_reached
+  numbered : AreOfTheirNumbers 0 s.ways_reached
   open_ones : AreNumbered s.last s.pending
-  last : s.last ≡ length s.each_reached
-  reached : reaches true s.each_reached ≡ true
+  last : s.last ≡ length s.ways_reached
+  reached : reaches true s.ways_reached ≡ true
 
 counted_commit : (s : SectionState) (pending : List Placed) → s.pending ≡ pending → IsCounted s
     → IsCounted (committing s pending)
@@ -162,10 +162,10 @@ counted_commit s (p ∷ ps) is counted =
     let first : p.attempt.seq ≡ suc s.last = open_ones.0 in
     let last = counted.last in
     record {
-      numbered = one_more_number 0 s.each_reached p counted.numbered (omega arith);
+      numbered = one_more_number 0 s.ways_reached p counted.numbered (omega arith);
       open_ones = subst (λ (n : ℕ). AreNumbered n ps) (sym (add-one s.last)) open_ones.1;
-      last = ap (λ (n : ℕ). n + 1) counted.last ∙ sym (length-append s.each_reached (ByAttempt p ∷ []));
-      reached = one_more_reached true s.each_reached p counted.reached;
+      last = ap (λ (n : ℕ). n + 1) counted.last ∙ sym (length-append s.ways_reached (ByAttempt p ∷ []));
+      reached = one_more_reached true s.ways_reached p counted.reached;
     }
 
 counted_transfer : (t : Trace) (s : SectionState) (at : ℕ) (x : Transfer) → s.last < x.seq → IsCounted s
@@ -177,10 +177,10 @@ counted_transfer t s at x later counted =
     length-append (replicate skipped Skipped) (ByTransfer at x ∷ [])
     ∙ ap (λ (n : ℕ). n + 1) (length-replicate skipped Skipped) in
     record {
-      numbered = state_numbered 0 skipped at x s.each_reached counted.numbered (omega (arith, last, later));
+      numbered = state_numbered 0 skipped at x s.ways_reached counted.numbered (omega (arith, last, later));
       open_ones = tt;
-      last = omega (arith, last, later, long, length-append s.each_reached (over skipped at x));
-      reached = state_reached true skipped at x s.each_reached counted.reached;
+      last = omega (arith, last, later, long, length-append s.ways_reached (over skipped at x));
+      reached = state_reached true skipped at x s.ways_reached counted.reached;
     }
 
 due_number : (t : Trace) (s : SectionState) (a : Attempt) → is_right t s (Attempts a) ≡ true
@@ -226,7 +226,7 @@ counted_history t e right = counted_after t start (steps_at t e) right counted_s
 -- the number of an attempt on its way
 number_on : (t : Trace) (s : SectionState) (prefix : List (ℕ × Step)) (at : ℕ) (a : Attempt) (rest : List (ℕ × Step))
     → are_right t s (prefix ++ (at, Attempts a) ∷ rest) ≡ true → IsCounted s
-    → a.seq ≡ suc (length (state_after s prefix).each_reached + length (state_after s prefix).pending)
+    → a.seq ≡ suc (length (state_after s prefix).ways_reached + length (state_after s prefix).pending)
 number_on t s [] at a rest right counted =
     let number = due_number t s a (and_parts (is_right t s (Attempts a)) _ right).0 in
     let last = counted.last in
@@ -237,7 +237,7 @@ number_on t s (step ∷ prefix) at a rest right counted =
 
 pub attempts_numbered : (t : Trace) (e at : ℕ) (a : Attempt) (prefix rest : List (ℕ × Step)) → IsRightSection t e
     → steps_at t e ≡ prefix ++ (at, Attempts a) ∷ rest
-    → a.seq ≡ suc (length (state_after start prefix).each_reached + length (state_after start prefix).pending)
+    → a.seq ≡ suc (length (state_after start prefix).ways_reached + length (state_after start prefix).pending)
 attempts_numbered t e at a prefix rest right split = number_on t start prefix at a rest
     (ap (are_right t start) (sym split) ∙ right) counted_start
 
@@ -365,57 +365,57 @@ by_attempt (Some (ByTransfer at x)) p e = absurd (cc)
 by_attempt (Some Skipped) p e = absurd (cc)
 by_attempt None p e = absurd (cc)
 
-pub each_reached_counted : (t : Trace) (e : ℕ) → IsRightSection t e → length (section_history t e).each_reached
+pub ways_reached_counted : (t : Trace) (e : ℕ) → IsRightSection t e → length (section_history t e).ways_reached
     ≡ (section_history t e).committed
 unfolding section_history history
-each_reached_counted t e right = told_reached_length 0 (history t e).each_reached ∙ sym (counted_history t e right).last
+ways_reached_counted t e right = told_reached_length 0 (history t e).ways_reached ∙ sym (counted_history t e right).last
 
-each_reached_are : (t : Trace) (e : ℕ) → (section_history t e).each_reached
-    ≡ told_reached_from 0 (history t e).each_reached
+ways_reached_are : (t : Trace) (e : ℕ) → (section_history t e).ways_reached
+    ≡ told_reached_from 0 (history t e).ways_reached
 unfolding section_history history
-each_reached_are t e = refl
+ways_reached_are t e = refl
 
-told_after : (t : Trace) (e n : ℕ) → slice_get (section_history t e).each_reached (suc n - 1)
-    ≡ slice_get (told_reached_from 0 (history t e).each_reached) n
+told_after : (t : Trace) (e n : ℕ) → slice_get (section_history t e).ways_reached (suc n - 1)
+    ≡ slice_get (told_reached_from 0 (history t e).ways_reached) n
 told_after t e n =
     let less : suc n - 1 ≡ n = omega arith in
-    ap (λ (ls : List ToldReached). slice_get ls (suc n - 1)) (each_reached_are t e)
-    ∙ ap (slice_get (told_reached_from 0 (history t e).each_reached)) less
+    ap (λ (ls : List ToldReached). slice_get ls (suc n - 1)) (ways_reached_are t e)
+    ∙ ap (slice_get (told_reached_from 0 (history t e).ways_reached)) less
 
 pub committed_told : (t : Trace) (e n : ℕ) (p : Placed) → committed_at t e n ≡ Some p
-    → slice_get (section_history t e).each_reached (n - 1) ≡ Some (ReachedBy (executed_attempt (placed_at p)))
+    → slice_get (section_history t e).ways_reached (n - 1) ≡ Some (ReachedBy (executed_attempt (placed_at p)))
 committed_told t e zero p is = absurd (cc)
 committed_told t e (suc n) p is = told_after t e n
-    ∙ told_reached_get 0 (history t e).each_reached n p (by_attempt (slice_get (history t e).each_reached n) p is)
+    ∙ told_reached_get 0 (history t e).ways_reached n p (by_attempt (slice_get (history t e).ways_reached n) p is)
 
 pub told_committed : (t : Trace) (e n : ℕ) (r : ExecutedAttempt) → 1 ≤ n
-    → slice_get (section_history t e).each_reached (n - 1) ≡ Some (ReachedBy r)
+    → slice_get (section_history t e).ways_reached (n - 1) ≡ Some (ReachedBy r)
     → (p : Placed) × (committed_at t e n ≡ Some p) × (r ≡ executed_attempt (placed_at p))
 told_committed t e zero r one got = absurd (omega (arith, one))
 told_committed t e (suc n) r one got =
-    let found = told_reached_is 0 (history t e).each_reached n r (sym (told_after t e n) ∙ got) in
+    let found = told_reached_is 0 (history t e).ways_reached n r (sym (told_after t e n) ∙ got) in
     (found.0, ap attempt_by found.1, found.2)
 
 pub committed_numbered : (t : Trace) (e n : ℕ) (p : Placed) → IsRightSection t e → committed_at t e n ≡ Some p
     → p.attempt.seq ≡ n
 committed_numbered t e zero p right is = absurd (cc)
 committed_numbered t e (suc n) p right is =
-    let number = number_at 0 (history t e).each_reached n p (counted_history t e right).numbered
-    (by_attempt (slice_get (history t e).each_reached n) p is) in
+    let number = number_at 0 (history t e).ways_reached n p (counted_history t e right).numbered
+    (by_attempt (slice_get (history t e).ways_reached n) p is) in
     omega (arith, number)
 
 pub committed_after_reached : (t : Trace) (e n : ℕ) (p : Placed) → IsRightSection t e
     → committed_at t e (suc n) ≡ Some p → is_reached t e n ≡ true
 committed_after_reached t e zero p right is = refl
 committed_after_reached t e (suc n) p right is =
-    reached_before true (history t e).each_reached n p (counted_history t e right).reached
-    (by_attempt (slice_get (history t e).each_reached (suc n)) p is)
+    reached_before true (history t e).ways_reached n p (counted_history t e right).reached
+    (by_attempt (slice_get (history t e).ways_reached (suc n)) p is)
 
 -- how many numbers there are
-each_reached_many : (t : Trace) (e : ℕ) → IsRightSection t e → length (history t e).each_reached
+ways_reached_many : (t : Trace) (e : ℕ) → IsRightSection t e → length (history t e).ways_reached
     ≡ (section_history t e).committed
-each_reached_many t e right = sym (ap length (each_reached_are t e) ∙ told_reached_length 0 (history t e).each_reached)
-    ∙ each_reached_counted t e right
+ways_reached_many t e right = sym (ap length (ways_reached_are t e) ∙ told_reached_length 0 (history t e).ways_reached)
+    ∙ ways_reached_counted t e right
 
 slot : {A : Type 0} (xs : List A) (n : ℕ) → n < length xs → (x : A) × (slice_get xs n ≡ Some x)
 slot [] n lt = absurd (omega (arith, lt))
@@ -427,21 +427,21 @@ pub how_reached_there : (t : Trace) (e n : ℕ) → IsRightSection t e → 1 ≤
     → (l : HowReached) × (how_reached_at t e n ≡ Some l)
 how_reached_there t e zero right one many = absurd (omega (arith, one))
 how_reached_there t e (suc n) right one many =
-    let all = each_reached_many t e right in
-    slot (history t e).each_reached n (omega (arith, all, many))
+    let all = ways_reached_many t e right in
+    slot (history t e).ways_reached n (omega (arith, all, many))
 
 -- ---- states that were transferred, by number
 
-places_told : (t : Trace) (e i at : ℕ) (x : Transfer) → slice_get (transfers_by (history t e).each_reached) i
+places_told : (t : Trace) (e i at : ℕ) (x : Transfer) → slice_get (transfers_by (history t e).ways_reached) i
     ≡ Some (at, x) → slice_get (section_history t e).transfers i ≡ Some (at, x)
 places_told t e i at x got = ap (λ (xs : List (ℕ × Transfer)). slice_get xs i) (transfers_told t e) ∙ got
 
 pub transfer_told : (t : Trace) (e n at : ℕ) (x : Transfer) → how_reached_at t e n ≡ Some (ByTransfer at x)
-    → (i : ℕ) × (slice_get (section_history t e).each_reached (n - 1) ≡ Some (ReachedFrom i))
+    → (i : ℕ) × (slice_get (section_history t e).ways_reached (n - 1) ≡ Some (ReachedFrom i))
     × (slice_get (section_history t e).transfers i ≡ Some (at, x))
 transfer_told t e zero at x is = absurd (cc)
 transfer_told t e (suc n) at x is =
-    let found = state_told 0 (history t e).each_reached n at x is in
+    let found = state_told 0 (history t e).ways_reached n at x is in
     let same : 0 + found.0 ≡ found.0 = omega arith in (
       found.0,
       told_after t e n ∙ found.1 ∙ ap (λ (k : ℕ). Some (ReachedFrom k)) same,
@@ -449,11 +449,11 @@ transfer_told t e (suc n) at x is =
     )
 
 pub told_transfer : (t : Trace) (e n i : ℕ) → 1 ≤ n
-    → slice_get (section_history t e).each_reached (n - 1) ≡ Some (ReachedFrom i) → (at : ℕ) × (x : Transfer)
+    → slice_get (section_history t e).ways_reached (n - 1) ≡ Some (ReachedFrom i) → (at : ℕ) × (x : Transfer)
     × (how_reached_at t e n ≡ Some (ByTransfer at x)) × (slice_get (section_history t e).transfers i ≡ Some (at, x))
 told_transfer t e zero i one got = absurd (omega (arith, one))
 told_transfer t e (suc n) i one got =
-    let found = told_state 0 (history t e).each_reached n i (sym (told_after t e n) ∙ got) in
+    let found = told_state 0 (history t e).ways_reached n i (sym (told_after t e n) ∙ got) in
     let same : i ≡ found.place = omega (arith, found.there) in (
       found.at,
       found.state,
@@ -463,17 +463,17 @@ told_transfer t e (suc n) i one got =
     )
 
 pub told_skipped : (t : Trace) (e n : ℕ) → 1 ≤ n
-    → slice_get (section_history t e).each_reached (n - 1) ≡ Some NotReached → how_reached_at t e n ≡ Some Skipped
+    → slice_get (section_history t e).ways_reached (n - 1) ≡ Some NotReached → how_reached_at t e n ≡ Some Skipped
 told_skipped t e zero one got = absurd (omega (arith, one))
-told_skipped t e (suc n) one got = told_skip 0 (history t e).each_reached n (sym (told_after t e n) ∙ got)
+told_skipped t e (suc n) one got = told_skip 0 (history t e).ways_reached n (sym (told_after t e n) ∙ got)
 
 pub transfer_numbered : (t : Trace) (e n at : ℕ) (x : Transfer) → IsRightSection t e
     → how_reached_at t e n ≡ Some (ByTransfer at x) → (x.seq ≡ n)
     × ((k : ℕ) × (slice_get (steps_at t e) k ≡ Some (at, Transfers x)))
 transfer_numbered t e zero at x right is = absurd (cc)
 transfer_numbered t e (suc n) at x right is =
-    let number = state_number_at 0 (history t e).each_reached n at x (counted_history t e right).numbered is in
-    let found = state_told 0 (history t e).each_reached n at x is in (
+    let number = state_number_at 0 (history t e).ways_reached n at x (counted_history t e right).numbered is in
+    let found = state_told 0 (history t e).ways_reached n at x is in (
       omega (arith, number),
       transfer_step (steps_at t e) found.0 (at, x)
           (ap (λ (xs : List (ℕ × Transfer)). slice_get xs found.0) (sym (transfers_of_steps t e)) ∙ found.2),
@@ -483,9 +483,9 @@ pub transfer_lands : (t : Trace) (e k at : ℕ) (x : Transfer) → IsRightSectio
     → slice_get (steps_at t e) k ≡ Some (at, Transfers x) → how_reached_at t e x.seq ≡ Some (ByTransfer at x)
 transfer_lands t e k at x right got =
     let own = step_transfer (steps_at t e) k at x got in
-    let found = transfer_how_reached (history t e).each_reached own.0 at x
+    let found = transfer_how_reached (history t e).ways_reached own.0 at x
     (ap (λ (xs : List (ℕ × Transfer)). slice_get xs own.0) (transfers_of_steps t e) ∙ own.1) in
-    let number = state_number_at 0 (history t e).each_reached found.0 at x (counted_history t e right).numbered found.1
+    let number = state_number_at 0 (history t e).ways_reached found.0 at x (counted_history t e right).numbered found.1
     in
     let same : x.seq ≡ suc found.0 = omega (arith, number) in
     ap (how_reached_at t e) same ∙ found.1

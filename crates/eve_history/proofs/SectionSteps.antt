@@ -30,7 +30,7 @@ use Rattle.eve_history.specs.inner.FirstWrong.{wrong_step, first_wrong, first_wr
 use Rattle.eve_history.specs.KeptSections.{KeptAttempt, KeptSection, open_count, kept_executed_attempt}
 use Rattle.eve_history.specs.KeptSections.{executed_attempts}
 use Rattle.eve_history.specs.KeptSections.{kept_at_first, executed_attempt_at, section_history_of, StandsAt}
-use Rattle.eve_history.specs.KeptSections.{told_reached_in, IsHowReachedAmong, AreSettled, open_fates, HasCome}
+use Rattle.eve_history.specs.KeptSections.{told_reached_in, IsWayAmong, AreSettled, open_fates, HasCome}
 use Rattle.eve_history.proofs.StructureLaws.{state_after-append, are_right-push, right_step, steps_on, found_is_least}
 use Rattle.eve_history.proofs.StructureLaws.{none_stands}
 use Rattle.eve_history.proofs.Transfers.{over, transfers_commit, transfers_transferring}
@@ -137,9 +137,9 @@ module _ (t : Trace) (e : ℕ) (step : ℕ × Step) (rest : List (ℕ × Step)) 
       (sym (state_after-append start come.prefix (step ∷ []))) stands
 
   transfers_next : (xs : List (ℕ × Transfer)) → xs
-      ≡ transfers_by (next (state_after start come.prefix) step).each_reached
-      → xs ≡ transfers_by (state_after start (come.prefix ++ step ∷ [])).each_reached
-  transfers_next xs is = is ∙ ap (λ (s : SectionState). transfers_by s.each_reached)
+      ≡ transfers_by (next (state_after start come.prefix) step).ways_reached
+      → xs ≡ transfers_by (state_after start (come.prefix ++ step ∷ [])).ways_reached
+  transfers_next xs is = is ∙ ap (λ (s : SectionState). transfers_by s.ways_reached)
       (sym (state_after-append start come.prefix (step ∷ [])))
 
   rest_fits : IsTrue (list_all (λ x. is_step (row_count (head_of t)) x.1) rest)
@@ -190,33 +190,33 @@ executed_attempt_among [] more place lt = absurd (omega arith)
 executed_attempt_among (r ∷ rs) more zero lt = refl
 executed_attempt_among (r ∷ rs) more (suc place) lt = executed_attempt_among rs more place (omega arith)
 
-how_reached_among : (rs more : List ExecutedAttempt) (m : ℕ) (l : told.HowReached) → IsHowReachedAmong (length rs) m l
+how_reached_among : (rs more : List ExecutedAttempt) (m : ℕ) (l : told.HowReached) → IsWayAmong (length rs) m l
     → told_reached_in (rs ++ more) l ≡ told_reached_in rs l
 how_reached_among rs more m (how_reached.Attempt place) lt = ap ReachedBy (executed_attempt_among rs more place lt)
 how_reached_among rs more m (how_reached.Transfer i) there = refl
 how_reached_among rs more m how_reached.Skipped there = refl
 
-each_reached_among : (rs more : List ExecutedAttempt) (m : ℕ) (ls : List told.HowReached)
-    → AllByRecursion (IsHowReachedAmong (length rs) m) ls → map (told_reached_in (rs ++ more)) ls
+ways_reached_among : (rs more : List ExecutedAttempt) (m : ℕ) (ls : List told.HowReached)
+    → AllByRecursion (IsWayAmong (length rs) m) ls → map (told_reached_in (rs ++ more)) ls
     ≡ map (told_reached_in rs) ls
-each_reached_among rs more m [] there = refl
-each_reached_among rs more m (l ∷ ls) there =
-    λ i. how_reached_among rs more m l there.0 i ∷ each_reached_among rs more m ls there.1 i
+ways_reached_among rs more m [] there = refl
+ways_reached_among rs more m (l ∷ ls) there =
+    λ i. how_reached_among rs more m l there.0 i ∷ ways_reached_among rs more m ls there.1 i
 
 -- of the first n attempts and m states
-still_among : (n m i j : ℕ) (l : told.HowReached) → n ≤ i → m ≤ j → IsHowReachedAmong n m l → IsHowReachedAmong i j l
+still_among : (n m i j : ℕ) (l : told.HowReached) → n ≤ i → m ≤ j → IsWayAmong n m l → IsWayAmong i j l
 still_among n m i j (how_reached.Attempt place) few le lt = let first : place < n = lt in omega arith
 still_among n m i j (how_reached.Transfer place) few le lt = let first : place < m = lt in omega arith
 still_among n m i j how_reached.Skipped few le there = tt
 
-still_there : (n m i j : ℕ) (ls : List told.HowReached) → n ≤ i → m ≤ j → AllByRecursion (IsHowReachedAmong n m) ls
-    → AllByRecursion (IsHowReachedAmong i j) ls
+still_there : (n m i j : ℕ) (ls : List told.HowReached) → n ≤ i → m ≤ j → AllByRecursion (IsWayAmong n m) ls
+    → AllByRecursion (IsWayAmong i j) ls
 still_there n m i j [] few le there = tt
 still_there n m i j (l ∷ ls) few le there =
     (still_among n m i j l few le there.0, still_there n m i j ls few le there.1)
 
-one_more_there : (n m place : ℕ) (ls : List told.HowReached) → place < n → AllByRecursion (IsHowReachedAmong n m) ls
-    → AllByRecursion (IsHowReachedAmong n m) (ls ++ how_reached.Attempt place ∷ [])
+one_more_there : (n m place : ℕ) (ls : List told.HowReached) → place < n → AllByRecursion (IsWayAmong n m) ls
+    → AllByRecursion (IsWayAmong n m) (ls ++ how_reached.Attempt place ∷ [])
 one_more_there n m place [] lt there = (lt, tt)
 one_more_there n m place (l ∷ ls) lt there = (there.0, one_more_there n m place ls lt there.1)
 
@@ -224,8 +224,8 @@ one_more_there n m place (l ∷ ls) lt there = (there.0, one_more_there n m plac
 abbrev pub over_at : ℕ → ℕ → List told.HowReached
 over_at skipped i = replicate skipped how_reached.Skipped ++ how_reached.Transfer i ∷ []
 
-over_there : (n m skipped i : ℕ) (ls : List told.HowReached) → i < m → AllByRecursion (IsHowReachedAmong n m) ls
-    → AllByRecursion (IsHowReachedAmong n m) (ls ++ over_at skipped i)
+over_there : (n m skipped i : ℕ) (ls : List told.HowReached) → i < m → AllByRecursion (IsWayAmong n m) ls
+    → AllByRecursion (IsWayAmong n m) (ls ++ over_at skipped i)
 over_there n m zero i [] lt there = (lt, tt)
 over_there n m (suc skipped) i [] lt there = (tt, over_there n m skipped i [] lt tt)
 over_there n m skipped i (l ∷ ls) lt there = (there.0, over_there n m skipped i ls lt there.1)
@@ -281,7 +281,7 @@ first_behind (x ∷ rs) (suc n) r rest e = first_behind rs n r rest e
 
 settled_attempt : (s : SectionState) (at : ℕ) (a : Attempt) (rs after : List ExecutedAttempt) (n m : ℕ)
     (ls : List told.HowReached) → after ≡ rs ++ executed_attempt (at, a) ∷ [] → n ≤ length rs
-    → AllByRecursion (IsHowReachedAmong (length rs) m) ls → AreSettled s rs n ls
+    → AllByRecursion (IsWayAmong (length rs) m) ls → AreSettled s rs n ls
     → AreSettled (next s (at, Attempts a)) after n ls
 settled_attempt s at a rs after n m ls is few there settled =
     subst (λ (xs : List ExecutedAttempt). AreSettled (next s (at, Attempts a)) xs n ls) (sym is) (record {
@@ -289,7 +289,7 @@ settled_attempt s at a rs after n m ls is few there settled =
           (record { offset = at; attempt = a; path = path_of s } ∷ [])
           ∙ ap (λ (xs : List ExecutedAttempt). xs ++ executed_attempt (at, a) ∷ []) settled.pending
           ∙ sym (drop-append-le n rs (executed_attempt (at, a) ∷ []) few);
-      told_reached = each_reached_among rs (executed_attempt (at, a) ∷ []) m ls there ∙ settled.told_reached;
+      told_reached = ways_reached_among rs (executed_attempt (at, a) ∷ []) m ls there ∙ settled.told_reached;
     })
 
 settled_commit : (s : SectionState) (pending : List Placed) (c : Commit) (rs : List ExecutedAttempt) (n m : ℕ)
@@ -306,7 +306,7 @@ settled_commit s (p ∷ ps) c rs n m ls is first more settled =
           ∙ ap (λ (r : ExecutedAttempt). map (told_reached_in rs) ls ++ ReachedBy r ∷ [])
           (first_behind rs n (placed_executed_attempt p) (map placed_executed_attempt ps) open_is)
           ∙ ap (λ (xs : List ToldReached). xs ++ ReachedBy (placed_executed_attempt p) ∷ []) settled.told_reached
-          ∙ sym (told_reached_push 0 s.each_reached p);
+          ∙ sym (told_reached_push 0 s.ways_reached p);
     }
 
 settled_rollback : (s : SectionState) (at : ℕ) (r : Rollback) (rs : List ExecutedAttempt) (n m : ℕ)
@@ -315,15 +315,15 @@ settled_rollback s at r rs n m ls all settled =
     record { pending = sym (drop_all m rs all); told_reached = settled.told_reached }
 
 settled_transfer : (s : SectionState) (at : ℕ) (x : Transfer) (rs : List ExecutedAttempt) (n m i skipped : ℕ)
-    (ls : List told.HowReached) → length rs ≤ m → i ≡ length (transfers_by s.each_reached) → skipped
+    (ls : List told.HowReached) → length rs ≤ m → i ≡ length (transfers_by s.ways_reached) → skipped
     ≡ x.seq - (s.last + 1)
     → AreSettled s rs n ls → AreSettled (after_transfer s at x) rs m (ls ++ over_at skipped i)
 settled_transfer s at x rs n m i skipped ls all place count settled = record {
   pending = sym (drop_all m rs all);
   told_reached = map-append (told_reached_in rs) ls (over_at skipped i)
       ∙ ap (λ (xs : List ToldReached). xs ++ map (told_reached_in rs) (over_at skipped i)) settled.told_reached
-      ∙ told_reached_over rs 0 i skipped at x s.each_reached (omega (arith, place))
-      ∙ ap (λ (n : ℕ). told_reached_from 0 (s.each_reached ++ over n at x)) count;
+      ∙ told_reached_over rs 0 i skipped at x s.ways_reached (omega (arith, place))
+      ∙ ap (λ (n : ℕ). told_reached_from 0 (s.ways_reached ++ over n at x)) count;
 }
 
 -- ---- an attempt
@@ -454,16 +454,16 @@ module _ (t : Trace) (e at : ℕ) (b : Attempt) (rest : List (ℕ × Step)) (k :
         attempts = attempts_more;
         settled = settled_next t e (at, Attempts b) rest k come right _ _ _
             (settled_attempt state at b (executed_attempts k) (executed_attempts after)
-            (length k.fates) (length k.transfers) k.each_reached one_executed_attempt_more (omega arith)
+            (length k.fates) (length k.transfers) k.ways_reached one_executed_attempt_more (omega arith)
             (still_there (length k.attempts) (length k.transfers) (length (executed_attempts k)) (length k.transfers)
-            k.each_reached (omega arith) (omega arith) come.is_kept.there)
+            k.ways_reached (omega arith) (omega arith) come.is_kept.there)
             come.settled);
         is_kept = record {
           within = within;
           fewer = attempt_stands.fewer;
           count = come.is_kept.count;
           there = still_there (length k.attempts) (length k.transfers) (length (k.attempts ++ added ∷ []))
-              (length k.transfers) k.each_reached (omega arith) (omega arith) come.is_kept.there;
+              (length k.transfers) k.ways_reached (omega arith) (omega arith) come.is_kept.there;
         };
         fates = attempt_fates;
         transferred = come.transferred
@@ -509,7 +509,7 @@ abbrev pub with_commit : KeptSection → ℕ → KeptSection
 with_commit k seq = record k {
   last = seq;
   fates = k.fates ++ Committed ∷ [];
-  each_reached = k.each_reached ++ how_reached.Attempt (length k.fates) ∷ [];
+  ways_reached = k.ways_reached ++ how_reached.Attempt (length k.fates) ∷ [];
 }
 
 module _ (t : Trace) (e at : ℕ) (c : Commit) (rest : List (ℕ × Step)) (k : KeptSection)
@@ -582,14 +582,14 @@ module _ (t : Trace) (e at : ℕ) (c : Commit) (rest : List (ℕ × Step)) (k : 
         (sym (attempts_among-append come.prefix ((at, Commits c) ∷ []) ∙ append-nil (attempts_among come.prefix)));
     settled = settled_next t e (at, Commits c) rest k come right _ _ _
         (settled_commit (state_after start come.prefix) (state_after start come.prefix).pending c (executed_attempts k)
-        (length k.fates) (length (k.fates ++ Committed ∷ [])) k.each_reached refl commit_first
+        (length k.fates) (length (k.fates ++ Committed ∷ [])) k.ways_reached refl commit_first
         (length-append k.fates (Committed ∷ [])) come.settled);
     is_kept = record {
       within = come.is_kept.within;
       fewer = commit_parts.0.fewer;
-      count = length-append k.each_reached (how_reached.Attempt (length k.fates) ∷ [])
+      count = length-append k.ways_reached (how_reached.Attempt (length k.fates) ∷ [])
           ∙ ap (λ (n : ℕ). n + 1) (come.is_kept.count ∙ come.stands.last) ∙ sym commit_seq;
-      there = one_more_there (length k.attempts) (length k.transfers) (length k.fates) k.each_reached commit_parts.1
+      there = one_more_there (length k.attempts) (length k.transfers) (length k.fates) k.ways_reached commit_parts.1
           come.is_kept.there;
     };
     fates = commit_fates;
@@ -657,7 +657,7 @@ module _ (t : Trace) (e at : ℕ) (r : Rollback) (rest : List (ℕ × Step)) (k 
         ∙ append-nil (attempts_among come.prefix)));
     settled = settled_next t e (at, RollsBack r) rest k come right _ _ _
         (settled_rollback (state_after start come.prefix) at r (executed_attempts k) (length k.fates)
-        (length (k.fates ++ replicate (open_count k) Discarded)) k.each_reached
+        (length (k.fates ++ replicate (open_count k) Discarded)) k.ways_reached
         (omega (arith, all_settled, length-map k.attempts (kept_executed_attempt k.records))) come.settled);
     is_kept = record {
       within = come.is_kept.within;
@@ -681,7 +681,7 @@ with_transfer k at x = record k {
   last = x.seq;
   rolled_back = false;
   fates = k.fates ++ replicate (open_count k) Discarded;
-  each_reached = k.each_reached ++ over_at (x.seq - (k.last + 1)) (length k.transfers);
+  ways_reached = k.ways_reached ++ over_at (x.seq - (k.last + 1)) (length k.transfers);
   transfers = k.transfers ++ (at, x) ∷ [];
 }
 
@@ -743,7 +743,7 @@ module _ (t : Trace) (e at : ℕ) (x : Transfer) (rest : List (ℕ × Step)) (k 
             ∙ append-nil (attempts_among come.prefix)));
         settled = settled_next t e (at, Transfers x) rest k come right _ _ _
             (settled_transfer here at x (executed_attempts k) (length k.fates)
-            (length (k.fates ++ replicate (open_count k) Discarded)) (length k.transfers) skipped k.each_reached
+            (length (k.fates ++ replicate (open_count k) Discarded)) (length k.transfers) skipped k.ways_reached
             (omega (arith, all_discarded, length-map k.attempts (kept_executed_attempt k.records)))
             (ap length come.transfers) (ap (λ (n : ℕ). x.seq - (n + 1)) come.stands.last) come.settled);
         is_kept = record {
@@ -751,15 +751,15 @@ module _ (t : Trace) (e at : ℕ) (x : Transfer) (rest : List (ℕ × Step)) (k 
           fewer = transfer_stands.fewer;
           count = omega (
             arith,
-            length-append k.each_reached (over_at skipped (length k.transfers)),
+            length-append k.ways_reached (over_at skipped (length k.transfers)),
             over_count skipped (length k.transfers),
             come.is_kept.count,
             later_number,
           );
           there = over_there (length k.attempts) (length (k.transfers ++ (at, x) ∷ [])) skipped (length k.transfers)
-              k.each_reached (omega (arith, one_more_state))
+              k.ways_reached (omega (arith, one_more_state))
               (still_there (length k.attempts) (length k.transfers) (length k.attempts)
-              (length (k.transfers ++ (at, x) ∷ [])) k.each_reached (omega arith) (omega (arith, one_more_state))
+              (length (k.transfers ++ (at, x) ∷ [])) k.ways_reached (omega arith) (omega (arith, one_more_state))
               come.is_kept.there);
         };
         fates = transfer_fates;
@@ -804,9 +804,9 @@ module _ (t : Trace) (e : ℕ) (k : KeptSection) (come : HasCome t e [] k) where
             (sym all_came)) i;
         fates = fates i;
         transferred = (sym (append-nil (map transferred_before k.attempts)) ∙ sym come.transferred) i;
-        each_reached = (come.settled.told_reached
-            ∙ ap (λ (xs : List (ℕ × Step)). told_reached_from 0 (state_after start xs).each_reached) (sym all_came)) i;
+        ways_reached = (come.settled.told_reached
+            ∙ ap (λ (xs : List (ℕ × Step)). told_reached_from 0 (state_after start xs).ways_reached) (sym all_came)) i;
         rollbacks = (come.rollbacks ∙ ap rollbacks_among (sym all_came)) i;
         transfers = (come.transfers
-            ∙ ap (λ (xs : List (ℕ × Step)). transfers_by (state_after start xs).each_reached) (sym all_came)) i;
+            ∙ ap (λ (xs : List (ℕ × Step)). transfers_by (state_after start xs).ways_reached) (sym all_came)) i;
       }

@@ -51,20 +51,20 @@ all_skipped P zero l last = (last, tt)
 all_skipped P (suc n) l last = (tt, all_skipped P n l last)
 
 states_next : (P : ℕ × Step → Type 0) (s : SectionState) (step : ℕ × Step) → P step
-    → AllByRecursion (OfState P) s.each_reached → AllByRecursion (OfState P) (next s step).each_reached
+    → AllByRecursion (OfState P) s.ways_reached → AllByRecursion (OfState P) (next s step).ways_reached
 states_next P s (at, Attempts a) own all = all
 states_next P s (at, Commits c) own all = by s.pending
   where
-    by : (pending : List Placed) → AllByRecursion (OfState P) (committing s pending).each_reached
+    by : (pending : List Placed) → AllByRecursion (OfState P) (committing s pending).ways_reached
     by [] = all
-    by (p ∷ pending) = all-append (OfState P) s.each_reached (ByAttempt p ∷ []) all (tt, tt)
+    by (p ∷ pending) = all-append (OfState P) s.ways_reached (ByAttempt p ∷ []) all (tt, tt)
 states_next P s (at, RollsBack r) own all = all
 states_next P s (at, Transfers x) own all =
-    all-append (OfState P) s.each_reached (replicate (x.seq - (s.last + 1)) Skipped ++ ByTransfer at x ∷ []) all
+    all-append (OfState P) s.ways_reached (replicate (x.seq - (s.last + 1)) Skipped ++ ByTransfer at x ∷ []) all
     (all_skipped P (x.seq - (s.last + 1)) (ByTransfer at x) own)
 
 states_after : (P : ℕ × Step → Type 0) (s : SectionState) (steps : List (ℕ × Step)) → AllByRecursion P steps
-    → AllByRecursion (OfState P) s.each_reached → AllByRecursion (OfState P) (state_after s steps).each_reached
+    → AllByRecursion (OfState P) s.ways_reached → AllByRecursion (OfState P) (state_after s steps).ways_reached
 states_after P s [] own all = all
 states_after P s (step ∷ steps) own all = states_after P (next s step) steps own.1 (states_next P s step own.0 all)
 
@@ -104,22 +104,22 @@ module _ (t : Trace) (e : ℕ) where
       (all_picked (λ x. IsStepOf t e x.0 (Attempts x.1)) test (attempts_among (steps_at t e))
       (fates_from 0 (steps_at t e)) (attempts_in IsStep (steps_at t e) all_steps)))
 
-  all_committed : AllByRecursion IsAttempt (attempts_by (history t e).each_reached)
-  all_committed = all_attempts is_committed (attempts_by (history t e).each_reached) (committed_are_picked t e)
+  all_committed : AllByRecursion IsAttempt (attempts_by (history t e).ways_reached)
+  all_committed = all_attempts is_committed (attempts_by (history t e).ways_reached) (committed_are_picked t e)
 
   pub settled_are_steps : AllByRecursion IsAttempt (settled (history t e))
-  settled_are_steps = all-append IsAttempt (attempts_by (history t e).each_reached) (history t e).discarded
+  settled_are_steps = all-append IsAttempt (attempts_by (history t e).ways_reached) (history t e).discarded
       all_committed
       (all_attempts is_discarded (history t e).discarded (discarded_are_picked t e))
 
   pub committed_is_step : (n : ℕ) (p : Placed) → committed_at t e n ≡ Some p → IsAttempt p
   committed_is_step zero p at = none_there p at
-  committed_is_step (suc n) p at = each_committed IsAttempt (history t e).each_reached n p all_committed at
+  committed_is_step (suc n) p at = each_committed IsAttempt (history t e).ways_reached n p all_committed at
 
   pub state_is_step : (n at : ℕ) (x : Transfer) → how_reached_at t e n ≡ Some (ByTransfer at x)
       → IsStepOf t e at (Transfers x)
   unfolding history
   state_is_step zero at x is = none_there (ByTransfer at x) is
   state_is_step (suc n) at x is =
-      all-slice_get (OfState IsStep) (history t e).each_reached n (ByTransfer at x)
+      all-slice_get (OfState IsStep) (history t e).ways_reached n (ByTransfer at x)
       (states_after IsStep start (steps_at t e) all_steps tt) is

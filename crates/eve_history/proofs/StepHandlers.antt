@@ -77,11 +77,11 @@ discarded_all fates after n v a is count old few =
     (sym all) ∙ sym is
 
 -- numbers are skipped, and then a state is transferred
-pub each_reached_over : (ls skips after : List told.HowReached) (n v last seq place i : ℕ)
+pub ways_reached_over : (ls skips after : List told.HowReached) (n v last seq place i : ℕ)
     → skips ≡ take n ls ++ replicate (n - v) how_reached.Skipped → after ≡ skips ++ how_reached.Transfer place ∷ []
     → n ≡ seq - 1 → v ≡ length ls → length ls ≡ last → last < seq → place ≡ i
     → ls ++ over_at (seq - (last + 1)) i ≡ after
-each_reached_over ls skips after n v last seq place i is more count old all later same =
+ways_reached_over ls skips after n v last seq place i is more count old all later same =
     let whole : take n ls ≡ ls = take_all n ls (omega arith) in
     let skipped : seq - (last + 1) ≡ n - v = omega arith in
     (λ j. ls ++ over_at (skipped j) (sym same j))

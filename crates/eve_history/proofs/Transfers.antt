@@ -42,35 +42,35 @@ transfers_over : (skipped at : ℕ) (x : Transfer) → transfers_by (over skippe
 transfers_over zero at x = refl
 transfers_over (suc n) at x = transfers_over n at x
 
-pub transfers_commit : (s : SectionState) (pending : List Placed) → transfers_by (committing s pending).each_reached
-    ≡ transfers_by s.each_reached
+pub transfers_commit : (s : SectionState) (pending : List Placed) → transfers_by (committing s pending).ways_reached
+    ≡ transfers_by s.ways_reached
 transfers_commit s [] = refl
-transfers_commit s (p ∷ ps) = transfers_by-append s.each_reached (ByAttempt p ∷ [])
-    ∙ append-nil (transfers_by s.each_reached)
+transfers_commit s (p ∷ ps) = transfers_by-append s.ways_reached (ByAttempt p ∷ [])
+    ∙ append-nil (transfers_by s.ways_reached)
 
 pub transfers_transferring : (s : SectionState) (at : ℕ) (x : Transfer)
-    → transfers_by (after_transfer s at x).each_reached
-    ≡ transfers_by s.each_reached ++ (at, x) ∷ []
-transfers_transferring s at x = transfers_by-append s.each_reached (over (x.seq - (s.last + 1)) at x)
-    ∙ ap (λ (zs : List (ℕ × Transfer)). transfers_by s.each_reached ++ zs) (transfers_over (x.seq - (s.last + 1)) at x)
+    → transfers_by (after_transfer s at x).ways_reached
+    ≡ transfers_by s.ways_reached ++ (at, x) ∷ []
+transfers_transferring s at x = transfers_by-append s.ways_reached (over (x.seq - (s.last + 1)) at x)
+    ∙ ap (λ (zs : List (ℕ × Transfer)). transfers_by s.ways_reached ++ zs) (transfers_over (x.seq - (s.last + 1)) at x)
 
-pub transfers_after : (s : SectionState) (steps : List (ℕ × Step)) → transfers_by (state_after s steps).each_reached
-    ≡ transfers_by s.each_reached ++ transfers_among steps
-transfers_after s [] = sym (append-nil (transfers_by s.each_reached))
+pub transfers_after : (s : SectionState) (steps : List (ℕ × Step)) → transfers_by (state_after s steps).ways_reached
+    ≡ transfers_by s.ways_reached ++ transfers_among steps
+transfers_after s [] = sym (append-nil (transfers_by s.ways_reached))
 transfers_after s ((at, Attempts a) ∷ steps) = transfers_after (next s (at, Attempts a)) steps
 transfers_after s ((at, Commits c) ∷ steps) = transfers_after (next s (at, Commits c)) steps
     ∙ ap (λ (zs : List (ℕ × Transfer)). zs ++ transfers_among steps) (transfers_commit s s.pending)
 transfers_after s ((at, RollsBack r) ∷ steps) = transfers_after (next s (at, RollsBack r)) steps
 transfers_after s ((at, Transfers x) ∷ steps) = transfers_after (next s (at, Transfers x)) steps
     ∙ ap (λ (zs : List (ℕ × Transfer)). zs ++ transfers_among steps) (transfers_transferring s at x)
-    ∙ append_assoc (transfers_by s.each_reached) ((at, x) ∷ []) (transfers_among steps)
+    ∙ append_assoc (transfers_by s.ways_reached) ((at, x) ∷ []) (transfers_among steps)
 
 -- the states that a section tells are those of its steps
-pub transfers_of_steps : (t : Trace) (e : ℕ) → transfers_by (history t e).each_reached ≡ transfers_among (steps_at t e)
+pub transfers_of_steps : (t : Trace) (e : ℕ) → transfers_by (history t e).ways_reached ≡ transfers_among (steps_at t e)
 unfolding history
 transfers_of_steps t e = transfers_after start (steps_at t e)
 
-pub transfers_told : (t : Trace) (e : ℕ) → (section_history t e).transfers ≡ transfers_by (history t e).each_reached
+pub transfers_told : (t : Trace) (e : ℕ) → (section_history t e).transfers ≡ transfers_by (history t e).ways_reached
 unfolding section_history history
 transfers_told t e = refl
 

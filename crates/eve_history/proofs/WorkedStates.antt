@@ -10,7 +10,7 @@ use Rattle.eve_history.specs.declared.fate.Fate.TheVariants.{Committed, Discarde
 use Rattle.eve_history.specs.Section.{Ran, Transferred, Placed, ByAttempt, ByTransfer, Skipped, SectionState, start}
 use Rattle.eve_history.specs.Section.{path_of, state_after, settled, are_right}
 use Rattle.eve_history.specs.Fates.{fates_from}
-use Rattle.eve_history.specs.SectionHistory.{told_reached_from, is_by_attempt, is_how_reached, transferred_from}
+use Rattle.eve_history.specs.SectionHistory.{told_reached_from, is_by_attempt, was_reached, transferred_from}
 
 -- five batches of a deposit each, and a window of two
 five_batches : Trace
@@ -113,17 +113,17 @@ these_are_right = refl
 fourth : Placed
 fourth = record { offset = 70; attempt = attempt_of_batch 4; path = Transferred rows_of_three ∷ [] }
 
-the_numbers : ended.each_reached
+the_numbers : ended.ways_reached
     ≡ Skipped ∷ Skipped ∷ ByTransfer 60 state_of_three ∷ ByAttempt fourth ∷ []
 unfolding ended steps_behind behind_the_state opened two_attempts fourth the_state
 the_numbers = refl
 
-reached : map (λ n. is_how_reached (slice_get ended.each_reached n)) (0 ∷ 1 ∷ 2 ∷ 3 ∷ 4 ∷ [])
+reached : map (λ n. was_reached (slice_get ended.ways_reached n)) (0 ∷ 1 ∷ 2 ∷ 3 ∷ 4 ∷ [])
     ≡ false ∷ false ∷ true ∷ true ∷ false ∷ []
 unfolding ended steps_behind behind_the_state opened two_attempts the_state
 reached = refl
 
-by_attempts : map is_by_attempt (told_reached_from 0 ended.each_reached) ≡ false ∷ false ∷ false ∷ true ∷ []
+by_attempts : map is_by_attempt (told_reached_from 0 ended.ways_reached) ≡ false ∷ false ∷ false ∷ true ∷ []
 unfolding ended steps_behind behind_the_state opened two_attempts the_state
 by_attempts = refl
 

@@ -39,7 +39,7 @@ pub record KeptSection : Type 0 where
   pub rolled_back : Bool
   pub attempts : List KeptAttempt
   pub fates : List Fate
-  pub each_reached : List told.HowReached
+  pub ways_reached : List told.HowReached
   pub records : List (ℕ × Access)
   pub rollbacks : List (ℕ × Rollback)
   pub transfers : List (ℕ × Transfer)
@@ -68,7 +68,7 @@ kept_section n = record {
   rolled_back = n.rolled_back;
   attempts = map (kept_attempt n.bytes.now) n.attempts.items;
   fates = n.fates.items;
-  each_reached = n.each_reached.items;
+  ways_reached = n.ways_reached.items;
   records = map (seen n.bytes.now) n.records.items;
   rollbacks = map (rolled n.bytes.now) n.rollbacks.items;
   transfers = map (was_transferred n.bytes.now) n.transfers.items;
@@ -82,7 +82,7 @@ kept_at_first records = record {
   rolled_back = false;
   attempts = [];
   fates = [];
-  each_reached = [];
+  ways_reached = [];
   records = records;
   rollbacks = [];
   transfers = [];
@@ -123,10 +123,10 @@ told_reached_in rs (how_reached.Transfer i) = ReachedFrom i
 told_reached_in rs how_reached.Skipped = NotReached
 
 -- the attempt or the state by which a number was reached is one of those that there are
-abbrev pub IsHowReachedAmong : ℕ → ℕ → told.HowReached → Type 0
-IsHowReachedAmong attempts transfers (how_reached.Attempt place) = place < attempts
-IsHowReachedAmong attempts transfers (how_reached.Transfer i) = i < transfers
-IsHowReachedAmong attempts transfers how_reached.Skipped = ⊤
+abbrev pub IsWayAmong : ℕ → ℕ → told.HowReached → Type 0
+IsWayAmong attempts transfers (how_reached.Attempt place) = place < attempts
+IsWayAmong attempts transfers (how_reached.Transfer i) = i < transfers
+IsWayAmong attempts transfers how_reached.Skipped = ⊤
 
 abbrev pub section_history_of : ℕ → KeptSection → SectionHistory
 section_history_of e k = record {
@@ -136,7 +136,7 @@ section_history_of e k = record {
   attempts = executed_attempts k;
   fates = k.fates ++ replicate (open_count k) Open;
   transferred = map (λ a. a.transferred) k.attempts;
-  each_reached = map (told_reached_in (executed_attempts k)) k.each_reached;
+  ways_reached = map (told_reached_in (executed_attempts k)) k.ways_reached;
   rollbacks = k.rollbacks;
   transfers = k.transfers;
 }
@@ -146,8 +146,8 @@ section_history_of e k = record {
 pub record IsKept (k : KeptSection) : Type 0 where
   pub within : AllByRecursion (λ a. a.from + length a.attempt.certificate ≤ length k.records) k.attempts
   pub fewer : length k.fates ≤ length k.attempts
-  pub count : length k.each_reached ≡ k.last
-  pub there : AllByRecursion (IsHowReachedAmong (length k.attempts) (length k.transfers)) k.each_reached
+  pub count : length k.ways_reached ≡ k.last
+  pub there : AllByRecursion (IsWayAmong (length k.attempts) (length k.transfers)) k.ways_reached
 
 -- ---- while steps come
 
@@ -162,9 +162,9 @@ pub record StandsAt (s : SectionState) (k : KeptSection) : Type 0 where
 
 -- Of these attempts the ones after the settled ones are open, and in these ways the numbers were reached.
 pub record AreSettled (s : SectionState) (rs : List ExecutedAttempt) (settled : ℕ)
-    (each_reached : List told.HowReached) : Type 0 where
+    (ways_reached : List told.HowReached) : Type 0 where
   pub pending : map (λ p. executed_attempt (placed_at p)) s.pending ≡ drop settled rs
-  pub told_reached : map (told_reached_in rs) each_reached ≡ told_reached_from 0 s.each_reached
+  pub told_reached : map (told_reached_in rs) ways_reached ≡ told_reached_from 0 s.ways_reached
 
 -- what becomes of this many open attempts in the steps, that many being open before them
 abbrev pub open_fates : List (ℕ × Step) → ℕ → ℕ → List Fate
@@ -178,14 +178,14 @@ pub record HasCome (t : Trace) (e : ℕ) (rest : List (ℕ × Step)) (k : KeptSe
   pub right : are_right t start prefix ≡ true
   pub stands : StandsAt (state_after start prefix) k
   pub attempts : executed_attempts k ≡ map executed_attempt (attempts_among prefix)
-  pub settled : AreSettled (state_after start prefix) (executed_attempts k) (length k.fates) k.each_reached
+  pub settled : AreSettled (state_after start prefix) (executed_attempts k) (length k.fates) k.ways_reached
   pub is_kept : IsKept k
   pub fates : fates_from 0 (steps_at t e)
       ≡ k.fates ++ (open_fates rest 0 (open_count k) ++ fates_from (open_count k) rest)
   pub transferred : transferred_from 0 (steps_at t e)
       ≡ map (λ a. a.transferred) k.attempts ++ transferred_from (length k.transfers) rest
   pub rollbacks : k.rollbacks ≡ rollbacks_among prefix
-  pub transfers : k.transfers ≡ transfers_by (state_after start prefix).each_reached
+  pub transfers : k.transfers ≡ transfers_by (state_after start prefix).ways_reached
   pub fit : IsTrue (list_all (λ x. is_step (row_count (head_of t)) x.1) rest)
 
 -- an attempt comes next, and this is what its frames say

@@ -16,13 +16,12 @@ abbrev pub request_ids_at : ℕ × (ℕ × Batch) → List RequestId
 request_ids_at b = map request_id b.1.1.requests
 
 -- one of the batch's requests occurs earlier, in the batch or before it
--- F11 SameRequest.
+-- It is F11 SameRequest.
 abbrev pub IsAskedAgain : List (ℕ × (ℕ × Batch)) → ℕ × (ℕ × Batch) → Type 0
 IsAskedAgain before b = SomePlace (request_ids_at b)
     (λ earlier own. Contains (flat_map request_ids_at before ++ earlier) own)
 
--- a fault of orders stands at this offset
--- F10 SameName.
+-- a fault of orders stands at this offset: F10 SameName, F11 SameRequest
 abbrev pub StandsInOrders : Code → Trace → ℕ → Type 0
 StandsInOrders code.SameName t at =
     SomePlace (customers_at t) (λ before c. (c.0 ≡ at) × Contains (map (λ d. d.1.name) before) c.1.name)

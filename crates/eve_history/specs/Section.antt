@@ -33,15 +33,15 @@ pub data HowReached : Type 0 where
 pub record SectionState : Type 0 where
   pub view : ℕ
   pub last : ℕ  -- the last number reached
-  pub each_reached : List HowReached  -- how each number was reached, from 1 to the last
+  pub ways_reached : List HowReached  -- how each number was reached, from 1 to the last
   pub pending : List Placed  -- the open attempts
   pub discarded : List Placed
   pub rolled_back : Bool  -- no attempt came since a rollback
 
 abbrev pub start : SectionState
-start = record { view = 0; last = 0; each_reached = []; pending = []; discarded = []; rolled_back = false }
+start = record { view = 0; last = 0; ways_reached = []; pending = []; discarded = []; rolled_back = false }
 
--- ---- what it tells how numbers were reached
+-- ---- how numbers were reached
 
 -- the number was reached by an attempt
 abbrev pub IsByAttempt : HowReached → Type 0
@@ -58,35 +58,35 @@ came_by Skipped = []
 -- the attempts by which numbers were reached, in order
 abbrev pub attempts_by : List HowReached → List Placed
 attempts_by [] = []
-attempts_by (ByAttempt p ∷ each_reached) = p ∷ attempts_by each_reached
-attempts_by (ByTransfer at x ∷ each_reached) = attempts_by each_reached
-attempts_by (Skipped ∷ each_reached) = attempts_by each_reached
+attempts_by (ByAttempt p ∷ ways_reached) = p ∷ attempts_by ways_reached
+attempts_by (ByTransfer at x ∷ ways_reached) = attempts_by ways_reached
+attempts_by (Skipped ∷ ways_reached) = attempts_by ways_reached
 
 -- the states that were transferred, with the offsets of their frames, in order
 abbrev pub transfers_by : List HowReached → List (ℕ × Transfer)
 transfers_by [] = []
-transfers_by (ByAttempt p ∷ each_reached) = transfers_by each_reached
-transfers_by (ByTransfer at x ∷ each_reached) = (at, x) ∷ transfers_by each_reached
-transfers_by (Skipped ∷ each_reached) = transfers_by each_reached
+transfers_by (ByAttempt p ∷ ways_reached) = transfers_by ways_reached
+transfers_by (ByTransfer at x ∷ ways_reached) = (at, x) ∷ transfers_by ways_reached
+transfers_by (Skipped ∷ ways_reached) = transfers_by ways_reached
 
 -- ---- the next state
 
 -- what happened to the rows, but for the attempts that were discarded
 abbrev pub path_of : SectionState → List Came
-path_of s = flat_map came_by s.each_reached ++ map (λ p. Ran p.attempt) s.pending
+path_of s = flat_map came_by s.ways_reached ++ map (λ p. Ran p.attempt) s.pending
 
 -- the first open attempt is committed
 abbrev pub committing : SectionState → List Placed → SectionState
 committing s [] = s
 committing s (p ∷ pending) =
-    record s { last = s.last + 1; each_reached = s.each_reached ++ ByAttempt p ∷ []; pending = pending }
+    record s { last = s.last + 1; ways_reached = s.ways_reached ++ ByAttempt p ∷ []; pending = pending }
 
 -- A state is transferred: the numbers before its own are skipped, and all open attempts are discarded.
 abbrev pub after_transfer : SectionState → ℕ → Transfer → SectionState
 after_transfer s at x = record s {
   view = x.view;
   last = x.seq;
-  each_reached = s.each_reached ++ (replicate (x.seq - (s.last + 1)) Skipped ++ ByTransfer at x ∷ []);
+  ways_reached = s.ways_reached ++ (replicate (x.seq - (s.last + 1)) Skipped ++ ByTransfer at x ∷ []);
   pending = [];
   discarded = s.discarded ++ s.pending;
   rolled_back = false;
@@ -106,7 +106,7 @@ state_after s steps = fold next s steps
 
 -- committed or discarded
 abbrev pub settled : SectionState → List Placed
-settled s = attempts_by s.each_reached ++ s.discarded
+settled s = attempts_by s.ways_reached ++ s.discarded
 
 -- ---- which steps are right
 
@@ -122,14 +122,14 @@ abbrev pub request_count : Trace → Attempt → ℕ
 request_count t a = length (batch_at t a.seq).requests
 
 -- its number, view and mode are those that are due
--- F20 Attempt.
+-- Where it isn't so, F20 Attempt stands.
 abbrev pub is_due : Trace → SectionState → Attempt → Bool
 is_due t s a =
     (a.seq == s.last + 1 + length s.pending) && (nat_le a.seq (length t.batches)
     && (nat_le a.seq (s.last + t.head.window) && ((a.view == s.view) && beq a.serial s.rolled_back)))
 
 -- and it has as many indexes as its batch has requests
--- F20 Attempt.
+-- Where it isn't so, F20 Attempt stands.
 abbrev pub is_right_attempt : Trace → SectionState → Attempt → Bool
 is_right_attempt t s a = is_due t s a && (length a.certificate == request_count t a)
 
@@ -142,7 +142,7 @@ abbrev pub worker_count : Trace → Attempt → ℕ
 worker_count t a = if a.serial then 1 else t.head.workers
 
 -- the worker is there, and the index is one of the batch that no access before it has
--- F22 Access.
+-- Where it isn't so, F22 Access stands.
 abbrev pub is_right_access : Trace → Attempt → List Access → Access → Bool
 is_right_access t a before x =
     nat_lt x.worker (worker_count t a) && (nat_lt x.index (request_count t a)
@@ -154,17 +154,17 @@ commits_first [] c = false
 commits_first (p ∷ ps) c = (p.attempt.view == c.view) && pointwise ◌==◌ p.attempt.token c.token
 
 -- the commit is of the next number, and of the first open attempt
--- F24 Commit.
+-- Where it isn't so, F24 Commit stands.
 abbrev pub is_right_commit : SectionState → Commit → Bool
 is_right_commit s c = (c.seq == s.last + 1) && commits_first s.pending c
 
--- the rollback goes back to the last commit, some batch is left, and the next view begins
--- F25 Rollback.
+-- the rollback goes back to the last number reached, some batch is left, and the next view begins
+-- Where it isn't so, F25 Rollback stands.
 abbrev pub is_right_rollback : Trace → SectionState → Rollback → Bool
 is_right_rollback t s r = (r.to == s.last) && (nat_lt s.last (length t.batches) && (r.view == s.view + 1))
 
 -- the state is of a later number, which is one of a batch, and its view is no lower
--- F26 Transfer.
+-- Where it isn't so, F26 Transfer stands.
 abbrev pub is_right_transfer : Trace → SectionState → Transfer → Bool
 is_right_transfer t s x = nat_lt s.last x.seq && (nat_le x.seq (length t.batches) && nat_le s.view x.view)
 

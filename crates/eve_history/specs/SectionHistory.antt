@@ -72,11 +72,11 @@ pub data ToldReached : Type 0 where
 -- the same of each number, where this many states were transferred before
 abbrev pub told_reached_from : ℕ → List HowReached → List ToldReached
 told_reached_from transferred [] = []
-told_reached_from transferred (ByAttempt p ∷ each_reached) = ReachedBy (executed_attempt (placed_at p))
-    ∷ told_reached_from transferred each_reached
-told_reached_from transferred (ByTransfer at x ∷ each_reached) = ReachedFrom transferred
-    ∷ told_reached_from (suc transferred) each_reached
-told_reached_from transferred (Skipped ∷ each_reached) = NotReached ∷ told_reached_from transferred each_reached
+told_reached_from transferred (ByAttempt p ∷ ways_reached) = ReachedBy (executed_attempt (placed_at p))
+    ∷ told_reached_from transferred ways_reached
+told_reached_from transferred (ByTransfer at x ∷ ways_reached) = ReachedFrom transferred
+    ∷ told_reached_from (suc transferred) ways_reached
+told_reached_from transferred (Skipped ∷ ways_reached) = NotReached ∷ told_reached_from transferred ways_reached
 
 abbrev pub is_by_attempt : ToldReached → Bool
 is_by_attempt (ReachedBy r) = true
@@ -93,13 +93,13 @@ pub record SectionHistory : Type 0 where
   pub attempts : List ExecutedAttempt
   pub fates : List Fate
   pub transferred : List ℕ
-  pub each_reached : List ToldReached
+  pub ways_reached : List ToldReached
   pub rollbacks : List (ℕ × Rollback)
   pub transfers : List (ℕ × Transfer)
 
 -- how the section reached number n, of the numbers from 1 on
 abbrev pub told_reached_at : SectionHistory → ℕ → ToldReached
-told_reached_at h n = slice_index_or h.each_reached (n - 1) NotReached
+told_reached_at h n = slice_index_or h.ways_reached (n - 1) NotReached
 
 -- what a call says of a number is what is told of it: the attempt or the state at this place, or that it was skipped
 abbrev pub IsToldOf : SectionHistory → told.HowReached → ToldReached → Type 0
@@ -116,9 +116,9 @@ section_history_by t e steps = record {
   attempts = map executed_attempt (attempts_among steps);
   fates = fates_from 0 steps;
   transferred = transferred_from 0 steps;
-  each_reached = told_reached_from 0 (state_after start steps).each_reached;
+  ways_reached = told_reached_from 0 (state_after start steps).ways_reached;
   rollbacks = rollbacks_among steps;
-  transfers = transfers_by (state_after start steps).each_reached;
+  transfers = transfers_by (state_after start steps).ways_reached;
 }
 
 -- what replica e's section tells
@@ -146,7 +146,7 @@ IsRightSection t e = IsTrue (are_right t start (steps_at t e))
 -- how replica e reached number n, of the numbers from 1 on
 abbrev pub how_reached_at : Trace → ℕ → ℕ → Option HowReached
 how_reached_at t e zero = None
-how_reached_at t e (suc n) = slice_get (history t e).each_reached n
+how_reached_at t e (suc n) = slice_get (history t e).ways_reached n
 
 abbrev pub attempt_by : Option HowReached → Option Placed
 attempt_by (Some (ByAttempt p)) = Some p
@@ -158,16 +158,17 @@ attempt_by None = None
 abbrev pub committed_at : Trace → ℕ → ℕ → Option Placed
 committed_at t e n = attempt_by (how_reached_at t e n)
 
-abbrev pub is_how_reached : Option HowReached → Bool
-is_how_reached (Some (ByAttempt p)) = true
-is_how_reached (Some (ByTransfer at x)) = true
-is_how_reached (Some Skipped) = false
-is_how_reached None = false
+-- it was reached, by an attempt or by a transfer
+abbrev pub was_reached : Option HowReached → Bool
+was_reached (Some (ByAttempt p)) = true
+was_reached (Some (ByTransfer at x)) = true
+was_reached (Some Skipped) = false
+was_reached None = false
 
 -- number n is 0, or replica e reached it and didn't skip it
 abbrev pub is_reached : Trace → ℕ → ℕ → Bool
 is_reached t e zero = true
-is_reached t e (suc n) = is_how_reached (how_reached_at t e (suc n))
+is_reached t e (suc n) = was_reached (how_reached_at t e (suc n))
 
 -- of the numbers up to n replica e skipped none, and reached none by a state that was transferred to it
 abbrev pub ByAttemptsTo : Trace → ℕ → ℕ → Type 0

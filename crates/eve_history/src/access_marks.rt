@@ -45,7 +45,7 @@ impl AccessMarks {
     /// Marks the next record, or says what is wrong with it.
     ///
     /// docs/MODEL.md, "Section state, fate". There are `workers` workers and `count` indexes.
-    /// F22 Access and F23 WorkerOrder.
+    /// Decides F22 Access and F23 WorkerOrder.
     fn mark(&mut self, workers: u8, count: usize, access: &AccessView<'_>) -> Option<Code>
         requires workers { workers ≤ MOST_WORKERS }
         requires count { count ≤ MOST_REQUESTS }

@@ -115,7 +115,7 @@ impl<'a> History<'a> {
     /// The last number that the replica reached; 0 where it reached none.
     pub fn committed(&self) -> u32
         ensures number { result ≡ self.now.committed }
-        ensures count { result ≡ length self.now.each_reached }
+        ensures count { result ≡ length self.now.ways_reached }
     {
         self.notes().last
     }
@@ -123,16 +123,16 @@ impl<'a> History<'a> {
     /// How the replica reached number n, of the numbers from 1 on.
     pub fn how_reached(&self, n: u32) -> HowReached
         requires one { 1 ≤ n }
-        requires there { n ≤ length self.now.each_reached }
+        requires there { n ≤ length self.now.ways_reached }
         ensures { IsToldOf self.now result (told_reached_at self.now n) }
     {
-        self.notes().each_reached[n as usize - 1]
+        self.notes().ways_reached[n as usize - 1]
     }
 
     /// Whether the replica reached number n, of the numbers from 1 on, by an attempt.
     pub fn by_attempt(&self, n: u32) -> bool
         requires one { 1 ≤ n }
-        requires there { n ≤ length self.now.each_reached }
+        requires there { n ≤ length self.now.ways_reached }
         ensures { result ≡ is_by_attempt (told_reached_at self.now n) }
     {
         match self.how_reached(n) {
@@ -146,7 +146,7 @@ impl<'a> History<'a> {
     pub fn committed_attempt(&self, n: u32) -> usize
         requires one { 1 ≤ n }
         requires by_attempt { IsTrue (is_by_attempt (told_reached_at self.now n)) }
-        ensures { (r : ExecutedAttempt) × (slice_get self.now.each_reached (n - 1) ≡ Some (ReachedBy r))
+        ensures { (r : ExecutedAttempt) × (slice_get self.now.ways_reached (n - 1) ≡ Some (ReachedBy r))
             × (slice_get self.now.attempts result ≡ Some r) }
     {
         match self.how_reached(n) {
@@ -190,7 +190,7 @@ impl<'a> History<'a> {
         }
     }
 
-    /// How many states the replica got by a transfer before an attempt.
+    /// How many states were transferred to the replica before an attempt.
     pub fn transferred_before(&self, i: usize) -> u32
         requires { i < length self.now.attempts }
         ensures { slice_get self.now.transferred i ≡ Some result }
@@ -234,7 +234,7 @@ impl<'a> History<'a> {
         rollback_at(notes.bytes, notes.rollbacks[i])
     }
 
-    /// How many states the replica got by a transfer.
+    /// How many states were transferred to the replica.
     pub fn transfers(&self) -> usize
         ensures { result ≡ length self.now.transfers }
     {

@@ -9,6 +9,6 @@ pub enum HowReached {
     Attempt(u32),
     /// By this one of the states that were transferred to it.
     Transfer(u32),
-    /// Not at all: it got by a transfer a state of a later number.
+    /// Not at all: a state of a later number was transferred to it.
     Skipped,
 }

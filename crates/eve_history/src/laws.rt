@@ -25,7 +25,7 @@ ghost use Rattle.eve_history.specs.Structure.{StandsInStructure};
 /// The attempts that a section has committed in the end, and those that it has discarded, are the ones with that fate,
 /// in the order of their frames.
 pub fn fates_are_as_the_section_ends()
-    ensures committed { (t : Trace) (e : ℕ) → map placed_at (attempts_by (history t e).each_reached)
+    ensures committed { (t : Trace) (e : ℕ) → map placed_at (attempts_by (history t e).ways_reached)
         ≡ picked is_committed (attempts_among (steps_at t e)) (fates_from 0 (steps_at t e)) }
     ensures discarded { (t : Trace) (e : ℕ) → map placed_at (history t e).discarded
         ≡ picked is_discarded (attempts_among (steps_at t e)) (fates_from 0 (steps_at t e)) }
@@ -38,33 +38,33 @@ pub fn fates_are_as_the_section_ends()
 ///
 /// In a trace of a version without transfers each number is reached by an attempt (`by_attempts`).
 pub fn numbers_are_reached()
-    ensures count { (t : Trace) (e : ℕ) → IsRightSection t e → length (section_history t e).each_reached
+    ensures count { (t : Trace) (e : ℕ) → IsRightSection t e → length (section_history t e).ways_reached
         ≡ (section_history t e).committed }
     ensures told { (t : Trace) (e n : ℕ) (p : Placed) → committed_at t e n ≡ Some p
-        → slice_get (section_history t e).each_reached (n - 1) ≡ Some (ReachedBy (executed_attempt (placed_at p))) }
+        → slice_get (section_history t e).ways_reached (n - 1) ≡ Some (ReachedBy (executed_attempt (placed_at p))) }
     ensures tells { (t : Trace) (e n : ℕ) (r : ExecutedAttempt) → 1 ≤ n
-        → slice_get (section_history t e).each_reached (n - 1) ≡ Some (ReachedBy r)
+        → slice_get (section_history t e).ways_reached (n - 1) ≡ Some (ReachedBy r)
         → (p : Placed) × (committed_at t e n ≡ Some p) × (r ≡ executed_attempt (placed_at p)) }
     ensures numbers { (t : Trace) (e n : ℕ) (p : Placed) → IsRightSection t e → committed_at t e n ≡ Some p
         → p.attempt.seq ≡ n }
     ensures attempts { (t : Trace) (e at : ℕ) (a : Attempt) (prefix rest : List (ℕ × Step)) → IsRightSection t e
         → steps_at t e ≡ prefix ++ (at, Attempts a) ∷ rest
-        → a.seq ≡ suc (length (state_after start prefix).each_reached + length (state_after start prefix).pending) }
+        → a.seq ≡ suc (length (state_after start prefix).ways_reached + length (state_after start prefix).pending) }
     ensures before { (t : Trace) (e n : ℕ) (p : Placed) → IsRightSection t e → committed_at t e (suc n) ≡ Some p
         → IsTrue (is_reached t e n) }
     ensures told_transfer { (t : Trace) (e n at : ℕ) (x : Transfer) → how_reached_at t e n ≡ Some (ByTransfer at x)
-        → (i : ℕ) × (slice_get (section_history t e).each_reached (n - 1) ≡ Some (ReachedFrom i))
+        → (i : ℕ) × (slice_get (section_history t e).ways_reached (n - 1) ≡ Some (ReachedFrom i))
         × (slice_get (section_history t e).transfers i ≡ Some (at, x)) }
     ensures tells_transfer { (t : Trace) (e n i : ℕ) → 1 ≤ n
-        → slice_get (section_history t e).each_reached (n - 1) ≡ Some (ReachedFrom i)
+        → slice_get (section_history t e).ways_reached (n - 1) ≡ Some (ReachedFrom i)
         → (at : ℕ) × (x : Transfer) × (how_reached_at t e n ≡ Some (ByTransfer at x))
         × (slice_get (section_history t e).transfers i ≡ Some (at, x)) }
     ensures tells_skipped { (t : Trace) (e n : ℕ) → 1 ≤ n
-        → slice_get (section_history t e).each_reached (n - 1) ≡ Some NotReached → how_reached_at t e n ≡ Some Skipped }
+        → slice_get (section_history t e).ways_reached (n - 1) ≡ Some NotReached → how_reached_at t e n ≡ Some Skipped }
     ensures transfers { (t : Trace) (e n at : ℕ) (x : Transfer) → IsRightSection t e
         → how_reached_at t e n ≡ Some (ByTransfer at x) → (x.seq ≡ n) × ((k : ℕ)
         × (slice_get (steps_at t e) k ≡ Some (at, Transfers x))) }
-    ensures lands { (t : Trace) (e k at : ℕ) (x : Transfer) → IsRightSection t e
+    ensures reaches { (t : Trace) (e k at : ℕ) (x : Transfer) → IsRightSection t e
         → slice_get (steps_at t e) k ≡ Some (at, Transfers x) → how_reached_at t e x.seq ≡ Some (ByTransfer at x) }
     ensures there { (t : Trace) (e n : ℕ) → IsRightSection t e → 1 ≤ n → n ≤ (section_history t e).committed
         → (l : HowReached) × (how_reached_at t e n ≡ Some l) }

@@ -29,7 +29,7 @@ fn outside(code: Code, offset: u64) -> CheckFault
 }
 
 /// The customers' names, in order, or the first customer whose name an earlier one has.
-/// F10 SameName.
+/// Decides F10 SameName.
 fn names_in_order<'a>(
     alloc: Global,
     trace: &Trace<'a>,
@@ -58,7 +58,7 @@ fn names_in_order<'a>(
 }
 
 /// Notes a request's number as the greatest of its client: whether it is above all numbers that the client had.
-/// F11 SameRequest.
+/// Decides F11 SameRequest.
 fn is_above(greatest: &mut Greatest, client: u32, number: u64) -> Result<bool, CheckFault>
     ensures above { IfOk result (λ above. IsTrue above → (noted : List RequestId)
         → AreReached (greatest_of greatest.old) noted
@@ -108,7 +108,7 @@ fn numbers_rise(alloc: Global, trace: &Trace<'_>, random: RandomState) -> Result
 }
 
 /// Whether all requests differ in client or number, or the first batch with one that an earlier request has.
-/// F11 SameRequest.
+/// Decides F11 SameRequest.
 fn requests_apart(alloc: Global, trace: &Trace<'_>, random: RandomState) -> Result<(), CheckFault>
     requires { HasDistinctNames trace.now }
     ensures apart { IfOk result (λ _. HasDistinctRequests trace.now) }

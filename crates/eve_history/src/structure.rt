@@ -59,7 +59,7 @@ pub struct Notes<'a> {
     /// What became of those that are settled, which are the first of them.
     pub fates: Vec<Fate>,
     /// How each number was reached, from 1 to the last.
-    pub each_reached: Vec<HowReached>,
+    pub ways_reached: Vec<HowReached>,
     /// The access records of one attempt after another, each attempt's in its certificate's order.
     pub records: Vec<u32>,
     /// The rollbacks, in the order of their frames.
@@ -133,7 +133,7 @@ impl<'a> Notes<'a> {
             rolled_back: false,
             attempts: Vec::new(alloc),
             fates: Vec::new(alloc),
-            each_reached: Vec::new(alloc),
+            ways_reached: Vec::new(alloc),
             records: Vec::new(alloc),
             rollbacks: Vec::new(alloc),
             transfers: Vec::new(alloc),
@@ -141,7 +141,7 @@ impl<'a> Notes<'a> {
     }
 
     /// Whether an attempt's number, view and mode are those that are due.
-    /// F20 Attempt.
+    /// Decides F20 Attempt.
     fn is_due(&self, head: &Head, attempt: &AttemptView<'_>) -> bool
         requires { length (kept_section self.now).fates ≤ length (kept_section self.now).attempts }
         ensures due { (t : TraceValue) (s : SectionState) → StandsAt s (kept_section self.now)
@@ -162,7 +162,7 @@ impl<'a> Notes<'a> {
     }
 
     /// What is wrong with an attempt but for its access records.
-    /// F20 Attempt.
+    /// Decides F20 Attempt.
     fn wrong_attempt(
         &self,
         trace: &Trace<'_>,
@@ -184,7 +184,7 @@ impl<'a> Notes<'a> {
     }
 
     /// Whether the commit is of the first open attempt.
-    /// F24 Commit.
+    /// Decides F24 Commit.
     fn is_right_commit(&self, commit: &CommitView<'_>) -> bool
         requires { AreFramed self.now }
         ensures { (s : SectionState) → StandsAt s (kept_section self.now)
@@ -200,8 +200,8 @@ impl<'a> Notes<'a> {
         is_of(commit, &attempt_at(self.bytes, self.attempts[settled].at))
     }
 
-    /// Whether the rollback is to the last committed number, of a batch that is still to come, and in the next view.
-    /// F25 Rollback.
+    /// Whether the rollback is to the last number reached, of a batch that is still to come, and in the next view.
+    /// Decides F25 Rollback.
     fn rolls_back(&self, head: &Head, rollback: &RollbackView<'_>) -> bool
         ensures { (t : TraceValue) (s : SectionState) → StandsAt s (kept_section self.now) → head.now ≡ head_of t
             → result ≡ is_right_rollback t s (rollback_decoded rollback.now) }
@@ -212,7 +212,7 @@ impl<'a> Notes<'a> {
     }
 
     /// Whether the state is of a later number, which is one of a batch, and its view is no lower.
-    /// F26 Transfer.
+    /// Decides F26 Transfer.
     fn may_transfer(&self, head: &Head, transfer: &TransferView<'_>) -> bool
         ensures { (t : TraceValue) (s : SectionState) → StandsAt s (kept_section self.now) → head.now ≡ head_of t
             → result ≡ is_right_transfer t s (transfer_decoded transfer.now) }
@@ -317,9 +317,9 @@ impl<'a> Notes<'a> {
             ));
         }
         let place = self.fates.len();
-        self.each_reached.reserve(1)?;
+        self.ways_reached.reserve(1)?;
         self.fates.push(Fate::Committed)?;
-        self.each_reached
+        self.ways_reached
             .push_reserved(HowReached::Attempt(place as u32));
         self.last = commit.seq();
         Ok(())
@@ -402,9 +402,9 @@ impl<'a> Notes<'a> {
         let all = self.attempts.len();
         self.fates.resize(all, Fate::Discarded)?;
         let seq = transfer.seq();
-        self.each_reached
+        self.ways_reached
             .resize(seq as usize - 1, HowReached::Skipped)?;
-        self.each_reached.push(HowReached::Transfer(place))?;
+        self.ways_reached.push(HowReached::Transfer(place))?;
         self.last = seq;
         self.view = transfer.view();
         self.rolled_back = false;

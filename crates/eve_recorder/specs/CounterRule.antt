@@ -1,6 +1,6 @@
 -- The rule over the counter and all seats: the numbers drawn are those below the counter, each once.
 -- The right to know all numbers has a part for each seat that there may be, and one that stays.
--- docs/MODEL.md, "Recorder lists, drawn numbers".
+-- docs/DEPLOYMENT.md, "Recorder lists, drawn numbers".
 use Rattle.std.specs.Prelude.{◌≡◌, ℕ, ◌+◌, ◌-◌, ◌*◌, ◌≤◌, ◌<◌, ◌==◌, if◌then◌else◌, nat_lt, List, [], ◌∷◌, ◌++◌}
 use Rattle.std.specs.Prelude.{length, All, count_by, sum_by}
 use mathlib.Core.Option.{some}

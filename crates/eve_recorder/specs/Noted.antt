@@ -1,4 +1,4 @@
--- Lists of records, worker by worker. docs/MODEL.md, "Recorder lists, drawn numbers".
+-- Lists of records, worker by worker. docs/DEPLOYMENT.md, "Recorder lists, drawn numbers".
 use Rattle.std.specs.Prelude.{◌≡◌, ℕ, suc, ◌≤◌, eqb, cond, List, [], ◌∷◌}
 use Rattle.eve_stamps.specs.Applied.{Applied}
 

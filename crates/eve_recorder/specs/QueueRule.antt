@@ -1,4 +1,5 @@
--- The rule of the queue, and what its steps make of what passes know. docs/MODEL.md, "Recorder lists, drawn numbers".
+-- The rule of the queue, and what its steps make of what passes know. docs/DEPLOYMENT.md, "Recorder lists, drawn
+-- numbers".
 use Rattle.std.specs.Prelude.{◌≡◌, ℕ, suc, ◌-◌, ◌≤◌, ◌<◌, ◌⊎◌, Bool, true, false, List, [], ◌∷◌, ◌++◌, length}
 use mathlib.Core.List.{IsPrefix}
 use mathlib.Core.Option.{some}

@@ -1,4 +1,4 @@
--- What contracts see of a recorder and its seats. docs/MODEL.md, "Recorder lists, drawn numbers".
+-- What contracts see of a recorder and its seats. docs/DEPLOYMENT.md, "Recorder lists, drawn numbers".
 use Rattle.std.specs.Prelude.{◌≡◌, ℕ, ◌<◌, if◌then◌else◌, nat_lt, IsSome, List, [], ◌++◌, length, Option, Some, None}
 use Rattle.std.specs.Prelude.{flat_map}
 use Rattle.atomic_table.specs.Seated.{TableId}

@@ -1,4 +1,4 @@
--- What contracts see of tickets and their seats, in the terms of docs/MODEL.md, "Recorder lists, drawn numbers".
+-- What contracts see of tickets and their seats, in the terms of docs/DEPLOYMENT.md, "Recorder lists, drawn numbers".
 use Rattle.std.specs.Prelude.{◌≡◌, ℕ, ◌<◌, List, [], Option, None, Some, if◌then◌else◌, nat_lt, flat_map}
 use Rattle.atomic_table.specs.Seated.{TableId}
 use Rattle.eve_recorder.specs.SeatTables.{table_by, HasBelow, AreSeated}

@@ -32,7 +32,7 @@ pub enum NoteFault {
 /// A bounded queue of records, which workers note and one taker takes. Contracts see which recorder it is, with how
 /// many workers, and its room (`Desk`); the lists stand in the seats.
 ///
-/// docs/MODEL.md, "Recorder lists, drawn numbers".
+/// docs/DEPLOYMENT.md, "Recorder lists, drawn numbers".
 #[derive(Drop)]
 pub struct Recorder {
     pub(crate) queue: Queue,

@@ -11,7 +11,7 @@ use std::marker::Model;
 
 /// The seats of a recorder. Contracts see which are there (`Places`).
 ///
-/// docs/MODEL.md, "Recorder lists, drawn numbers".
+/// docs/DEPLOYMENT.md, "Recorder lists, drawn numbers".
 #[derive(Drop)]
 pub struct Seats {
     pub(crate) main: QueuePass,

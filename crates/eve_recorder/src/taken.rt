@@ -12,7 +12,7 @@ use std::sync::Wait;
 
 /// What is still queued, to be taken. Contracts see all that was noted and what of it was taken (`NotedAndTaken`).
 ///
-/// docs/MODEL.md, "Recorder lists, drawn numbers".
+/// docs/DEPLOYMENT.md, "Recorder lists, drawn numbers".
 #[derive(Drop)]
 pub struct Taken {
     pub(crate) queue: Queue,

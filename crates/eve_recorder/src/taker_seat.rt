@@ -5,7 +5,7 @@ use std::marker::Model;
 
 /// The right to take. Contracts see of which recorder it is, and what was taken on it (`Taker`).
 ///
-/// docs/MODEL.md, "Recorder lists, drawn numbers".
+/// docs/DEPLOYMENT.md, "Recorder lists, drawn numbers".
 #[derive(Drop)]
 pub struct TakerSeat {
     pub(crate) pass: QueuePass,

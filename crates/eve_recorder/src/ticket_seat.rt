@@ -7,7 +7,7 @@ use std::marker::Model;
 /// seat's number among their seats, from 0, and the numbers that were drawn on it, in their order
 /// (`Drawer`).
 ///
-/// docs/MODEL.md, "Recorder lists, drawn numbers".
+/// docs/DEPLOYMENT.md, "Recorder lists, drawn numbers".
 #[derive(Drop)]
 pub struct TicketSeat {
     pub(crate) place: CounterSeat,

@@ -12,7 +12,7 @@ use std::marker::Model;
 /// again once it is given back. Contracts see which tickets they are, and what lies at each place
 /// (`Drawers`).
 ///
-/// docs/MODEL.md, "Recorder lists, drawn numbers".
+/// docs/DEPLOYMENT.md, "Recorder lists, drawn numbers".
 #[derive(Drop)]
 pub struct TicketSeats {
     pub(crate) rest: CounterSeat,

@@ -18,7 +18,7 @@ use std::marker::Model;
 /// A counter from which threads draw numbers: 0, 1, 2 and so on, each once. Contracts see which tickets
 /// they are, how many seats they have, and how many numbers each seat may draw (`TicketSource`).
 ///
-/// docs/MODEL.md, "Recorder lists, drawn numbers".
+/// docs/DEPLOYMENT.md, "Recorder lists, drawn numbers".
 #[derive(Drop)]
 pub struct Tickets {
     counter: Counter,

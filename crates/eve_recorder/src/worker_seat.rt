@@ -8,7 +8,7 @@ use std::marker::Model;
 /// The right of one worker to note. Contracts see of which recorder and worker it is, and what was noted on it
 /// (`Noter`).
 ///
-/// docs/MODEL.md, "Recorder lists, drawn numbers".
+/// docs/DEPLOYMENT.md, "Recorder lists, drawn numbers".
 #[derive(Drop)]
 pub struct WorkerSeat {
     pub(crate) pass: QueuePass,

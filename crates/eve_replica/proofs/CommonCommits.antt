@@ -347,7 +347,7 @@ lent_transferred p at votes token seq x was mids servers left serve are number w
           seq = let own = made.next.seq in let next = is.next in omega (arith, own, next, number);
           view = made.next.view serves.of_view ∙ sym (went_on token seq old lent.source is made.on).1
               ∙ sym lent.lent.view;
-          account = lent.source.replica.ledger;
+          ledger = lent.source.replica.ledger;
           through = subst (λ (ss : List Step). GoesThrough p ss p.first lent.source.replica.ledger) made.next.added
               (made.on.through p serves.names (λ live k below. absurd (omega arith))
               (λ live. subst (λ (y : Standing). IsLeft p.batches y) (sym (serves.live live)) left) serves.through);

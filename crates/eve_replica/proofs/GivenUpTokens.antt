@@ -33,7 +33,7 @@ other_view view r other =
 
 -- ---- along a section
 
--- the tokens of an account's open attempts
+-- the tokens of a ledger's open attempts
 abbrev pub tokens_of : Ledger → List (List ℕ)
 tokens_of s = map (λ o. o.token) s.opened
 
@@ -119,7 +119,7 @@ attempt_marked a = (a.view, a.token)
 abbrev pub open_marked : Opened → Marked
 open_marked o = (o.view, o.token)
 
--- The attempts that are open after a section have the views and tokens of those that its account has open.
+-- The attempts that are open after a section have the views and tokens of those that its ledger has open.
 pub open_along : (p : RunPlan) (steps : List Step) (opened : List Attempt) (a b : Ledger) → GoesThrough p steps a b
     → map attempt_marked opened ≡ map open_marked a.opened
     → map attempt_marked (open_after opened steps) ≡ map open_marked b.opened

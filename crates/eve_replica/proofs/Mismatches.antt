@@ -28,6 +28,6 @@ mismatch_breaks P attempt.Spent old new fails only = tt
 mismatch_breaks P attempt.NoRow old new fails only = tt
 mismatch_breaks P attempt.Mismatch old new fails only = (only, fails.1)
 
--- and a broken one has the same account
+-- and a broken one has the same ledger
 pub still_due : (r : Replica) (b : Batch) → MismatchesDue r b → MismatchesDue (record r { is_broken = true }) b
 still_due r b due = record { records = due.records; noted = due.noted; mismatched = due.mismatched }

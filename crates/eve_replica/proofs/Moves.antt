@@ -18,13 +18,13 @@ use Rattle.eve_grammar.specs.declared.limits.TheConstants.{MOST_BYTES}
 use Rattle.eve_grammar.proofs.Lists.{all-append}
 use Rattle.eve_write.specs.Data.{batch, section, vote}
 use Rattle.eve_workload.specs.declared.mixer.MixedBatch.{MixedBatch}
-use Rattle.eve_attempts.specs.declared.prefix.AttemptPrefix.{AttemptPrefix}
+use Rattle.eve_attempts.specs.declared.prefix.AttemptHead.{AttemptHead}
 use Rattle.eve_attempts.specs.Ledgers.{Ledger, Opened}
 use Rattle.eve_attempts.specs.ClosedAttempts.{touched_in_batch, Closes, opened_as}
 use Rattle.eve_replica.specs.declared.standing.Standing.{Standing}
 use Rattle.eve_replica.specs.declared.server.Server.{Server}
 use Rattle.eve_replica.specs.declared.run_state.RunState.{RunState}
-use Rattle.eve_replica.specs.Replicas.{Replica, AttemptsDue, attempt_prefix_of}
+use Rattle.eve_replica.specs.Replicas.{Replica, AttemptsDue, attempt_head_of}
 use Rattle.eve_replica.specs.Sections.{RunPlan, AttemptsNext, AreVotesOf, place_due, reaches_batch}
 use Rattle.eve_replica.specs.inner.RunInvariant.{standing_of, after_attempts, AreDue, AreVotesOn, AreOfItsView, IsLeft}
 use Rattle.eve_replica.specs.inner.RunInvariant.{window_at, IsOutvoted, IsLedBy, Serves}
@@ -154,7 +154,7 @@ pub stand : (view committed opened opened' : ℕ) → opened ≡ opened'
 stand view committed opened opened' same =
     ap (λ (n : ℕ). record { view = view; committed = committed; opened = n }) same
 
--- where a replica with this account stands that misses this number
+-- where a replica with this ledger stands that misses this number
 abbrev pub standing_with : ℕ → Ledger → Standing
 standing_with missing s =
     record { view = s.view; committed = s.committed; opened = length s.opened + missing }
@@ -173,12 +173,12 @@ attempted old new b a made same =
     ∙ stand ledger.view ledger.committed (length (ledger.opened ++ one ∷ []) + old.missing)
     (length ledger.opened + old.missing + 1) (omega (arith, longer))
 
--- the account makes the attempt of the batch that is due
+-- the ledger makes the attempt of the batch that is due
 pub attempts_next : (p : RunPlan) (old new : Replica) (b : Batch) (a : Attempt) → AreDue 1 old.ledger
     → old.names ≡ p.names → slice_get p.batches (place_due old.ledger) ≡ Some b → AttemptsDue old new b a
     → AttemptsNext p old.ledger new.ledger a
 attempts_next p old new b a due names is made =
-    let prefix : AttemptPrefix = attempt_prefix_of old.ledger old.ledger.view old.ledger.is_next_serial in
+    let prefix : AttemptHead = attempt_head_of old.ledger old.ledger.view old.ledger.is_next_serial in
     let Closing : List (List ℕ) → Type 0 = λ ns.
     Closes prefix old.ledger new.ledger b (touched_in_batch ns b) made.1.0 a in
     record {

@@ -31,7 +31,7 @@ sections_fit p at votes (s ∷ servers) serve =
     and_from (list_all (is_step (2 * length p.names)) (section s.steps)) _ (subst P first.rows first.steps)
     (sections_fit p at votes servers (All-tail (Serves p at votes) s servers serve))
 
--- only an account of version 2 has a state transferred
+-- only a ledger of version 2 has a state transferred
 kinds_through : (version : ℕ) (p : RunPlan) (steps : List Step) (a b : Ledger) → a.version ≡ version
     → GoesThrough p steps a b → list_all (is_of_version version) steps ≡ true
 kinds_through version p [] a b is goes = refl

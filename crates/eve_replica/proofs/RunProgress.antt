@@ -19,7 +19,7 @@ use Rattle.eve_replica.specs.declared.run_state.RunState.{RunState}
 use Rattle.eve_replica.specs.declared.server.Server.{Server}
 use Rattle.eve_replica.specs.declared.standing.Standing.{Standing}
 use Rattle.eve_replica.specs.Decisions.{is_some_of, open_after}
-use Rattle.eve_replica.specs.RunFaults.{IsLongOnly, EndsSoFar, StopsAmid, TakesTooMuch, run_fault_of}
+use Rattle.eve_replica.specs.RunFaults.{IsLongOnly, EndsSoFar, StopsAmid, TransfersTooMuch, run_fault_of}
 use Rattle.eve_replica.specs.Sections.{RunPlan, reached_in}
 use Rattle.eve_replica.specs.inner.RunInvariant.{IsUnderWay, Serves, count_with, next_token, sections_in, standing_of}
 use Rattle.eve_replica.specs.inner.RunInvariant.{states_len}
@@ -80,7 +80,7 @@ attempt_ends p replicas attempt.Broken left = left
 
 -- ---- too many states
 
--- the first of the open attempts has the token of the account's first
+-- the first of the open attempts has the token of the ledger's first
 first_tokens : (attempts : List Attempt) (opened : List Opened) → map attempt_marked attempts ≡ map open_marked opened
     → option_map (λ a. a.token) (slice_get attempts 0) ≡ option_map (λ o. o.token) (slice_get opened 0)
 first_tokens [] [] marked = refl
@@ -123,7 +123,7 @@ too_long customers rows room states others x twice many spent more =
 pub too_much : (p : RunPlan) (d : RunState) (token : List ℕ) → IsUnderWay p d
     → length d.servers.items < 2 * count_with token d.servers.items → d.head.version ≡ 2
     → d.room < states_len d.head.customers (length d.servers.items - count_with token d.servers.items)
-    → TakesTooMuch p d.head.replicas
+    → TransfersTooMuch p d.head.replicas
 too_much p d token was most two more =
     let servers = d.servers.items in
     let version = was.version ∙ two in

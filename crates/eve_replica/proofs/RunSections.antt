@@ -1,4 +1,4 @@
--- What the sections of a run say: each is what an account went through, on the votes, and most reach all batches.
+-- What the sections of a run say: each is what a ledger went through, on the votes, and most reach all batches.
 use Rattle.std.proofs.Common.{◌≡◌, ℕ, ◌+◌, ◌*◌, ◌<◌, ◌≤◌, Bool, true, false, cond, List, [], ◌∷◌, All}
 use Rattle.std.proofs.Common.{ℤ, Vec}
 use Rattle.std.proofs.Common.{length, map, refl, sym, ap, ◌∙◌, subst, eq-eqb, arith}
@@ -57,7 +57,7 @@ section_of p at votes done few s serves = record {
     ended false is =
         let out = ap length (serves.led.stopped is).opened in window_ends p here (omega arith)
 
--- its section reaches as many batches as its account
+-- its section reaches as many batches as its ledger
 reached_counted : (p : RunPlan) (at : Standing) (votes : List Vote) (s : Server) → p.first.committed ≡ 0
     → Serves p at votes s → reached_in (section s.steps) ≡ s.replica.ledger.committed
 reached_counted p at votes s none serves =

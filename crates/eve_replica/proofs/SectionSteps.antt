@@ -1,4 +1,4 @@
--- What an account goes through, step after step.
+-- What a ledger goes through, step after step.
 use Rattle.std.proofs.Common.{◌≡◌, ◌+◌, List, [], ◌∷◌, ◌++◌, refl, sym, ap, ◌∙◌, subst}
 use Rattle.std.proofs.Common.{add-zero, arith}
 use Rattle.eve_grammar.specs.Trace.{Step, Attempts, Commits, RollsBack, Transfers, Vote}
@@ -33,7 +33,7 @@ votes_more (Transfers y ∷ steps) x own more are led = (
   votes_more steps x are.1 more are.3 led,
 )
 
--- each batch that a section reaches counts one up in the account
+-- each batch that a section reaches counts one up in the ledger
 pub reached_through : (p : RunPlan) (steps : List Step) (a b : Ledger) → GoesThrough p steps a b
     → b.committed ≡ a.committed + reached_in steps
 reached_through p [] a b same = ap (λ (s : Ledger). s.committed) (sym same) ∙ sym (add-zero a.committed)

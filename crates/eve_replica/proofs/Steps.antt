@@ -209,7 +209,7 @@ token_with token s first others opened has =
     some_is : {x y : List ℕ} → Path (Option (List ℕ)) (Some x) (Some y) → x ≡ y
     some_is same = cc
 
--- what is committed was of the account's view
+-- what is committed was of the ledger's view
 first_in_view : (old new : Ledger) (c : Commit) (made : ledgers.Commits old new c) → AreOfItsView old
     → made.first.view ≡ old.view
 first_in_view old new c made of_view =

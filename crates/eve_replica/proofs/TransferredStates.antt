@@ -27,7 +27,7 @@ IsNumberedTo n (Commits c) = c.seq ≤ n
 IsNumberedTo n (RollsBack r) = ⊤
 IsNumberedTo n (Transfers x) = x.seq ≤ n
 
--- an account's number doesn't fall
+-- a ledger's number doesn't fall
 rises : (p : RunPlan) (steps : List Step) (a b : Ledger) → GoesThrough p steps a b → a.committed ≤ b.committed
 rises p [] a b goes = let same = ap (λ (s : Ledger). s.committed) goes in omega arith
 rises p (Attempts x ∷ steps) a b goes =
@@ -48,7 +48,7 @@ rises p (Transfers x ∷ steps) a b goes =
     let later = goes.1.transferred.later in
     omega arith
 
--- and no step reaches a batch after the account's last
+-- and no step reaches a batch after the ledger's last
 pub numbered : (p : RunPlan) (n : ℕ) (steps : List Step) (a b : Ledger) → GoesThrough p steps a b → b.committed ≤ n
     → AllByRecursion (IsNumberedTo n) steps
 numbered p n [] a b goes le = tt
@@ -156,7 +156,7 @@ still_transferred p was now last x le pairs from =
       lowest = none_below p now last x.seq le from.below part.first part.pairs from.lowest;
       seq = from.seq;
       view = from.view;
-      account = from.account;
+      ledger = from.ledger;
       through = from.through;
       rows = from.rows;
     }

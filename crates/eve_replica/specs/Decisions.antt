@@ -1,4 +1,4 @@
--- Why a run rolls back, and why a replica stops. docs/MODEL.md, "A run".
+-- Why a run rolls back, and why a replica stops. docs/DEPLOYMENT.md, "A run".
 use Rattle.std.specs.Prelude.{◌≡◌, ◌≢◌, ℕ, ◌+◌, ◌*◌, ◌≤◌, ◌==◌, Bool, false, if◌then◌else◌, List, [], ◌∷◌, ◌++◌}
 use Rattle.std.specs.Prelude.{length, drop, slice_get, Option, Some, None}
 use Rattle.std.specs.Str.{bytes_eq}

@@ -1,11 +1,11 @@
--- A replica as contracts see it, and what its calls make of it. docs/MODEL.md, "Section state, fate".
+-- A replica as contracts see it, and what its calls make of it. docs/DEPLOYMENT.md, "A replica's ledger".
 use Rattle.std.specs.Prelude.{◌≡◌, ℕ, ◌+◌, ◌<◌, ◌≤◌, Bool, true, false, ⊤, IsTrue, List, length}
 use Rattle.eve_smallbank.specs.declared.rows.Touched.{Touched}
 use Rattle.eve_grammar.specs.declared.limits.TheConstants.{MOST_BATCHES}
 use Rattle.eve_grammar.specs.Limits.{is_batch}
 use Rattle.eve_stamps.specs.Applied.{Applied}
 use Rattle.eve_grammar.specs.Trace.{Batch, Attempt, Commit, Transfer}
-use Rattle.eve_attempts.specs.declared.prefix.AttemptPrefix.{AttemptPrefix}
+use Rattle.eve_attempts.specs.declared.prefix.AttemptHead.{AttemptHead}
 use Rattle.eve_attempts.specs.Ledgers.{Ledger}
 use Rattle.eve_attempts.specs.ClosedAttempts.{touched_in_batch, AreMismatched, Closes}
 use Rattle.eve_attempts.specs.CommitsAndRollbacks.{Commits}
@@ -13,44 +13,44 @@ use Rattle.eve_floor.specs.Recording.{AreNotedOf}
 use Rattle.eve_replica.specs.declared.fault.AttemptFault.{AttemptFault}
 use Rattle.eve_replica.specs.declared.fault.AttemptFault.TheVariants as attempt_fault
 
--- The customers' names, the replica's account of its rows, and whether an attempt failed since the last rollback.
+-- The customers' names, the replica's ledger of its rows, and whether an attempt failed since the last rollback.
 pub record Replica : Type 0 where
   pub names : List (List ℕ)
   pub ledger : Ledger
   pub is_broken : Bool
 
--- These records were closed to the attempt, and nothing but the account has changed.
-pub record ClosesThese (prefix : AttemptPrefix) (old new : Replica) (b : Batch) (records : List Applied) (a : Attempt)
+-- These records were closed to the attempt, and nothing but the ledger has changed.
+pub record ClosesThese (prefix : AttemptHead) (old new : Replica) (b : Batch) (records : List Applied) (a : Attempt)
     : Type 0 where
   pub closed : Closes prefix old.ledger new.ledger b (touched_in_batch old.names b) records a
   pub rest : new ≡ record old { ledger = new.ledger }
 
 -- And they are what the replica's workers noted of the batch.
-pub record ClosesNoted (prefix : AttemptPrefix) (old new : Replica) (b : Batch) (records : List Applied) (a : Attempt)
+pub record ClosesNoted (prefix : AttemptHead) (old new : Replica) (b : Batch) (records : List Applied) (a : Attempt)
     : Type 0 where
   pub noted : AreNotedOf old.names b records
   pub closed : Closes prefix old.ledger new.ledger b (touched_in_batch old.names b) records a
   pub rest : new ≡ record old { ledger = new.ledger }
 
 -- Some records were that its workers noted.
-abbrev pub ClosesSome : AttemptPrefix → Replica → Replica → Batch → Attempt → Type 0
+abbrev pub ClosesSome : AttemptHead → Replica → Replica → Batch → Attempt → Type 0
 ClosesSome prefix old new b a = (records : List Applied) × ClosesNoted prefix old new b records a
 
 -- Some records that its workers noted of the batch make no attempt of it with this number, view and mode.
-pub record MismatchesNoted (prefix : AttemptPrefix) (r : Replica) (b : Batch) : Type 0 where
+pub record MismatchesNoted (prefix : AttemptHead) (r : Replica) (b : Batch) : Type 0 where
   pub records : List Applied
   pub noted : AreNotedOf r.names b records
   pub mismatched : AreMismatched prefix r.ledger b (touched_in_batch r.names b) records
 
 -- number, view and mode of an attempt of the batch that is due, in this view and this mode
-abbrev pub attempt_prefix_of : Ledger → ℕ → Bool → AttemptPrefix
-attempt_prefix_of s view serial = record { seq = s.committed + 1 + length s.opened; view = view; serial = serial }
+abbrev pub attempt_head_of : Ledger → ℕ → Bool → AttemptHead
+attempt_head_of s view serial = record { seq = s.committed + 1 + length s.opened; view = view; serial = serial }
 
 -- The replica wasn't broken, and records that its workers noted were closed to the attempt: all that holds of an
 -- attempt that is closed holds of it, however its threads ran.
 abbrev pub Attempts : ℕ → Bool → Replica → Replica → Batch → Attempt → Type 0
 Attempts view serial old new b a = (old.is_broken ≡ false)
-    × ClosesSome (attempt_prefix_of old.ledger view serial) old new b a
+    × ClosesSome (attempt_head_of old.ledger view serial) old new b a
 
 -- The same, in the view and in the mode that are due.
 abbrev pub AttemptsDue : Replica → Replica → Batch → Attempt → Type 0
@@ -58,7 +58,7 @@ AttemptsDue old new b a = Attempts old.ledger.view old.ledger.is_next_serial old
 
 -- Such records make no attempt of the batch that is due, in the view and in the mode that are due.
 abbrev pub MismatchesDue : Replica → Batch → Type 0
-MismatchesDue r b = MismatchesNoted (attempt_prefix_of r.ledger r.ledger.view r.ledger.is_next_serial) r b
+MismatchesDue r b = MismatchesNoted (attempt_head_of r.ledger r.ledger.view r.ledger.is_next_serial) r b
 
 -- a fault that is Mismatch only where this holds
 abbrev pub IsMismatchOnly : Type 0 → AttemptFault → Type 0
@@ -71,7 +71,7 @@ IsMismatchOnly Mismatched attempt_fault.Spent = ⊤
 IsMismatchOnly Mismatched attempt_fault.NoRow = ⊤
 IsMismatchOnly Mismatched attempt_fault.Mismatch = Mismatched
 
--- its account stays, and it is broken
+-- its ledger stays, and it is broken
 abbrev pub Breaks : Replica → Replica → Type 0
 Breaks old new = (old.is_broken ≡ false) × (new ≡ record old { is_broken = true })
 
@@ -106,14 +106,14 @@ IsFresh attempt_fault.Spent = ⊤
 IsFresh attempt_fault.NoRow = ⊤
 IsFresh attempt_fault.Mismatch = ⊤
 
--- a fault of its workers broke the replica, which kept its account
+-- a fault of its workers broke the replica, which kept its ledger
 pub record BreaksBy (why : AttemptFault) (old new : Replica) : Type 0 where
   pub fresh : IsFresh why
   pub matched : IsMismatchOnly ⊥ why
   pub broken : new ≡ record old { is_broken = true }
 
 -- The replica wasn't broken, and these records were closed.
-abbrev pub ClosesOwn : AttemptPrefix → Replica → Replica → Batch → List Applied → Attempt → Type 0
+abbrev pub ClosesOwn : AttemptHead → Replica → Replica → Batch → List Applied → Attempt → Type 0
 ClosesOwn prefix old new b records a = (old.is_broken ≡ false) × ClosesThese prefix old new b records a
 
 -- an attempt is open, and the first one that is has this number

@@ -1,4 +1,4 @@
--- What a run of a workload gives. docs/MODEL.md, "A run".
+-- What a run of a workload gives. docs/DEPLOYMENT.md, "A run".
 use Rattle.std.specs.Prelude.{◌≡◌, ◌≢◌, ℕ, ◌*◌, ◌<◌, ◌≤◌, ◌==◌, Bool, List, map, length, ◌++◌, [], All}
 use Rattle.std.specs.List.{count_by}
 use Rattle.eve_grammar.specs.Trace.{Batch, Step, Vote, Trace, opening_rows}
@@ -28,7 +28,7 @@ run_plan w mixer = record {
   first = opening w.format (opening_rows w.customers) w.deployment.workers w.deployment.window;
 }
 
--- The section of a replica: its steps are what its account went through, which began with the opening balances; they
+-- The section of a replica: its steps are what its ledger went through, which began with the opening balances; they
 -- go window by window; and there are no more rollbacks than two for each batch.
 pub record IsSectionOf (p : RunPlan) (steps : List Step) : Type 0 where
   pub last : Ledger

@@ -1,4 +1,4 @@
--- Why an attempt fails, by the fault of a worker, and why a run ends without a trace. docs/MODEL.md, "A run".
+-- Why an attempt fails, by the fault of a worker, and why a run ends without a trace. docs/DEPLOYMENT.md, "A run".
 use Rattle.std.specs.Prelude.{◌≡◌, ℕ, ◌+◌, ◌-◌, ◌*◌, ◌<◌, ⊤, List, length}
 use Rattle.eve_grammar.specs.Frames.{OfTransfer}
 use Rattle.eve_grammar.specs.Spelling.{frame_text}
@@ -44,9 +44,9 @@ pub record StopsAmid (p : RunPlan) (replicas : ℕ) : Type 0 where
   pub left : batches < length p.batches
 
 -- A run of version 2 has come so far. More than half of all replicas have one token for the next batch, and each other
--- would get by a transfer the state of it. The frames of these states and of those that were transferred so far have
+-- would have the state of it transferred. The frames of these states and of those that were transferred so far have
 -- more bytes than a trace may have, whatever stands in them.
-pub record TakesTooMuch (p : RunPlan) (replicas : ℕ) : Type 0 where
+pub record TransfersTooMuch (p : RunPlan) (replicas : ℕ) : Type 0 where
   pub version : p.first.version ≡ 2
   pub batches : ℕ
   pub sections : List (List Step)
@@ -61,7 +61,7 @@ pub record TakesTooMuch (p : RunPlan) (replicas : ℕ) : Type 0 where
 abbrev pub EndsSoFar : RunPlan → ℕ → RunFault → Type 0
 EndsSoFar p replicas run.Memory = ⊤
 EndsSoFar p replicas run.Broken = StopsAmid p replicas
-EndsSoFar p replicas run.TooLong = TakesTooMuch p replicas
+EndsSoFar p replicas run.TooLong = TransfersTooMuch p replicas
 
 -- a fault that is TooLong only where this holds
 abbrev pub IsLongOnly : Type 0 → RunFault → Type 0

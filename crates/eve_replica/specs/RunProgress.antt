@@ -1,4 +1,4 @@
--- How far a run came that has not ended. docs/MODEL.md, "A run".
+-- How far a run came that has not ended. docs/DEPLOYMENT.md, "A run".
 use Rattle.std.specs.Prelude.{◌≡◌, ℕ, ◌*◌, ◌<◌, List, [], length, All, option_map, slice_get, Option}
 use Rattle.std.specs.List.{count_by}
 use Rattle.eve_grammar.specs.Trace.{Step, Vote}
@@ -9,7 +9,7 @@ use Rattle.eve_replica.specs.Sections.{RunPlan, GoesThrough, reached_in}
 use Rattle.eve_replica.specs.Transfers.{AreCommittedByMost, AreTransferredIn}
 use Rattle.eve_replica.specs.Windows.{ComesTo, WindowState}
 
--- The section of a replica so far: its steps are what its account went through, which began with the opening balances;
+-- The section of a replica so far: its steps are what its ledger went through, which began with the opening balances;
 -- they have come, window by window, to some state of a window.
 pub record IsSectionSoFar (p : RunPlan) (steps : List Step) : Type 0 where
   pub last : Ledger

@@ -1,4 +1,4 @@
--- What the section of a replica says, step by step, of the replica's account of its rows. docs/MODEL.md, "A run".
+-- What the section of a replica says, step by step, of the replica's ledger of its rows. docs/DEPLOYMENT.md, "A run".
 use Rattle.std.specs.Prelude.{◌≡◌, ℕ, ◌+◌, ◌-◌, ◌<◌, Bool, true, false, List, [], ◌∷◌, length, slice_get, Some}
 use Rattle.eve_stamps.specs.Applied.{Applied}
 use Rattle.eve_grammar.specs.Trace.{Batch, Attempt, Rollback, Transfer, Step, Attempts, Commits, RollsBack, Transfers}
@@ -7,9 +7,9 @@ use Rattle.eve_attempts.specs.Ledgers.{Ledger}
 use Rattle.eve_attempts.specs.ClosedAttempts.{touched_in_batch, Closes}
 use Rattle.eve_attempts.specs.CommitsAndRollbacks as ledgers
 use Rattle.eve_attempts.specs.Transfers as state
-use Rattle.eve_replica.specs.Replicas.{attempt_prefix_of}
+use Rattle.eve_replica.specs.Replicas.{attempt_head_of}
 
--- What the replicas of a run have in common: the customers' names, the batches, and the account that each begins with.
+-- What the replicas of a run have in common: the customers' names, the batches, and the ledger that each begins with.
 pub record RunPlan : Type 0 where
   pub names : List (List ℕ)
   pub batches : List Batch
@@ -19,24 +19,24 @@ pub record RunPlan : Type 0 where
 abbrev pub place_due : Ledger → ℕ
 place_due s = s.committed + length s.opened
 
--- The account has room for one more attempt; some records were closed to one of the batch that is due, in the view and
+-- The ledger has room for one more attempt; some records were closed to one of the batch that is due, in the view and
 -- in the mode that are due.
 pub record AttemptsNext (p : RunPlan) (old new : Ledger) (a : Attempt) : Type 0 where
   pub room : length old.opened < old.window
   pub batch : Batch
   pub due : slice_get p.batches (place_due old) ≡ Some batch
   pub records : List Applied
-  pub closed : Closes (attempt_prefix_of old old.view old.is_next_serial) old new batch (touched_in_batch p.names batch)
+  pub closed : Closes (attempt_head_of old old.view old.is_next_serial) old new batch (touched_in_batch p.names batch)
       records
       a
 
--- A batch is left, and the account rolls back. In version 1 an attempt is open, so that one is discarded at least.
+-- A batch is left, and the ledger rolls back. In version 1 an attempt is open, so that one is discarded at least.
 pub record RollsBackNext (p : RunPlan) (old new : Ledger) (r : Rollback) : Type 0 where
   pub left : old.committed < length p.batches
   pub discards : old.version ≡ 1 → 0 < length old.opened
   pub rolled_back : ledgers.RollsBack old new r
 
--- The account is of version 2, and gets by a transfer the state of the batch that is next, in its own view.
+-- The ledger is of version 2, and the state of the next batch is transferred to it, in its own view.
 pub record TransfersNext (p : RunPlan) (old new : Ledger) (x : Transfer) : Type 0 where
   pub version : old.version ≡ 2
   pub left : old.committed < length p.batches
@@ -44,14 +44,14 @@ pub record TransfersNext (p : RunPlan) (old new : Ledger) (x : Transfer) : Type 
   pub view : x.view ≡ old.view
   pub transferred : state.Transfers x old new
 
--- what the step of a section makes of the account
+-- what the step of a section makes of the ledger
 abbrev pub MakesOf : RunPlan → Step → Ledger → Ledger → Type 0
 MakesOf p (Attempts a) old new = AttemptsNext p old new a
 MakesOf p (Commits c) old new = ledgers.Commits old new c
 MakesOf p (RollsBack r) old new = RollsBackNext p old new r
 MakesOf p (Transfers x) old new = TransfersNext p old new x
 
--- the steps of a section make this account of that one
+-- the steps of a section make this ledger of that one
 abbrev pub GoesThrough : RunPlan → List Step → Ledger → Ledger → Type 0
 GoesThrough p [] old new = old ≡ new
 GoesThrough p (x ∷ steps) old new = (next : Ledger) × MakesOf p x old next × GoesThrough p steps next new

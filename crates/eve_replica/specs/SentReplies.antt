@@ -1,4 +1,4 @@
--- The replies that replicas send. docs/MODEL.md, "A run".
+-- The replies that replicas send. docs/DEPLOYMENT.md, "A run".
 use Rattle.std.specs.Prelude.{ℕ, zero, suc, ◌+◌, List, [], ◌∷◌, ◌++◌, slice_get, Option, Some, None}
 use Rattle.eve_smallbank.specs.declared.request.Reply.{Reply}
 use Rattle.eve_grammar.specs.Trace.{Asked, Batch, Attempt, Step, Attempts, Commits, RollsBack, Transfers, Sent}

@@ -1,4 +1,4 @@
--- Which states the replicas of a run get by a transfer. docs/MODEL.md, "A run".
+-- Which states are transferred to the replicas of a run. docs/DEPLOYMENT.md, "A run".
 use Rattle.std.specs.Prelude.{◌≡◌, ℕ, ◌+◌, ◌*◌, ◌<◌, ◌≤◌, ◌==◌, Bool, false, ◌||◌, IsFalse, ⊤, List, [], ◌∷◌, ◌++◌}
 use Rattle.std.specs.Prelude.{length}
 use Rattle.std.specs.List.{AllByRecursion, count_by, sum_by}
@@ -19,7 +19,7 @@ abbrev pub commits_batch : ℕ → List Step → Bool
 commits_batch n [] = false
 commits_batch n (x ∷ steps) = is_commit_of n x || commits_batch n steps
 
--- The lowest-numbered replica that commits the state's batch, in the state's view: the state is what its account then
+-- The lowest-numbered replica that commits the state's batch, in the state's view: the state is what its ledger then
 -- has committed.
 pub record IsTransferredFrom (p : RunPlan) (sections : List (List Step)) (x : Transfer) : Type 0 where
   pub below : List (List Step)
@@ -31,9 +31,9 @@ pub record IsTransferredFrom (p : RunPlan) (sections : List (List Step)) (x : Tr
   pub lowest : AllByRecursion (λ steps. IsFalse (commits_batch x.seq steps)) below
   pub seq : commit.seq ≡ x.seq
   pub view : commit.view ≡ x.view
-  pub account : Ledger
-  pub through : GoesThrough p (prefix ++ Commits commit ∷ []) p.first account
-  pub rows : IsStateOf account x.rows
+  pub ledger : Ledger
+  pub through : GoesThrough p (prefix ++ Commits commit ∷ []) p.first ledger
+  pub rows : IsStateOf ledger x.rows
 
 -- where a step has a state transferred, it is such a one
 abbrev pub IsRightlyTransferred : RunPlan → List (List Step) → Step → Type 0

@@ -1,4 +1,4 @@
--- How a section goes window by window. docs/MODEL.md, "A run".
+-- How a section goes window by window. docs/DEPLOYMENT.md, "A run".
 use Rattle.std.specs.Prelude.{◌≡◌, ℕ, ◌+◌, ◌-◌, ◌<◌, ◌==◌, min, if◌then◌else◌, List, [], ◌∷◌, ◌++◌}
 use Rattle.eve_grammar.specs.Trace.{Step, Attempts, Commits, RollsBack, Transfers}
 

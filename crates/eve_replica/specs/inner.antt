@@ -1,3 +1,3 @@
--- Devices of this crate's proofs: no promise of `audit`, `serve` or `run` rests on them.
+-- Devices of proofs: no promise of `audit`, `serve` or `run` rests on them.
 pub mod RunInvariant
 pub mod Commits

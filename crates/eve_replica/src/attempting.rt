@@ -9,7 +9,7 @@ ghost use Rattle.eve_attempts.specs.ClosedAttempts.{touched_in_batch, AreMismatc
 ghost use Rattle.eve_floor.specs.Assignments.{IsRightAssignment};
 ghost use Rattle.eve_floor.specs.Recording.{AreNotedOf, IsNotedFor};
 ghost use Rattle.eve_replica.specs.Replicas.{AttemptsDue, BreaksBy, ClosesThese, FailsAttempt, MayAttempt};
-ghost use Rattle.eve_replica.specs.Replicas.{attempt_prefix_of};
+ghost use Rattle.eve_replica.specs.Replicas.{attempt_head_of};
 ghost use Rattle.eve_replica.specs.Replicas.{IsMismatchOnly, MismatchesDue};
 ghost use Rattle.eve_replica.specs.inner.RunInvariant.{AreDue, GoesOn, IsRightMixed, MayAttemptAll, AttemptsAll};
 ghost use Rattle.eve_replica.specs.inner.RunInvariant.{attempt_move};
@@ -17,11 +17,10 @@ ghost use Rattle.eve_replica.specs.inner.RunInvariant.{IsNotedAs, MismatchesAmid
 
 use crate::fault::{AttemptFault, fault_of};
 use crate::replica::Replica;
-use eve_attempts::{AttemptPrefix, CloseFault as Unclosed};
-use eve_floor::Floor;
+use eve_attempts::{AttemptHead, CloseFault as Unclosed};
+use eve_floor::{Assignment, Floor, crew_size, run_batches};
 use eve_grammar::{MOST_BATCHES, MOST_WORKERS};
 use eve_recorder::Gate;
-use eve_floor::{Assignment, crew_size, run_batches};
 use eve_smallbank::Touched;
 use eve_stamps::AccessRecord;
 use eve_workload::MixedBatch;
@@ -180,7 +179,7 @@ impl<'n> Replica<'n> {
         requires due { MayAttempt self.old (plain_batch batch.now) touched.now }
         requires noted { AreNotedOf self.old.names (plain_batch batch.now) records.now }
         ensures attempted { IfOk result (λ a. AttemptsDue self.old self.new (plain_batch batch.now) (attempt a)) }
-        ensures records { let prefix = attempt_prefix_of self.old.ledger self.old.ledger.view
+        ensures records { let prefix = attempt_head_of self.old.ledger self.old.ledger.view
             self.old.ledger.is_next_serial in
             IfOk result (λ a. ClosesThese prefix self.old self.new (plain_batch batch.now) records.now (attempt a)) }
         ensures refused { IfErr result (λ why. FailsAttempt why self.old self.new) }
@@ -197,11 +196,11 @@ impl<'n> Replica<'n> {
     }
 
     /// Number, view and mode of the attempt that is due.
-    fn next_prefix(&self) -> AttemptPrefix
+    fn next_prefix(&self) -> AttemptHead
         requires { self.now.ledger.committed + 1 + length self.now.ledger.opened ≤ MOST_BATCHES }
-        ensures { result ≡ attempt_prefix_of self.now.ledger self.now.ledger.view self.now.ledger.is_next_serial }
+        ensures { result ≡ attempt_head_of self.now.ledger self.now.ledger.view self.now.ledger.is_next_serial }
     {
-        AttemptPrefix {
+        AttemptHead {
             seq: self.ledger.next_number() as u32,
             view: self.ledger.view(),
             serial: self.ledger.is_next_serial(),
@@ -222,7 +221,7 @@ impl<'n> Replica<'n> {
     pub(crate) fn close(
         &mut self,
         alloc: Global,
-        prefix: AttemptPrefix,
+        prefix: AttemptHead,
         batch: &BatchData,
         touched: &[Touched],
         records: &[AccessRecord],

@@ -13,17 +13,16 @@ ghost use Rattle.eve_attempts.specs.ClosedAttempts.{touched_in_batch, AreMismatc
 ghost use Rattle.eve_attempts.specs.CommitsAndRollbacks.{RollsBack};
 ghost use Rattle.eve_attempts.specs.Transfers.{IsStateOf, Transfers};
 ghost use Rattle.eve_replica.specs.Replicas.{Attempts, FailsAttempt, ClosesOwn, IsMismatchOnly, MismatchesNoted};
-ghost use Rattle.eve_replica.specs.Replicas.{attempt_prefix_of};
+ghost use Rattle.eve_replica.specs.Replicas.{attempt_head_of};
 ghost use Rattle.eve_replica.specs.Replicas.{IsDue, IsFirstOpen, CommitsFirst};
 
 use crate::attempting::assignment_of;
 use crate::fault::{AttemptFault, CloseFault, CommitFault, TransferFault};
 use eve_accounts::{Balances, Names};
-use eve_attempts::{AttemptPrefix, CloseFault as Unclosed, Ledger};
-use eve_floor::Floor;
+use eve_attempts::{AttemptHead, CloseFault as Unclosed, Ledger};
+use eve_floor::{Floor, Workers};
 use eve_grammar::{MOST_BATCHES, MOST_WINDOW, MOST_WORKERS, TransferData};
 use eve_recorder::Gate;
-use eve_floor::Workers;
 use eve_smallbank::Versioned;
 use eve_stamps::AccessRecord;
 use eve_workload::look_up;
@@ -33,11 +32,11 @@ use std::marker::Model;
 use std::sync::Wait;
 use std::thread::Threads;
 
-/// One replica: rows in stripes that its workers lock, and its own account of these rows, by which what the workers
+/// One replica: rows in stripes that its workers lock, and its own ledger of these rows, by which what the workers
 /// noted becomes an attempt or is refused.
 ///
 /// docs/TRACE.md, "The deployment's procedure", and docs/MODEL.md, "Section state, fate". Contracts see its customers'
-/// names, its account and whether it is broken (`Replica` of the specs).
+/// names, its ledger and whether it is broken (`Replica` of the specs).
 #[derive(Drop)]
 pub struct Replica<'n> {
     pub(crate) names: &'n Names<'n>,
@@ -199,10 +198,10 @@ impl<'n> Replica<'n> {
     ///
     /// docs/TRACE.md, "The deployment's procedure". `has_room`, `next_number`, `view` and `is_next_serial` say what the
     /// conditions ask; the next number is at most `MOST_BATCHES`. The gate is entered before each execution, with the
-    /// request's index. Nothing that the threads did is believed: the attempt is what the replica's own account makes
+    /// request's index. Nothing that the threads did is believed: the attempt is what the replica's own ledger makes
     /// of the records that they noted (`AreNotedOf`, `Closes`). `Mismatch` comes only where some that they noted make
     /// none. Any other fault is one worker's, where several have one: `Full`, `Spent`, `NoRow`, `TickOrder`, `Worn`,
-    /// `Memory`. Each fault but `Broken` leaves the account as it was, and breaks the replica until `rollback`
+    /// `Memory`. Each fault but `Broken` leaves the ledger as it was, and breaks the replica until `rollback`
     /// succeeds. May wait for other threads.
     pub fn run_attempt<R: Threads + Wait + Sync, G: Gate>(
         &mut self,
@@ -220,7 +219,7 @@ impl<'n> Replica<'n> {
         requires batch { IsTrue (is_batch (plain batch.now)) }
         ensures attempted { IfOk result (λ a. Attempts view serial self.old self.new (plain batch.now) (attempt a)) }
         ensures refused { IfErr result (λ why. FailsAttempt why self.old self.new) }
-        ensures mismatch { let prefix = attempt_prefix_of self.old.ledger view serial in
+        ensures mismatch { let prefix = attempt_head_of self.old.ledger view serial in
             IfErr result (IsMismatchOnly (MismatchesNoted prefix self.old (plain batch.now))) }
     {
         if self.is_broken {
@@ -289,7 +288,7 @@ impl<'n> Replica<'n> {
         let Ok(touched) = look_up(alloc, batch.requests.as_slice(), self.names) else {
             return Err(CloseFault::Memory);
         };
-        let prefix = AttemptPrefix { seq, view, serial };
+        let prefix = AttemptHead { seq, view, serial };
         let touched = touched.as_slice();
         match self.close(alloc, prefix, batch, touched, records, None) {
             Ok(attempt) => Ok(attempt),

@@ -22,7 +22,7 @@ use Rattle.eve_run_laws.proofs.SectionSteps.{kept_where}
 -- the first numbers after steps were reached as before them
 pub record KeepsReached (s end : SectionState) : Type 0 where
   pub more : List HowReached
-  pub is : end.each_reached ≡ s.each_reached ++ more
+  pub is : end.ways_reached ≡ s.ways_reached ++ more
 
 committing_keeps : (s : SectionState) (pending : List Placed) (end : SectionState)
     → KeepsReached (committing s pending) end → KeepsReached s end
@@ -31,11 +31,11 @@ committing_keeps s (q ∷ pending) end keeps =
     record {
       more = ByAttempt q ∷ keeps.more;
       is = keeps.is
-          ∙ append_assoc s.each_reached (ByAttempt q ∷ []) keeps.more;
+          ∙ append_assoc s.ways_reached (ByAttempt q ∷ []) keeps.more;
     }
 
 pub reached_stays : (steps : List (ℕ × Step)) (s : SectionState) → KeepsReached s (state_after s steps)
-reached_stays [] s = record { more = []; is = sym (append-nil s.each_reached) }
+reached_stays [] s = record { more = []; is = sym (append-nil s.ways_reached) }
 reached_stays ((at, Attempts a) ∷ steps) s =
     let rest = reached_stays steps (next s (at, Attempts a)) in record { more = rest.more; is = rest.is }
 reached_stays ((at, Commits c) ∷ steps) s =
@@ -46,7 +46,7 @@ reached_stays ((at, RollsBack r) ∷ steps) s =
 reached_stays ((at, Transfers x) ∷ steps) s =
     let rest = reached_stays steps (next s (at, Transfers x)) in
     let transferred : List HowReached = replicate (x.seq - (s.last + 1)) Skipped ++ ByTransfer at x ∷ [] in
-    record { more = transferred ++ rest.more; is = rest.is ∙ append_assoc s.each_reached transferred rest.more }
+    record { more = transferred ++ rest.more; is = rest.is ∙ append_assoc s.ways_reached transferred rest.more }
 
 -- ---- by which steps
 
@@ -58,8 +58,8 @@ IsReachedBy H n Skipped = ⊥
 
 -- each number up to the last was
 pub record AreReachedBy (H : Step → Type 0) (s : SectionState) : Type 0 where
-  pub counted : s.last ≡ length s.each_reached
-  pub each : (k : ℕ) (l : HowReached) → slice_get s.each_reached k ≡ Some l → IsReachedBy H (suc k) l
+  pub counted : s.last ≡ length s.ways_reached
+  pub each : (k : ℕ) (l : HowReached) → slice_get s.ways_reached k ≡ Some l → IsReachedBy H (suc k) l
 
 pub reached_first : (H : Step → Type 0) → AreReachedBy H start
 reached_first H = record { counted = refl; each = λ k l at. none≢some l at }
@@ -73,12 +73,12 @@ pushed (m ∷ ls) last (suc k) l at =
     elim (pushed ls last k l at) [ inl there ↦ inl there | inr here ↦ inr (ap suc here.0, here.1) ]
 
 -- one number more
-one_more : (H : Step → Type 0) (s t : SectionState) (last : HowReached) → t.each_reached ≡ s.each_reached ++ last ∷ []
+one_more : (H : Step → Type 0) (s t : SectionState) (last : HowReached) → t.ways_reached ≡ s.ways_reached ++ last ∷ []
     → t.last ≡ s.last + 1 → IsReachedBy H (s.last + 1) last → AreReachedBy H s → AreReachedBy H t
 one_more H s t last are number by reached = record {
   counted = let before = reached.counted in
-      omega (arith, number, ap length are, length-append s.each_reached (last ∷ []));
-  each = λ k l at. elim (pushed s.each_reached last k l
+      omega (arith, number, ap length are, length-append s.ways_reached (last ∷ []));
+  each = λ k l at. elim (pushed s.ways_reached last k l
       (ap (λ (ls : List HowReached). slice_get ls k) (sym are) ∙ at)) [
         | inl there ↦ reached.each k l there
         | inr here ↦
@@ -111,7 +111,7 @@ module _ (H : Step → Type 0) (p : RunPlan) (t : Trace) where
       let last = alike.last in
       let own : x.seq ≡ s.last + 1 = made.next ∙ omega arith in
       one_more H s (after_transfer s at x) (ByTransfer at x)
-      (ap (λ (ls : List HowReached). s.each_reached ++ ls) (no_skips (x.seq - (s.last + 1)) at x (omega arith))) own
+      (ap (λ (ls : List HowReached). s.ways_reached ++ ls) (no_skips (x.seq - (s.last + 1)) at x (omega arith))) own
       (own, holds) reached
 
   pub all_reached : IsPlanOf p t → All (IsSectionOf p) t.sections → (e : ℕ) → AllByRecursion H (steps_of t e)

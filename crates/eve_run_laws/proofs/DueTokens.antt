@@ -33,12 +33,12 @@ pub record IsDueAlong (t : Trace) (q : Placed) : Type 0 where
 
 -- so of each committed and each open attempt
 pub record AreDueSoFar (t : Trace) (s : SectionState) : Type 0 where
-  pub committed : AllByRecursion (IsDueAlong t) (attempts_by s.each_reached)
+  pub committed : AllByRecursion (IsDueAlong t) (attempts_by s.ways_reached)
   pub pending : AllByRecursion (IsDueAlong t) s.pending
 
 -- ---- along a section
 
--- the rows of an account that has come to where the section has are the balances along its path
+-- the rows of a ledger that has come to where the section has are the balances along its path
 pub balances_now : (t : Trace) (l : Ledger) (path : List Came) → ledger_rows l ≡ 2 * length t.customers
     → table_now l ≡ rows_after t path → l.rows.balances ≡ balances_along t path
 balances_now t l path many now =
@@ -50,8 +50,8 @@ due_committing : (t : Trace) (s : SectionState) (pending : List Placed) → AllB
     → AreDueSoFar t s → AreDueSoFar t (committing s pending)
 due_committing t s [] all due = due
 due_committing t s (p ∷ ps) all due = record {
-  committed = subst (AllByRecursion (IsDueAlong t)) (sym (attempts_by_push s.each_reached p))
-      (all-append (IsDueAlong t) (attempts_by s.each_reached) (p ∷ []) due.committed (all.0, tt));
+  committed = subst (AllByRecursion (IsDueAlong t)) (sym (attempts_by_push s.ways_reached p))
+      (all-append (IsDueAlong t) (attempts_by s.ways_reached) (p ∷ []) due.committed (all.0, tt));
   pending = all.1;
 }
 
@@ -62,7 +62,7 @@ module _ (p : RunPlan) (t : Trace) where
       let q : Placed = record { offset = at; attempt = a; path = path_of s } in
       let left : new.rows.balances ≡ balances_along t (path_of s ++ Ran a ∷ []) =
       balances_now t new (path_of s ++ Ran a ∷ []) after.rows
-      (after.now ∙ ap (rows_after t) (path_attempted s.each_reached s.pending q)) in
+      (after.now ∙ ap (rows_after t) (path_attempted s.ways_reached s.pending q)) in
       record {
         committed = due.committed;
         pending = all-append (IsDueAlong t) s.pending (q ∷ []) due.pending (
@@ -90,7 +90,7 @@ due_first t = record { committed = tt; pending = tt }
 path_to_its_own : (t : Trace) (e n : ℕ) (p : Placed) → IsRightSection t e → committed_at t e (suc n) ≡ Some p
     → p.path ++ Ran p.attempt ∷ [] ≡ path_to t e p.attempt.seq
 path_to_its_own t e n p right at =
-    let ls = (history t e).each_reached in
+    let ls = (history t e).ways_reached in
     let next : n + 1 ≡ p.attempt.seq = let number = committed_number t e (suc n) p right at in omega arith in
     ap (λ (path : List Came). path ++ Ran p.attempt ∷ []) (linked_number t e n p right at).path
     ∙ sym (came_by_push (take n ls) p)

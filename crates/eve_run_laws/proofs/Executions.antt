@@ -16,7 +16,7 @@ use Rattle.eve_stamps.specs.Applied.{Applied}
 use Rattle.eve_history.specs.Section.{batch_at, no_batch}
 use Rattle.eve_chains.specs.Visible.{entries_with, executed_at, executed_in, execution}
 use Rattle.eve_agree.specs.Tables.{entries_of}
-use Rattle.eve_attempts.specs.declared.prefix.AttemptPrefix.{AttemptPrefix}
+use Rattle.eve_attempts.specs.declared.prefix.AttemptHead.{AttemptHead}
 use Rattle.eve_attempts.specs.Ledgers.{Ledger}
 use Rattle.eve_attempts.specs.ClosedAttempts.{access_noted, executed, entries_in_order, are_right_records}
 use Rattle.eve_grammar.specs.Trace.{request_with}
@@ -96,7 +96,7 @@ mapped_through f g h [] same = refl
 mapped_through {C = C} f g h (x ∷ xs) same =
     ap₂ (λ (z : C) (zs : List C). z ∷ zs) same.0 (mapped_through f g h xs same.1)
 
-pub executes : (t : Trace) (prefix : AttemptPrefix) (old new : Ledger) (b : Batch) (touched : List Touched)
+pub executes : (t : Trace) (prefix : AttemptHead) (old new : Ledger) (b : Batch) (touched : List Touched)
     (records : List Applied) (a : Attempt) → batch_at t a.seq ≡ b
     → (c : Closes prefix old new b touched records a) → execution t a ≡ map (executed b) c.ordered
 executes t prefix old new b touched records a batch c =
@@ -115,8 +115,8 @@ entries_executed : (b : Batch) (rs : List Applied) → entries_of (map (executed
 entries_executed b [] = refl
 entries_executed b (r ∷ rs) = ap (λ (es : List Entry). r.entries ++ es) (entries_executed b rs)
 
--- the account keeps of the attempt what the trace says that it wrote
-pub opens_as : (t : Trace) (prefix : AttemptPrefix) (old new : Ledger) (b : Batch) (touched : List Touched)
+-- the ledger keeps of the attempt what the trace says that it wrote
+pub opens_as : (t : Trace) (prefix : AttemptHead) (old new : Ledger) (b : Batch) (touched : List Touched)
     (records : List Applied) (a : Attempt) → batch_at t a.seq ≡ b
     → (c : Closes prefix old new b touched records a) → opened_as a c.ordered ≡ opened_of t a
 opens_as t prefix old new b touched records a batch c =

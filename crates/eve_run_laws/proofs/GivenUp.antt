@@ -84,14 +84,14 @@ module _ (p : RunPlan) (t : Trace) (plan : IsPlanOf p t) (some : 0 < p.first.win
 
   -- the token of the batch after this number, run as it is listed from the balances that the first numbers left
   abbrev token_from : SectionState → List ℕ
-  token_from end = serial_token p number (balances_along t (flat_map came_by (take number end.each_reached)))
+  token_from end = serial_token p number (balances_along t (flat_map came_by (take number end.ways_reached)))
 
   -- By its rollback to this view a section that ends so gives up that token, and it reaches the number.
   record GivesUpSerial (view : ℕ) (opened : List (List ℕ)) (steps : List Step) (end : SectionState) : Type 0 where
     token : token_given_up view opened steps ≡ Some (token_from end)
-    reached : number ≤ length end.each_reached
+    reached : number ≤ length end.ways_reached
 
-  -- where the account is in its window
+  -- where the ledger is in its window
   record IsInWindow (state : WindowState) (l : Ledger) (steps : List Step) : Type 0 where
     by : GoByWindows p.first.window state steps
     left : state.left ≡ length p.batches - l.committed
@@ -105,9 +105,9 @@ module _ (p : RunPlan) (t : Trace) (plan : IsPlanOf p t) (some : 0 < p.first.win
       → GivesUpSerial view [] (map (λ x. x.1) steps) (state_after s steps)
   second_gives_up view steps s old last state way by due alike counted closed serial none here at back =
       let keeps = reached_stays steps s in
-      let many : length s.each_reached ≡ number = sym counted.counted ∙ alike.last ∙ sym here in
-      let first : take number (state_after s steps).each_reached ≡ s.each_reached =
-      ap (take number) keeps.is ∙ take_at s.each_reached keeps.more number many in
+      let many : length s.ways_reached ≡ number = sym counted.counted ∙ alike.last ∙ sym here in
+      let first : take number (state_after s steps).ways_reached ≡ s.ways_reached =
+      ap (take number) keeps.is ∙ take_at s.ways_reached keeps.more number many in
       let path : old.rows.balances ≡ balances_along t (path_of s) =
       balances_now t old (path_of s) alike.rows alike.now in
       let version : old.version ≡ p.first.version = alike.version ∙ ap (λ (l : Ledger). l.version) (sym plan.first) in
@@ -117,9 +117,9 @@ module _ (p : RunPlan) (t : Trace) (plan : IsPlanOf p t) (some : 0 < p.first.win
             ∙ ap (λ (balances : List ℤ). Some (serial_token p number balances))
             (path
             ∙ ap (balances_along t)
-            (ap (λ (ps : List Placed). flat_map came_by s.each_reached ++ map (λ q. Ran q.attempt) ps) closed
-            ∙ append-nil (flat_map came_by s.each_reached) ∙ ap (flat_map came_by) (sym first)));
-        reached = omega (arith, many, ap length keeps.is, length-append s.each_reached keeps.more);
+            (ap (λ (ps : List Placed). flat_map came_by s.ways_reached ++ map (λ q. Ran q.attempt) ps) closed
+            ∙ append-nil (flat_map came_by s.ways_reached) ∙ ap (flat_map came_by) (sym first)));
+        reached = omega (arith, many, ap length keeps.is, length-append s.ways_reached keeps.more);
       }
 
   -- a rollback to a view before this one gives nothing up for it
@@ -229,5 +229,5 @@ module _ (p : RunPlan) (t : Trace) (plan : IsPlanOf p t) (some : 0 < p.first.win
         ≡ Some (serial_token p number (balances_to t e number))
     gives_up_serial = ap (token_given_up (length before + 2) []) (sym (plain_steps t e)) ∙ given_up.token
 
-    pub number_reached : number ≤ length (history t e).each_reached
+    pub number_reached : number ≤ length (history t e).ways_reached
     number_reached = given_up.reached

@@ -1,4 +1,4 @@
--- Where a section has come to, beside the account that the replica kept of it.
+-- Where a section has come to, beside the ledger that the replica kept of it.
 use Rattle.std.proofs.Common.{◌≡◌, ◌+◌, ◌*◌, ◌≤◌, List, map, length, filter}
 use Rattle.std.specs.List.{flat_map}
 use Rattle.eve_smallbank.specs.Access.{is_write}
@@ -22,12 +22,12 @@ pub record IsPlanOf (p : RunPlan) (t : Trace) : Type 0 where
 abbrev pub written_by : Trace → Attempt → List Entry
 written_by t a = filter (λ e. is_write e.kind) (entries_of (execution t a))
 
--- what an account keeps of it while it is open
+-- what a ledger keeps of it while it is open
 abbrev pub opened_of : Trace → Attempt → Opened
 opened_of t a = record { view = a.view; token = a.token; written = written_by t a }
 
--- The section has come to where the account has: the same view, last committed number and duty, the same attempts
--- open, and the rows have what came as the section says. The account is of the trace's version.
+-- The section has come to where the ledger has: the same view, last committed number and duty, the same attempts
+-- open, and the rows have what came as the section says. The ledger is of the trace's version.
 pub record AreAlike (t : Trace) (s : SectionState) (l : Ledger) : Type 0 where
   pub version : l.version ≡ t.head.version
   pub view : s.view ≡ l.view
@@ -39,4 +39,4 @@ pub record AreAlike (t : Trace) (s : SectionState) (l : Ledger) : Type 0 where
   pub opened : l.opened ≡ map (opened_of t) (attempts_of s.pending)
   pub due : s.last + length s.pending ≤ length t.batches
   pub now : table_now l ≡ rows_after t (path_of s)
-  pub committed : rows_committed l ≡ rows_after t (flat_map came_by s.each_reached)
+  pub committed : rows_committed l ≡ rows_after t (flat_map came_by s.ways_reached)

@@ -38,12 +38,12 @@ use Rattle.eve_audit.proofs.SameBanks.{rows_length}
 -- ---- what is committed lies within the limits of the format
 
 pub committed_whole : (t : Trace) (e : ℕ) → HasLimits t → (q : Placed)
-    → In q (attempts_by (history t e).each_reached) → IsTrue (is_whole_attempt (row_count (head_of t)) q.attempt)
+    → In q (attempts_by (history t e).ways_reached) → IsTrue (is_whole_attempt (row_count (head_of t)) q.attempt)
 committed_whole t e limits q i =
     all_in (λ x. IsTrue (is_whole_attempt (row_count (head_of t)) x.1)) (whole_section t e limits)
     (in_picked is_committed (attempts_among (steps_at t e)) (fates_from 0 (steps_at t e))
     (subst (λ (xs : List (ℕ × Attempt)). In (placed_at q) xs) (committed_are_picked t e)
-    (in_map placed_at (attempts_by (history t e).each_reached) i)))
+    (in_map placed_at (attempts_by (history t e).ways_reached) i)))
 
 -- ---- replies
 
@@ -61,8 +61,8 @@ pub replies_within : (t : Trace) (e n : ℕ) (q : Placed) → HasLimits t → co
 replies_within t e zero q limits at = none≢some q at
 replies_within t e (suc n) q limits at =
     whole_replies (row_count (head_of t)) q.attempt
-    (committed_whole t e limits q (in_attempts (history t e).each_reached n q
-    (how_reached_by (slice_get (history t e).each_reached n) q at)))
+    (committed_whole t e limits q (in_attempts (history t e).ways_reached n q
+    (how_reached_by (slice_get (history t e).ways_reached n) q at)))
 
 -- ---- tables of balances
 
@@ -163,7 +163,7 @@ states_among rows ((at, Transfers x) ∷ steps) fit =
     (parts.0, states_among rows steps parts.1)
 
 states_within : (t : Trace) (e : ℕ) → HasLimits t
-    → AllByRecursion (IsWithin (row_count (head_of t))) (transfers_by (history t e).each_reached)
+    → AllByRecursion (IsWithin (row_count (head_of t))) (transfers_by (history t e).ways_reached)
 states_within t e limits =
     let rows = row_count (head_of t) in
     subst (AllByRecursion (IsWithin rows)) (sym (transfers_of_steps t e))
@@ -195,7 +195,7 @@ values_along rows t (ByTransfer at x ∷ ls) (suc n) whole states table all =
 values_along rows t (Skipped ∷ ls) (suc n) whole states table all = values_along rows t ls n whole states table all
 
 values_within : (t : Trace) (e n : ℕ) → HasLimits t → (row : ℕ) → IsTrue (is_balance (values_to t e n row))
-values_within t e n limits = values_along (row_count (head_of t)) t (history t e).each_reached n
+values_within t e n limits = values_along (row_count (head_of t)) t (history t e).ways_reached n
     (committed_whole t e limits) (states_within t e limits) (opening_table t) (opening_balances t limits)
 
 first_within : (values : ℕ → ℤ) → ((row : ℕ) → IsTrue (is_balance (values row))) → (n : ℕ)

@@ -67,8 +67,8 @@ module _ (t : Trace) (e n : ℕ) (q : Placed) (limits : HasLimits t) (right : Is
   replies_as_certificate : length q.attempt.replies ≡ length q.attempt.certificate
   replies_as_certificate =
       one_for_each (row_count (head_of t)) q.attempt
-      (committed_whole t e limits q (in_attempts (history t e).each_reached n q
-      (how_reached_by (slice_get (history t e).each_reached n) q at)))
+      (committed_whole t e limits q (in_attempts (history t e).ways_reached n q
+      (how_reached_by (slice_get (history t e).ways_reached n) q at)))
 
   permutes : is_permutation (length (batch_at t (suc n)).requests) q.attempt.certificate ≡ true
   permutes =

@@ -57,7 +57,7 @@ module _ (t : Trace) (s : SectionState) (old : Ledger) (alike : AreAlike t s old
   open_written : open_writes old ≡ writes_among (open_entries t s)
   open_written = ap writes_in alike.opened ∙ written_among t (attempts_of s.pending)
 
-  -- a row is written by an open attempt of the section where it is written by one of the account
+  -- a row is written by an open attempt of the section where it is written by one of the ledger
   row_written : (row : ℕ) → list_any (writes_row row) (open_writes old) ≡ list_any (writes_row row) (open_entries t s)
   row_written row =
       ap (list_any (writes_row row)) open_written
@@ -100,7 +100,7 @@ step_restores p t s old new (Commits c) alike made = refl
 step_restores p t s old new (RollsBack r) alike made = restores_right t s old r.restores alike made.rolled_back.restores
 step_restores p t s old new (Transfers x) alike made = refl
 
--- along all steps, where the section follows the account
+-- along all steps, where the section follows the ledger
 pub restores_along : (p : RunPlan) (t : Trace)
     → ((s : SectionState) (old new : Ledger) (at : ℕ) (x : Step) → AreAlike t s old → MakesOf p x old new
     → AreAlike t (next s (at, x)) new)

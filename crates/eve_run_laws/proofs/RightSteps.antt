@@ -1,4 +1,4 @@
--- Each step of a replica's section is right where its account stands, and leads to where the account goes.
+-- Each step of a replica's section is right where its ledger stands, and leads to where the ledger goes.
 use Rattle.std.proofs.Common.{◌≡◌, ℕ, zero, suc, ◌+◌, ◌<◌, ◌≤◌, ◌==◌, nat_le, nat_lt, Bool, true, false, ◌&&◌}
 use Rattle.std.proofs.Common.{IsTrue, List, [], ◌∷◌, ◌++◌, map, length, replicate, slice_get, Some, refl, sym}
 use Rattle.std.proofs.Common.{subst, ap, ◌∙◌, append-nil, arith, length-append, ◌-◌}
@@ -38,7 +38,7 @@ use Rattle.eve_attempts.specs.CommitsAndRollbacks as ledgers
 use Rattle.eve_attempts.specs.Transfers.{rows_of_state}
 use Rattle.eve_attempts.proofs.TableLaws.{table_after-writes}
 use Rattle.eve_replica.specs.Sections.{RunPlan, AttemptsNext, TransfersNext, MakesOf, place_due}
-use Rattle.eve_replica.specs.Replicas.{attempt_prefix_of}
+use Rattle.eve_replica.specs.Replicas.{attempt_head_of}
 use Rattle.eve_run_laws.proofs.LedgersAlike.{IsPlanOf, written_by, opened_of, AreAlike}
 use Rattle.eve_run_laws.proofs.Executions.{batch_due, executes, opens_as}
 
@@ -68,7 +68,7 @@ state_now rows = fun_ext (λ row. each rows row)
     each (r ∷ rows) zero = refl
     each (r ∷ rows) (suc row) = each rows row
 
--- ---- where a section and an account begin
+-- ---- where a section and a ledger begin
 
 version_first : (n row : ℕ) → ◌≡◌ {A = ℕ} (slice_index_or (replicate n 0) row 0) 0
 version_first zero row = refl
@@ -129,7 +129,7 @@ first_committed t (q ∷ ps) first others c opened view token =
     (eq-eqb q.attempt.view c.view (ap (λ (o : Opened). o.view) own ∙ view))
     ((bytes_decides q.attempt.token c.token).1 (ap (λ (o : Opened). o.token) own ∙ token))
 
--- ---- where a section and an account are alike
+-- ---- where a section and a ledger are alike
 
 module _ (t : Trace) (s : SectionState) (old : Ledger) (alike : AreAlike t s old) where
   as_many_open : length old.opened ≡ length s.pending
@@ -155,7 +155,7 @@ module _ (t : Trace) (s : SectionState) (old : Ledger) (alike : AreAlike t s old
   alike_rolled_back : (new : Ledger) (at : ℕ) (r : Rollback) → ledgers.RollsBack old new r
       → AreAlike t (next s (at, RollsBack r)) new
   alike_rolled_back new at r made =
-      let now : table_now new ≡ rows_after t (flat_map came_by s.each_reached) = made.rows ∙ alike.committed in
+      let now : table_now new ≡ rows_after t (flat_map came_by s.ways_reached) = made.rows ∙ alike.committed in
       let due = alike.due in
       record {
         version = ap (λ (l : Ledger). l.version) made.changed ∙ alike.version;
@@ -167,7 +167,7 @@ module _ (t : Trace) (s : SectionState) (old : Ledger) (alike : AreAlike t s old
         rows = made.as_many ∙ alike.rows;
         opened = ap (λ (l : Ledger). l.opened) made.changed;
         due = omega arith;
-        now = now ∙ ap (rows_after t) (sym (append-nil (flat_map came_by s.each_reached)));
+        now = now ∙ ap (rows_after t) (sym (append-nil (flat_map came_by s.ways_reached)));
         committed = ap (λ (os : List Opened). values_before (table_now new) (writes_in os))
             (ap (λ (l : Ledger). l.opened) made.changed) ∙ now;
       }
@@ -195,13 +195,13 @@ module _ (t : Trace) (s : SectionState) (old : Ledger) (alike : AreAlike t s old
         due = omega arith;
         now = ap table_now made.changed ∙ alike.now
             ∙ ap (rows_after t)
-            (ap (λ (qs : List Placed). flat_map came_by s.each_reached ++ map (λ r. Ran r.attempt) qs)
-            open_is ∙ path_committed s.each_reached q ps);
+            (ap (λ (qs : List Placed). flat_map came_by s.ways_reached ++ map (λ r. Ran r.attempt) qs)
+            open_is ∙ path_committed s.ways_reached q ps);
         committed = made.committed
             ∙ (λ i. table_after (alike.committed i) (sym own i).written)
-            ∙ writes_leave t (rows_after t (flat_map came_by s.each_reached)) q.attempt
-            ∙ sym (rows_after-push t (flat_map came_by s.each_reached) q.attempt)
-            ∙ ap (rows_after t) (sym (came_by_push s.each_reached q));
+            ∙ writes_leave t (rows_after t (flat_map came_by s.ways_reached)) q.attempt
+            ∙ sym (rows_after-push t (flat_map came_by s.ways_reached) q.attempt)
+            ∙ ap (rows_after t) (sym (came_by_push s.ways_reached q));
       }
 
   -- ---- a state that is transferred
@@ -225,10 +225,10 @@ module _ (t : Trace) (s : SectionState) (old : Ledger) (alike : AreAlike t s old
     alike_transferred at =
         let changed = made.transferred.changed in
         let skips : List HowReached = replicate (x.seq - (s.last + 1)) Skipped in
-        let came = flat_map came_by s.each_reached in
-        let now : table_now new ≡ rows_after t (flat_map came_by (s.each_reached ++ (skips ++ ByTransfer at x ∷ []))) =
+        let came = flat_map came_by s.ways_reached in
+        let now : table_now new ≡ rows_after t (flat_map came_by (s.ways_reached ++ (skips ++ ByTransfer at x ∷ []))) =
         ap table_now changed ∙ state_now x.rows ∙ sym (rows_after-transferred t came x.rows [])
-        ∙ ap (rows_after t) (sym (path_transferred s.each_reached (x.seq - (s.last + 1)) at x)) in
+        ∙ ap (rows_after t) (sym (path_transferred s.ways_reached (x.seq - (s.last + 1)) at x)) in
         let next = made.next in
         let some = left in
         record {
@@ -244,7 +244,7 @@ module _ (t : Trace) (s : SectionState) (old : Ledger) (alike : AreAlike t s old
           due = omega arith;
           now = now
               ∙ ap (rows_after t)
-              (sym (append-nil (flat_map came_by (s.each_reached ++ (skips ++ ByTransfer at x ∷ [])))));
+              (sym (append-nil (flat_map came_by (s.ways_reached ++ (skips ++ ByTransfer at x ∷ [])))));
           committed = ap (λ (os : List Opened). values_before (table_now new) (writes_in os))
               (ap (λ (l : Ledger). l.opened) changed) ∙ now;
         }
@@ -322,7 +322,7 @@ module _ (t : Trace) (s : SectionState) (old : Ledger) (alike : AreAlike t s old
           rows = opens.as_many ∙ alike.rows;
           opened = ap (λ (l : Ledger). l.opened) opens.changed
               ∙ (λ i. alike.opened i
-              ++ opens_as t (attempt_prefix_of old old.view old.is_next_serial) old new made.batch _ made.records a
+              ++ opens_as t (attempt_head_of old old.view old.is_next_serial) old new made.batch _ made.records a
               batch_found
               made.closed i ∷ [])
               ∙ sym (map-append (opened_of t) (attempts_of s.pending) (a ∷ []))
@@ -330,10 +330,10 @@ module _ (t : Trace) (s : SectionState) (old : Ledger) (alike : AreAlike t s old
           due = rw (length-append s.pending (q ∷ [])) (omega arith);
           now = opens.rows
               ∙ (λ i. table_after_all (alike.now i)
-              (sym (executes t (attempt_prefix_of old old.view old.is_next_serial) old new made.batch _ made.records a
+              (sym (executes t (attempt_head_of old old.view old.is_next_serial) old new made.batch _ made.records a
               batch_found made.closed) i))
               ∙ sym (rows_after-push t (path_of s) a)
-              ∙ ap (rows_after t) (sym (path_attempted s.each_reached s.pending q));
+              ∙ ap (rows_after t) (sym (path_attempted s.ways_reached s.pending q));
           committed = opens.committed ∙ alike.committed;
         }
 

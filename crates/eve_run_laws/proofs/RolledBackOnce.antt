@@ -165,7 +165,7 @@ module _ (states : (t : Trace) (e n at : ℕ) (x : Transfer) → HasLimits t →
         (goes_back f there whole)
 
     reached : (f : ℕ) → f < length t.sections → is_whole (steps_of t f) ≡ true
-        → twice.number ≤ length (history t f).each_reached
+        → twice.number ≤ length (history t f).ways_reached
     reached f there whole =
         number_reached p t plan some twice.number twice.rest run.sections f there twice.before (goes_back f there whole)
 
@@ -180,12 +180,12 @@ module _ (states : (t : Trace) (e n at : ℕ) (x : Transfer) → HasLimits t →
         ∙ (bytes_decides (own f) (own e)).1 (ap (serial_token p twice.number) (sym same)))
 
     -- each number that a replica reached some replica committed, with the same balances after it
-    like : (f n : ℕ) → suc n ≤ length (history t f).each_reached → IsLike t f (suc n)
+    like : (f n : ℕ) → suc n ≤ length (history t f).ways_reached → IsLike t f (suc n)
     like = committed_like p t plan run.sections run.transferred
         (λ f n at x is. states t f n at x limits (sections_right w mixer t run f) is)
 
     -- and two replicas that have committed other balances show a collision
-    apart_collide : (f n : ℕ) → n ≤ length (history t e).each_reached → n ≤ length (history t f).each_reached
+    apart_collide : (f n : ℕ) → n ≤ length (history t e).ways_reached → n ≤ length (history t f).ways_reached
         → ¬ (balances_to t e n ≡ balances_to t f n) → Collides t
     apart_collide f zero one other apart = absurd (apart refl)
     apart_collide f (suc n) one other apart =

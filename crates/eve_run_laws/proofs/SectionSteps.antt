@@ -81,7 +81,7 @@ module _ (p : RunPlan) (t : Trace) (plan : IsPlanOf p t) where
       along H Q keeps steps (next s (at, x)) goes.0 new all.1 goes.2
       (step_alike p t plan s old goes.0 at x alike goes.1) (keeps s old goes.0 at x alike goes.1 all.0 so)
 
-  -- the section comes to where its account does
+  -- the section comes to where its ledger does
   pub alike_after : (steps : List (ℕ × Step)) (s : SectionState) (old new : Ledger)
       → GoesThrough p (map (λ x. x.1) steps) old new → AreAlike t s old → AreAlike t (state_after s steps) new
   alike_after [] s old new goes alike = subst (AreAlike t s) goes alike
@@ -95,7 +95,7 @@ module _ (p : RunPlan) (t : Trace) (plan : IsPlanOf p t) where
       and_from (is_right t s x) (are_right t (next s (at, x)) steps) (step_right p t plan s old goes.0 x alike goes.1)
       (right_along steps (next s (at, x)) goes.0 new goes.2 (step_alike p t plan s old goes.0 at x alike goes.1))
 
-  -- the way of a section's account from the first; past the last replica there are no steps
+  -- the way of a section's ledger from the first; past the last replica there are no steps
   pub goes : All (IsSectionOf p) t.sections → (e : ℕ)
       → (last : Ledger) × GoesThrough p (map (λ x. x.1) (steps_at t e)) p.first last
   goes sections e = elim (cases_lt e (length t.sections)) [

@@ -72,53 +72,53 @@ all_answer e n (asked ∷ requests) (reply ∷ replies) = (
 
 -- ---- what was reached stays
 
-stays_committing : (s : SectionState) (pending : List Placed) (n : ℕ) (l : HowReached) → slice_get s.each_reached n
+stays_committing : (s : SectionState) (pending : List Placed) (n : ℕ) (l : HowReached) → slice_get s.ways_reached n
     ≡ Some l
-    → slice_get (committing s pending).each_reached n ≡ Some l
+    → slice_get (committing s pending).ways_reached n ≡ Some l
 stays_committing s [] n l there = there
-stays_committing s (q ∷ qs) n l there = get_in_prefix s.each_reached (ByAttempt q ∷ []) n l there
+stays_committing s (q ∷ qs) n l there = get_in_prefix s.ways_reached (ByAttempt q ∷ []) n l there
 
-stays_next : (s : SectionState) (step : ℕ × Step) (n : ℕ) (l : HowReached) → slice_get s.each_reached n ≡ Some l
-    → slice_get (next s step).each_reached n ≡ Some l
+stays_next : (s : SectionState) (step : ℕ × Step) (n : ℕ) (l : HowReached) → slice_get s.ways_reached n ≡ Some l
+    → slice_get (next s step).ways_reached n ≡ Some l
 stays_next s (at, Attempts a) n l there = there
 stays_next s (at, Commits c) n l there = stays_committing s s.pending n l there
 stays_next s (at, RollsBack r) n l there = there
 stays_next s (at, Transfers x) n l there =
-    get_in_prefix s.each_reached (replicate (x.seq - (s.last + 1)) Skipped ++ ByTransfer at x ∷ []) n l there
+    get_in_prefix s.ways_reached (replicate (x.seq - (s.last + 1)) Skipped ++ ByTransfer at x ∷ []) n l there
 
-stays_reached : (s : SectionState) (steps : List (ℕ × Step)) (n : ℕ) (l : HowReached) → slice_get s.each_reached n
+stays_reached : (s : SectionState) (steps : List (ℕ × Step)) (n : ℕ) (l : HowReached) → slice_get s.ways_reached n
     ≡ Some l
-    → slice_get (state_after s steps).each_reached n ≡ Some l
+    → slice_get (state_after s steps).ways_reached n ≡ Some l
 stays_reached s [] n l there = there
 stays_reached s (step ∷ steps) n l there = stays_reached (next s step) steps n l (stays_next s step n l there)
 
 -- ---- the replies of a section
 
 -- it is an answer by one of the attempts that are committed
-record IsByCommitted (batches : List Batch) (e : ℕ) (each_reached : List HowReached) (s : Sent) : Type 0 where
+record IsByCommitted (batches : List Batch) (e : ℕ) (ways_reached : List HowReached) (s : Sent) : Type 0 where
   place : ℕ
   placed : Placed
-  there : slice_get each_reached place ≡ Some (ByAttempt placed)
+  there : slice_get ways_reached place ≡ Some (ByAttempt placed)
   answer : IsAnswer e placed.attempt.seq (requests_numbered batches placed.attempt.seq) placed.attempt.replies s
 
 module _ (batches : List Batch) (e : ℕ) where
   -- what is sent along these steps, with these attempts open before them, is by what is committed after them
   abbrev AreByCommitted : SectionState → List Attempt → List (ℕ × Step) → Type 0
-  AreByCommitted s opened steps = AllByRecursion (IsByCommitted batches e (state_after s steps).each_reached)
+  AreByCommitted s opened steps = AllByRecursion (IsByCommitted batches e (state_after s steps).ways_reached)
       (sent_along batches e opened (map (λ x. x.1) steps))
 
   -- what is sent at a commit of the first open attempt
   of_first : (s : SectionState) (p : Placed) (ps : List Placed) (steps : List (ℕ × Step))
-      → AllByRecursion (IsByCommitted batches e (state_after (committing s (p ∷ ps)) steps).each_reached)
+      → AllByRecursion (IsByCommitted batches e (state_after (committing s (p ∷ ps)) steps).ways_reached)
       (answers_of batches e p.attempt)
   of_first s p ps steps =
-      all_from_in (IsByCommitted batches e (state_after (committing s (p ∷ ps)) steps).each_reached)
+      all_from_in (IsByCommitted batches e (state_after (committing s (p ∷ ps)) steps).ways_reached)
       (answers_of batches e p.attempt)
       (λ x i. record {
-        place = length s.each_reached;
+        place = length s.ways_reached;
         placed = p;
-        there = stays_reached (committing s (p ∷ ps)) steps (length s.each_reached) (ByAttempt p)
-            (get_between s.each_reached (ByAttempt p) []);
+        there = stays_reached (committing s (p ∷ ps)) steps (length s.ways_reached) (ByAttempt p)
+            (get_between s.ways_reached (ByAttempt p) []);
         answer = all_in (IsAnswer e p.attempt.seq (requests_numbered batches p.attempt.seq) p.attempt.replies)
             (all_answer e p.attempt.seq (requests_numbered batches p.attempt.seq) p.attempt.replies) i;
       })
@@ -127,11 +127,11 @@ module _ (batches : List Batch) (e : ℕ) where
       → s.pending ≡ pending
       → ((opened : List Attempt) → attempts_of (committing s pending).pending ≡ opened
       → AreByCommitted (committing s pending) opened steps)
-      → AllByRecursion (IsByCommitted batches e (state_after (committing s pending) steps).each_reached)
+      → AllByRecursion (IsByCommitted batches e (state_after (committing s pending) steps).ways_reached)
       (sent_along batches e (attempts_of pending) (map (λ x. x.1) ((at, Commits c) ∷ steps)))
   by_commit s [] at c steps is later = later [] (ap attempts_of is)
   by_commit s (p ∷ ps) at c steps is later =
-      all-append (IsByCommitted batches e (state_after (committing s (p ∷ ps)) steps).each_reached)
+      all-append (IsByCommitted batches e (state_after (committing s (p ∷ ps)) steps).ways_reached)
       (answers_of batches e p.attempt) (sent_along batches e (attempts_of ps) (map (λ x. x.1) steps))
       (of_first s p ps steps) (later (attempts_of ps) refl)
 
@@ -149,10 +149,10 @@ module _ (batches : List Batch) (e : ℕ) where
   along s opened ((at, Transfers x) ∷ steps) is = along (next s (at, Transfers x)) [] steps refl
 
 section_by_committed : (t : Trace) (e : ℕ)
-    → AllByRecursion (IsByCommitted t.batches e (history t e).each_reached) (sent_along t.batches e [] (steps_of t e))
+    → AllByRecursion (IsByCommitted t.batches e (history t e).ways_reached) (sent_along t.batches e [] (steps_of t e))
 unfolding history steps_at
 section_by_committed t e =
-    subst (λ (steps : List Step). AllByRecursion (IsByCommitted t.batches e (history t e).each_reached)
+    subst (λ (steps : List Step). AllByRecursion (IsByCommitted t.batches e (history t e).ways_reached)
     (sent_along t.batches e [] steps))
     (located_values step_text (section_start t e + length (frame_text (OfReplica e))) (steps_of t e))
     (along t.batches e start [] (steps_at t e) refl)
@@ -172,7 +172,7 @@ requests_at t n = requests_found t.batches n ∙ ap (λ (k : ℕ). (get_or t.bat
     one_less n = omega arith
 
 replied : (t : Trace) (e : ℕ) (s : Sent) → IsRightSection t e
-    → IsByCommitted t.batches e (history t e).each_reached s → IsReplied t s
+    → IsByCommitted t.batches e (history t e).ways_reached s → IsReplied t s
 replied t e s right by =
     let a = by.placed.attempt in
     let number : a.seq ≡ suc by.place = committed_number t e (suc by.place) by.placed right
@@ -196,7 +196,7 @@ section_replied : (t : Trace) (e : ℕ) → IsRightSection t e
     → AllByRecursion (IsReplied t) (sent_along t.batches e [] (steps_of t e))
 section_replied t e right = all_from_in (IsReplied t) (sent_along t.batches e [] (steps_of t e))
     (λ s i. replied t e s right
-    (all_in (IsByCommitted t.batches e (history t e).each_reached) (section_by_committed t e) i))
+    (all_in (IsByCommitted t.batches e (history t e).ways_reached) (section_by_committed t e) i))
 
 -- ---- of all replicas
 

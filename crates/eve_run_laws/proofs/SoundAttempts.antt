@@ -17,7 +17,7 @@ use Rattle.eve_chains.specs.Sound.{IsSoundAlong, SettledAreSound}
 use Rattle.eve_attempts.specs.Ledgers.{Ledger, table_now}
 use Rattle.eve_attempts.specs.ClosedAttempts.{touched_in_batch, executed}
 use Rattle.eve_attempts.proofs.TickOrder.{all_moved}
-use Rattle.eve_replica.specs.Replicas.{attempt_prefix_of}
+use Rattle.eve_replica.specs.Replicas.{attempt_head_of}
 use Rattle.eve_replica.specs.Sections.{RunPlan, AttemptsNext, MakesOf}
 use Rattle.eve_run_laws.proofs.LedgersAlike.{IsPlanOf, AreAlike}
 use Rattle.eve_run_laws.proofs.Executions.{batch_due, executes}
@@ -27,7 +27,7 @@ use Rattle.eve_run_laws.proofs.Executions.{batch_due, executes}
 -- each committed, open and discarded one
 abbrev pub AreSoundSoFar : Trace → SectionState → Type 0
 AreSoundSoFar t s =
-    AllByRecursion (IsSoundAlong t) (attempts_by s.each_reached) × AllByRecursion (IsSoundAlong t) s.pending
+    AllByRecursion (IsSoundAlong t) (attempts_by s.ways_reached) × AllByRecursion (IsSoundAlong t) s.pending
     × AllByRecursion (IsSoundAlong t) s.discarded
 
 pub sound_first : (t : Trace) → AreSoundSoFar t start
@@ -37,15 +37,15 @@ sound_committing : (t : Trace) (s : SectionState) (pending : List Placed) → Al
     → AreSoundSoFar t s → AreSoundSoFar t (committing s pending)
 sound_committing t s [] each sound = sound
 sound_committing t s (p ∷ pending) each sound = (
-  subst (AllByRecursion (IsSoundAlong t)) (sym (attempts_by_push s.each_reached p))
-      (all-append (IsSoundAlong t) (attempts_by s.each_reached) (p ∷ []) sound.0 (each.0, tt)),
+  subst (AllByRecursion (IsSoundAlong t)) (sym (attempts_by_push s.ways_reached p))
+      (all-append (IsSoundAlong t) (attempts_by s.ways_reached) (p ∷ []) sound.0 (each.0, tt)),
   each.1,
   sound.2,
 )
 
 pub settled_sound : (t : Trace) (e : ℕ) → AreSoundSoFar t (history t e) → SettledAreSound t e
 settled_sound t e sound =
-    all-append (IsSoundAlong t) (attempts_by (history t e).each_reached) (history t e).discarded sound.0 sound.2
+    all-append (IsSoundAlong t) (attempts_by (history t e).ways_reached) (history t e).discarded sound.0 sound.2
 
 -- ---- one step
 
@@ -56,7 +56,7 @@ module _ (p : RunPlan) (t : Trace) (plan : IsPlanOf p t) where
       let closed = due.closed in
       let ran_as : Applied → Executed = executed due.batch in
       let ran : execution t a ≡ map ran_as closed.ordered =
-      executes t (attempt_prefix_of old old.view old.is_next_serial) old new due.batch
+      executes t (attempt_head_of old old.view old.is_next_serial) old new due.batch
       (touched_in_batch p.names due.batch)
       due.records a (batch_due p t old new a plan due) closed in
       subst (λ (table : Table). IsSound (names_of t) table [] (execution t a)) alike.now

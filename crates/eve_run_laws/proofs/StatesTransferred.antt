@@ -142,11 +142,11 @@ goes_split p (y ∷ prefix) x old new way =
 module _ (p : RunPlan) (t : Trace) (plan : IsPlanOf p t) (sections : All (IsSectionOf p) t.sections) where
   -- by a commit some attempt reaches one number more
   commit_lands : (s : SectionState) (old new : Ledger) (c : Commit) → AreAlike t s old → ledgers.Commits old new c
-      → (q : Placed) × ((committing s s.pending).each_reached ≡ s.each_reached ++ ByAttempt q ∷ [])
+      → (q : Placed) × ((committing s s.pending).ways_reached ≡ s.ways_reached ++ ByAttempt q ∷ [])
   commit_lands s old new c alike made = by s.pending refl
     where
       by : (pending : List Placed) → s.pending ≡ pending
-          → (q : Placed) × ((committing s pending).each_reached ≡ s.each_reached ++ ByAttempt q ∷ [])
+          → (q : Placed) × ((committing s pending).ways_reached ≡ s.ways_reached ++ ByAttempt q ∷ [])
       by [] is =
           absurd (no_item [] made.first made.others
           (ap (λ (ps : List Placed). map (opened_of t) (attempts_of ps)) (sym is) ∙ sym alike.opened ∙ made.opened))
@@ -159,9 +159,9 @@ module _ (p : RunPlan) (t : Trace) (plan : IsPlanOf p t) (sections : All (IsSect
     cut : IsCut t f from.prefix (Commits from.commit)
     cut = steps_cut t f from.prefix (Commits from.commit) from.rest (source_steps p t x from)
 
-    -- where its account is before the commit
-    way : (mid : Ledger) × GoesThrough p from.prefix p.first mid × ledgers.Commits mid from.account from.commit
-    way = goes_split p from.prefix (Commits from.commit) p.first from.account from.through
+    -- where its ledger is before the commit
+    way : (mid : Ledger) × GoesThrough p from.prefix p.first mid × ledgers.Commits mid from.ledger from.commit
+    way = goes_split p from.prefix (Commits from.commit) p.first from.ledger from.through
 
     -- where its section is before the commit, and after it
     abbrev before : SectionState
@@ -176,19 +176,19 @@ module _ (p : RunPlan) (t : Trace) (plan : IsPlanOf p t) (sections : All (IsSect
     alike_before : AreAlike t before way.0
     alike_before = alike_after p t plan cut.before start p.first way.0 its_way (alike_first p t plan)
 
-    alike_then : AreAlike t after from.account
-    alike_then = step_alike p t plan before way.0 from.account cut.at (Commits from.commit) alike_before way.2
+    alike_then : AreAlike t after from.ledger
+    alike_then = step_alike p t plan before way.0 from.ledger cut.at (Commits from.commit) alike_before way.2
 
     counted : AreReachedBy (λ s. ⊤) before
     counted =
         along p t plan (λ s. ⊤) (AreReachedBy (λ s. ⊤)) (reached_next (λ s. ⊤) p t) cut.before start p.first way.0
         (all_from_in (λ s. ⊤) cut.before (λ s i. tt)) its_way (alike_first p t plan) (reached_first (λ s. ⊤))
 
-    told_reached : (q : Placed) × (after.each_reached ≡ before.each_reached ++ ByAttempt q ∷ [])
-    told_reached = commit_lands before way.0 from.account from.commit alike_before way.2
+    told_reached : (q : Placed) × (after.ways_reached ≡ before.ways_reached ++ ByAttempt q ∷ [])
+    told_reached = commit_lands before way.0 from.ledger from.commit alike_before way.2
 
     -- its commit is of the number after those that it had reached
-    number : x.seq ≡ suc (length before.each_reached)
+    number : x.seq ≡ suc (length before.ways_reached)
     number =
         let seq = ap (λ (c : Commit). c.seq) way.2.commit in
         omega (arith, from.seq, seq, alike_before.last, counted.counted)
@@ -196,29 +196,29 @@ module _ (p : RunPlan) (t : Trace) (plan : IsPlanOf p t) (sections : All (IsSect
     abbrev later : List HowReached
     later = (reached_stays cut.after after).more
 
-    ends : (history t f).each_reached ≡ before.each_reached ++ ByAttempt told_reached.0 ∷ later
+    ends : (history t f).ways_reached ≡ before.ways_reached ++ ByAttempt told_reached.0 ∷ later
     unfolding history
     ends =
-        ap (λ (steps : List (ℕ × Step)). (state_after start steps).each_reached) cut.is
-        ∙ ap (λ (s : SectionState). s.each_reached)
+        ap (λ (steps : List (ℕ × Step)). (state_after start steps).ways_reached) cut.is
+        ∙ ap (λ (s : SectionState). s.ways_reached)
         (fold-append next start cut.before ((cut.at, Commits from.commit) ∷ cut.after))
         ∙ (reached_stays cut.after after).is
         ∙ ap (λ (ls : List HowReached). ls ++ later) told_reached.1
-        ∙ append_assoc before.each_reached (ByAttempt told_reached.0 ∷ []) later
+        ∙ append_assoc before.ways_reached (ByAttempt told_reached.0 ∷ []) later
 
     committed : committed_at t f x.seq ≡ Some told_reached.0
     committed =
         ap (committed_at t f) number
-        ∙ ap (λ (ls : List HowReached). attempt_by (slice_get ls (length before.each_reached))) ends
-        ∙ ap attempt_by (get_between before.each_reached (ByAttempt told_reached.0) later)
+        ∙ ap (λ (ls : List HowReached). attempt_by (slice_get ls (length before.ways_reached))) ends
+        ∙ ap attempt_by (get_between before.ways_reached (ByAttempt told_reached.0) later)
 
-    its_path : path_to t f x.seq ≡ flat_map came_by after.each_reached
+    its_path : path_to t f x.seq ≡ flat_map came_by after.ways_reached
     its_path =
-        let long : length (before.each_reached ++ ByAttempt told_reached.0 ∷ []) ≡ x.seq =
-        omega (arith, number, length-append before.each_reached (ByAttempt told_reached.0 ∷ [])) in
+        let long : length (before.ways_reached ++ ByAttempt told_reached.0 ∷ []) ≡ x.seq =
+        omega (arith, number, length-append before.ways_reached (ByAttempt told_reached.0 ∷ [])) in
         ap (λ (ls : List HowReached). flat_map came_by (take x.seq ls))
-        (ends ∙ sym (append_assoc before.each_reached (ByAttempt told_reached.0 ∷ []) later))
-        ∙ ap (flat_map came_by) (take_at (before.each_reached ++ ByAttempt told_reached.0 ∷ []) later x.seq long
+        (ends ∙ sym (append_assoc before.ways_reached (ByAttempt told_reached.0 ∷ []) later))
+        ∙ ap (flat_map came_by) (take_at (before.ways_reached ++ ByAttempt told_reached.0 ∷ []) later x.seq long
         ∙ sym told_reached.1)
 
     -- the state has the balances that it had committed
@@ -247,7 +247,7 @@ module _ (p : RunPlan) (t : Trace) (plan : IsPlanOf p t) (sections : All (IsSect
         reached = all_reached (IfCommits (λ n. commits_batch n (steps_of t e) ≡ true)) p t plan sections e
             (all_commit (steps_of t e))
 
-        its_commit : (n : ℕ) (o : Option HowReached) (q : Placed) → slice_get (history t e).each_reached n ≡ o
+        its_commit : (n : ℕ) (o : Option HowReached) (q : Placed) → slice_get (history t e).ways_reached n ≡ o
             → attempt_by o ≡ Some q → commits_batch (suc n) (steps_of t e) ≡ true
         its_commit n (Some (ByAttempt r)) q there is =
             let own = reached.each n (ByAttempt r) there in
@@ -258,7 +258,7 @@ module _ (p : RunPlan) (t : Trace) (plan : IsPlanOf p t) (sections : All (IsSect
 
         commits : (n : ℕ) (q : Placed) → committed_at t e n ≡ Some q → commits_batch n (steps_of t e) ≡ true
         commits zero q at = none_there q at
-        commits (suc n) q at = its_commit n (slice_get (history t e).each_reached n) q refl at
+        commits (suc n) q at = its_commit n (slice_get (history t e).ways_reached n) q refl at
 
         by : (o : Option Placed) → committed_at t e x.seq ≡ o → is_some (committed_at t e x.seq) ≡ false
         by None is = ap is_some is
@@ -292,7 +292,7 @@ module _ (p : RunPlan) (t : Trace) (plan : IsPlanOf p t) (sections : All (IsSect
   module _ (transferred : AreTransferredIn p t.sections) (states : (e n at : ℕ) (x : Transfer)
       → how_reached_at t e n ≡ Some (ByTransfer at x) → balances_to t e n ≡ map (λ v. v.value) x.rows) (e n : ℕ) where
     -- its balances are those of one that committed the batch
-    committed_by : (l : HowReached) → slice_get (history t e).each_reached n ≡ Some l → IsLike t e (suc n)
+    committed_by : (l : HowReached) → slice_get (history t e).ways_reached n ≡ Some l → IsLike t e (suc n)
     committed_by (ByAttempt q) is =
         record { replica = e; attempt = q; committed = ap attempt_by is; balances = refl }
     committed_by (ByTransfer at x) is =
@@ -309,6 +309,6 @@ module _ (p : RunPlan) (t : Trace) (plan : IsPlanOf p t) (sections : All (IsSect
         (rightly_transferred p t transferred e)).each n
         Skipped is)
 
-    pub committed_like : suc n ≤ length (history t e).each_reached → IsLike t e (suc n)
+    pub committed_like : suc n ≤ length (history t e).ways_reached → IsLike t e (suc n)
     committed_like reached =
-        let there = item_within (history t e).each_reached n (omega (arith, reached)) in committed_by there.0 there.1
+        let there = item_within (history t e).ways_reached n (omega (arith, reached)) in committed_by there.0 there.1

@@ -14,7 +14,7 @@ use Rattle.eve_run_laws.proofs.VotesApart.{Rise, rise_from_earlier}
 
 -- ---- they rise
 
--- all open attempts stay of the account's view
+-- all open attempts stay of the ledger's view
 attempted_in_view : (p : RunPlan) (old new : Ledger) (a : Attempt) → AttemptsNext p old new a → AreOfItsView old
     → AreOfItsView new
 attempted_in_view p old new a made of_view =
@@ -30,7 +30,7 @@ opened_in_view : (old new : Ledger) (c : Commit) (made : ledgers.Commits old new
 opened_in_view old new c made of_view =
     subst (λ (os : List Opened). All (λ o. o.view ≡ old.view) os) made.opened of_view
 
--- the votes rise from where the account stands, if its open attempts are all of its view
+-- the votes rise from where the ledger stands, if its open attempts are all of its view
 pub votes_rise : (p : RunPlan) (steps : List Step) (votes : List Vote) (a b : Ledger) → AreOfItsView a
     → GoesThrough p steps a b → AreVotesOf steps votes → Rise (a.committed + 1) a.view votes
 votes_rise p [] votes a b of_view goes led = subst (Rise (a.committed + 1) a.view) (sym led) tt

@@ -1,4 +1,4 @@
--- Where a trace shows two messages with one hash. docs/MODEL.md, "A run is accepted".
+-- Where a trace shows two messages with one hash. docs/DEPLOYMENT.md, "A run is accepted".
 use Rattle.std.specs.Prelude.{◌≡◌, ◌≢◌, ℕ, List, length, Some, IsTrue}
 use Rattle.std.specs.List.{list_all}
 use Rattle.sha2.specs.Sha256.{sha256}

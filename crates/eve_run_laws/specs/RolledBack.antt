@@ -1,4 +1,4 @@
--- How often a run rolls a batch back. docs/MODEL.md, "A run is accepted".
+-- How often a run rolls a batch back. docs/DEPLOYMENT.md, "A run is accepted".
 use Rattle.std.specs.Prelude.{◌≢◌, ℕ, List, [], ◌∷◌, All, AllPairs}
 use Rattle.eve_grammar.specs.Trace.{Step, Attempts, Commits, RollsBack, Transfers, Trace}
 

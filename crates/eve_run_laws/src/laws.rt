@@ -25,7 +25,7 @@ ghost use Rattle.eve_agree.specs.Agreement.{StandsInAgreement};
 /// No fault stands in the trace of a run but one of agreement, and where one does the trace shows a collision of
 /// SHA-256: two replicas committed a batch by one token, though it came to something else in each.
 ///
-/// docs/MODEL.md, "A run is accepted".
+/// docs/DEPLOYMENT.md, "A run is accepted".
 pub fn faults_of_runs_are_collisions()
     ensures { (w : Workload) (mixer : Mixer) (t : Trace) (f : Fault) → IsWorkload w → IsTraceOf w mixer t → HasLimits t
         → IsTraceFault t f → IsFaultSomewhere StandsInAgreement t f × Collides t }
@@ -49,7 +49,7 @@ pub fn outcome_verdicts_are_collisions()
 /// The verdict on bytes that spell the trace of a run is yes, or the trace shows two messages that differ and have one
 /// SHA-256.
 ///
-/// docs/MODEL.md, "A run is accepted".
+/// docs/DEPLOYMENT.md, "A run is accepted".
 pub fn runs_are_accepted()
     ensures { (w : Workload) (mixer : Mixer) (t : Trace) (bytes : List ℕ) → IsBytes bytes → IsWorkload w
         → IsTraceOf w mixer t → Spells bytes t → ((s : Summary) × IsVerdict bytes (Yes s)) ⊎ Collides t }
@@ -63,7 +63,7 @@ pub fn runs_are_accepted()
 /// A run is SmallBank on one thread, batch by batch in each replica, and all else that a yes says, whether it is
 /// audited or not; or its trace shows two messages that differ and have one SHA-256.
 ///
-/// docs/MODEL.md, "A run is accepted".
+/// docs/DEPLOYMENT.md, "A run is accepted".
 pub fn runs_are_audited()
     ensures { (w : Workload) (mixer : Mixer) (t : Trace) (bytes : List ℕ) → IsBytes bytes → IsWorkload w
         → IsTraceOf w mixer t → Spells bytes t → IsAudited t ⊎ Collides t }
@@ -75,7 +75,7 @@ pub fn runs_are_audited()
 /// Of what the program wrote for `run` with status 0: where it says the verdict on that for `audit`, it is yes and the
 /// status is 0, or the trace shows two messages that differ and have one SHA-256.
 ///
-/// docs/MODEL.md, "A run is accepted".
+/// docs/DEPLOYMENT.md, "A run is accepted".
 pub fn audits_of_runs_end_well()
     ensures { (limit : ℕ) (mixer : Mixer) (format : Format) (input written line : List ℕ) (status ended : ℕ)
         → IsBytes written → (run : Runs limit mixer format input written status) → Audits written line ended
@@ -88,7 +88,7 @@ pub fn audits_of_runs_end_well()
 /// In a run each batch is at most once the first of those that are rolled back: in no section two rollbacks go back to
 /// the same number. Or the trace shows two messages that differ and have one SHA-256.
 ///
-/// docs/MODEL.md, "A run is accepted".
+/// docs/DEPLOYMENT.md, "A run is accepted".
 pub fn runs_roll_back_a_batch_once()
     ensures { (w : Workload) (mixer : Mixer) (t : Trace) → IsTraceOf w mixer t → HasLimits t
         → AreRolledBackOnce t ⊎ Collides t }

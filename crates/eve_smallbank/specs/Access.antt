@@ -90,6 +90,7 @@ values_after values es = fold (λ now e row. if writes_row row e then e.after el
 
 -- The rows and kinds are the request's, and a read leaves what it saw. In every bank of these names that
 -- has the values seen, the request gives the reply and the values after, and changes nothing else.
+-- Where it isn't so, F30 Record stands.
 pub record Fits (names : List (List ℕ)) (x : Executed) : Type 0 where
   pub rows : map (λ e. (e.row, e.kind)) x.entries ≡ noted_rows x.reply (rows_of names x.request)
   pub reads : AllByRecursion (λ e. e.kind ≡ Read → e.after ≡ e.seen) x.entries

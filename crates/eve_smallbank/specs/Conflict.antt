@@ -25,4 +25,4 @@ AgreesWithConflicts (x ∷ xs) = AllByRecursion (λ y. IsFalse (precedes y x)) x
 abbrev pub IsReordering : {A : Type 0} → List A → List A → Type 0
 IsReordering [] ys = ys ≡ []
 IsReordering {A} (x ∷ xs) ys =
-    (prefix : List A) × (back : List A) × (ys ≡ prefix ++ x ∷ back) × IsReordering xs (prefix ++ back)
+    (before : List A) × (rest : List A) × (ys ≡ before ++ x ∷ rest) × IsReordering xs (before ++ rest)

@@ -14,6 +14,7 @@ use eve_accounts::{Cents, Row};
 /// customers that has the values seen.
 ///
 /// docs/MODEL.md, "A record fits its request". `touched` is the answer of `touched` for this request.
+/// Decides F30 Record.
 pub fn fits(request: &Request, touched: &Touched, reply: Reply, entries: &UpToThree<Entry>) -> bool
     requires { (names : List (List ℕ)) × (touched.now ≡ touched_of names (plain request.now)) }
     ensures { (names : List (List ℕ)) → touched.now ≡ touched_of names (plain request.now)

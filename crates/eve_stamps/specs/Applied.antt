@@ -1,4 +1,4 @@
--- What is noted of a request that was applied. docs/MODEL.md, "Executions".
+-- What is noted of a request that was applied. docs/DEPLOYMENT.md, "Executions".
 use Rattle.std.specs.Prelude.{ℕ, List}
 use Rattle.eve_smallbank.specs.declared.entry.Entry.{Entry}
 use Rattle.eve_smallbank.specs.declared.request.Reply.{Reply}

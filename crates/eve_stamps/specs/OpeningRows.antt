@@ -1,4 +1,4 @@
--- Which rows lie in which stripe, and what a stripe has at first. docs/MODEL.md, "Schedule".
+-- Which rows lie in which stripe, and what a stripe has at first. docs/DEPLOYMENT.md, "Schedule".
 use Rattle.std.specs.Prelude.{ℕ, ℤ, ◌/◌, ◌%◌, ◌==◌, Bool, List, [], ◌∷◌, filter, flat_map}
 use Rattle.std.specs.List.{range_with_len, list_any}
 use Rattle.eve_accounts.specs.Rows.{saving_row, checking_row}

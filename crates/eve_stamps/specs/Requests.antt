@@ -1,4 +1,4 @@
--- What a request does to the stripes that it is lent, and why it is refused. docs/MODEL.md, "Stripe".
+-- What a request does to the stripes that it is lent, and why it is refused. docs/DEPLOYMENT.md, "Stripe".
 use Rattle.std.specs.Prelude.{◌≡◌, ℕ, nat_le, Bool, not, ◌&&◌, ◌||◌, if◌then◌else◌, List, map, filter, Option, Some}
 use Rattle.std.specs.Prelude.{None, Result, Err, IfOk, IfErr}
 use Rattle.std.specs.List.{AllByRecursion, list_all, list_any}

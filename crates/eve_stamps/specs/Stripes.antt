@@ -1,4 +1,4 @@
--- Rows with a committed base and a journal of what was written since. docs/MODEL.md, "Stripe".
+-- Rows with a committed base and a journal of what was written since. docs/DEPLOYMENT.md, "Stripe".
 use Rattle.std.specs.Prelude.{ℕ, pos, ◌<◌, ◌≤◌, nat_le, nat_lt, ◌==◌, Bool, true, false, IsTrue, if◌then◌else◌, ⊤, List}
 use Rattle.std.specs.Prelude.{[], ◌∷◌, ◌++◌, map, filter, slice_get, Option, Some, None}
 use Rattle.std.specs.List.{AllByRecursion, list_any}

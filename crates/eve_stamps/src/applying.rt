@@ -32,7 +32,7 @@ use std::collections::VecDeque;
 /// that it touches lies in no stripe that is lent; `TickOrder`, where the tick isn't above the greatest of each;
 /// `Worn`, where a row to be written is at version 2^40; `Memory`. A refusal changes nothing.
 ///
-/// docs/MODEL.md, "Stripe", "Entries", "A record fits its request".
+/// docs/DEPLOYMENT.md, "Stripe"; docs/MODEL.md, "Entries", "A record fits its request".
 pub fn apply(
     stripe: &mut Stripe,
     request: &Request,
@@ -79,7 +79,7 @@ pub fn apply(
 /// item where there are none. Conditions and refusals are as those of `apply`, with both stripes. A refusal changes
 /// nothing.
 ///
-/// docs/MODEL.md, "Stripe", "Entries", "A record fits its request".
+/// docs/DEPLOYMENT.md, "Stripe"; docs/MODEL.md, "Entries", "A record fits its request".
 pub fn apply_two(
     first: &mut Stripe,
     second: &mut Stripe,

@@ -12,7 +12,7 @@ impl Stripe {
     /// Applies a state: each row of the stripe that the state has gets its version and its value, in the committed
     /// base and as the row is now. The journal is empty then, and the greatest tick stays. It takes no memory.
     ///
-    /// docs/MODEL.md, "Stripe". No version of the state is above `MOST_VERSIONS`.
+    /// docs/DEPLOYMENT.md, "Stripe". No version of the state is above `MOST_VERSIONS`.
     pub fn install(&mut self, transfer: &TransferData)
         requires versions { HaveRightVersions (plain transfer.now).rows }
         ensures { self.new ≡ installed (plain transfer.now).rows self.old }

@@ -29,7 +29,7 @@ pub struct Span {
 /// The stripes of a request's rows: those of its first row and of its last, since a request has the rows of at most
 /// two customers, one customer after the other. There is some row, or the answer means nothing.
 ///
-/// docs/MODEL.md, "Schedule".
+/// docs/DEPLOYMENT.md, "Schedule".
 pub fn span_of(rows: &UpToThree<(Row, Kind)>) -> Span
     ensures rising { result.first ≤ result.last }
     ensures range { result.last < STRIPES }

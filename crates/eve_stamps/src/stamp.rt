@@ -2,7 +2,7 @@
 
 /// Who ran which request, and at which tick. Contracts see these numbers in the record (`Applied`).
 ///
-/// docs/MODEL.md, "Schedule".
+/// docs/DEPLOYMENT.md, "Schedule".
 #[derive(Clone, Copy, PartialEq, Eq)]
 pub struct Stamp {
     /// The tick at which it was applied.

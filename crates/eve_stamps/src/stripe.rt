@@ -17,7 +17,8 @@ use std::marker::Model;
 /// Some rows, each with a version and a value in cents: as they are committed, and what requests read and wrote since,
 /// tick by tick.
 ///
-/// docs/MODEL.md, "Stripe". Contracts see the committed rows, the journal and the greatest tick so far (`Stripe` of
+/// docs/DEPLOYMENT.md, "Stripe". Contracts see the committed rows, the journal and the greatest tick so far (`Stripe`
+/// of
 /// the specs); `rows_now` is what the rows have now.
 #[derive(Drop)]
 pub struct Stripe {

@@ -1,4 +1,4 @@
--- Stripes that a request is applied to. docs/MODEL.md, "Schedule".
+-- Stripes that a request is applied to. docs/DEPLOYMENT.md, "Schedule".
 use Rattle.std.specs.Prelude.{◌≡◌, ℕ, ◌<◌, ◌*◌, ◌==◌, nat_lt, Bool, ◌&&◌, if◌then◌else◌, List, Some}
 use Rattle.eve_smallbank.specs.Chain.{Table}
 use Rattle.eve_grammar.specs.declared.limits.TheConstants.{MOST_VERSIONS}

@@ -1,4 +1,4 @@
--- What may happen next, and what the world is then. docs/MODEL.md, "Schedule".
+-- What may happen next, and what the world is then. docs/DEPLOYMENT.md, "Schedule".
 use Rattle.std.specs.Prelude.{ℕ, ◌+◌, nat_lt, ◌==◌, Bool, true, false, not, ◌&&◌, if◌then◌else◌, List, [], ◌∷◌, ◌++◌}
 use Rattle.std.specs.Prelude.{length, Option, Some, None, is_some, is_none}
 use Rattle.eve_smallbank.specs.Chain.{table_after}

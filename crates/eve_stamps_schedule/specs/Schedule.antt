@@ -1,4 +1,4 @@
--- A schedule as contracts see it: what is executed, and the world so far. docs/MODEL.md, "Schedule".
+-- A schedule as contracts see it: what is executed, and the world so far. docs/DEPLOYMENT.md, "Schedule".
 use Rattle.std.specs.Prelude.{◌≡◌, ℕ, ℤ, true, false, Bool, List, [], map, length, slice_index_or, Option, None, Result}
 use Rattle.std.specs.Prelude.{Ok, Err}
 use Rattle.eve_smallbank.specs.SmallBank.{Request}

@@ -1,4 +1,4 @@
--- What holds after every list of events. docs/MODEL.md, "Schedule".
+-- What holds after every list of events. docs/DEPLOYMENT.md, "Schedule".
 use Rattle.std.specs.Prelude.{⊤, ◌+◌, ◌∷◌, ◌≡◌, ℕ, ◌<◌, ◌==◌, Bool, IsTrue, IsPermutation, List, [], map, length}
 use Rattle.std.specs.List.{AllByRecursion}
 use Rattle.eve_smallbank.specs.SmallBank.{run}

@@ -1,4 +1,4 @@
--- The stripes of rows that a request needs. docs/MODEL.md, "Schedule".
+-- The stripes of rows that a request needs. docs/DEPLOYMENT.md, "Schedule".
 use Rattle.std.specs.Prelude.{ℕ, zero, suc, Bool, if◌then◌else◌, List, Option, Some, None}
 use Rattle.eve_smallbank.specs.SmallBank.{Request}
 use Rattle.eve_smallbank.specs.Touch.{touched_of, rows_in}

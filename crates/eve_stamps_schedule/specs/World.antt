@@ -1,4 +1,4 @@
--- Workers that execute one batch, as they stand between two events. docs/MODEL.md, "Schedule".
+-- Workers that execute one batch, as they stand between two events. docs/DEPLOYMENT.md, "Schedule".
 use Rattle.std.specs.Prelude.{ℕ, zero, suc, ◌+◌, List, [], ◌++◌, ◌∷◌, length, Option, None, slice_index_or}
 use Rattle.eve_smallbank.specs.SmallBank.{Request, Balance}
 use Rattle.eve_smallbank.specs.Access.{Executed}

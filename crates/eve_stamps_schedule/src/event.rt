@@ -4,7 +4,7 @@ ghost use Rattle.std.specs.Prelude.{◌≡◌};
 
 /// One step of one worker, given by its number, from 0.
 ///
-/// docs/MODEL.md, "Schedule", says where each is allowed and what it does.
+/// docs/DEPLOYMENT.md, "Schedule", says where each is allowed and what it does.
 #[derive(Clone, Copy)]
 pub enum Event {
     /// It gets the least unclaimed index of the current parallelBatch.

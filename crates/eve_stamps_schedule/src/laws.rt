@@ -15,7 +15,7 @@ ghost use Rattle.eve_stamps_schedule.specs.inner.Worked.{world_of_events};
 /// If each event was allowed where it came, the applied records are serial in the order of their ticks, also where
 /// requests on different stripes were applied in another order.
 ///
-/// docs/MODEL.md, "Schedule". That a schedule is ever done isn't promised.
+/// docs/DEPLOYMENT.md, "Schedule". That a schedule is ever done isn't promised.
 pub fn every_schedule_is_serial()
     ensures serial { (p : Plan) (w : World) → IsReachedWorld p w → IsSerialWorld p w }
     // The records that the workers noted or are about to note are the applied ones.
@@ -28,7 +28,7 @@ pub fn every_schedule_is_serial()
 
 /// The world at first is reached, and from a reached world each event that is allowed leads to another.
 ///
-/// docs/MODEL.md, "Schedule".
+/// docs/DEPLOYMENT.md, "Schedule".
 pub fn worlds_are_reached_event_by_event()
     ensures first { (p : Plan) → IsReachedWorld p (first_world p) }
     ensures next { (p : Plan) (w : World) (event : Event) → IsReachedWorld p w → IsTrue (is_allowed_event p w event)
@@ -37,7 +37,7 @@ pub fn worlds_are_reached_event_by_event()
 
 /// Two workers whose requests need the same stripe, computed from the definitions.
 ///
-/// docs/MODEL.md, "Schedule".
+/// docs/DEPLOYMENT.md, "Schedule".
 pub fn workers_wait_for_a_stripe()
     // While worker 1 owns the stripe, worker 0 can neither lock it nor get a tick, nor claim another request.
     ensures locked { is_allowed_event same_stripe (world_of_events same_stripe up_to_the_lock) (LockStripe 0) ≡ false }
@@ -53,7 +53,7 @@ pub fn workers_wait_for_a_stripe()
 /// Requests that need different stripes may be applied in another order than that of their ticks, which is the
 /// order that counts.
 ///
-/// docs/MODEL.md, "Schedule".
+/// docs/DEPLOYMENT.md, "Schedule".
 pub fn ticks_order_what_is_applied()
     ensures allowed { IsTrue (are_allowed two_stripes (first_world two_stripes) applied_out_of_order) }
     ensures order { order_of (world_of_events two_stripes applied_out_of_order) ≡ 0 ∷ 1 ∷ [] }
@@ -62,7 +62,7 @@ pub fn ticks_order_what_is_applied()
 
 /// A request of a later parallelBatch waits until each of the current one is noted.
 ///
-/// docs/MODEL.md, "Schedule".
+/// docs/DEPLOYMENT.md, "Schedule".
 pub fn later_groups_wait()
     ensures waits { is_allowed_event two_groups (world_of_events two_groups (Claim 0 ∷ [])) (Claim 1) ≡ false }
     ensures follows { is_allowed_event two_groups (world_of_events two_groups (Claim 0 ∷ LockStripe 0 ∷ the_rest_of 0))
@@ -72,7 +72,7 @@ pub fn later_groups_wait()
 
 /// A request that touches no row needs no stripe, and a worker that isn't there may do nothing.
 ///
-/// docs/MODEL.md, "Schedule".
+/// docs/DEPLOYMENT.md, "Schedule".
 pub fn refused_requests_need_no_stripe()
     ensures ticks { is_allowed_event no_stripe (world_of_events no_stripe (Claim 0 ∷ [])) (Tick 0) ≡ true }
     ensures locks { is_allowed_event no_stripe (world_of_events no_stripe (Claim 0 ∷ [])) (LockStripe 0) ≡ false }

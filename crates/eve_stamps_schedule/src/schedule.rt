@@ -19,7 +19,8 @@ use std::marker::Model;
 /// A batch that is executed from the opening balances by workers who step one at a time: no threads, no locks, and any
 /// order of events that the rules allow.
 ///
-/// docs/MODEL.md, "Schedule". Contracts see `Schedule` of the specs: `plan_of` is what is executed, `world_of` what has
+/// docs/DEPLOYMENT.md, "Schedule". Contracts see `Schedule` of the specs: `plan_of` is what is executed, `world_of`
+/// what has
 /// come of it so far, which is always reached by events that were allowed.
 #[derive(Drop)]
 pub struct Schedule<'s> {
@@ -84,7 +85,7 @@ impl<'s> Schedule<'s> {
     /// over the records that others applied since its tick; every other step takes constant time. After a refusal
     /// nothing has changed, and the step can be taken again.
     ///
-    /// docs/MODEL.md, "Schedule".
+    /// docs/DEPLOYMENT.md, "Schedule".
     pub fn step(&mut self, event: Event) -> Result<(), StepFault>
         ensures { Steps event self.old self.new result }
     {
@@ -135,7 +136,7 @@ impl<'s> Schedule<'s> {
 
     /// Does nothing: its contract says what is true of every schedule, however it came to where it is.
     ///
-    /// docs/MODEL.md, "Schedule".
+    /// docs/DEPLOYMENT.md, "Schedule".
     pub fn recall_serial(&self)
         ensures reached { IsReachedWorld (plan_of self.now) (world_of self.now) }
         ensures serial { IsSerialWorld (plan_of self.now) (world_of self.now) }

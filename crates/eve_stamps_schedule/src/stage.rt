@@ -4,7 +4,7 @@ use eve_stamps::AccessRecord;
 
 /// How far a worker is with its request.
 ///
-/// docs/MODEL.md, "Schedule".
+/// docs/DEPLOYMENT.md, "Schedule".
 #[derive(Clone, Copy)]
 pub enum Stage {
     /// It has no request.

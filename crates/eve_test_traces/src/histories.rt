@@ -44,7 +44,7 @@ fn is_by(how_reached: HowReached, attempt: usize) -> bool {
 }
 
 /// How it reached each number up to the last; and that the attempt that it committed is told otherwise, where it is.
-fn push_each_reached(text: &mut Text, history: &History) {
+fn push_ways_reached(text: &mut Text, history: &History) {
     for n in 0..history.committed() {
         let how_reached = history.how_reached(n + 1);
         text.value("\n  batch ", u64::from(n + 1));
@@ -78,7 +78,7 @@ fn push_history(text: &mut Text, history: &History) {
     text.value("\n replica ", u64::from(history.replica()));
     text.value(" committed ", u64::from(history.committed()));
     push_attempts(text, history);
-    push_each_reached(text, history);
+    push_ways_reached(text, history);
     push_rollbacks(text, history);
     push_transfers(text, history);
 }

@@ -5,7 +5,7 @@
 //!
 //! - `audit FILE CHANGE..`: the verdict, as the status and the line that `eve audit` has for it, by every number of
 //!   workers.
-//! - `prefixes FILE`: the same of each prefix of the file, as it is and with its own total.
+//! - `fronts FILE`: the same of each prefix of the file, as it is and with its own total.
 //! - `lengths FILE AT`: the same where the frame at byte AT claims another length of its body.
 //! - `bytes FILE`: with which values of each byte it is yes.
 //! - `each-one-higher FILE`: the verdict with each byte one higher, modulo 256, if two workers come to the same.

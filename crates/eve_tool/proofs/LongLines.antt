@@ -34,7 +34,7 @@ use Rattle.std.specs.Io.KnownBytes.{Appends}
 use Rattle.eve_streams.specs.Prefix.{AppendsPrefix}
 use Rattle.std.proofs.KnownBytes.{Appends-nil, Appends-trans}
 use Rattle.eve_streams.proofs.JoinedSends.{AppendsPrefix-after, AppendsPrefix-more}
-use Rattle.eve_views.specs.Form.{IsReached, SaysHead, StandsInForm, decoded_by}
+use Rattle.eve_views.specs.Form.{IsReached, SaysHead, StandsInForm, head_bytes}
 use Rattle.eve_views.specs.declared.fault.Code.{Code}
 use Rattle.eve_views.specs.declared.fault.Code.TheVariants as code
 use Rattle.eve_views.proofs.Bytes.{number_again}
@@ -259,15 +259,15 @@ lists-all style a b held kept bytes at number h frames short far =
 
 -- ---- what a header says
 
-decoded_by_text : (h : Head) (total : ℕ) (rest : List ℕ) → decoded_by (head_text h total ++ rest) ≡ limits_text h
-decoded_by_text h total rest =
-    ap decoded_by (header_parts h total rest) ∙ ap (take 18) (behind_magic h total rest)
+head_bytes_text : (h : Head) (total : ℕ) (rest : List ℕ) → head_bytes (head_text h total ++ rest) ≡ limits_text h
+head_bytes_text h total rest =
+    ap head_bytes (header_parts h total rest) ∙ ap (take 18) (behind_magic h total rest)
     ∙ take_at (limits_text h) (drop 18 (drop 6 (in_parts h total rest))) 18 (length-limits_text h)
 
 -- it is read as it is said
-pub head_read : (bytes : List ℕ) (h : Head) → SaysHead bytes h → header_of (decoded_by bytes) ≡ Some h
+pub head_read : (bytes : List ℕ) (h : Head) → SaysHead bytes h → header_of (head_bytes bytes) ≡ Some h
 head_read bytes h says =
-    ap header_of (says.decoded ∙ ap decoded_by (sym (append-nil (head_text h 0))) ∙ decoded_by_text h 0 [])
+    ap header_of (says.decoded ∙ ap head_bytes (sym (append-nil (head_text h 0))) ∙ head_bytes_text h 0 [])
     ∙ Exact-header.again h says.limits
 
 -- a trace's header says its head, and its frames stand behind it
@@ -275,8 +275,8 @@ pub trace_says : (bytes : List ℕ) (t : Trace) → Spells bytes t → SaysHead 
 trace_says bytes t spells =
     let s = spells_frames bytes t spells in record {
       limits = s.limits;
-      decoded = ap decoded_by s.spelled ∙ decoded_by_text t.head (length bytes) (frames_text (frames_of t))
-          ∙ sym (decoded_by_text t.head 0 []) ∙ ap decoded_by (append-nil (head_text t.head 0));
+      decoded = ap head_bytes s.spelled ∙ head_bytes_text t.head (length bytes) (frames_text (frames_of t))
+          ∙ sym (head_bytes_text t.head 0 []) ∙ ap head_bytes (append-nil (head_text t.head 0));
     }
 
 pub trace_has : (bytes : List ℕ) (t : Trace) → Spells bytes t → HasFrames bytes t.head (frames_of t)

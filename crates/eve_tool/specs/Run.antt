@@ -1,4 +1,4 @@
--- What `run` says of bytes. docs/USING.md, "Lines and statuses"; docs/MODEL.md, "A run".
+-- What `run` says of bytes. docs/USING.md, "Lines and statuses"; docs/DEPLOYMENT.md, "A run".
 use Rattle.std.specs.Prelude.{◌≡◌, ℕ, ◌<◌, ◌≤◌, List, length, ◌⊎◌, ⊤}
 use Rattle.eve_grammar.specs.Trace.{Trace}
 use Rattle.eve_grammar.specs.Spelling.{length_of}

@@ -68,7 +68,7 @@ const NO_WORKERS: &str =
 
 const EXAMPLES: &str = "Statuses:\n\
     \x20 0  yes, or done\n\
-    \x20 1  no: a fault stands\n\
+    \x20 1  no: there is a fault\n\
     \x20 2  what was given can't be used: arguments, input, a workload\n\
     \x20 3  this machine failed: memory, output, random words, a run\n\n\
     Examples:\n\

@@ -10,7 +10,7 @@ use eve_grammar::NEWEST_VERSION;
 pub enum Format {
     /// A replica whose token differs from the majority's stops.
     One,
-    /// Such a replica gets by a transfer the state of one that committed, and goes on.
+    /// The state of one that committed is transferred to it, and it goes on.
     Two,
 }
 

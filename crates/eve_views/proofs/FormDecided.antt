@@ -12,7 +12,7 @@ use Rattle.eve_grammar.specs.Spelling.{frame_text, frames_text}
 use Rattle.eve_grammar.proofs.Codec.{IsBytes}
 use Rattle.eve_grammar.specs.declared.head.Head.{Head}
 use Rattle.eve_grammar.specs.declared.place.Place.{Place}
-use Rattle.eve_views.specs.Form.{is_sized, has_magic, decoded_by, SaysHead, IsLeast, StandsInForm, IsFaultOutside}
+use Rattle.eve_views.specs.Form.{is_sized, has_magic, head_bytes, SaysHead, IsLeast, StandsInForm, IsFaultOutside}
 use Rattle.eve_views.specs.inner.Header.{IsHeader}
 use Rattle.eve_views.specs.Walk.{frame_at}
 use Rattle.eve_views.specs.Indexes.{kept}
@@ -114,11 +114,11 @@ module _ (bytes : List ℕ) (fits : IsBytes bytes) where
     | inr unsized ↦ inl (_, (refused_at_header code.Length bytes unsized).least)
     | inl sized ↦ elim (cases_Bool (has_magic bytes)) [
       | inr other ↦ inl (_, (refused_at_header code.Magic bytes (sized, other)).least)
-      | inl magic ↦ by sized magic (header_of (decoded_by bytes)) refl
+      | inl magic ↦ by sized magic (header_of (head_bytes bytes)) refl
     ]
   ]
     where
-      by : IsTrue (is_sized bytes) → IsTrue (has_magic bytes) → (o : Option Head) → header_of (decoded_by bytes) ≡ o
+      by : IsTrue (is_sized bytes) → IsTrue (has_magic bytes) → (o : Option Head) → header_of (head_bytes bytes) ≡ o
           → Found bytes
       by sized magic None is = inl (_, (refused_at_header code.Head bytes (sized, magic, is)).least)
       by sized magic (Some h) is = with_header h (record { sized = sized; magic = magic; decoded = is })

@@ -10,7 +10,7 @@ use Rattle.eve_views.specs.declared.fault.Code.{Code}
 use Rattle.eve_views.specs.declared.fault.Code.TheVariants as code
 use Rattle.eve_views.specs.declared.fault.Fault.{Fault}
 use Rattle.eve_views.specs.Code.{code_number}
-use Rattle.eve_views.specs.Form.{is_sized, has_magic, decoded_by, IsReached, StandsInForm, IsLeast, IsFaultOutside}
+use Rattle.eve_views.specs.Form.{is_sized, has_magic, head_bytes, IsReached, StandsInForm, IsLeast, IsFaultOutside}
 use Rattle.eve_views.specs.inner.Header.{IsHeader, StopsAtHeader}
 use Rattle.eve_views.specs.Walk.{Walked, walk}
 use Rattle.eve_grammar.proofs.Codec.{IsBytes, IsBytes-drop}
@@ -37,7 +37,7 @@ pub stands_at_header : (c : Code) (bytes : List ℕ) → StopsAtHeader bytes c �
 stands_at_header code.Length bytes s = (refl, s)
 stands_at_header code.Magic bytes s = (refl, s.1)
 stands_at_header code.Head bytes s =
-    (refl, λ h says. some_none (header_of (decoded_by bytes)) h (head_decoded bytes h says) s.2)
+    (refl, λ h says. some_none (header_of (head_bytes bytes)) h (head_decoded bytes h says) s.2)
 stands_at_header c bytes s = absurd s
 
 abbrev IsNotBefore : Code → ℕ → Code → Type 0
@@ -80,7 +80,7 @@ first_at_header c d bytes at s t = absurd s
 none_at_header : (c : Code) (bytes : List ℕ) (t : Trace) → StopsAtHeader bytes c → Spells bytes t → ⊥
 none_at_header code.Length bytes t s spells = true_false (is_sized bytes) (header_again_of bytes t spells).0.sized s
 none_at_header code.Magic bytes t s spells = true_false (has_magic bytes) (header_again_of bytes t spells).0.magic s.1
-none_at_header code.Head bytes t s spells = some_none (header_of (decoded_by bytes)) t.head
+none_at_header code.Head bytes t s spells = some_none (header_of (head_bytes bytes)) t.head
     (header_again_of bytes t spells).0.decoded s.2
 none_at_header c bytes t s spells = s
 
@@ -108,9 +108,9 @@ behind_of code.Length bytes at h s is fits = absurd (true_false (is_sized bytes)
 behind_of code.Magic bytes at h s is fits = absurd (true_false (has_magic bytes) is.magic s.1)
 behind_of code.Head bytes at h s is fits = absurd (s.1 h (says_head bytes h fits is.decoded))
 behind_of code.Frame bytes at h s is fits = behind_frames code.Frame bytes at h s.0
-    (same_some (header_of (decoded_by bytes)) s.0.head h (head_decoded bytes s.0.head s.0.says) is.decoded) s.1
+    (same_some (header_of (head_bytes bytes)) s.0.head h (head_decoded bytes s.0.head s.0.says) is.decoded) s.1
 behind_of code.Body bytes at h s is fits = behind_frames code.Body bytes at h s.0
-    (same_some (header_of (decoded_by bytes)) s.0.head h (head_decoded bytes s.0.head s.0.says) is.decoded) s.1
+    (same_some (header_of (head_bytes bytes)) s.0.head h (head_decoded bytes s.0.head s.0.says) is.decoded) s.1
 behind_of c bytes at h s is fits = absurd s
 
 abbrev stop_of : Code × List ℕ → Walked → Code × List ℕ
@@ -149,7 +149,7 @@ none_behind : (c : Code) (bytes : List ℕ) (at : ℕ) (h : Head) (t : Trace) �
     → StandsInForm c bytes at → Spells bytes t → ⊥
 none_behind c bytes at h t is fits s spells =
     let a = header_again_of bytes t spells in
-    let same : t.head ≡ h = same_some (header_of (decoded_by bytes)) t.head h a.0.decoded is.decoded in
+    let same : t.head ≡ h = same_some (header_of (head_bytes bytes)) t.head h a.0.decoded is.decoded in
     let frames = spells_frames bytes t spells in
     let again : walk (suc (length (drop 32 bytes))) t.head start_place (drop 32 bytes)
     ≡ Ok (frames_of t) = ap (λ (b : List ℕ). walk (suc (length b)) t.head start_place b) a.1

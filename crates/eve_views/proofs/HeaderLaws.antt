@@ -13,7 +13,7 @@ use Rattle.eve_grammar.specs.Trace.{Trace}
 use Rattle.eve_grammar.specs.Frames.{frames_of}
 use Rattle.eve_grammar.specs.Spelling.{frames_text, head_text}
 use Rattle.eve_grammar.specs.Readers.{header_of}
-use Rattle.eve_views.specs.Form.{is_sized, has_magic, decoded_by, SaysHead}
+use Rattle.eve_views.specs.Form.{is_sized, has_magic, head_bytes, SaysHead}
 use Rattle.eve_views.specs.inner.Header.{IsHeader}
 use Rattle.eve_grammar.proofs.Codec.{IsBytes, IsBytes-drop, IsBytes-take}
 use Rattle.eve_grammar.proofs.FrameLaws.{limits_text, Exact-header}
@@ -25,23 +25,23 @@ use Rattle.eve_views.proofs.WholeTraces.{spells_frames}
 
 -- ---- its parts
 
-decoded_in_parts : (h : Head) (total : ℕ) (rest : List ℕ) → decoded_by (in_parts h total rest) ≡ limits_text h
+decoded_in_parts : (h : Head) (total : ℕ) (rest : List ℕ) → head_bytes (in_parts h total rest) ≡ limits_text h
 decoded_in_parts h total rest = ap (take 18) (behind_magic h total rest)
     ∙ take_at (limits_text h) (big_bytes 8 total ++ rest) 18 (length-limits_text h)
 
-decoded_by_text : (h : Head) → decoded_by (head_text h 0) ≡ limits_text h
-decoded_by_text h =
-    ap decoded_by (sym (append-nil (head_text h 0)) ∙ header_parts h 0 []) ∙ decoded_in_parts h 0 []
+head_bytes_text : (h : Head) → head_bytes (head_text h 0) ≡ limits_text h
+head_bytes_text h =
+    ap head_bytes (sym (append-nil (head_text h 0)) ∙ header_parts h 0 []) ∙ decoded_in_parts h 0 []
 
 -- ---- what it says
 
-pub says_head : (bytes : List ℕ) (h : Head) → IsBytes bytes → header_of (decoded_by bytes) ≡ Some h → SaysHead bytes h
+pub says_head : (bytes : List ℕ) (h : Head) → IsBytes bytes → header_of (head_bytes bytes) ≡ Some h → SaysHead bytes h
 says_head bytes h fits e =
-    let t = Exact-header.takes (decoded_by bytes) h (IsBytes-take 18 (drop 6 bytes) (IsBytes-drop 6 bytes fits)) e in
-    record { limits = t.1; decoded = t.0 ∙ sym (decoded_by_text h) }
+    let t = Exact-header.takes (head_bytes bytes) h (IsBytes-take 18 (drop 6 bytes) (IsBytes-drop 6 bytes fits)) e in
+    record { limits = t.1; decoded = t.0 ∙ sym (head_bytes_text h) }
 
-pub head_decoded : (bytes : List ℕ) (h : Head) → SaysHead bytes h → header_of (decoded_by bytes) ≡ Some h
-head_decoded bytes h s = ap header_of (s.decoded ∙ decoded_by_text h) ∙ Exact-header.again h s.limits
+pub head_decoded : (bytes : List ℕ) (h : Head) → SaysHead bytes h → header_of (head_bytes bytes) ≡ Some h
+head_decoded bytes h s = ap header_of (s.decoded ∙ head_bytes_text h) ∙ Exact-header.again h s.limits
 
 same_bytes : (xs ys : List ℕ) → pointwise nat_eq xs ys ≡ true → xs ≡ ys
 same_bytes [] [] e = refl
@@ -80,7 +80,7 @@ pub header_spelled : (bytes : List ℕ) (h : Head) (rest : List ℕ) → IsBytes
     ≡ rest → bytes ≡ head_text h (length bytes) ++ rest
 header_spelled bytes h rest fits is e =
     let sized = Sized-from bytes is.sized in
-    let decoded = (Exact-header.takes (decoded_by bytes) h (IsBytes-take 18 (drop 6 bytes) (IsBytes-drop 6 bytes fits))
+    let decoded = (Exact-header.takes (head_bytes bytes) h (IsBytes-take 18 (drop 6 bytes) (IsBytes-drop 6 bytes fits))
     is.decoded).0 in
     let eight : take 8 (drop 24 bytes) ≡ big_bytes 8 (length bytes) =
     sym (total_back (drop 24 bytes) (IsBytes-drop 24 bytes fits)
@@ -110,7 +110,7 @@ header_again_of bytes t spells =
       record {
         sized = and_from _ _ (le-leb 32 n long) (and_from _ _ (le-leb n (2 ^ 30) short) (eq-eqb _ _ total));
         magic = ap has_magic is;
-        decoded = ap (λ (b : List ℕ). header_of (decoded_by b)) is ∙ ap header_of (decoded_in_parts h n fs)
+        decoded = ap (λ (b : List ℕ). header_of (head_bytes b)) is ∙ ap header_of (decoded_in_parts h n fs)
             ∙ Exact-header.again h s.limits;
       },
       ap (drop 32) is ∙ behind_total h n fs,

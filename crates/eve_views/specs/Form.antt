@@ -24,26 +24,26 @@ use Rattle.eve_grammar.specs.declared.head.TheConstants.{HEADER_LEN}
 -- ---- the header
 
 -- 32 bytes or more, no more than a trace may have, and as many as the header says
--- F1 Length.
+-- Where it isn't so, F1 Length stands.
 abbrev pub is_sized : List ℕ → Bool
 is_sized bytes =
     nat_le HEADER_LEN (length bytes)
     && (nat_le (length bytes) MOST_BYTES && (big_number 8 (drop 24 bytes) == length bytes))
 
 -- the first six bytes are those of a trace
--- F2 Magic.
+-- Where it isn't so, F2 Magic stands.
 abbrev pub has_magic : List ℕ → Bool
 has_magic bytes = starts_with nat_eq bytes (codes "EVESBK")
 
 -- what a header says but for its magic bytes and the total length: bytes 6 to 23
-abbrev pub decoded_by : List ℕ → List ℕ
-decoded_by header = take 18 (drop 6 header)
+abbrev pub head_bytes : List ℕ → List ℕ
+head_bytes header = take 18 (drop 6 header)
 
 -- the header says a head within the limits
--- F3 Head.
+-- Where it isn't so, F3 Head stands.
 pub record SaysHead (bytes : List ℕ) (h : Head) : Type 0 where
   pub limits : IsTrue (is_head h)
-  pub decoded : decoded_by bytes ≡ decoded_by (head_text h 0)
+  pub decoded : head_bytes bytes ≡ head_bytes (head_text h 0)
 
 -- ---- the frames
 
@@ -69,14 +69,14 @@ is_framed h p bytes =
     && (is_allowed h p (slice_index bytes 0) && nat_le (FRAME_HEAD_LEN + big_number 4 (drop 1 bytes)) (length bytes))
 
 -- where a frame is due none of a kind that may stand there lies in the bytes as a whole, or a byte follows the end
--- F4 Frame.
+-- It is F4 Frame.
 pub record HasNoFrame (h : Head) (p : Place) (bytes : List ℕ) : Type 0 where
   pub unframed : IsFalse (is_framed h p bytes)
   pub more : IsTrue p.ended → bytes ≢ []
 
 -- a frame of a kind that may stand there lies in the bytes as a whole, and its body differs from all that such a frame
 -- can say
--- F5 Body.
+-- It is F5 Body.
 pub record HasWrongBody (h : Head) (p : Place) (bytes : List ℕ) : Type 0 where
   pub framed : IsTrue (is_framed h p bytes)
   pub none : (f : Frame) (rest : List ℕ) → FitsAt h p f → bytes ≢ frame_text f ++ rest

@@ -9,7 +9,7 @@ use byteorder::{BigEndian, ByteOrder};
 use eve_grammar::{HEADER_LEN, Head, MOST_BYTES};
 
 /// Whether there are as many bytes as a trace may have and as the header says.
-/// F1 Length.
+/// Decides F1 Length.
 fn is_sized(bytes: &[u8]) -> bool
     ensures { result ≡ is_sized bytes.now }
 {
@@ -19,7 +19,7 @@ fn is_sized(bytes: &[u8]) -> bool
 }
 
 /// Whether the bytes begin as those of a trace.
-/// F2 Magic.
+/// Decides F2 Magic.
 fn has_magic(bytes: &[u8]) -> bool
     ensures { result ≡ has_magic bytes.now }
 {

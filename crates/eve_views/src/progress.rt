@@ -169,8 +169,8 @@ impl Progress {
         Ok(true)
     }
 
-    /// Goes on until there are `most` frames, or up to the end, where that comes before; nothing where anything is wrong
-    /// on the way, but for the bodies that aren't judged. Access frames aren't parted from their attempt.
+    /// Goes on until there are `most` frames, or up to the end, where that comes before; nothing where anything is
+    /// wrong on the way, but for the bodies that aren't judged. Access frames aren't parted from their attempt.
     pub fn go_on(
         self,
         head: Head,

@@ -50,7 +50,7 @@ impl Reached {
     }
 
     /// Whether a frame of the kind may stand here, after the first verifier.
-    /// F4 Frame.
+    /// Decides F4 Frame.
     fn allows_behind_sections(&self, kind: FrameKind) -> bool
         ensures { result ≡ is_allowed_behind_sections self.now.head self.now.place (kind_byte kind) }
     {

@@ -97,8 +97,8 @@ fn are_right<R: Threads + Sync>(
     first && second
 }
 
-/// Whether the frames at these offsets have right bodies, in threads; and what the walk finds that goes on from there to
-/// the end, by the caller beside them.
+/// Whether the frames at these offsets have right bodies, in threads; and what the walk finds that goes on from there
+/// to the end, by the caller beside them.
 fn judge_and_go_on<R: Threads + Sync>(
     rt: &R,
     head: Head,

@@ -45,9 +45,9 @@ pub fn kind_and_body(bytes: &[u8]) -> Option<(FrameKind, &[u8])>
 }
 
 /// The frame at the beginning of the bytes, or what is wrong there.
-/// F4 Frame and F5 Body.
+/// Decides F4 Frame and F5 Body.
 #[tactic(auto, unfolding(crate::specs::Walk::frame_at))]
-fn frame_in_prefix(at: &Reached, bytes: &[u8]) -> Result<Framed, Code>
+fn first_frame(at: &Reached, bytes: &[u8]) -> Result<Framed, Code>
     requires { at.now.head.customers ≤ MOST_CUSTOMERS }
     ensures { answer_in result ≡ kept bytes.now (frame_at at.now.head at.now.place bytes.now) }
 {
@@ -89,7 +89,7 @@ pub fn index_of(alloc: Global, head: Head, bytes: &[u8]) -> Result<Index, CheckF
     let mut reached = Reached::start(head);
     let mut at: usize = HEADER_LEN;
     'frames: while !reached.place.ended || at < bytes.len() {
-        match frame_in_prefix(&reached, &bytes[at..]) {
+        match first_frame(&reached, &bytes[at..]) {
             Err(code) => {
                 return Err(CheckFault::Found(Fault {
                     code,

@@ -10,13 +10,13 @@ use Rattle.eve_views.specs.Form.{SomePlace}
 use Rattle.eve_votes.specs.Votes.{is_vote_on, IsDecided}
 
 -- two views of the batch are decided as commit
--- F71 TwoDecisions.
+-- It is F71 TwoDecisions.
 abbrev pub HasTwoDecisions : Trace → ℕ → Type 0
 HasTwoDecisions t n = (view : ℕ) × (other : ℕ) × (token : List ℕ) × (other_token : List ℕ) × (view ≢ other)
     × IsDecided t n view token × IsDecided t n other other_token
 
 -- the verifier has an earlier vote on this batch in this view
--- F70 TwoVotes.
+-- It is F70 TwoVotes.
 abbrev pub IsFurther : List (ℕ × Vote) → ℕ × Vote → Type 0
 IsFurther before w = IsTrue (list_any (λ u. is_vote_on w.1.seq w.1.view u.1) before)
 

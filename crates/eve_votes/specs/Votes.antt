@@ -22,11 +22,11 @@ abbrev pub backers : Trace → ℕ → ℕ → Choice → ℕ
 backers t n view choice = count_by (λ votes. is_only choice (filter (is_vote_on n view) votes)) t.verifiers
 
 -- a quorum of verifiers is for committing the batch in that view, with this token
--- F71 TwoDecisions and F72 NoMajority.
+-- Where it isn't so, F72 NoMajority stands; where it is in two views, F71 TwoDecisions.
 abbrev pub IsDecided : Trace → ℕ → ℕ → List ℕ → Type 0
 IsDecided t n view token = t.head.quorum ≤ backers t n view (ForCommit token)
 
 -- a quorum of verifiers is for a rollback of the batch in that view
--- F73 RollbackNoMajority.
+-- Where it isn't so, F73 RollbackNoMajority stands.
 abbrev pub IsRolledBack : Trace → ℕ → ℕ → Type 0
 IsRolledBack t n view = t.head.quorum ≤ backers t n view ForRollback

@@ -23,7 +23,7 @@ pub(crate) struct Decision<'a> {
 
 /// Notes a decision, where none was noted for the batch. Gives the least offset of those found so far and of the
 /// batch, where one was noted: that is another view's, since each view is judged once.
-/// F71 TwoDecisions.
+/// Decides F71 TwoDecisions.
 fn note<'a>(
     trace: &Trace<'a>,
     decisions: &mut Vec<Option<Decision<'a>>>,

@@ -53,7 +53,7 @@ fn cast(alloc: Global, trace: &Trace<'_>) -> Result<Vec<Ballot>, AllocError>
 }
 
 /// Whether the vote at this place is of the verifier that has the one before it, on the same batch in the same view.
-/// F70 TwoVotes.
+/// Decides F70 TwoVotes.
 fn follows(ballots: &[Ballot], i: usize) -> bool
     ensures { IsTrue result ↔ FollowsAlike ballots.now i }
 {
@@ -62,7 +62,7 @@ fn follows(ballots: &[Ballot], i: usize) -> bool
 
 /// Finds the votes that are a verifier's only ones on their batch in their view. Gives the least offset of the others,
 /// the first of each kind left out.
-/// F70 TwoVotes.
+/// Decides F70 TwoVotes.
 fn sift(
     trace: &Trace<'_>,
     ballots: &[Ballot],

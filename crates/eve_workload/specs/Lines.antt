@@ -1,4 +1,4 @@
--- The lines of a workload, and its one text. docs/MODEL.md, "Workload"; docs/TRACE.md, "Workload".
+-- The lines of a workload, and its one text. docs/DEPLOYMENT.md, "Workload"; docs/TRACE.md, "Workload".
 use Rattle.std.specs.Prelude.{ℕ, List, [], ◌∷◌, ◌++◌, map, codes}
 use Rattle.std.specs.List.{flat_map, join_with_byte}
 use Rattle.std.specs.Fmt.{decimal, signed_decimal}

@@ -1,5 +1,5 @@
 -- How the requests of a batch are cut into parallelBatches.
--- docs/MODEL.md, "Workload"; docs/TRACE.md, "The deployment's procedure", Mixer.
+-- docs/DEPLOYMENT.md, "Workload"; docs/TRACE.md, "The deployment's procedure", Mixer.
 use Rattle.std.specs.Prelude.{ℕ, ◌==◌, Bool, ◌&&◌, ◌||◌, IsFalse, if◌then◌else◌, List, [], ◌∷◌, ◌++◌, map, length}
 use Rattle.std.specs.Prelude.{AllPairs, Option, Some, None, codes}
 use Rattle.std.specs.List.{list_any, flat_map}

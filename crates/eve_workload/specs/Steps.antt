@@ -1,6 +1,6 @@
 -- Which line may stand after which in a format, and the first that may not. Of the lines before, the nearest stands
 -- first.
--- docs/MODEL.md, "Workload"; docs/TRACE.md, "Workload".
+-- docs/DEPLOYMENT.md, "Workload"; docs/TRACE.md, "Workload".
 use Rattle.std.specs.Prelude.{◌≡◌, ℕ, ◌+◌, nat_lt, Bool, true, false, IsTrue, List, [], ◌∷◌, ◌++◌, ⊤, map, length}
 use Rattle.std.specs.Prelude.{Contains}
 use Rattle.eve_grammar.specs.declared.limits.TheConstants.{MOST_BATCHES, MOST_REQUESTS}

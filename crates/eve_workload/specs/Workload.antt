@@ -1,4 +1,4 @@
--- A workload: what a deployment is asked to do. docs/MODEL.md, "Workload".
+-- A workload: what a deployment is asked to do. docs/DEPLOYMENT.md, "Workload".
 use Rattle.std.specs.Prelude.{◌≢◌, ℕ, ◌≤◌, Bool, ◌&&◌, IsTrue, List, map, length, AllPairs}
 use Rattle.std.specs.List.{list_all, flat_map}
 use Rattle.eve_grammar.specs.declared.limits.TheConstants.{MOST_BATCHES, MOST_REQUESTS}

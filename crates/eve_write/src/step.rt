@@ -24,7 +24,7 @@ pub enum Step {
     Commit(CommitData),
     /// It rolled back.
     Rollback(RollbackData),
-    /// It had a state transferred, which is shared with whoever else had it transferred.
+    /// A state was transferred to it, and is shared with all others that got it.
     Transfer(Arc<TransferData>),
 }
 

@@ -1,4 +1,4 @@
--- Rows as a ledger keeps them. docs/MODEL.md, "A replica's ledger".
+-- Rows as a ledger keeps them. docs/DEPLOYMENT.md, "A replica's ledger".
 use Rattle.std.specs.Prelude.{ℕ}
 use Rattle.eve_attempts.specs.Ledgers.{Rows}
 

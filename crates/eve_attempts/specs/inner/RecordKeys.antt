@@ -1,4 +1,4 @@
--- Records by the keys that order them. docs/MODEL.md, "A replica's ledger".
+-- Records by the keys that order them. docs/DEPLOYMENT.md, "A replica's ledger".
 use Rattle.std.specs.Prelude.{◌≡◌, ℕ, ◌+◌, ◌<◌, ◌≤◌, ⊤, List, [], ◌∷◌, map, length, slice_index_or, slice_set}
 use Rattle.std.specs.List.{AllByRecursion}
 use Rattle.eve_smallbank.specs.declared.request.Reply.{Reply}

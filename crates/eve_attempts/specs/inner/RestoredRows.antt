@@ -1,4 +1,4 @@
--- The rows that are restored. docs/MODEL.md, "A replica's ledger".
+-- The rows that are restored. docs/DEPLOYMENT.md, "A replica's ledger".
 use Rattle.std.specs.Prelude.{ℕ, ◌+◌, nat_le, if◌then◌else◌, List, [], ◌∷◌, map}
 use Rattle.eve_smallbank.specs.declared.entry.Entry.{Entry}
 

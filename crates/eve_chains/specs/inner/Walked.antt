@@ -78,7 +78,7 @@ pub record IsWalked (t : Trace) (e : ℕ) (x : Stretch) (w : Walked) : Type 0 wh
 
 -- how many numbers replica e reached
 abbrev pub reached : Trace → ℕ → ℕ
-reached t e = length (history t e).each_reached
+reached t e = length (history t e).ways_reached
 
 -- this is what its batches changed of these rows
 pub record IsOfRange (t : Trace) (e : ℕ) (x : Stretch) (n : Numbered) : Type 0 where

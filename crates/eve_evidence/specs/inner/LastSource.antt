@@ -95,6 +95,6 @@ IsRestoredBy row has rs None = NoneRestores row has rs
 -- the steps have come so far
 pub record IsPrefix (t : Trace) (row : ℕ) (has : Versioned) (steps : List (ℕ × Step)) (f : Prefix) : Type 0 where
   pub open_is : f.pending ≡ length (state_after start steps).pending
-  pub base_is : f.base ≡ option_map (λ x. x.0) (last_state (state_after start steps).each_reached)
+  pub base_is : f.base ≡ option_map (λ x. x.0) (last_state (state_after start steps).ways_reached)
   pub restored_is : IsRestoredBy row has (rollbacks_behind steps) f.restored
   pub last_is : IsLastSource t row has steps f.last

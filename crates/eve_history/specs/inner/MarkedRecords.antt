@@ -23,7 +23,7 @@ pub record AreMarked (before : List (ℕ × Access)) (m : AccessMarks) : Type 0 
       × (slice_index m.offsets y.1.index ≡ y.0)
 
 -- the next record is judged, and marked where it is right
--- F22 Access and F23 WorkerOrder.
+-- Where it isn't so, F22 Access and F23 WorkerOrder stands.
 pub record IsMarkedIfRight (workers count : ℕ) (before : List (ℕ × Access)) (x : ℕ × Access) (result : Option Code)
     (m : AccessMarks) : Type 0 where
   pub answer : result ≡ wrong_access workers count (accesses_of before) x.1

@@ -1,5 +1,5 @@
 -- How replicas of version 2 go on at a commit: those with the token commit, and the others get by a transfer what was
--- committed. docs/MODEL.md, "A run".
+-- committed. docs/DEPLOYMENT.md, "A run".
 use Rattle.std.specs.Prelude.{◌≡◌, ◌≢◌, ℕ, true, false, List, [], ◌∷◌, ◌++◌, IsTrue}
 use Rattle.std.specs.List.{AllByRecursion}
 use Rattle.eve_grammar.specs.Trace.{Transfer, Transfers}

@@ -103,11 +103,11 @@ server_with r steps = record { replica = r; is_live = true; missing = 0; steps =
 abbrev pub AreRightSteps : Server → Type 0
 AreRightSteps s = IsTrue (list_all (is_step (ledger_rows s.replica.ledger)) (section s.steps))
 
--- the open attempts are of the account's view
+-- the open attempts are of the ledger's view
 abbrev pub AreOfItsView : Ledger → Type 0
 AreOfItsView s = All (λ o. o.view ≡ s.view) s.opened
 
--- The next of the votes is for the commit of the account's first open batch, with another token than its own.
+-- The next of the votes is for the commit of the ledger's first open batch, with another token than its own.
 pub record IsOutvoted (s : Ledger) (later : List Vote) : Type 0 where
   pub own : Opened
   pub others : List Opened
@@ -132,7 +132,7 @@ pub record MissesRightly (s : Server) : Type 0 where
   pub version : 0 < s.missing → s.replica.ledger.version ≡ 2
   pub none_open : 0 < s.missing → s.replica.ledger.opened ≡ []
 
--- A replica of a run by this plan. It isn't broken. All that it did lies within the limits, is what its account went
+-- A replica of a run by this plan. It isn't broken. All that it did lies within the limits, is what its ledger went
 -- through, on these votes, and goes window by window. In version 2 it is live. Where it is live it stands here, and
 -- where it stopped it has committed less.
 pub record Serves (p : RunPlan) (at : Standing) (votes : List Vote) (s : Server) : Type 0 where
@@ -210,10 +210,10 @@ IsLeft batches at = 0 < at.opened → at.committed < length batches
 
 -- A replica went on. Its names, its rows, its version and how many attempts it may have open stay. It isn't broken if
 -- it wasn't. The steps that it added reach a batch each where the move is to reach one, and else none. All that it did
--- lies within the limits if it did before. It is what its account went through where the batches of the window are due,
+-- lies within the limits if it did before. It is what its ledger went through where the batches of the window are due,
 -- and goes on window by window where this may come now. What it gave up stays, but for the views that it comes to. If
 -- it is still live it did so on these votes, and stands this much further, and else on none. Where it is live no more
--- its account stays, and where it stands. The next of these votes says why it stopped, if it did by this move.
+-- its ledger stays, and where it stands. The next of these votes says why it stopped, if it did by this move.
 pub record GoesOn (m : Move) (old new : Server) : Type 0 where
   pub names : new.replica.names ≡ old.replica.names
   pub rows : ledger_rows new.replica.ledger ≡ ledger_rows old.replica.ledger

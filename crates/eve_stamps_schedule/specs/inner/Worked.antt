@@ -1,4 +1,4 @@
--- Worked schedules of two workers, each with one deposit. docs/MODEL.md, "Schedule".
+-- Worked schedules of two workers, each with one deposit. docs/DEPLOYMENT.md, "Schedule".
 use Rattle.std.specs.Prelude.{ℕ, pos, List, [], ◌∷◌, ◌++◌}
 use Rattle.eve_smallbank.specs.SmallBank.{Request, DepositChecking}
 use Rattle.eve_stamps_schedule.specs.declared.event.Event.{Event}

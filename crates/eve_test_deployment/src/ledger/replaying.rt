@@ -11,7 +11,7 @@ use crate::ledger::meeting::{Meeting, meetings_of, record_of};
 use crate::ledger::opening::{balances_of, batch_of};
 use crate::ledger::taking::replay_beside;
 use eve_accounts::{Balances, MOST_NAMED_ROWS, Names};
-use eve_attempts::{AttemptPrefix, CloseFault, Ledger};
+use eve_attempts::{AttemptHead, CloseFault, Ledger};
 use eve_frames::{CommitView, RollbackView};
 use eve_grammar::{MOST_BATCHES, Restore};
 use eve_stamps::AccessRecord;
@@ -328,7 +328,7 @@ fn close_due(
         return Err(CloseFault::Memory);
     };
     let touched = touched.as_slice();
-    let prefix = AttemptPrefix {
+    let prefix = AttemptHead {
         seq: ledger.next_number() as u32,
         view: ledger.view(),
         serial: ledger.is_next_serial(),

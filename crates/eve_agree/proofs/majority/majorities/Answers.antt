@@ -2,7 +2,8 @@ use Rattle.std.proofs.Common.{rules, ◌≡◌, ◌+◌, ◌<◌, ◌≤◌, len
 use Rattle.eve_agree.specs.Majority.{IsBackedSection}
 use Rattle.eve_agree.specs.inner.Unbacked.{IsFirstUnbackedIn}
 use Rattle.eve_agree.proofs.Replicas.{section_history_count, replica_at}
-use Rattle.eve_agree.proofs.MajorityFaults.{IsFirstUnbackedBelow, none_found, found_more, all_backed, no_fault, least_fault}
+use Rattle.eve_agree.proofs.MajorityFaults.{IsFirstUnbackedBelow, none_found, found_more, all_backed, no_fault}
+use Rattle.eve_agree.proofs.MajorityFaults.{least_fault}
 use Rattle.eve_agree.proofs.majority.majorities.Goals as goal
 use Rattle.std.specs.Prelude.{IfNone, IfSome}
 

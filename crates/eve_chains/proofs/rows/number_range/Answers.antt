@@ -7,7 +7,7 @@ use Rattle.eve_chains.specs.declared.changed.Changed.{Changed}
 use Rattle.eve_chains.specs.Changes.{of_number}
 use Rattle.eve_chains.specs.Numbered.{HasNumber, IsRowBelow, IsInOrder}
 use Rattle.eve_chains.specs.inner.Walked.{reached}
-use Rattle.eve_chains.proofs.CommittedChanges.{range_numbers, range_below, each_reached_counted}
+use Rattle.eve_chains.proofs.CommittedChanges.{range_numbers, range_below, ways_reached_counted}
 use Rattle.eve_chains.proofs.rows.number_range.Goals as goal
 
 pub of-requires-clause-numbers : goal.of-requires-clause-numbers
@@ -16,7 +16,7 @@ of-requires-clause-numbers c =
     let h = c.args.history.now in
     let right = c.recall_right.ensures.section t h.replica c.requires.history in
     let count : c.committed-count.result ≡ reached t h.replica = c.committed-count.ensures.count
-    ∙ each_reached_counted t h.replica h right c.numbers_are_reached.ensures.count c.requires.history in
+    ∙ ways_reached_counted t h.replica h right c.numbers_are_reached.ensures.count c.requires.history in
     subst (λ (n : ℕ). All (HasNumber n) c.as_slice.result.now) (sym count)
     (subst (λ (cs : List Changed). All (HasNumber (reached t h.replica)) cs) (sym c.as_slice.ensures.value)
     (range_numbers t h.replica right c.args.range c.args.walked.now c.requires.within c.requires.walked))
@@ -42,7 +42,7 @@ returns c =
     let rows : c.len.result ≡ row_count (head_of t) = c.len.ensures.len
     ∙ ap (λ (zs : List ℤ). length zs) c.requires.opening ∙ length-opening_rows t.customers in
     let count : c.committed-count.result ≡ reached t e = c.committed-count.ensures.count
-    ∙ each_reached_counted t e h right c.numbers_are_reached.ensures.count c.requires.history in
+    ∙ ways_reached_counted t e h right c.numbers_are_reached.ensures.count c.requires.history in
     let changes = c.as_slice.ensures.value ∙ c.requires.walked.changes in
     record {
       count = c.in_ok-numbered.ensures.count ∙ count;

@@ -33,7 +33,7 @@ returns-then-sees_another-clause-told c = λ s a is decoded xs.
       row = c.told_row.ensures;
       saw = refl;
       due = has;
-      left = subst (λ (n : ℕ). IsLeftBy (last_state s.each_reached) e.row (way_to (standing s) at a n)
+      left = subst (λ (n : ℕ). IsLeftBy (last_state s.ways_reached) e.row (way_to (standing s) at a n)
           c.left_to-left.result.by) c.index-index.ensures (c.left_to-left.ensures.by s a is decoded xs);
       seen = subst (λ (n : ℕ). IsSeenBy (passed a.seq (accesses_at at a) (before_index n a.certificate)) e
           c.seen_by.result) c.index-index.ensures (c.seen_by.ensures a decoded xs);

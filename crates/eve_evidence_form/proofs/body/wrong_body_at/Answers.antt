@@ -6,7 +6,7 @@ use Rattle.eve_grammar.specs.declared.head.Head.{Head}
 use Rattle.eve_grammar.specs.declared.place.Place.{Place}
 use Rattle.eve_grammar.proofs.HeadLimits.{few_customers}
 use Rattle.eve_views.specs.Form.{HasWrongBody}
-use Rattle.eve_evidence_form.specs.Body.{body_fault, body_in_prefix}
+use Rattle.eve_evidence_form.specs.Body.{body_fault, first_body}
 use Rattle.eve_evidence_form.proofs.body.wrong_body_at.Goals as goal
 
 -- what is sliced off is what stands there
@@ -40,7 +40,7 @@ pub body_fault-own-requires-clause-short : goal.body_fault-own-requires-clause-s
 body_fault-own-requires-clause-short c =
     let frame = drop c.args.at c.args.bytes.now in
     let n = big_number 4 (drop 1 frame) in
-    let is = ap length (c.body_there.ensures ∙ ap body_in_prefix (sliced_off c.args.at c.args.bytes.now)) in
+    let is = ap length (c.body_there.ensures ∙ ap first_body (sliced_off c.args.at c.args.bytes.now)) in
     omega (
       arith,
       is,
@@ -59,7 +59,7 @@ returns c =
     let head = c.head_decoded-head.ensures r.head r.says in
     let place = c.reached.ensures.place r (sym head) in
     let whole = sliced_off at bytes in
-    let body = c.body_there.ensures ∙ ap body_in_prefix whole in (
+    let body = c.body_there.ensures ∙ ap first_body whole in (
       r,
       c.body_fault-own.result,
       c.kind_there-kind.ensures ∙ ap (λ (ys : List ℕ). slice_index ys 0) whole,

@@ -1,6 +1,7 @@
 use Rattle.std.proofs.Common.{arith}
 use Rattle.eve_views.specs.declared.fault.Code.TheVariants as code
-use Rattle.eve_evidence_form.proofs.FirstFormFaults.{stands_as, sized_at_magic, sized_at_head, short_at_body, other_codes}
+use Rattle.eve_evidence_form.proofs.FirstFormFaults.{stands_as, sized_at_magic, sized_at_head, short_at_body}
+use Rattle.eve_evidence_form.proofs.FirstFormFaults.{other_codes}
 use Rattle.eve_evidence_form.proofs.form.form_evidence.Goals as goal
 
 pub length_fault-requires : goal.length_fault-requires

@@ -2,7 +2,7 @@ use Rattle.std.proofs.Common.{◌≡◌, Option, Some, None, sym, ◌∙◌}
 use Rattle.std.proofs.lemmas.Option.{same_Some}
 use Rattle.eve_grammar.specs.Readers.{header_of}
 use Rattle.eve_grammar.specs.declared.head.Head.{Head}
-use Rattle.eve_views.specs.Form.{decoded_by}
+use Rattle.eve_views.specs.Form.{head_bytes}
 use Rattle.eve_evidence_form.proofs.FramesPassed.{head_again}
 use Rattle.eve_evidence_form.proofs.walk.head_decoded.Goals as goal
 
@@ -12,7 +12,7 @@ some_none None h e n = cc
 
 pub unreachable-requires : goal.unreachable-requires
 unreachable-requires c =
-    some_none (header_of (decoded_by c.args.bytes.now)) c.requires.says.0
+    some_none (header_of (head_bytes c.args.bytes.now)) c.requires.says.0
     (head_again c.args.bytes.now c.requires.says.0 c.requires.says.1) c.in-None.ensures
 
 pub returns : goal.returns

@@ -22,8 +22,8 @@ step-so_far-requires-clause-few c =
     (next_frame c.args.bytes.now c.args.at c.requires.0 c.frames.next c.frames.so_far
     (c.frames.invariant c.requires.0 c.requires.1) c.frames-test.true).few
 
-pub len_in_prefix-next-requires : goal.len_in_prefix-next-requires
-len_in_prefix-next-requires c =
+pub first_len-next-requires : goal.first_len-next-requires
+first_len-next-requires c =
     let n = next_frame c.args.bytes.now c.args.at c.requires.0 c.frames.next c.frames.so_far
     (c.frames.invariant c.requires.0 c.requires.1) c.frames-test.true in
     (n.frame, begins_there c.args.bytes.now c.args.at c.requires.0 c.frames.next c.frames.so_far n)
@@ -32,7 +32,7 @@ pub overflow_add-next : goal.overflow_add-next
 overflow_add-next c =
     let n = next_frame c.args.bytes.now c.args.at c.requires.0 c.frames.next c.frames.so_far
     (c.frames.invariant c.requires.0 c.requires.1) c.frames-test.true in
-    let len = c.len_in_prefix-next.ensures n.frame
+    let len = c.first_len-next.ensures n.frame
     (begins_there c.args.bytes.now c.args.at c.requires.0 c.frames.next c.frames.so_far n) in
     omega (arith, len, n.within, c.ranges.at.fits)
 
@@ -40,7 +40,7 @@ pub frames-smaller : goal.frames-smaller
 frames-smaller c =
     let n = next_frame c.args.bytes.now c.args.at c.requires.0 c.frames.next c.frames.so_far
     (c.frames.invariant c.requires.0 c.requires.1) c.frames-test.true in
-    let len = c.len_in_prefix-next.ensures n.frame
+    let len = c.first_len-next.ensures n.frame
     (begins_there c.args.bytes.now c.args.at c.requires.0 c.frames.next c.frames.so_far n) in
     omega (arith, len, c.frames-test.true, length-frame_text n.frame)
 
@@ -49,7 +49,7 @@ frames-preserved c = λ r same.
     let n = next_frame c.args.bytes.now c.args.at r c.frames.next c.frames.so_far (c.frames.invariant r same)
     c.frames-test.true in
     let begins = begins_there c.args.bytes.now c.args.at r c.frames.next c.frames.so_far n in
-    let len = c.len_in_prefix-next.ensures n.frame begins in
+    let len = c.first_len-next.ensures n.frame begins in
     subst (λ (k : ℕ). IsPassed c.args.bytes.now c.args.at r (c.frames.next + k) c.step-so_far.result) (sym len)
     (n.passed c.step-so_far.result (record {
       place_is = c.step-so_far.ensures.place n.frame begins

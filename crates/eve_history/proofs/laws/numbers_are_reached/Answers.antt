@@ -1,4 +1,4 @@
-use Rattle.eve_history.proofs.ReachedNumbers.{each_reached_counted, committed_told, told_committed, committed_numbered}
+use Rattle.eve_history.proofs.ReachedNumbers.{ways_reached_counted, committed_told, told_committed, committed_numbered}
 use Rattle.eve_history.proofs.ReachedNumbers.{committed_after_reached, attempts_numbered, how_reached_there}
 use Rattle.eve_history.proofs.ReachedNumbers.{transfer_told}
 use Rattle.eve_history.proofs.ReachedNumbers.{told_transfer, told_skipped, transfer_numbered, transfer_lands}
@@ -7,7 +7,7 @@ use Rattle.eve_history.proofs.laws.numbers_are_reached.Goals as goal
 
 pub returns : goal.returns
 returns c = record {
-  count = each_reached_counted;
+  count = ways_reached_counted;
   told = committed_told;
   tells = told_committed;
   numbers = committed_numbered;
@@ -17,7 +17,7 @@ returns c = record {
   tells_transfer = told_transfer;
   tells_skipped = told_skipped;
   transfers = transfer_numbered;
-  lands = transfer_lands;
+  reaches = transfer_lands;
   there = how_reached_there;
   by_attempts = by_attempts_to;
 }

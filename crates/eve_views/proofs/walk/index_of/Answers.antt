@@ -36,8 +36,8 @@ returns-in-Err-clause-fault c =
       outside = refl;
     }
 
-pub frame_in_prefix-requires : goal.frame_in_prefix-requires
-frame_in_prefix-requires c =
+pub first_frame-requires : goal.first_frame-requires
+first_frame-requires c =
     let small = few_customers c.args.head c.requires.says.limits in
     omega (arith, small, ap (λ (h : Head). h.customers) c.frames.invariant.1)
 

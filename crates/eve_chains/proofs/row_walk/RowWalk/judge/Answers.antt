@@ -15,7 +15,7 @@ pub returns-in-Some-clause-first : goal.returns-in-Some-clause-first
 returns-in-Some-clause-first c = (
   Some c.in-Some.code,
   subst (IsMismatch c.args.self.now.working (as_noted c.args.note.now).entry) c.in-Some.is
-      c.mismatch.ensures,
+      c.wrong_sight.ensures,
   c.tell.ensures.first
       ∙ ap (λ (at : ℕ). first_of c.args.self.now.first (fault_if c.args.replica at (Some c.in-Some.code)))
       c.from.ensures,
@@ -25,6 +25,6 @@ pub returns-in_default-clause-first : goal.returns-in_default-clause-first
 returns-in_default-clause-first c = (
   None,
   subst (IsMismatch c.args.self.now.working (as_noted c.args.note.now).entry) c.in_default.is
-      c.mismatch.ensures,
+      c.wrong_sight.ensures,
   none_more c.args.self.now.first,
 )

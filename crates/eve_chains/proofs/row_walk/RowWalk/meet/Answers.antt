@@ -3,7 +3,7 @@ use Rattle.eve_smallbank.specs.declared.versioned.Versioned.{Versioned}
 use Rattle.eve_views.specs.First.{first_of}
 use Rattle.eve_chains.specs.Along.{fault_if}
 use Rattle.eve_chains.specs.inner.Bases.{base_at}
-use Rattle.eve_chains.specs.Rows.{Pair, checked_against, next_pair, updated_by}
+use Rattle.eve_chains.specs.Rows.{Pair, due_on_row, next_pair, updated_by}
 use Rattle.eve_chains.specs.inner.Gathered.{as_noted}
 use Rattle.eve_chains.specs.inner.Walked.{pair_of, IsMismatch, IsFirstOnRow}
 use Rattle.eve_chains.proofs.WalkedRows.{first_noted, pair_more}
@@ -19,7 +19,7 @@ returns c = λ ns checked.
     let next : pair_of c.take.new.self ≡ next_pair bases (pair_of w) n =
     c.take.ensures.pair
     ∙ ap (λ (p : Pair). updated_by p n) (c.judge.ensures.pair ∙ c.go_to.ensures.pair) in
-    let working : c.go_to.new.self.working ≡ checked_against bases (pair_of w) n =
+    let working : c.go_to.new.self.working ≡ due_on_row bases (pair_of w) n =
     ap (λ (p : Pair). p.working) c.go_to.ensures.pair in
     record {
       pair = next ∙ ap (λ (p : Pair). next_pair bases p n) checked.pair ∙ sym (pair_more bases ns n);
@@ -28,5 +28,5 @@ returns c = λ ns checked.
           ∙ (λ i. first_of (c.go_to.ensures.first i) (fault_if e n.offset judged.0))))
           (first_noted e bases ns n w.first judged.0 checked.first
           (subst (λ (m : Versioned). IsMismatch m n.entry judged.0)
-          (working ∙ ap (λ (p : Pair). checked_against bases p n) checked.pair) judged.1));
+          (working ∙ ap (λ (p : Pair). due_on_row bases p n) checked.pair) judged.1));
     }

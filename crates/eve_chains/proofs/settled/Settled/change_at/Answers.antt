@@ -14,10 +14,10 @@ pub index-requires : goal.index-requires
 index-requires c =
     let x = c.self.inside in
     let count : x.count ≡ length c.args.self.now.numbers =
-    sym (kept_counted (length x.opening) x.count x.transfers.items x.each_reached.items x.ranges.items
+    sym (kept_counted (length x.opening) x.count x.transfers.items x.ways_reached.items x.ranges.items
     c.self.invariant.1)
     ∙ ap (λ (s : Settling). length s.numbers) c.self.view_is in
-    let lt : c.args.n - 1 < length x.each_reached.items =
+    let lt : c.args.n - 1 < length x.ways_reached.items =
     omega (arith, c.self.invariant.1.many, count, c.requires.one, c.requires.there) in
     search rules
 
@@ -26,11 +26,11 @@ index-requires-in-Transfer c =
     let x = c.self.inside in
     let n = c.args.n in
     let count : x.count ≡ length c.args.self.now.numbers =
-    sym (kept_counted (length x.opening) x.count x.transfers.items x.each_reached.items x.ranges.items
+    sym (kept_counted (length x.opening) x.count x.transfers.items x.ways_reached.items x.ranges.items
     c.self.invariant.1)
     ∙ ap (λ (s : Settling). length s.numbers) c.self.view_is in
     let lt : c.in-Transfer.i < length x.transfers.items =
-    state_among (length x.opening) x.count x.transfers.items x.each_reached.items (n - 1) c.in-Transfer.i
+    state_among (length x.opening) x.count x.transfers.items x.ways_reached.items (n - 1) c.in-Transfer.i
     c.index.result.now c.self.invariant.1 (omega (arith, count, c.requires.one, c.requires.there)) c.index.ensures
     c.in-Transfer.is in
     search rules
@@ -40,11 +40,11 @@ returns-in-Attempt-clause-says c =
     let x = c.self.inside in
     let n = c.args.n in
     let count : x.count ≡ length c.args.self.now.numbers =
-    sym (kept_counted (length x.opening) x.count x.transfers.items x.each_reached.items x.ranges.items
+    sym (kept_counted (length x.opening) x.count x.transfers.items x.ways_reached.items x.ranges.items
     c.self.invariant.1)
     ∙ ap (λ (s : Settling). length s.numbers) c.self.view_is in
     ap (λ (s : Settling). slice_get s.numbers (n - 1)) (sym c.self.view_is)
-    ∙ change_kept (length x.opening) x.count x.transfers.items x.each_reached.items x.ranges.items (n - 1)
+    ∙ change_kept (length x.opening) x.count x.transfers.items x.ways_reached.items x.ranges.items (n - 1)
     c.index.result.now (how_reached.Attempt c.in-Attempt.field-0) c.self.invariant.1
     (omega (arith, count, c.requires.one, c.requires.there)) c.index.ensures c.in-Attempt.is
     ∙ ap (λ (xs : List Numbered). Some (Wrote (changes_in_ranges (n - 1) xs))) (sym c.deref.ensures.value)
@@ -55,7 +55,7 @@ returns-in-Attempt-clause-rows c =
     let rows : length x.opening ≡ length c.args.self.now.opening =
     ap (λ (s : Settling). length s.opening) c.self.view_is in
     let count : x.count ≡ length c.args.self.now.numbers =
-    sym (kept_counted (length x.opening) x.count x.transfers.items x.each_reached.items x.ranges.items
+    sym (kept_counted (length x.opening) x.count x.transfers.items x.ways_reached.items x.ranges.items
     c.self.invariant.1)
     ∙ ap (λ (s : Settling). length s.numbers) c.self.view_is in
     subst (λ (xs : List Numbered). All (HasNumbersTo (length c.args.self.now.opening) c.args.n) xs)
@@ -70,16 +70,16 @@ returns-in-Transfer-clause-says c =
     let n = c.args.n in
     let i = c.in-Transfer.i in
     let count : x.count ≡ length c.args.self.now.numbers =
-    sym (kept_counted (length x.opening) x.count x.transfers.items x.each_reached.items x.ranges.items
+    sym (kept_counted (length x.opening) x.count x.transfers.items x.ways_reached.items x.ranges.items
     c.self.invariant.1)
     ∙ ap (λ (s : Settling). length s.numbers) c.self.view_is in
     let within : n - 1 < x.count = omega (arith, count, c.requires.one, c.requires.there) in
     ap (λ (s : Settling). slice_get s.numbers (n - 1)) (sym c.self.view_is)
-    ∙ change_kept (length x.opening) x.count x.transfers.items x.each_reached.items x.ranges.items (n - 1)
+    ∙ change_kept (length x.opening) x.count x.transfers.items x.ways_reached.items x.ranges.items (n - 1)
     c.index.result.now (how_reached.Transfer i) c.self.invariant.1 within
     c.index.ensures c.in-Transfer.is
     ∙ ap Some (state_is x.transfers.items i c.index-in-Transfer.result.now
-    (state_among (length x.opening) x.count x.transfers.items x.each_reached.items (n - 1) i
+    (state_among (length x.opening) x.count x.transfers.items x.ways_reached.items (n - 1) i
     c.index.result.now c.self.invariant.1 within c.index.ensures c.in-Transfer.is) c.index-in-Transfer.ensures)
 
 pub returns-in-Transfer-clause-rows : goal.returns-in-Transfer-clause-rows
@@ -89,11 +89,11 @@ returns-in-Transfer-clause-rows c =
     let i = c.in-Transfer.i in
     let v = c.index-in-Transfer.result.now in
     let count : x.count ≡ length c.args.self.now.numbers =
-    sym (kept_counted (length x.opening) x.count x.transfers.items x.each_reached.items x.ranges.items
+    sym (kept_counted (length x.opening) x.count x.transfers.items x.ways_reached.items x.ranges.items
     c.self.invariant.1)
     ∙ ap (λ (s : Settling). length s.numbers) c.self.view_is in
     let there : i < length x.transfers.items =
-    state_among (length x.opening) x.count x.transfers.items x.each_reached.items (n - 1) i c.index.result.now
+    state_among (length x.opening) x.count x.transfers.items x.ways_reached.items (n - 1) i c.index.result.now
     c.self.invariant.1 (omega (arith, count, c.requires.one, c.requires.there)) c.index.ensures c.in-Transfer.is in
     let rows : length x.opening ≡ length c.args.self.now.opening =
     ap (λ (s : Settling). length s.opening) c.self.view_is in (
@@ -106,10 +106,10 @@ returns-in-Skipped-clause-says c =
     let x = c.self.inside in
     let n = c.args.n in
     let count : x.count ≡ length c.args.self.now.numbers =
-    sym (kept_counted (length x.opening) x.count x.transfers.items x.each_reached.items x.ranges.items
+    sym (kept_counted (length x.opening) x.count x.transfers.items x.ways_reached.items x.ranges.items
     c.self.invariant.1)
     ∙ ap (λ (s : Settling). length s.numbers) c.self.view_is in
     ap (λ (s : Settling). slice_get s.numbers (n - 1)) (sym c.self.view_is)
-    ∙ change_kept (length x.opening) x.count x.transfers.items x.each_reached.items x.ranges.items (n - 1)
+    ∙ change_kept (length x.opening) x.count x.transfers.items x.ways_reached.items x.ranges.items (n - 1)
     c.index.result.now how_reached.Skipped c.self.invariant.1
     (omega (arith, count, c.requires.one, c.requires.there)) c.index.ensures c.in-Skipped.is

@@ -9,10 +9,10 @@ pub returns-then-self-n : goal.returns-then-self-n
 returns-then-self-n c =
     let x = c.self.inside in
     let n = c.args.n in
-    let past : length x.each_reached.items ≤ n - 1 = omega (arith, c.self.invariant.1.many, c.if-self-n.true) in
+    let past : length x.ways_reached.items ≤ n - 1 = omega (arith, c.self.invariant.1.many, c.if-self-n.true) in
     sym (defined_at c.args.self.now n None (omega (arith, c.if-self-n.true))
     (ap (λ (s : Settling). slice_get s.numbers (n - 1)) (sym c.self.view_is)
-    ∙ none_past x.transfers.items x.each_reached.items
+    ∙ none_past x.transfers.items x.ways_reached.items
     (ranges_by_number x.count x.ranges.items) (n - 1) past))
 
 pub returns-in-Attempt : goal.returns-in-Attempt
@@ -23,7 +23,7 @@ returns-in-Attempt c =
     let lt : n - 1 < x.count = omega (arith, one, c.if-self-n.false) in
     sym (defined_at c.args.self.now n _ one
     (ap (λ (s : Settling). slice_get s.numbers (n - 1)) (sym c.self.view_is)
-    ∙ change_kept (length x.opening) x.count x.transfers.items x.each_reached.items x.ranges.items (n - 1)
+    ∙ change_kept (length x.opening) x.count x.transfers.items x.ways_reached.items x.ranges.items (n - 1)
     c.index.result.now (how_reached.Attempt c.in-Attempt.field-0) c.self.invariant.1 lt
     c.index.ensures c.in-Attempt.is))
 
@@ -36,11 +36,11 @@ returns-in-Transfer c =
     let lt : n - 1 < x.count = omega (arith, one, c.if-self-n.false) in
     sym (defined_at c.args.self.now n _ one
     (ap (λ (s : Settling). slice_get s.numbers (n - 1)) (sym c.self.view_is)
-    ∙ change_kept (length x.opening) x.count x.transfers.items x.each_reached.items x.ranges.items (n - 1)
+    ∙ change_kept (length x.opening) x.count x.transfers.items x.ways_reached.items x.ranges.items (n - 1)
     c.index.result.now (how_reached.Transfer i) c.self.invariant.1 lt
     c.index.ensures c.in-Transfer.is)
     ∙ transferred_is_change x.transfers.items i
-    (state_among (length x.opening) x.count x.transfers.items x.each_reached.items (n - 1) i c.index.result.now
+    (state_among (length x.opening) x.count x.transfers.items x.ways_reached.items (n - 1) i c.index.result.now
     c.self.invariant.1 lt c.index.ensures c.in-Transfer.is))
 
 pub returns-in-Skipped : goal.returns-in-Skipped
@@ -51,6 +51,6 @@ returns-in-Skipped c =
     let lt : n - 1 < x.count = omega (arith, one, c.if-self-n.false) in
     sym (defined_at c.args.self.now n _ one
     (ap (λ (s : Settling). slice_get s.numbers (n - 1)) (sym c.self.view_is)
-    ∙ change_kept (length x.opening) x.count x.transfers.items x.each_reached.items x.ranges.items (n - 1)
+    ∙ change_kept (length x.opening) x.count x.transfers.items x.ways_reached.items x.ranges.items (n - 1)
     c.index.result.now how_reached.Skipped c.self.invariant.1 lt
     c.index.ensures c.in-Skipped.is))

@@ -40,18 +40,18 @@ returns-clause-handled c = λ t rest come.
     let at = c.args.commit.now.offset in
     let decoded = commit_in c.args.commit.now.bytes.now in
     let place : length k.fates ≡ c.len-place.result = search rules in
-    let each_reached : k.each_reached ++ how_reached.Attempt (length k.fates) ∷ [] ≡ c.push_reserved.new.self.items =
-    ap (λ (n : ℕ). k.each_reached ++ how_reached.Attempt n ∷ []) place
+    let ways_reached : k.ways_reached ++ how_reached.Attempt (length k.fates) ∷ [] ≡ c.push_reserved.new.self.items =
+    ap (λ (n : ℕ). k.ways_reached ++ how_reached.Attempt n ∷ []) place
     ∙ ap (λ (ls : List told.HowReached). ls ++ how_reached.Attempt c.len-place.result ∷ [])
     (sym c.in_ok-reserve.ensures.items) ∙ sym c.push_reserved.ensures.items in
     let is : with_commit k decoded.seq
     ≡ kept_section (record c.args.self.now
-    { last = c.seq-self.result; fates = c.push.new.self; each_reached = c.push_reserved.new.self }) =
+    { last = c.seq-self.result; fates = c.push.new.self; ways_reached = c.push_reserved.new.self }) =
     λ i. record k {
       last = sym c.seq-self.ensures i;
       fates = sym c.in_ok-push.ensures.items i;
-      each_reached =
-          each_reached i;
+      ways_reached =
+          ways_reached i;
     }
     in
     subst (HasCome t e rest) is

@@ -17,7 +17,7 @@ use Rattle.eve_history.specs.inner.FirstWrong.{fault_of}
 use Rattle.eve_history.specs.KeptSections.{kept_section, kept_attempt, was_transferred, open_count, HasCome}
 use Rattle.eve_history.proofs.SectionSteps.{come_wrong, come_transfer, with_transfer, over_at, later_number}
 use Rattle.eve_history.proofs.FrameOffsets.{transfer_there, transfers_small}
-use Rattle.eve_history.proofs.StepHandlers.{transfer_wrong, transfer_right, discarded_all, each_reached_over}
+use Rattle.eve_history.proofs.StepHandlers.{transfer_wrong, transfer_right, discarded_all, ways_reached_over}
 use Rattle.eve_history.specs.Structure.{StandsInStructure}
 use Rattle.eve_history.proofs.structure.Notes.take_transfer.Goals as goal
 
@@ -92,11 +92,11 @@ returns-clause-handled c = λ rest come.
     (length k.attempts) c.in_ok-resize.ensures.items all old come.is_kept.fewer in
     let transferred : c.len-place.result ≡ length n.transfers.items = search rules in
     let place : c.len-place.result ≡ length k.transfers = transferred ∙ sym (length-map n.transfers.items keep) in
-    let numbers : vec_len n.each_reached ≡ length n.each_reached.items = search rules in
-    let each_reached : k.each_reached ++ over_at (decoded.seq - (k.last + 1)) (length k.transfers)
+    let numbers : vec_len n.ways_reached ≡ length n.ways_reached.items = search rules in
+    let ways_reached : k.ways_reached ++ over_at (decoded.seq - (k.last + 1)) (length k.transfers)
     ≡ c.push-2.new.self.items =
-    each_reached_over n.each_reached.items c.resize-2.new.self.items c.push-2.new.self.items (c.seq-seq.result - 1)
-    (vec_len n.each_reached) k.last decoded.seq c.len-place.result (length k.transfers) c.in_ok-resize-2.ensures.items
+    ways_reached_over n.ways_reached.items c.resize-2.new.self.items c.push-2.new.self.items (c.seq-seq.result - 1)
+    (vec_len n.ways_reached) k.last decoded.seq c.len-place.result (length k.transfers) c.in_ok-resize-2.ensures.items
     c.in_ok-push-2.ensures.items (ap (λ (m : ℕ). m - 1) seq) numbers come.is_kept.count
     (later_number t e at decoded rest k come right) place in
     let there = transfer_there n.bytes.now t e rest k at decoded c.requires.noted.spelled come in
@@ -111,7 +111,7 @@ returns-clause-handled c = λ rest come.
       last = c.seq-seq.result;
       rolled_back = false;
       fates = c.resize.new.self;
-      each_reached = c.push-2.new.self;
+      ways_reached = c.push-2.new.self;
       transfers = c.push.new.self;
     }) =
     λ i. record k {
@@ -119,7 +119,7 @@ returns-clause-handled c = λ rest come.
       last = sym seq i;
       rolled_back = false;
       fates = fates i;
-      each_reached = each_reached i;
+      ways_reached = ways_reached i;
       transfers = transfers i;
     } in
     subst (HasCome t e rest) is (come_transfer t e at decoded rest k come right)

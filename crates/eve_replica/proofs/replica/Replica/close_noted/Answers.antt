@@ -1,5 +1,5 @@
 use Rattle.std.proofs.Common.{subst, sym}
-use Rattle.eve_attempts.specs.declared.prefix.AttemptPrefix.{AttemptPrefix}
+use Rattle.eve_attempts.specs.declared.prefix.AttemptHead.{AttemptHead}
 use Rattle.eve_write.specs.Data.{batch, attempt}
 use Rattle.eve_attempts.specs.ClosedAttempts.{AreMismatched, touched_in_batch}
 use Rattle.eve_replica.specs.Replicas.{ClosesThese, IsMismatchOnly, MismatchesDue, Replica}
@@ -7,7 +7,7 @@ use Rattle.eve_replica.proofs.replica.Replica.close_noted.Goals as goal
 
 pub returns-in-Ok-clause-records : goal.returns-in-Ok-clause-records
 returns-in-Ok-clause-records c =
-    subst (λ (f : AttemptPrefix). ClosesThese f c.args.self.now c.close.new.self (batch c.args.batch.now)
+    subst (λ (f : AttemptHead). ClosesThese f c.args.self.now c.close.new.self (batch c.args.batch.now)
     c.args.records.now (attempt c.in-Ok.attempt)) c.next_prefix-prefix.ensures c.in-Ok.ensures.closed
 
 pub returns-in-Ok-clause-attempted : goal.returns-in-Ok-clause-attempted
@@ -27,6 +27,6 @@ returns-in-Err-Mismatch-clause-mismatch c =
     (record {
       records = c.args.records.now;
       noted = c.requires.noted;
-      mismatched = subst (λ (f : AttemptPrefix). AreMismatched f old.ledger b (touched_in_batch old.names b)
+      mismatched = subst (λ (f : AttemptHead). AreMismatched f old.ledger b (touched_in_batch old.names b)
           c.args.records.now) c.next_prefix-prefix.ensures (c.in-Err-Mismatch.ensures.mismatch cc);
     })

@@ -1,7 +1,7 @@
 use Rattle.std.proofs.Common.{sym, ◌∙◌}
 use Rattle.eve_grammar.specs.Kinds.{kind_byte}
 use Rattle.eve_views.proofs.KeptFrames.{unframed_kind, kept_unframed, kept_right, kept_wrong}
-use Rattle.eve_views.proofs.walk.frame_in_prefix.Goals as goal
+use Rattle.eve_views.proofs.walk.first_frame.Goals as goal
 
 pub returns-in_default : goal.returns-in_default
 returns-in_default c =

@@ -1,6 +1,6 @@
 use Rattle.std.proofs.Common.{sym, ◌∙◌, arith}
 use Rattle.eve_evidence_form.proofs.FirstFrames.{kind_named, named_byte, first_is, long_prefix}
-use Rattle.eve_evidence_form.proofs.walk.kind_in_prefix.Goals as goal
+use Rattle.eve_evidence_form.proofs.walk.first_kind.Goals as goal
 
 pub bounds-bytes-0 : goal.bounds-bytes-0
 bounds-bytes-0 c = omega (arith, long_prefix c.args.bytes.now c.requires.0 c.requires.1)
