@@ -1,4 +1,5 @@
--- The requests of all batches as one list: one occurs twice up to a batch exactly where one occurs earlier there.
+-- Public: other crates cite these lemmas. The requests of all batches as one list: one occurs twice up to a batch
+-- exactly where one occurs earlier there.
 use Rattle.std.proofs.Common.{◌≡◌, ℕ, zero, suc, ◌+◌, ◌-◌, ◌<◌, ◌≤◌, Bool, true, false, cond, List, [], ◌∷◌, ◌++◌}
 use Rattle.std.proofs.Common.{length, map, take, drop, Contains, Some, refl, sym, ap, subst, ◌∙◌, append_assoc}
 use Rattle.std.proofs.Common.{inl, inr, arith}

@@ -2,6 +2,7 @@ pub mod Places
 pub mod OrderLaws
 pub mod MarkedRecords
 pub mod Lookups
+mod WaysKept
 pub mod SectionSteps
 pub mod ReachedNumbers
 mod AttemptsAlone

@@ -33,7 +33,7 @@ use Rattle.eve_history.specs.Structure.{accesses_of}
 use Rattle.eve_history.specs.inner.FirstWrong.{wrong_step}
 use Rattle.eve_history.specs.KeptSections.{KeptSection, HasCome, ComesNext}
 use Rattle.eve_history.proofs.StructureLaws.{accesses_of-at}
-use Rattle.eve_history.proofs.SectionSteps.{over_at}
+use Rattle.eve_history.proofs.WaysKept.{over_at}
 use Rattle.eve_views.proofs.FrameOffsets.{length-located}
 use Rattle.eve_history.proofs.Records.{all_there, attempt_fits}
 

@@ -1,14 +1,14 @@
 //! What a replica did.
 
-ghost use Rattle.std.specs.Prelude.{◌≡◌, ◌≤◌, ◌<◌, ◌-◌, ℕ, Some, IfOk, IfErr, IsTrue, length, slice_get, IfSome};
+ghost use Rattle.std.specs.Prelude.{◌≡◌, ◌≤◌, ◌<◌, ◌-◌, ℕ, Some, IfOk, IfErr, IsTrue, length, slice_get};
 ghost use Rattle.eve_grammar.specs.Trace.{Trace as TraceValue};
 ghost use Rattle.eve_grammar.specs.Frames.{OfAttempt, OfAccess, OfRollback, OfTransfer};
-ghost use Rattle.eve_grammar.specs.Spelling.{frame_text, steps_at};
+ghost use Rattle.eve_grammar.specs.Spelling.{frame_text};
 ghost use Rattle.eve_frames.specs.Decoded.{access_decoded, attempt_decoded, rollback_decoded, transfer_decoded};
 ghost use Rattle.eve_views.specs.Form.{IfFound, IsLeast, HasNone, IsFaultIn};
 ghost use Rattle.eve_views.specs.Lent.{HasBytesAt};
 ghost use Rattle.eve_history.specs.SectionHistory.{ExecutedAttempt, section_history, section_histories, IsRightSection};
-ghost use Rattle.eve_history.specs.SectionHistory.{attempts_among, ReachedBy, is_by_attempt, told_reached_at, IsToldOf};
+ghost use Rattle.eve_history.specs.SectionHistory.{ReachedBy, is_by_attempt, told_reached_at, IsToldOf};
 ghost use Rattle.eve_history.specs.KeptSections.{kept_section, section_history_of, IsWholeSection};
 ghost use Rattle.eve_history.specs.Structure.{StandsInStructure};
 

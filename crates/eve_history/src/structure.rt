@@ -1,7 +1,7 @@
 //! A replica's section, step by step: what is kept of the steps, and what is wrong with the next.
 
-ghost use Rattle.std.specs.Prelude.{◌≡◌, ◌≤◌, ◌<◌, ◌++◌, ◌∷◌, ◌^◌, [], ℕ, List, IsTrue, IfErr, OnOk, IfNone, IfOk};
-ghost use Rattle.std.specs.Prelude.{◌==◌, ◌&&◌, ◌+◌, false, map, length, slice_index, Some, IfSome, IsOk};
+ghost use Rattle.std.specs.Prelude.{◌≡◌, ◌≤◌, ◌<◌, ◌++◌, ◌∷◌, ◌^◌, [], ℕ, List, IsTrue, IfErr, OnOk, IfNone};
+ghost use Rattle.std.specs.Prelude.{◌==◌, ◌&&◌, ◌+◌, false, map, length, slice_index, Some};
 ghost use Rattle.std.specs.List.{AllByRecursion};
 ghost use Rattle.std.specs.Cmp.Lexicographic.{pointwise};
 ghost use Rattle.eve_grammar.specs.Trace.{Trace as TraceValue, Attempt, Step as StepValue, Attempts, Commits};
@@ -17,7 +17,7 @@ ghost use Rattle.eve_history.specs.Section.{worker_count, is_right_transfer};
 ghost use Rattle.eve_history.specs.inner.FirstWrong.{wrong_attempt, wrong_step, fault_of};
 ghost use Rattle.eve_history.specs.inner.MarkedRecords.{AreMarked};
 ghost use Rattle.eve_history.specs.KeptSections.{kept_section, StandsAt, HasCome, ComesNext, AreFramed, AreNotesOf};
-ghost use Rattle.eve_history.specs.KeptSections.{kept_at_first, seen};
+ghost use Rattle.eve_history.specs.KeptSections.{kept_at_first};
 ghost use Rattle.eve_history.specs.Structure.{StandsInStructure};
 
 use crate::access_marks::AccessMarks;

@@ -81,8 +81,10 @@ fn is_at(ballots: &[Ballot], at: usize, ballot: Ballot) -> bool
     at < ballots.len() && is_alike(&ballots[at], &ballot)
 }
 
-/// Whether two votes are for the same.
-fn is_same(a: Choice<'_>, b: Choice<'_>) -> bool
+/// Whether two votes are for the same: both to roll back, or both to commit with one token.
+///
+/// docs/MODEL.md, "Decided, rolled back".
+pub fn is_same_choice(a: Choice<'_>, b: Choice<'_>) -> bool
     ensures { result ≡ same_choice (choice_of a.entry) (choice_of b.entry) }
 {
     match a {
@@ -143,7 +145,7 @@ pub(crate) fn backers_from(
     let mut count: u8 = 0;
     for verifier in 0..trace.head().verifiers {
         if let Some(vote) = next_choice(trace, ballots, &mut at, seq, view, verifier) {
-            if is_same(vote, choice) {
+            if is_same_choice(vote, choice) {
                 count += 1;
             }
         }

@@ -10,6 +10,7 @@ mod sorted_votes;
 mod tally;
 mod voting;
 
+pub use ballots::is_same_choice;
 pub use decided::Decided;
 pub use sorted_votes::SortedVotes;
 pub use tally::Tally;

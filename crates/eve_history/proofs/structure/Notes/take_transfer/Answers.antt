@@ -15,7 +15,8 @@ use Rattle.eve_history.specs.FrameOffsets.{frame_in, IsTransferAt}
 use Rattle.eve_history.specs.Section.{start, state_after}
 use Rattle.eve_history.specs.inner.FirstWrong.{fault_of}
 use Rattle.eve_history.specs.KeptSections.{kept_section, kept_attempt, was_transferred, open_count, HasCome}
-use Rattle.eve_history.proofs.SectionSteps.{come_wrong, come_transfer, with_transfer, over_at, later_number}
+use Rattle.eve_history.proofs.SectionSteps.{come_wrong, come_transfer, with_transfer, later_number}
+use Rattle.eve_history.proofs.WaysKept.{over_at}
 use Rattle.eve_history.proofs.FrameOffsets.{transfer_there, transfers_small}
 use Rattle.eve_history.proofs.StepHandlers.{transfer_wrong, transfer_right, discarded_all, ways_reached_over}
 use Rattle.eve_history.specs.Structure.{StandsInStructure}
