@@ -16,6 +16,7 @@ mod RowFaults
 pub mod Permutations
 pub mod Distinct
 pub mod LinkedPaths
+pub mod SerialRuns
 pub mod SerialSections
 pub mod SettledAttempts
 pub mod Soundness

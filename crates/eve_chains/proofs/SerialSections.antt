@@ -10,7 +10,7 @@ use Rattle.std.proofs.lemmas.Grind.{flat_map-append}
 use Rattle.std.specs.List.{AllByRecursion}
 use Rattle.std.proofs.lemmas.Option.{same_Some}
 use Rattle.eve_smallbank.specs.declared.request.Reply.{Reply}
-use Rattle.eve_smallbank.specs.SmallBank.{Bank, Request, run, does}
+use Rattle.eve_smallbank.specs.SmallBank.{Bank, Request, run}
 use Rattle.eve_smallbank.specs.Access.{Executed, bank_of}
 use Rattle.eve_smallbank.specs.Chain.{Table, before_rest, values_of}
 use Rattle.eve_smallbank.specs.SerialOrder.{bank_at, IsSound, IsSerial}
@@ -31,6 +31,7 @@ use Rattle.eve_chains.proofs.Permutations.{reordering_of_permutations}
 use Rattle.eve_chains.proofs.LinkedPaths.{linked_history, linked_number, none≢some, linked_at, how_reached_by}
 use Rattle.eve_chains.proofs.LinkedPaths.{in_attempts}
 use Rattle.eve_history.proofs.FateLaws.{attempts_by_push}
+use Rattle.eve_chains.proofs.SerialRuns.{leads-append}
 
 -- ---- lists
 
@@ -140,26 +141,6 @@ serial_between t e right sound (suc n) p at =
     same n = omega arith
 
 -- ---- from the opening on
-
--- a run of one list after another
-run-append : (bank next last : Bank) (xs ys : List Request) (rs ss : List Reply) → run bank xs ≡ (next, rs)
-    → run next ys ≡ (last, ss) → run bank (xs ++ ys) ≡ (last, rs ++ ss)
-run-append bank next last [] ys rs ss e f =
-    ap (λ (b : Bank). run b ys) (ap (λ (d : Bank × List Reply). d.0) e) ∙ f
-    ∙ ap (λ (qs : List Reply). (last, qs ++ ss)) (ap (λ (d : Bank × List Reply). d.1) e)
-run-append bank next last (x ∷ xs) ys rs ss e f =
-    let first : Bank × Reply = does bank x in
-    let rest = run-append first.0 (run first.0 xs).0 last xs ys (run first.0 xs).1 ss refl
-    (ap (λ (d : Bank × List Reply). run d.0 ys) e ∙ f) in
-    ap (λ (d : Bank × List Reply). (d.0, first.1 ∷ d.1)) rest ∙ ap (λ (d : Bank × List Reply). (last, d.1 ++ ss)) e
-
-leads-append : (bank next last : Bank) (xs ys : List Executed) → Leads bank xs next → Leads next ys last
-    → Leads bank (xs ++ ys) last
-leads-append bank next last xs ys one other =
-    ap (run bank) (map-append (λ (x : Executed). x.request) xs ys)
-    ∙ run-append bank next last (map (λ x. x.request) xs) (map (λ x. x.request) ys) (map (λ x. x.reply) xs)
-    (map (λ x. x.reply) ys) one other
-    ∙ ap (λ (rs : List Reply). (last, rs)) (sym (map-append (λ (x : Executed). x.reply) xs ys))
 
 opening_is_first : (t : Trace) (e : ℕ) → opening_bank t ≡ bank_after t e 0
 unfolding bank_after opening_bank

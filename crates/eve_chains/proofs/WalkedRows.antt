@@ -22,10 +22,8 @@ use Rattle.eve_chains.specs.Changes.{change_by, changes_along}
 use Rattle.eve_chains.specs.declared.changed.Changed.{Changed}
 use Rattle.eve_chains.specs.inner.Stretches.{IsWithin, Reaches, AreStretches}
 use Rattle.eve_chains.specs.inner.Walked.{IsFirstOrNone, IsMismatch, IsFirstOnRow, IsWrongOnSome, IsFirstOnRows}
-use Rattle.std.proofs.lemmas.List.Elements.{All-nil, All-cons}
-use Rattle.eve_chains.specs.inner.Walked.{IsOfRange, AreOfRanges, notes_on}
+use Rattle.eve_chains.specs.inner.Walked.{notes_on}
 use Rattle.eve_chains.specs.declared.stretch.Stretch.{Stretch}
-use Rattle.eve_chains.specs.declared.numbered.Numbered.{Numbered}
 use Rattle.eve_chains.proofs.AlongLaws.{before_up, not_before_up, split_last}
 use Rattle.eve_chains.proofs.RowWalks.{fold_more}
 

@@ -5,3 +5,4 @@ pub mod Gathered
 pub mod Judged
 pub mod Walked
 pub mod Stretches
+pub mod Sections

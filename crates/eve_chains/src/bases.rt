@@ -27,11 +27,10 @@ impl<'b, 'a> Bases<'b, 'a> {
     pub fn row(&self, row: Row, transferred: u32) -> Versioned
         ensures { result ≡ base_at self.now row transferred }
     {
-        let number = row.number() as usize;
         if transferred == 0 {
-            return opening_row(self.opening, number);
+            return opening_row(self.opening, row.number() as usize);
         }
-        state_row(self.history, transferred as usize - 1, number)
+        state_row(self.history, transferred as usize - 1, row)
     }
 }
 
@@ -48,20 +47,23 @@ fn opening_row(opening: &Balances, number: usize) -> Versioned
 }
 
 /// What it has in the state at this place.
-fn state_row(history: &History<'_>, k: usize, number: usize) -> Versioned
-    ensures { result ≡ transferred_table (slice_index_or (map (λ x. x.1.rows) history.now.transfers) k []) number }
+fn state_row(history: &History<'_>, k: usize, row: Row) -> Versioned
+    ensures { result ≡ transferred_table (slice_index_or (map (λ x. x.1.rows) history.now.transfers) k []) row }
 {
     if k < history.transfers() {
-        row_in(&history.transfer(k), number)
+        row_in(&history.transfer(k), row)
     } else {
         nothing()
     }
 }
 
-/// What it has in a state.
-fn row_in(state: &TransferView<'_>, number: usize) -> Versioned
-    ensures { result ≡ transferred_table (transfer_decoded state.now).rows number }
+/// What a row has in a state that was transferred: version 0 and value 0 past its end.
+///
+/// docs/MODEL.md, "What an entry must see".
+pub fn row_in(state: &TransferView<'_>, row: Row) -> Versioned
+    ensures { result ≡ transferred_table (transfer_decoded state.now).rows row }
 {
+    let number = row.number() as usize;
     if number < state.len() {
         state.row(number)
     } else {

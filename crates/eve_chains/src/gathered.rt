@@ -7,21 +7,23 @@ ghost use Rattle.eve_frames.specs.Decoded.{access_decoded};
 ghost use Rattle.eve_grammar.specs.Limits.{is_entry, row_count};
 ghost use Rattle.eve_grammar.specs.Trace.{head_of};
 ghost use Rattle.eve_history.specs.declared.fate.Fate.{Fate as FateValue};
-ghost use Rattle.eve_history.specs.SectionHistory.{ExecutedAttempt, section_history, is_committed};
+ghost use Rattle.eve_history.specs.SectionHistory.{ExecutedAttempt, is_committed};
 ghost use Rattle.eve_chains.specs.Along.{AreWithin};
 ghost use Rattle.eve_chains.specs.inner.Gathered.{as_noted, noted_of_entry, noted_if_settled, notes_between};
 ghost use Rattle.eve_chains.specs.inner.Gathered.{HasGathered, AreGathered};
 ghost use Rattle.eve_chains.specs.Rows.{Noted, noted_by};
+ghost use Rattle.eve_chains.specs.inner.Sections.{IsTold};
 ghost use Rattle.eve_chains.specs.inner.Stretches.{IsWithin};
 
 use crate::grouped::Grouped;
 use crate::note::Note;
+use crate::opening::row_count;
 use crate::records::is_settled;
+use crate::section::Section;
 use crate::stretch::Stretch;
 use eve_frames::AccessView;
-use eve_history::{Fate, History};
+use eve_history::Fate;
 use eve_smallbank::Entry;
-use eve_views::Trace;
 use std::alloc::{AllocError, Global};
 
 /// How many entries are put in order at a time, at least: most rows have some among them, and all of them stay in a
@@ -42,24 +44,23 @@ struct Noting {
 /// of all parts takes no longer than to go through the entries.
 pub(crate) fn gather(
     alloc: Global,
-    history: &History<'_>,
-    trace: &Trace<'_>,
-    rows: u32,
+    section: Section<'_, '_, '_>,
     stretch: Stretch,
 ) -> Result<Vec<Grouped<Note>>, AllocError>
-    requires history { history.now ≡ section_history trace.now history.now.replica }
-    requires rows { rows ≡ row_count (head_of trace.now) }
-    requires within { IsWithin (length history.now.attempts) stretch }
-    ensures { IfOk result (λ parts. AreGathered rows (notes_between history.now stretch.from stretch.to) parts.items) }
+    requires told { IsTold section }
+    requires within { IsWithin (length section.history.now.attempts) stretch }
+    ensures { IfOk result (λ parts. AreGathered (row_count (head_of section.entry.trace.now))
+        (notes_between section.entry.history.now stretch.from stretch.to) parts.items) }
 {
-    trace.recall_limits();
+    section.trace.recall_limits();
+    let rows = row_count(section.trace);
     let to = stretch.to;
-    prove!(to <= history.attempts());
+    prove!(to <= section.history.attempts());
     let many = (rows as usize).max(LEAST_ENTRIES);
     let mut parts = Vec::new(alloc);
     let mut notes = Vec::new(alloc);
     for i in stretch.from..to {
-        note_attempt(&mut notes, history, trace, i)?;
+        note_attempt(&mut notes, section, i)?;
         put_by_row(alloc, rows, many, &mut notes, &mut parts)?;
     }
     put_by_row(alloc, rows, 1, &mut notes, &mut parts)?;
@@ -93,20 +94,21 @@ fn put_by_row(
 /// Notes the entries of an attempt's records, in its certificate's order; of an open attempt none.
 fn note_attempt(
     notes: &mut Vec<Note>,
-    history: &History<'_>,
-    trace: &Trace<'_>,
+    section: Section<'_, '_, '_>,
     i: usize,
 ) -> Result<(), AllocError>
-    requires history { history.now ≡ section_history trace.now history.now.replica }
-    requires attempt { i < length history.now.attempts }
-    requires fate { i < length history.now.fates }
-    requires within { (r : ExecutedAttempt) → slice_get history.now.attempts i ≡ Some r
-        → AreWithin (row_count (head_of trace.now)) r.ordered }
+    requires told { IsTold section }
+    requires attempt { i < length section.history.now.attempts }
+    requires fate { i < length section.history.now.fates }
+    requires within { (r : ExecutedAttempt) → slice_get section.history.now.attempts i ≡ Some r
+        → AreWithin (row_count (head_of section.trace.now)) r.ordered }
     ensures { OnOk result ((r : ExecutedAttempt) (transferred : ℕ) (fate : FateValue)
-        → slice_get history.now.attempts i ≡ Some r → slice_get history.now.transferred i ≡ Some transferred
-        → slice_get history.now.fates i ≡ Some fate
+        → slice_get section.entry.history.now.attempts i ≡ Some r
+        → slice_get section.entry.history.now.transferred i ≡ Some transferred
+        → slice_get section.entry.history.now.fates i ≡ Some fate
         → map as_noted notes.new.items ≡ map as_noted notes.old.items ++ noted_if_settled (r, transferred) fate) }
 {
+    let Section { trace, history } = section;
     let _bytes = trace.bytes();
     let fate = history.fate(i);
     if !is_settled(fate) {

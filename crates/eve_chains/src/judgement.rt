@@ -1,27 +1,26 @@
 //! The judgement of a replica's settled attempts.
 
-ghost use Rattle.std.specs.Prelude.{◌≡◌, ◌≤◌, ℕ, IfOk, IfErr, length};
-ghost use Rattle.eve_grammar.specs.Trace.{opening_rows, head_of};
+ghost use Rattle.std.specs.Prelude.{◌≡◌, ◌≤◌, IfOk, IfErr};
+ghost use Rattle.eve_grammar.specs.Trace.{head_of};
 ghost use Rattle.eve_grammar.specs.Limits.{row_count};
 ghost use Rattle.eve_views.specs.Form.{IfFound, IsLeast, IsFaultIn};
-ghost use Rattle.eve_history.specs.SectionHistory.{section_history, names_of, IsRightSection};
+ghost use Rattle.eve_history.specs.SectionHistory.{section_history, names_of};
 ghost use Rattle.eve_chains.specs.Sound.{RecordsFit, SettledAreSound};
 ghost use Rattle.eve_chains.specs.Faults.{HasNoFault, IsLeastFault, StandsInChains};
-ghost use Rattle.eve_chains.specs.inner.Gathered.{notes_between, AreGathered};
 ghost use Rattle.eve_chains.specs.inner.Judged.{AreFoundIn};
+ghost use Rattle.eve_chains.specs.inner.Sections.{IsTold, AreRowsOf};
 ghost use Rattle.eve_chains.specs.CommittedValues.{settling};
 ghost use Rattle.eve_chains.specs.inner.Walked.{IsFirstOnRows, AreWalked};
 
-use crate::grouped::Grouped;
 use crate::laws::{rows_are_judged_by_themselves, sound_sections_have_no_fault};
-use crate::note::Note;
-use crate::opening::{opening_balances, row_count};
+use crate::opening::opening_balances;
 use crate::records::records;
 use crate::rows::{WalkedRange, changed_ranges, first_of_all, walk_all};
+use crate::section::{Section, SectionRows};
 use crate::settled::Settled;
 use crate::side_by_side::{Judged, all_parts, judge_all, least_mismatch};
 use crate::stretch::Stretch;
-use eve_accounts::{Balances, Names};
+use eve_accounts::Names;
 use eve_history::History;
 use eve_views::{CheckFault, Fault, Trace};
 use std::alloc::{AllocError, Global};
@@ -36,68 +35,55 @@ const LEAST_ITEMS: usize = 16;
 fn judge_attempts<R: Threads + Sync>(
     rt: &R,
     alloc: Global,
-    history: &History<'_>,
-    trace: &Trace<'_>,
+    section: Section<'_, '_, '_>,
     names: &Names<'_>,
     jobs: u8,
 ) -> Result<Vec<Judged>, AllocError>
-    requires history { history.now ≡ section_history trace.now history.now.replica }
-    requires right { IsRightSection trace.now history.now.replica }
-    requires names { names.now.items ≡ names_of trace.now }
+    requires told { IsTold section }
+    requires names { names.now.items ≡ names_of section.trace.now }
     requires jobs { 1 ≤ jobs }
-    ensures { IfOk result (λ judged. AreFoundIn trace.now history.now judged.items) }
+    ensures { IfOk result (λ judged. AreFoundIn section.entry.trace.now section.entry.history.now judged.items) }
 {
     let all = Stretch {
         from: 0,
-        to: history.attempts(),
+        to: section.history.attempts(),
     };
     let stretches = all.cut(alloc, jobs, LEAST_ITEMS)?;
-    judge_all(
-        rt,
-        alloc,
-        history,
-        trace,
-        names,
-        row_count(trace),
-        &stretches,
-    )
+    judge_all(rt, alloc, section, names, &stretches)
 }
 
 /// All rows walked, each by itself along its own entries, in as many ranges as there are jobs at most.
 fn walk<R: Threads + Sync>(
     rt: &R,
     alloc: Global,
-    history: &History<'_>,
-    trace: &Trace<'_>,
-    opening: &Balances,
-    parts: &[Grouped<Note>],
+    rows: SectionRows<'_, '_, '_>,
     jobs: u8,
 ) -> Result<Vec<WalkedRange>, AllocError>
-    requires history { history.now ≡ section_history trace.now history.now.replica }
-    requires opening { opening.now ≡ opening_rows trace.now.customers }
-    requires gathered { AreGathered (row_count (head_of trace.now))
-        (notes_between history.now 0 (length history.now.attempts)) parts.now }
+    requires rows { AreRowsOf rows }
     requires jobs { 1 ≤ jobs }
-    ensures { IfOk result (λ walked. AreWalked trace.now history.now.replica walked.items) }
+    ensures { IfOk result (λ walked.
+        AreWalked rows.entry.section.trace.now rows.entry.section.history.now.replica walked.items) }
 {
     let all = Stretch {
         from: 0,
-        to: opening.len(),
+        to: rows.opening.len(),
     };
     let ranges = all.cut(alloc, jobs, LEAST_ITEMS)?;
-    walk_all(rt, alloc, history, trace, opening, parts, &ranges)
+    walk_all(rt, alloc, rows, &ranges)
 }
 
 /// Judges the chains of a section whose records fit, by the first fault that was found on its rows.
-fn chains(history: &History<'_>, trace: &Trace<'_>, first: Option<Fault>) -> Result<(), CheckFault>
-    requires right { IsRightSection trace.now history.now.replica }
-    requires fit { RecordsFit trace.now history.now.replica }
-    requires first { IsFirstOnRows trace.now history.now.replica 0 (row_count (head_of trace.now)) first }
-    ensures sound { IfOk result (λ _. SettledAreSound trace.now history.now.replica) }
+fn chains(section: Section<'_, '_, '_>, first: Option<Fault>) -> Result<(), CheckFault>
+    requires told { IsTold section }
+    requires fit { RecordsFit section.trace.now section.history.now.replica }
+    requires first { IsFirstOnRows section.trace.now section.history.now.replica 0
+        (row_count (head_of section.trace.now)) first }
+    ensures sound { IfOk result (λ _. SettledAreSound section.entry.trace.now section.entry.history.now.replica) }
     ensures least { IfErr result (λ why. IfFound why
-        (IsLeast (IsFaultIn StandsInChains trace.now history.now.replica))) }
+        (IsLeast (IsFaultIn StandsInChains section.entry.trace.now section.entry.history.now.replica))) }
 {
-    trace.recall_limits();
+    section.trace.recall_limits();
+    section.history.recall_right();
     rows_are_judged_by_themselves();
     match first {
         None => Ok(()),
@@ -131,19 +117,25 @@ pub fn check<'a, R: Threads + Sync>(
     ensures least { IfErr result (λ why. IfFound why (IsLeastFault trace.now history.now.replica)) }
 {
     history.recall_right();
+    let section = Section { trace, history };
     let opening = opening_balances(alloc, trace)?;
-    let judged = judge_attempts(rt, alloc, history, trace, names, jobs)?;
-    if let Err(why) = records(history, trace, least_mismatch(&judged)) {
+    let judged = judge_attempts(rt, alloc, section, names, jobs)?;
+    if let Err(why) = records(section, least_mismatch(&judged)) {
         return Err(why);
     }
     let parts = all_parts(alloc, judged)?;
-    let walked = walk(rt, alloc, history, trace, &opening, &parts, jobs)?;
+    let rows = SectionRows {
+        section,
+        opening: &opening,
+        parts: &parts,
+    };
+    let walked = walk(rt, alloc, rows, jobs)?;
     drop(parts);
-    if let Err(why) = chains(history, trace, first_of_all(&walked)) {
+    if let Err(why) = chains(section, first_of_all(&walked)) {
         return Err(why);
     }
     sound_sections_have_no_fault();
     let ranges = changed_ranges(alloc, walked)?;
-    let settled = Settled::of(alloc, history, trace, opening, ranges)?;
+    let settled = Settled::of(alloc, section, opening, ranges)?;
     Ok(settled)
 }

@@ -13,8 +13,7 @@ ghost use Rattle.eve_chains.specs.Sound.{SettledAreSound, RecordsFit, OfSettledA
 ghost use Rattle.eve_chains.specs.Faults.{HasNoFault, StandsInChains};
 ghost use Rattle.eve_chains.specs.Rows.{bases_of, told_of, all_noted, of_row, IsWrongOnRow, EachSees};
 ghost use Rattle.eve_smallbank.specs.Access.{Fits, values_after};
-ghost use Rattle.eve_smallbank.specs.declared.entry.Entry.{Entry};
-ghost use Rattle.eve_smallbank.specs.Chain.{Table, table_after, visible_at, before_rest};
+ghost use Rattle.eve_smallbank.specs.Chain.{visible_at, before_rest};
 ghost use Rattle.eve_smallbank.specs.Conflict.{IsReordering};
 ghost use Rattle.eve_grammar.specs.Certificate.{is_permutation, keeps_groups};
 ghost use Rattle.eve_smallbank.specs.declared.versioned.Versioned.{Versioned};

@@ -13,9 +13,11 @@ mod opening;
 mod records;
 mod row_walk;
 mod rows;
+mod section;
 mod settled;
 mod side_by_side;
 mod stretch;
 
+pub use bases::row_in;
 pub use judgement::check;
 pub use settled::Settled;

@@ -6,38 +6,38 @@ ghost use Rattle.eve_smallbank.specs.SmallBank.{plain};
 ghost use Rattle.eve_smallbank.specs.Access.{Fits};
 ghost use Rattle.eve_frames.specs.Decoded.{access_decoded, batch_decoded};
 ghost use Rattle.eve_views.specs.Form.{IfFound, IsLeast, HasNone, IsFaultIn};
-ghost use Rattle.eve_history.specs.SectionHistory.{ExecutedAttempt, section_history, names_of, IsRightSection};
+ghost use Rattle.eve_history.specs.SectionHistory.{ExecutedAttempt, names_of};
 ghost use Rattle.eve_chains.specs.Records.{recorded, is_settled, recorded_of, records_between, HasRequests};
 ghost use Rattle.eve_chains.specs.Records.{IsLeastMismatch, CanBeJudged, IsLeastOfAttempt, lesser, IsSearched};
 ghost use Rattle.eve_chains.specs.Sound.{RecordsFit};
+ghost use Rattle.eve_chains.specs.inner.Sections.{IsTold};
 ghost use Rattle.eve_chains.specs.inner.Stretches.{IsWithin};
 ghost use Rattle.eve_chains.specs.Faults.{StandsInRecords};
 
+use crate::section::Section;
 use crate::stretch::Stretch;
 use eve_accounts::Names;
 use eve_frames::{AccessView, BatchView};
 use eve_history::{Fate, History};
 use eve_smallbank::{Entry, Reply, Request, UpToThree, touched};
-use eve_views::{CheckFault, Code, Fault, Trace};
+use eve_views::{CheckFault, Code, Fault};
 use std::alloc::{AllocError, Global};
 
 /// Judges the records of a replica's settled attempts, by the least offset that was found among those of all attempts:
 /// each fits its request, or the first that does not is named.
 ///
 /// docs/MODEL.md, "A record fits its request" and "Faults".
-pub(crate) fn records(
-    history: &History<'_>,
-    trace: &Trace<'_>,
-    least: Option<u64>,
-) -> Result<(), CheckFault>
-    requires history { history.now ≡ section_history trace.now history.now.replica }
-    requires least { IsLeastMismatch (names_of trace.now)
-        (records_between trace.now history.now 0 (length history.now.attempts)) least }
-    ensures fit { IfOk result (λ _. RecordsFit trace.now history.now.replica) }
-    ensures none { IfOk result (λ _. HasNone (IsFaultIn StandsInRecords trace.now history.now.replica)) }
+pub(crate) fn records(section: Section<'_, '_, '_>, least: Option<u64>) -> Result<(), CheckFault>
+    requires told { IsTold section }
+    requires least { IsLeastMismatch (names_of section.trace.now)
+        (records_between section.trace.now section.history.now 0 (length section.history.now.attempts)) least }
+    ensures fit { IfOk result (λ _. RecordsFit section.entry.trace.now section.entry.history.now.replica) }
+    ensures none { IfOk result (λ _. HasNone
+        (IsFaultIn StandsInRecords section.entry.trace.now section.entry.history.now.replica)) }
     ensures least { IfErr result (λ why. IfFound why
-        (IsLeast (IsFaultIn StandsInRecords trace.now history.now.replica))) }
+        (IsLeast (IsFaultIn StandsInRecords section.entry.trace.now section.entry.history.now.replica))) }
 {
+    let Section { trace, history } = section;
     trace.recall_limits();
     history.recall_right();
     match least {
@@ -53,21 +53,21 @@ pub(crate) fn records(
 /// The least offset of the records that don't fit, among those of a stretch's settled attempts.
 pub(crate) fn mismatch_in(
     alloc: Global,
-    history: &History<'_>,
-    trace: &Trace<'_>,
+    section: Section<'_, '_, '_>,
     names: &Names<'_>,
     stretch: Stretch,
 ) -> Result<Option<u64>, AllocError>
-    requires history { history.now ≡ section_history trace.now history.now.replica }
-    requires right { IsRightSection trace.now history.now.replica }
-    requires within { IsWithin (length history.now.attempts) stretch }
-    ensures { IfOk result (IsSearched names.now.items trace.now history.now stretch) }
+    requires told { IsTold section }
+    requires within { IsWithin (length section.history.now.attempts) stretch }
+    ensures { IfOk result
+        (IsSearched names.now.items section.entry.trace.now section.entry.history.now stretch) }
 {
+    section.history.recall_right();
     let to = stretch.to;
-    prove!(to <= history.attempts());
+    prove!(to <= section.history.attempts());
     let mut mismatch = None;
     for i in stretch.from..to {
-        let found = judge_attempt(alloc, history, i, trace, names)?;
+        let found = judge_attempt(alloc, section, names, i)?;
         mismatch = lesser(mismatch, found);
     }
     Ok(mismatch)
@@ -76,14 +76,15 @@ pub(crate) fn mismatch_in(
 /// The least offset of an attempt's records that don't fit. Those of an open attempt are not judged.
 fn judge_attempt(
     alloc: Global,
-    history: &History<'_>,
-    i: usize,
-    trace: &Trace<'_>,
+    section: Section<'_, '_, '_>,
     names: &Names<'_>,
+    i: usize,
 ) -> Result<Option<u64>, AllocError>
-    requires { CanBeJudged trace.now history.now i }
-    ensures { IfOk result (IsLeastOfAttempt names.now.items trace.now history.now i) }
+    requires { CanBeJudged section.trace.now section.history.now i }
+    ensures { IfOk result
+        (IsLeastOfAttempt names.now.items section.entry.trace.now section.entry.history.now i) }
 {
+    let Section { trace, history } = section;
     trace.recall_limits();
     if !is_settled(history.fate(i)) {
         return Ok(None);

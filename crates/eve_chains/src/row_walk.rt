@@ -1,6 +1,6 @@
 //! One row walked by itself, along its own entries.
 
-ghost use Rattle.std.specs.Prelude.{◌≡◌, ◌++◌, ◌∷◌, ◌<◌, [], List, Option, Some, ℕ, All, IfOk, OnOk, length, map};
+ghost use Rattle.std.specs.Prelude.{◌≡◌, ◌++◌, ◌∷◌, ◌<◌, [], List, Option, Some, ℕ, All, IfOk, OnOk, map};
 ghost use Rattle.eve_smallbank.specs.declared.versioned.Versioned.{Versioned as VersionedValue};
 ghost use Rattle.eve_views.specs.First.{first_of};
 ghost use Rattle.eve_views.specs.declared.fault.Code.{Code as CodeValue};
@@ -21,37 +21,26 @@ use eve_smallbank::Versioned;
 use eve_views::{Code, Fault, first_of};
 use std::alloc::AllocError;
 
-/// A row's own entries along the section: in each part those that stand at its number.
-#[derive(Clone, Copy)]
-pub(crate) struct RowEntries<'g> {
-    pub parts: &'g [Grouped<Note>],
-    pub row: Row,
-}
-
-/// Walks one row by itself: from what it has at first, along its own entries in their order, to the last, also where
-/// something is wrong. Gives the row's first fault, which needn't be the first that the walk meets, and adds what the
-/// committed batches change of the row, batch by batch. Of other rows it knows nothing, and nothing of the walk is
-/// kept.
+/// Walks one row by itself: from what it has at first, along its own entries in their order, which in each part are
+/// those at its number, to the last, also where something is wrong. Gives the row's first fault, which needn't be the
+/// first that the walk meets, and adds what the committed batches change of the row, batch by batch. Nothing else of
+/// the walk is kept.
 ///
 /// docs/MODEL.md, "What an entry must see".
 pub(crate) fn walk_row(
     row: Row,
-    opening: Versioned,
-    entries: RowEntries<'_>,
+    parts: &[Grouped<Note>],
     bases: &Bases<'_, '_>,
     replica: u8,
     changes: &mut Vec<Changed>,
 ) -> Result<Option<Fault>, AllocError>
-    requires own { entries.row ≡ row }
-    requires opening { opening ≡ base_at bases.now row 0 }
-    requires groups { (rows : ℕ) × (row < rows) × All (HasGroups rows) entries.parts.now }
-    ensures first { IfOk result (IsFirstOnRow replica (base_at bases.now row) (own_along row entries.entry.parts.now)) }
-    ensures changes { OnOk result (changes.new.items
-        ≡ changes_along changes.old.items (own_along row entries.entry.parts.now)) }
+    requires { (rows : ℕ) × (row < rows) × All (HasGroups rows) parts.now }
+    ensures first { IfOk result (IsFirstOnRow replica (base_at bases.now row) (own_along row parts.now)) }
+    ensures changes { OnOk result (changes.new.items ≡ changes_along changes.old.items (own_along row parts.now)) }
 {
-    let mut walk = RowWalk::new(opening);
-    let number = entries.row.number() as usize;
-    for part in entries.parts {
+    let mut walk = RowWalk::new(bases.row(row, 0));
+    let number = row.number() as usize;
+    for part in parts {
         walk_part(&mut walk, part.group(number), bases, replica, row, changes)?;
     }
     Ok(walk.first)

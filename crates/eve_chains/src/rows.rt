@@ -1,30 +1,26 @@
 //! Rows walked, each by itself: the first fault of chains, and what the batches change.
 
-ghost use Rattle.std.specs.Prelude.{◌≡◌, ◌<◌, ℕ, Option, List, None, All, IfOk, length, map, fold};
+ghost use Rattle.std.specs.Prelude.{◌≡◌, ◌<◌, Option, None, All, IfOk, map, fold};
 ghost use Rattle.std.specs.List.{AllZip};
 ghost use Rattle.eve_accounts.specs.declared.limits.TheConstants.{MOST_NAMED_ROWS};
-ghost use Rattle.eve_grammar.specs.Trace.{opening_rows, head_of};
+ghost use Rattle.eve_grammar.specs.Trace.{head_of};
 ghost use Rattle.eve_grammar.specs.Limits.{row_count};
-ghost use Rattle.eve_history.specs.SectionHistory.{section_history};
 ghost use Rattle.eve_views.specs.First.{first_of};
 ghost use Rattle.eve_views.specs.declared.fault.Fault.{Fault as FaultValue};
-ghost use Rattle.eve_chains.specs.inner.Gathered.{notes_between, AreGathered};
+ghost use Rattle.eve_chains.specs.inner.Sections.{IsTold, AreRowsOf};
 ghost use Rattle.eve_chains.specs.inner.Stretches.{IsWithin};
-ghost use Rattle.eve_chains.specs.inner.Walked.{IsWalked, IsOfRange, AreOfRanges, IsWalkedRange};
+ghost use Rattle.eve_chains.specs.inner.Walked.{IsWalked, IsOfRange, IsWalkedRange};
 ghost use Rattle.eve_chains.specs.declared.rows.WalkedRange.{WalkedRange as WalkedRangeValue};
 
 use crate::bases::Bases;
 use crate::changed::Changed;
-use crate::grouped::Grouped;
-use crate::note::Note;
 use crate::numbered::Numbered;
-use crate::opening::row_count;
-use crate::row_walk::{RowEntries, walk_row};
+use crate::row_walk::walk_row;
+use crate::section::{Section, SectionRows};
 use crate::stretch::Stretch;
-use eve_accounts::{Balances, Row};
-use eve_history::History;
+use eve_accounts::Row;
 use eve_history::laws::numbers_are_reached;
-use eve_views::{Fault, Trace, first_of};
+use eve_views::{Fault, first_of};
 use rayon::prelude::*;
 use std::alloc::{AllocError, Global};
 use std::thread::Threads;
@@ -63,20 +59,20 @@ pub(crate) fn row_at(number: u32) -> Row
 /// Walks a range of rows, one after another, each by itself along its own of the entries that were gathered.
 fn walk_rows(
     alloc: Global,
-    history: &History<'_>,
-    trace: &Trace<'_>,
-    opening: &Balances,
-    parts: &[Grouped<Note>],
+    rows: SectionRows<'_, '_, '_>,
     range: Stretch,
 ) -> Result<Walked, AllocError>
-    requires history { history.now ≡ section_history trace.now history.now.replica }
-    requires opening { opening.now ≡ opening_rows trace.now.customers }
-    requires within { IsWithin (row_count (head_of trace.now)) range }
-    requires gathered { AreGathered (row_count (head_of trace.now))
-        (notes_between history.now 0 (length history.now.attempts)) parts.now }
-    ensures { IfOk result (IsWalked trace.now history.now.replica range) }
+    requires rows { AreRowsOf rows }
+    requires within { IsWithin (row_count (head_of rows.section.trace.now)) range }
+    ensures { IfOk result (IsWalked rows.entry.section.trace.now rows.entry.section.history.now.replica range) }
 {
-    trace.recall_limits();
+    let SectionRows {
+        section,
+        opening,
+        parts,
+    } = rows;
+    let history = section.history;
+    section.trace.recall_limits();
     let from = range.from;
     let replica = history.replica();
     let bases = Bases { opening, history };
@@ -84,15 +80,7 @@ fn walk_rows(
     let mut changes = Vec::new(alloc);
     for number in from..range.to {
         let row = row_at(number as u32);
-        let entries = RowEntries { parts, row };
-        let wrong = walk_row(
-            row,
-            bases.row(row, 0),
-            entries,
-            &bases,
-            replica,
-            &mut changes,
-        )?;
+        let wrong = walk_row(row, parts, &bases, replica, &mut changes)?;
         first = first_of(first, wrong);
     }
     Ok(Walked { first, changes })
@@ -101,45 +89,35 @@ fn walk_rows(
 /// What the batches changed of a range of rows that is walked, in order by batch.
 fn number_range(
     alloc: Global,
-    history: &History<'_>,
-    trace: &Trace<'_>,
-    opening: &Balances,
+    section: Section<'_, '_, '_>,
     range: Stretch,
     walked: &Walked,
 ) -> Result<Numbered, AllocError>
-    requires history { history.now ≡ section_history trace.now history.now.replica }
-    requires opening { opening.now ≡ opening_rows trace.now.customers }
-    requires within { IsWithin (row_count (head_of trace.now)) range }
-    requires walked { IsWalked trace.now history.now.replica range walked.now }
-    ensures { IfOk result (IsOfRange trace.now history.now.replica range) }
+    requires told { IsTold section }
+    requires within { IsWithin (row_count (head_of section.trace.now)) range }
+    requires walked { IsWalked section.trace.now section.history.now.replica range walked.now }
+    ensures { IfOk result (IsOfRange section.entry.trace.now section.entry.history.now.replica range) }
 {
-    trace.recall_limits();
-    history.recall_right();
+    section.history.recall_right();
     numbers_are_reached();
     let _range = range;
-    let count = history.committed();
-    let numbered = Numbered::of(alloc, opening.len(), count, walked.changes.as_slice())?;
+    let count = section.history.committed();
+    let numbered = Numbered::of(alloc, count, walked.changes.as_slice())?;
     Ok(numbered)
 }
 
 /// Walks a range of rows, and puts what the batches changed of them in order by batch.
-pub(crate) fn walk_range(
+fn walk_range(
     alloc: Global,
-    history: &History<'_>,
-    trace: &Trace<'_>,
-    opening: &Balances,
-    parts: &[Grouped<Note>],
+    rows: SectionRows<'_, '_, '_>,
     range: Stretch,
 ) -> Result<WalkedRange, AllocError>
-    requires history { history.now ≡ section_history trace.now history.now.replica }
-    requires opening { opening.now ≡ opening_rows trace.now.customers }
-    requires gathered { AreGathered (row_count (head_of trace.now))
-        (notes_between history.now 0 (length history.now.attempts)) parts.now }
-    requires within { IsWithin (row_count (head_of trace.now)) range }
-    ensures { IfOk result (IsWalkedRange trace.now history.now.replica range) }
+    requires rows { AreRowsOf rows }
+    requires within { IsWithin (row_count (head_of rows.section.trace.now)) range }
+    ensures { IfOk result (IsWalkedRange rows.entry.section.trace.now rows.entry.section.history.now.replica range) }
 {
-    let walked = walk_rows(alloc, history, trace, opening, parts, range)?;
-    let changed = number_range(alloc, history, trace, opening, range, &walked)?;
+    let walked = walk_rows(alloc, rows, range)?;
+    let changed = number_range(alloc, rows.section, range, &walked)?;
     Ok(WalkedRange {
         first: walked.first,
         changed,
@@ -151,31 +129,23 @@ pub(crate) fn walk_range(
 pub(crate) fn walk_all<R: Threads + Sync>(
     rt: &R,
     alloc: Global,
-    history: &History<'_>,
-    trace: &Trace<'_>,
-    opening: &Balances,
-    parts: &[Grouped<Note>],
+    rows: SectionRows<'_, '_, '_>,
     ranges: &[Stretch],
 ) -> Result<Vec<WalkedRange>, AllocError>
-    requires history { history.now ≡ section_history trace.now history.now.replica }
-    requires opening { opening.now ≡ opening_rows trace.now.customers }
-    requires gathered { AreGathered (row_count (head_of trace.now))
-        (notes_between history.now 0 (length history.now.attempts)) parts.now }
-    requires ranges { All (IsWithin (row_count (head_of trace.now))) ranges.now }
-    ensures { IfOk result (λ walked. AllZip (IsWalkedRange trace.now history.now.replica) ranges.now walked.items) }
+    requires rows { AreRowsOf rows }
+    requires ranges { All (IsWithin (row_count (head_of rows.section.trace.now))) ranges.now }
+    ensures { IfOk result (λ walked. AllZip
+        (IsWalkedRange rows.entry.section.trace.now rows.entry.section.history.now.replica) ranges.now walked.items) }
 {
     ranges
         .par_iter()
         .with_min_len(1)
         .map(
             |range: &Stretch| -> Result<WalkedRange, AllocError>
-                requires { (history.now ≡ section_history trace.now history.now.replica)
-                    × (opening.now ≡ opening_rows trace.now.customers)
-                    × AreGathered (row_count (head_of trace.now))
-                    (notes_between history.now 0 (length history.now.attempts)) parts.now
-                    × IsWithin (row_count (head_of trace.now)) range.now }
-                ensures { IfOk result (IsWalkedRange trace.entry.now history.entry.now.replica range.now) }
-            { walk_range(alloc, history, trace, opening, parts, *range) },
+                requires { AreRowsOf rows × IsWithin (row_count (head_of rows.section.trace.now)) range.now }
+                ensures { IfOk result (IsWalkedRange rows.entry.section.trace.now
+                    rows.entry.section.history.now.replica range.now) }
+            { walk_range(alloc, rows, *range) },
         )
         .collect::<Result<Vec<WalkedRange>, AllocError>>(rt, alloc)?
 }

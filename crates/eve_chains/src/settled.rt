@@ -8,21 +8,22 @@ ghost use Rattle.eve_smallbank.specs.Access.{balance_of_row};
 ghost use Rattle.eve_grammar.specs.Trace.{opening_rows, head_of};
 ghost use Rattle.eve_grammar.specs.Limits.{row_count};
 ghost use Rattle.eve_frames.specs.Decoded.{transfer_decoded};
-ghost use Rattle.eve_history.specs.SectionHistory.{section_history, IsToldOf};
+ghost use Rattle.eve_history.specs.SectionHistory.{IsToldOf};
 ghost use Rattle.eve_chains.specs.Changes.{change_of, changes_in_ranges, values_changed};
 ghost use Rattle.eve_chains.specs.ReachedChanges.{change_decoded, IsOfRows, transfer_at, rows_changed_at};
 ghost use Rattle.eve_chains.specs.Numbered.{IsRowBelow, HasNumbersTo, is_same_where_changed};
 ghost use Rattle.eve_chains.specs.CommittedValues.{settling, values_in, defined, AreBankAfter, HaveSameBalances};
+ghost use Rattle.eve_chains.specs.inner.Sections.{IsTold};
 ghost use Rattle.eve_chains.specs.inner.Walked.{AreOfRanges};
 
 use crate::changed::Changed;
 use crate::numbered::Numbered;
 use crate::rows::row_at;
+use crate::section::Section;
 use eve_accounts::{Balances, SetRow};
 use eve_frames::TransferView;
 use eve_history::laws::numbers_are_reached;
 use eve_history::{History, HowReached};
-use eve_views::Trace;
 use std::alloc::{AllocError, Global};
 use std::marker::Model;
 
@@ -81,16 +82,18 @@ impl<'a> Settled<'a> {
     /// What a replica committed, of its opening balances and of what the batches changed of the rows.
     pub(crate) fn of(
         alloc: Global,
-        history: &History<'a>,
-        trace: &Trace<'_>,
+        section: Section<'_, '_, 'a>,
         opening: Balances,
         ranges: Vec<Numbered>,
     ) -> Result<Settled<'a>, AllocError>
-        requires history { history.now ≡ section_history trace.now history.now.replica }
-        requires opening { opening ≡ opening_rows trace.now.customers }
-        requires ranges { AreOfRanges trace.now history.now.replica (row_count (head_of trace.now)) ranges.items }
-        ensures { IfOk result (λ settled. settled ≡ settling trace.now history.now.replica) }
+        requires told { IsTold section }
+        requires opening { opening ≡ opening_rows section.trace.now.customers }
+        requires ranges { AreOfRanges section.trace.now section.history.now.replica
+            (row_count (head_of section.trace.now)) ranges.items }
+        ensures { IfOk result (λ settled.
+            settled ≡ settling section.entry.trace.now section.entry.history.now.replica) }
     {
+        let Section { trace, history } = section;
         trace.recall_limits();
         history.recall_right();
         numbers_are_reached();

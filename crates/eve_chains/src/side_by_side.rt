@@ -2,10 +2,8 @@
 
 ghost use Rattle.std.specs.Prelude.{◌≡◌, ◌++◌, All, IfOk, OnOk, None, Option, ℕ, fold, length};
 ghost use Rattle.std.specs.List.{AllZip, flat_map};
-ghost use Rattle.eve_grammar.specs.Trace.{head_of};
-ghost use Rattle.eve_grammar.specs.Limits.{row_count};
-ghost use Rattle.eve_history.specs.SectionHistory.{section_history, IsRightSection};
 ghost use Rattle.eve_chains.specs.inner.Judged.{IsFoundIn};
+ghost use Rattle.eve_chains.specs.inner.Sections.{IsTold};
 ghost use Rattle.eve_chains.specs.inner.Stretches.{IsWithin};
 ghost use Rattle.eve_chains.specs.Records.{lesser};
 ghost use Rattle.eve_chains.specs.declared.side_by_side.Judged.{Judged as JudgedValue};
@@ -14,10 +12,9 @@ use crate::gathered::gather;
 use crate::grouped::Grouped;
 use crate::note::Note;
 use crate::records::{lesser, mismatch_in};
+use crate::section::Section;
 use crate::stretch::Stretch;
 use eve_accounts::Names;
-use eve_history::History;
-use eve_views::Trace;
 use rayon::prelude::*;
 use std::alloc::{AllocError, Global};
 use std::thread::Threads;
@@ -34,20 +31,17 @@ pub struct Judged {
 /// A stretch judged: each of its records by itself, and then its entries gathered, whatever was found in the records.
 fn judge(
     alloc: Global,
-    history: &History<'_>,
-    trace: &Trace<'_>,
+    section: Section<'_, '_, '_>,
     names: &Names<'_>,
-    rows: u32,
     stretch: Stretch,
 ) -> Result<Judged, AllocError>
-    requires history { history.now ≡ section_history trace.now history.now.replica }
-    requires right { IsRightSection trace.now history.now.replica }
-    requires rows { rows ≡ row_count (head_of trace.now) }
-    requires within { IsWithin (length history.now.attempts) stretch }
-    ensures { IfOk result (IsFoundIn names.now.items trace.now history.now stretch) }
+    requires told { IsTold section }
+    requires within { IsWithin (length section.history.now.attempts) stretch }
+    ensures { IfOk result
+        (IsFoundIn names.now.items section.entry.trace.now section.entry.history.now stretch) }
 {
-    let mismatch = mismatch_in(alloc, history, trace, names, stretch)?;
-    let parts = gather(alloc, history, trace, rows, stretch)?;
+    let mismatch = mismatch_in(alloc, section, names, stretch)?;
+    let parts = gather(alloc, section, stretch)?;
     Ok(Judged { mismatch, parts })
 }
 
@@ -56,30 +50,24 @@ fn judge(
 pub(crate) fn judge_all<R: Threads + Sync>(
     rt: &R,
     alloc: Global,
-    history: &History<'_>,
-    trace: &Trace<'_>,
+    section: Section<'_, '_, '_>,
     names: &Names<'_>,
-    rows: u32,
     stretches: &[Stretch],
 ) -> Result<Vec<Judged>, AllocError>
-    requires history { history.now ≡ section_history trace.now history.now.replica }
-    requires right { IsRightSection trace.now history.now.replica }
-    requires rows { rows ≡ row_count (head_of trace.now) }
-    requires stretches { All (IsWithin (length history.now.attempts)) stretches.now }
-    ensures { IfOk result (λ judged.
-        AllZip (IsFoundIn names.now.items trace.now history.now) stretches.now judged.items) }
+    requires told { IsTold section }
+    requires stretches { All (IsWithin (length section.history.now.attempts)) stretches.now }
+    ensures { IfOk result (λ judged. AllZip
+        (IsFoundIn names.now.items section.entry.trace.now section.entry.history.now) stretches.now judged.items) }
 {
     stretches
         .par_iter()
         .with_min_len(1)
         .map(
             |stretch: &Stretch| -> Result<Judged, AllocError>
-                requires { (history.now ≡ section_history trace.now history.now.replica)
-                    × IsRightSection trace.now history.now.replica
-                    × (rows ≡ row_count (head_of trace.now))
-                    × IsWithin (length history.now.attempts) stretch.now }
-                ensures { IfOk result (IsFoundIn names.entry.now.items trace.entry.now history.entry.now stretch.now) }
-            { judge(alloc, history, trace, names, rows, *stretch) },
+                requires { IsTold section × IsWithin (length section.history.now.attempts) stretch.now }
+                ensures { IfOk result (IsFoundIn names.entry.now.items section.entry.trace.now
+                    section.entry.history.now stretch.now) }
+            { judge(alloc, section, names, *stretch) },
         )
         .collect::<Result<Vec<Judged>, AllocError>>(rt, alloc)?
 }

@@ -4,7 +4,8 @@ use Rattle.std.proofs.lemmas.List.Elements.{All-nil}
 use Rattle.eve_grammar.specs.Limits.{row_count}
 use Rattle.eve_grammar.specs.Trace.{head_of}
 use Rattle.eve_grammar.proofs.Lists.{item_within, all-append}
-use Rattle.eve_chains.specs.inner.Gathered.{with_transferred, as_noted, noted_if_settled, notes_between, HasGathered}
+use Rattle.eve_chains.specs.inner.Gathered.{with_transferred, as_noted, noted_if_settled, notes_between, AreGathered}
+use Rattle.eve_chains.specs.inner.Gathered.{HasGathered}
 use Rattle.eve_chains.specs.Rows.{Noted}
 use Rattle.eve_chains.specs.declared.note.Note.{Note}
 use Rattle.eve_chains.proofs.GatheredEntries.{none_gathered, notes_more, gathered_whole, below_noted, noted_below}
@@ -18,8 +19,8 @@ none_left (n ∷ notes) few = absurd (omega (arith, few))
 
 pub loop-i-init : goal.loop-i-init
 loop-i-init c =
-    let h = c.args.history.now in
-    let rows = c.args.rows in
+    let h = c.args.section.history.now in
+    let rows = c.row_count-rows.result in
     let parts = c.new-parts.result.items in
     let notes = c.new-notes.result.items in
     record {
@@ -32,13 +33,14 @@ loop-i-init c =
 
 pub note_attempt-requires-clause-within : goal.note_attempt-requires-clause-within
 note_attempt-requires-clause-within c r at =
-    within_told c.args.trace.now c.args.history.now.replica c.args.history.now c.loop-i.i r c.recall_limits.ensures
-    c.requires.history at
+    let h = c.args.section.history.now in
+    within_told c.args.section.trace.now h.replica h c.loop-i.i r c.recall_limits.ensures c.requires.told at
 
 pub put_by_row-requires-clause-below : goal.put_by_row-requires-clause-below
 put_by_row-requires-clause-below c =
-    let t = c.args.trace.now in
-    let h = c.args.history.now in
+    let rows = c.row_count-rows.result in
+    let t = c.args.section.trace.now in
+    let h = c.args.section.history.now in
     let i = c.loop-i.i in
     let old = c.loop-i.notes.items in
     let r = item_within h.attempts i
@@ -51,21 +53,22 @@ put_by_row-requires-clause-below c =
       c.if-prove.false,
       c.attempts.ensures.attempts,
       as_many_transferred t h.replica h
-          c.requires.history,
+          c.requires.told,
     )) in
     let more = noted_if_settled (r.0, transferred.0) fate.0 in
-    let within = within_told t h.replica h i r.0 c.recall_limits.ensures c.requires.history r.1 in
-    noted_below c.args.rows c.note_attempt.new.notes.items
-    (subst (AllByRecursion (IsRowBelow c.args.rows))
+    let within = within_told t h.replica h i r.0 c.recall_limits.ensures c.requires.told r.1 in
+    noted_below rows c.note_attempt.new.notes.items
+    (subst (AllByRecursion (IsRowBelow rows))
     (sym (c.in_ok-note_attempt.ensures r.0 transferred.0 fate.0 r.1 transferred.1 fate.1))
-    (all-append (IsRowBelow c.args.rows) (map as_noted old) more (below_noted c.args.rows old c.loop-i.invariant.below)
-    (subst (λ (n : ℕ). AllByRecursion (IsRowBelow n) more) (sym c.requires.rows)
+    (all-append (IsRowBelow rows) (map as_noted old) more (below_noted rows old c.loop-i.invariant.below)
+    (subst (λ (n : ℕ). AllByRecursion (IsRowBelow n) more) (sym c.row_count-rows.ensures)
     (below_settled (row_count (head_of t)) r.0 transferred.0 fate.0 within))))
 
 pub loop-i-preserved : goal.loop-i-preserved
 loop-i-preserved c =
-    let t = c.args.trace.now in
-    let h = c.args.history.now in
+    let rows = c.row_count-rows.result in
+    let t = c.args.section.trace.now in
+    let h = c.args.section.history.now in
     let i = c.loop-i.i in
     let from = c.args.stretch.from in
     let r = item_within h.attempts i
@@ -78,7 +81,7 @@ loop-i-preserved c =
       c.if-prove.false,
       c.attempts.ensures.attempts,
       as_many_transferred t h.replica h
-          c.requires.history,
+          c.requires.told,
     )) in
     let xs = with_transferred h.attempts h.transferred in
     let more = noted_if_settled (r.0, transferred.0) fate.0 in
@@ -90,9 +93,9 @@ loop-i-preserved c =
     record {
       below = c.in_ok-put_by_row.ensures.below;
       gathered = c.in_ok-put_by_row.ensures.gathered (notes_between h from (i + 1))
-          (subst (λ (ns : List Noted). HasGathered c.args.rows ns c.loop-i.parts.items c.note_attempt.new.notes.items)
+          (subst (λ (ns : List Noted). HasGathered rows ns c.loop-i.parts.items c.note_attempt.new.notes.items)
           joined
-          (notes_more c.args.rows (notes_between h from i) more c.loop-i.parts.items c.loop-i.notes.items
+          (notes_more rows (notes_between h from i) more c.loop-i.parts.items c.loop-i.notes.items
           c.note_attempt.new.notes.items
           (c.in_ok-note_attempt.ensures r.0 transferred.0 fate.0 r.1 transferred.1 fate.1)
           c.loop-i.invariant.gathered));
@@ -100,7 +103,8 @@ loop-i-preserved c =
 
 pub returns : goal.returns
 returns c =
-    let h = c.args.history.now in
+    let rows = c.row_count-rows.result in
+    let h = c.args.section.history.now in
     let from = c.args.stretch.from in
     let last : c.loop-i.i ≡ c.args.stretch.to = omega (
       arith,
@@ -108,8 +112,10 @@ returns c =
       c.loop-i.auto.i-end c.requires.within.rising,
     ) in
     let whole = c.in_ok-put_by_row-2.ensures in
-    gathered_whole c.args.rows (notes_between h from c.args.stretch.to) c.put_by_row-2.new.parts.items
+    subst (λ (n : ℕ). AreGathered n (notes_between h from c.args.stretch.to) c.put_by_row-2.new.parts.items)
+    c.row_count-rows.ensures
+    (gathered_whole rows (notes_between h from c.args.stretch.to) c.put_by_row-2.new.parts.items
     c.put_by_row-2.new.notes.items (none_left c.put_by_row-2.new.notes.items whole.few)
     (whole.gathered (notes_between h from c.args.stretch.to)
-    (subst (λ (n : ℕ). HasGathered c.args.rows (notes_between h from n) c.loop-i.parts.items c.loop-i.notes.items) last
-    c.loop-i.invariant.gathered))
+    (subst (λ (n : ℕ). HasGathered rows (notes_between h from n) c.loop-i.parts.items c.loop-i.notes.items) last
+    c.loop-i.invariant.gathered)))

@@ -5,5 +5,5 @@ use Rattle.eve_chains.proofs.gathered.gather.Given as goal
 abbrev pub invariant-loop-i : goal.invariant-loop-i
 invariant-loop-i l = record {
   below : All (λ n. n.row < l.rows) l.notes.items;
-  gathered : HasGathered l.rows (notes_between l.history l.fn.stretch.from l.i) l.parts.items l.notes.items;
+  gathered : HasGathered l.rows (notes_between l.section.history.now l.fn.stretch.from l.i) l.parts.items l.notes.items;
 }

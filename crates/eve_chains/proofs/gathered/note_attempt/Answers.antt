@@ -22,15 +22,16 @@ loop-place-init c = λ r at. sym (append-nil (map as_noted c.args.notes.now.item
 
 pub note_record-requires-clause-offset : goal.note_record-requires-clause-offset
 note_record-requires-clause-offset c =
-    offset_small _ c.args.trace.now c.ordered-access.result.offset (OfAccess (access_decoded c.ordered-access.result))
-    c.bytes-bytes.ensures
-    (subst (HasBytesAt c.args.trace.now c.ordered-access.result.offset) c.ordered-access.ensures.text
-    (c.ordered-access.ensures.stands c.args.trace.now c.args.history.now.replica c.requires.history))
+    let t = c.args.section.trace.now in
+    let x = c.ordered-access.result in
+    offset_small _ t x.offset (OfAccess (access_decoded x)) c.bytes-bytes.ensures
+    (subst (HasBytesAt t x.offset) c.ordered-access.ensures.text
+    (c.ordered-access.ensures.stands t c.args.section.history.now.replica c.requires.told))
 
 pub note_record-requires-clause-within : goal.note_record-requires-clause-within
 note_record-requires-clause-within c =
     let says = c.ordered-access.ensures.says in
-    let rows = row_count (head_of c.args.trace.now) in (
+    let rows = row_count (head_of c.args.section.trace.now) in (
       rows,
       record_within rows says.0.ordered c.loop-place.place (decoded_at c.ordered-access.result)
           (c.requires.within says.0 says.1) says.2,

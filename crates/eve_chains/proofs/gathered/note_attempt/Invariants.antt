@@ -5,6 +5,6 @@ use Rattle.eve_chains.specs.Rows.{noted_by}
 use Rattle.eve_chains.proofs.gathered.note_attempt.Given as goal
 
 abbrev pub invariant-loop-place : goal.invariant-loop-place
-invariant-loop-place l = (r : ExecutedAttempt) → slice_get l.history.attempts l.i ≡ Some r
+invariant-loop-place l = (r : ExecutedAttempt) → slice_get l.section.history.now.attempts l.i ≡ Some r
     → map as_noted l.notes.items ≡ map as_noted l.fn.notes.items
     ++ flat_map (noted_by l.noting.transferred l.noting.view l.noting.number l.noting.commits) (take l.place r.ordered)

@@ -23,13 +23,17 @@ records-requires-clause-least g c =
     c.deref.ensures.value))
     (least_of_stretches t h c.in_ok-judged.judged.items c.in_ok-judged.ensures)
 
-pub walk-requires-clause-gathered : goal.walk-requires-clause-gathered
-walk-requires-clause-gathered g c κs held =
+pub walk-requires-clause-rows : goal.walk-requires-clause-rows
+walk-requires-clause-rows g c κs held =
     let t = c.args.trace.now in
     let h = c.args.history.now in
-    subst (AreGathered (row_count (head_of t)) (notes_between h 0 (length h.attempts)))
-    (sym (c.deref-2.ensures.value ∙ c.in_ok-parts.ensures))
-    (parts_of_stretches t h c.in_ok-judged.judged.items c.in_ok-judged.ensures)
+    record {
+      told = c.requires.history;
+      opening = c.in_ok-opening.ensures;
+      gathered = subst (AreGathered (row_count (head_of t)) (notes_between h 0 (length h.attempts)))
+          (sym (c.deref-2.ensures.value ∙ c.in_ok-parts.ensures))
+          (parts_of_stretches t h c.in_ok-judged.judged.items c.in_ok-judged.ensures);
+    }
 
 pub chains-requires-clause-first : goal.chains-requires-clause-first
 chains-requires-clause-first g c =

@@ -8,8 +8,8 @@ use Rattle.eve_chains.proofs.judgement.judge_attempts.Goals as goal
 
 pub returns : goal.returns
 returns g c =
-    let t = c.args.trace.now in
-    let h = c.args.history.now in
+    let t = c.args.section.trace.now in
+    let h = c.args.section.history.now in
     let xs = c.in_ok-stretches.stretches.items in
     let cut = subst (λ (n : ℕ). AreBetween 0 n xs) c.attempts.ensures.attempts c.in_ok-stretches.ensures.all in
     IfOk-then c.judge_all.result _ _ c.judge_all.ensures (λ js each. record {

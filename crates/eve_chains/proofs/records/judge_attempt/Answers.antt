@@ -13,8 +13,9 @@ use Rattle.eve_chains.proofs.records.judge_attempt.Goals as goal
 pub batch-batch-requires-clause-from_one : goal.batch-batch-requires-clause-from_one
 batch-batch-requires-clause-from_one c =
     let r = c.attempt.ensures.says.0 in
-    let ready = ready_told c.args.trace.now c.args.history.now.replica c.recall_limits.ensures
-    c.requires.right c.args.history.now c.args.i r c.fate.result c.requires.told
+    let h = c.args.section.history.now in
+    let ready = ready_told c.args.section.trace.now h.replica c.recall_limits.ensures c.requires.right h c.args.i r
+    c.fate.result c.requires.told
     c.attempt.ensures.says.1 c.fate.ensures (sym c.is_settled.ensures ∙ c.if-not-is_settled.false) in
     let seq : c.seq.result ≡ r.attempt.seq = c.seq.ensures ∙ ap (λ (a : Attempt). a.seq) c.attempt.ensures.says.3 in
     let one : 1 ≤ r.attempt.seq = ready.from_one in
@@ -23,20 +24,22 @@ batch-batch-requires-clause-from_one c =
 pub batch-batch-requires-clause-there : goal.batch-batch-requires-clause-there
 batch-batch-requires-clause-there c =
     let r = c.attempt.ensures.says.0 in
-    let ready = ready_told c.args.trace.now c.args.history.now.replica c.recall_limits.ensures
-    c.requires.right c.args.history.now c.args.i r c.fate.result c.requires.told
+    let h = c.args.section.history.now in
+    let ready = ready_told c.args.section.trace.now h.replica c.recall_limits.ensures c.requires.right h c.args.i r
+    c.fate.result c.requires.told
     c.attempt.ensures.says.1 c.fate.ensures (sym c.is_settled.ensures ∙ c.if-not-is_settled.false) in
     let seq : c.seq.result ≡ r.attempt.seq = c.seq.ensures ∙ ap (λ (a : Attempt). a.seq) c.attempt.ensures.says.3 in
-    let there : r.attempt.seq ≤ length c.args.trace.now.batches = ready.there_is in
+    let there : r.attempt.seq ≤ length c.args.section.trace.now.batches = ready.there_is in
     omega arith
 
 pub judge_records-requires-clause-requests : goal.judge_records-requires-clause-requests
 judge_records-requires-clause-requests c r at =
-    let t = c.args.trace.now in
+    let t = c.args.section.trace.now in
     let own : c.attempt.ensures.says.0 ≡ r = same_Some c.attempt.ensures.says.0 r
     (sym c.attempt.ensures.says.1 ∙ at) in
-    let ready = ready_told t c.args.history.now.replica c.recall_limits.ensures c.requires.right c.args.history.now
-    c.args.i r c.fate.result c.requires.told
+    let h = c.args.section.history.now in
+    let ready = ready_told t h.replica c.recall_limits.ensures c.requires.right h c.args.i r c.fate.result
+    c.requires.told
     at c.fate.ensures (sym c.is_settled.ensures ∙ c.if-not-is_settled.false) in
     let seq : c.seq.result ≡ r.attempt.seq = c.seq.ensures ∙ ap (λ (a : Attempt). a.seq) c.attempt.ensures.says.3
     ∙ ap (λ (q : ExecutedAttempt). q.attempt.seq) own in
@@ -48,7 +51,7 @@ judge_records-requires-clause-requests c r at =
 
 pub returns : goal.returns
 returns c r fate at its =
-    let t = c.args.trace.now in
+    let t = c.args.section.trace.now in
     let own : c.attempt.ensures.says.0 ≡ r = same_Some c.attempt.ensures.says.0 r
     (sym c.attempt.ensures.says.1 ∙ at) in
     let seq : c.seq.result ≡ r.attempt.seq = c.seq.ensures ∙ ap (λ (a : Attempt). a.seq) c.attempt.ensures.says.3

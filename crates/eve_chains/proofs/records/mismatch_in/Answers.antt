@@ -5,8 +5,8 @@ use Rattle.eve_chains.proofs.records.mismatch_in.Goals as goal
 
 pub loop-i-preserved : goal.loop-i-preserved
 loop-i-preserved c =
-    let t = c.args.trace.now in
-    let h = c.args.history.now in
+    let t = c.args.section.trace.now in
+    let h = c.args.section.history.now in
     let i = c.loop-i.i in
     let from = c.args.stretch.from in
     subst (IsLeastMismatch c.args.names.now.items (records_between t h from (i + 1))) (sym c.lesser-mismatch.ensures)

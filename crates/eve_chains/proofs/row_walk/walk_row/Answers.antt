@@ -14,18 +14,18 @@ use Rattle.eve_chains.proofs.row_walk.walk_row.Goals as goal
 
 pub loop-part-init : goal.loop-part-init
 loop-part-init c = record {
-  checked = c.new-walk.ensures c.args.replica (base_at c.args.bases.now c.args.row) (sym c.requires.opening);
+  checked = c.new-walk.ensures c.args.replica (base_at c.args.bases.now c.args.row) (sym c.row.ensures);
   changes = refl;
 }
 
 pub loop-part-preserved : goal.loop-part-preserved
 loop-part-preserved c =
     let row = c.args.row in
-    let parts = c.args.entries.parts.now in
+    let parts = c.args.parts.now in
     let k = c.loop-part.part-index in
     let p = c.part-item.result in
     let before = own_along row (take k parts) in
-    let same : c.number-number.result ≡ row = c.number-number.ensures.number ∙ c.requires.own in
+    let same : c.number-number.result ≡ row = c.number-number.ensures.number in
     let own : map as_noted c.group.result.now ≡ own_in row p =
     ap (map as_noted) (c.group.ensures ∙ ap (λ (n : ℕ). standing_at n p) same) in
     let more : before ++ map as_noted c.group.result.now ≡ own_along row (take (k + 1) parts) =
@@ -45,5 +45,5 @@ pub returns-clause-first : goal.returns-clause-first
 returns-clause-first c =
     subst (λ (ps : List (Grouped Note)). IsFirstOnRow c.args.replica (base_at c.args.bases.now c.args.row)
     (own_along c.args.row ps) c.loop-part.walk.first)
-    (take_all c.loop-part.part-index c.args.entries.parts.now (omega (arith, c.loop-part-test.false)))
+    (take_all c.loop-part.part-index c.args.parts.now (omega (arith, c.loop-part-test.false)))
     c.loop-part.invariant.checked.first

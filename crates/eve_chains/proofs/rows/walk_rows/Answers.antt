@@ -12,32 +12,32 @@ use Rattle.eve_chains.proofs.ToldAttempts.{all_told, are_bases}
 use Rattle.eve_chains.proofs.WalkedRows.{first_on_rows, one_on_rows}
 use Rattle.eve_chains.proofs.rows.walk_rows.Goals as goal
 
-pub walk_row-requires-clause-groups : goal.walk_row-requires-clause-groups
-walk_row-requires-clause-groups c = (
-  row_count (head_of c.args.trace.now),
+pub walk_row-requires : goal.walk_row-requires
+walk_row-requires c = (
+  row_count (head_of c.args.rows.section.trace.now),
   omega (arith, c.row_at-row.ensures, c.loop-number-test.true, c.requires.within.there),
-  c.requires.gathered.groups,
+  c.requires.rows.gathered.groups,
 )
 
 pub loop-number-preserved : goal.loop-number-preserved
 loop-number-preserved c =
-    let t = c.args.trace.now in
-    let h = c.args.history.now in
+    let t = c.args.rows.section.trace.now in
+    let h = c.args.rows.section.history.now in
     let e = h.replica in
     let from = c.args.range.from in
     let n = c.loop-number.number in
     let ns = all_noted (told_of t e) in
     let row = c.row_at-row.result in
-    let parts = c.args.parts.now in
+    let parts = c.args.rows.parts.now in
     let low : from ≤ n = c.loop-number.auto.number in
     let at : row ≡ n = c.row_at-row.ensures in
     let below : n < row_count (head_of t) = omega (arith, c.loop-number-test.true, c.requires.within.there) in
-    let b : Bases = record { opening = c.args.opening; history = c.args.history } in
+    let b : Bases = record { opening = c.args.rows.opening; history = c.args.rows.section.history } in
     let bases : base_at b row ≡ bases_of t e n =
-    are_bases t e b c.requires.history c.requires.opening row ∙ ap (bases_of t e) at in
+    are_bases t e b c.requires.rows.told c.requires.rows.opening row ∙ ap (bases_of t e) at in
     let own : own_along row parts ≡ of_row n ns =
-    ap (λ (k : ℕ). own_along k parts) at ∙ c.requires.gathered.own n below
-    ∙ ap (of_row n) (all_told t h c.requires.history) in
+    ap (λ (k : ℕ). own_along k parts) at ∙ c.requires.rows.gathered.own n below
+    ∙ ap (of_row n) (all_told t h c.requires.rows.told) in
     let wrong = c.in_ok-wrong.wrong in
     let here : IsFirstOnRow e (bases_of t e n) (notes_on t e n) wrong =
     subst (λ (ms : List Noted). IsFirstOnRow e (bases_of t e n) ms wrong) own
@@ -59,8 +59,8 @@ loop-number-preserved c =
 
 pub returns : goal.returns
 returns c =
-    let t = c.args.trace.now in
-    let e = c.args.history.now.replica in
+    let t = c.args.rows.section.trace.now in
+    let e = c.args.rows.section.history.now.replica in
     let from = c.args.range.from in
     let last : c.loop-number.number ≡ c.args.range.to = omega (
       arith,

@@ -16,12 +16,12 @@ use Rattle.eve_chains.proofs.settled.Settled.of.Goals as goal
 
 pub invariant_of-result : goal.invariant_of-result
 invariant_of-result c =
-    let t = c.args.trace.now in
-    let h = c.args.history.now in
+    let t = c.args.section.trace.now in
+    let h = c.args.section.history.now in
     let states = c.in_ok-transfers.transfers.items in
-    let right = c.recall_right.ensures.section t h.replica c.requires.history in
+    let right = c.recall_right.ensures.section t h.replica c.requires.told in
     let reached = c.numbers_are_reached.ensures.count in
-    let count = c.committed.ensures.count ∙ ways_reached_counted t h.replica h right reached c.requires.history in
+    let count = c.committed.ensures.count ∙ ways_reached_counted t h.replica h right reached c.requires.told in
     let rows : length c.args.opening ≡ 2 * length t.customers =
     ap (λ (xs : List ℤ). length xs) c.requires.opening ∙ length-opening_rows t.customers in
     let many : length h.transfers ≡ length states =
@@ -36,7 +36,7 @@ invariant_of-result c =
             (told_among h (length states) c.in_ok-ways_reached.ways_reached.items h.ways_reached
             c.in_ok-ways_reached.ensures many);
         whole = subst (λ (n : ℕ). All (HasRows n) states) (sym rows)
-            (views_have_rows t h.replica h states c.recall_limits.ensures c.requires.history c.in_ok-transfers.ensures);
+            (views_have_rows t h.replica h states c.recall_limits.ensures c.requires.told c.in_ok-transfers.ensures);
         few = omega (arith, rows, few_customers (head_of t) c.recall_limits.ensures.head);
       },
     )
@@ -44,14 +44,14 @@ invariant_of-result c =
 pub returns : goal.returns
 unfolding settling
 returns c =
-    let t = c.args.trace.now in
-    let h = c.args.history.now in
-    let right = c.recall_right.ensures.section t h.replica c.requires.history in
+    let t = c.args.section.trace.now in
+    let h = c.args.section.history.now in
+    let right = c.recall_right.ensures.section t h.replica c.requires.told in
     let reached = c.numbers_are_reached.ensures.count in
-    let count = c.committed.ensures.count ∙ ways_reached_counted t h.replica h right reached c.requires.history in
+    let count = c.committed.ensures.count ∙ ways_reached_counted t h.replica h right reached c.requires.told in
     let wrote = ap (λ (n : ℕ). ranges_by_number n c.args.ranges.items) count
     ∙ ranges_are t h.replica right c.args.ranges.items c.requires.ranges in
     let numbers = numbers_told t h c.in_ok-transfers.transfers.items h.replica c.in_ok-ways_reached.ways_reached.items
-    (ranges_by_number c.committed.result c.args.ranges.items) c.requires.history c.in_ok-transfers.ensures
+    (ranges_by_number c.committed.result c.args.ranges.items) c.requires.told c.in_ok-transfers.ensures
     c.in_ok-ways_reached.ensures wrote in
     λ i. record { opening = c.requires.opening i; numbers = numbers i }
