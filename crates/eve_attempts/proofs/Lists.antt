@@ -1,11 +1,11 @@
 -- Lists, place by place.
 use Rattle.std.proofs.Common.{◌≡◌, ℕ, zero, suc, ◌+◌, ◌-◌, ◌<◌, ◌≤◌, Bool, true, false, List, [], ◌∷◌}
 use Rattle.std.proofs.Common.{map, length, set, replicate, get_or, take, drop, ◌++◌, refl, sym, subst}
-use Rattle.std.proofs.Common.{ap, ap₂, ◌∙◌, add-one, append-nil, arith}
+use Rattle.std.proofs.Common.{ap, ◌∙◌, add-one, arith}
 use Rattle.std.specs.List.{AllByRecursion, list_all}
 use Rattle.std.proofs.lemmas.Bool.{and_parts, and_from, false≢true}
 use Rattle.std.specs.Bool.{Decides}
-use Rattle.std.proofs.lemmas.List.{drop_more, drop_all, take_all}
+use Rattle.std.proofs.lemmas.List.{drop_more, drop_all}
 use Rattle.eve_grammar.proofs.Lists.{all_unmapped}
 
 -- the item at a place, told by the list, and those after it
@@ -26,13 +26,6 @@ put_next f (y ∷ xs) (z ∷ old) (suc n) x within many is =
     let e : suc (n + 1) ≡ suc n + 1 = omega arith in
     ap (λ (ys : List _). f y ∷ ys) (put_next f xs old n x (omega arith) (omega arith) is)
     ∙ ap (λ (k : ℕ). map f (take k (y ∷ xs)) ++ drop k (z ∷ old)) e
-
--- and at last all have
-pub put_all : {A B : Type 0} (f : A → B) (xs : List A) (old : List B) (n : ℕ) → length xs ≤ n → length old ≡ length xs
-    → map f (take n xs) ++ drop n old ≡ map f xs
-put_all f xs old n all many =
-    ap₂ (λ (ys : List _) (zs : List _). map f ys ++ zs) (take_all n xs all) (drop_all n old (omega (arith, all, many)))
-    ∙ append-nil (map f xs)
 
 -- ---- along a loop
 

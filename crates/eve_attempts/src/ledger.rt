@@ -12,6 +12,7 @@ ghost use Rattle.eve_attempts.specs.CommitsAndRollbacks.{Commits, RollsBack};
 ghost use Rattle.eve_attempts.specs.Transfers.{IsStateOf, Transfers};
 
 use crate::fault::{CloseFault, NotDue, NotOpen};
+use crate::noted::BatchRecords;
 use crate::opened::OpenAttempt;
 use crate::prefix::AttemptHead;
 use crate::replies::view_fits;
@@ -215,7 +216,12 @@ impl Ledger {
         view_fits(prefix.view);
         let workers = self.workers_for(prefix.serial);
         let rows = self.rows.len();
-        let mut taken = take(alloc, workers, prefix.serial, rows, batch, touched, records)?;
+        let noted = BatchRecords {
+            batch,
+            touched,
+            records,
+        };
+        let mut taken = take(alloc, workers, prefix.serial, rows, noted)?;
         if self.opened.reserve(1).is_err() {
             return Err(CloseFault::Memory);
         }

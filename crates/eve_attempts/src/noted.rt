@@ -14,6 +14,17 @@ use eve_smallbank::{Touched, fits};
 use eve_stamps::AccessRecord;
 use eve_write::{BatchData, are_entries};
 
+/// A batch, and the records that were taken of it.
+#[derive(Clone, Copy)]
+pub struct BatchRecords<'b> {
+    /// The batch.
+    pub batch: &'b BatchData,
+    /// What each of its requests touches.
+    pub touched: &'b [Touched],
+    /// The records, in the order in which they were taken.
+    pub records: &'b [AccessRecord],
+}
+
 /// Whether the record lies within the limits of the format.
 fn is_access(taken: &AccessRecord, rows: usize) -> bool
     ensures { result ≡ is_access rows (access_noted taken.now) }
@@ -54,14 +65,15 @@ fn is_fitting(batch: &BatchData, touched: &[Touched], taken: &AccessRecord) -> b
     )
 }
 
-fn are_fitting(batch: &BatchData, touched: &[Touched], records: &[AccessRecord]) -> bool
-    requires touched { (names : List (List ℕ)) × (touched.now ≡ touched_in_batch names (plain batch.now)) }
-    requires indexes { AllByRecursion (λ r. r.index < length (plain batch.now).requests) records.now }
-    ensures { (names : List (List ℕ)) → touched.now ≡ touched_in_batch names (plain batch.now)
-        → Decides result (AllByRecursion (Fits names) (map (executed (plain batch.now)) records.now)) }
+fn are_fitting(noted: BatchRecords<'_>) -> bool
+    requires touched { (names : List (List ℕ)) × (noted.touched.now ≡ touched_in_batch names (plain noted.batch.now)) }
+    requires indexes { AllByRecursion (λ r. r.index < length (plain noted.batch.now).requests) noted.records.now }
+    ensures { (names : List (List ℕ)) → noted.entry.touched.now ≡ touched_in_batch names (plain noted.entry.batch.now)
+        → Decides result (AllByRecursion (Fits names)
+        (map (executed (plain noted.entry.batch.now)) noted.entry.records.now)) }
 {
-    for record in records {
-        if !is_fitting(batch, touched, record) {
+    for record in noted.records {
+        if !is_fitting(noted.batch, noted.touched, record) {
             return false;
         }
     }
@@ -71,20 +83,16 @@ fn are_fitting(batch: &BatchData, touched: &[Touched], records: &[AccessRecord])
 /// Whether there is one record for each request, right as an access frame, of rows that are there, and fitting.
 ///
 /// docs/MODEL.md, "Section state, fate" and "A record fits its request".
-pub fn are_noted(
-    workers: u8,
-    rows: usize,
-    batch: &BatchData,
-    touched: &[Touched],
-    records: &[AccessRecord],
-) -> bool
-    requires batch { IsTrue (is_batch (plain batch.now)) }
-    requires touched { (names : List (List ℕ)) × (touched.now ≡ touched_in_batch names (plain batch.now)) }
-    ensures { Decides result (AreNoted workers rows (plain batch.now) touched.now records.now) }
+pub fn are_noted(workers: u8, rows: usize, noted: BatchRecords<'_>) -> bool
+    requires batch { IsTrue (is_batch (plain noted.batch.now)) }
+    requires touched { (names : List (List ℕ)) × (noted.touched.now ≡ touched_in_batch names (plain noted.batch.now)) }
+    ensures { Decides result
+        (AreNoted workers rows (plain noted.entry.batch.now) noted.entry.touched.now noted.entry.records.now) }
 {
-    let count = count_of(batch);
+    let records = noted.records;
+    let count = count_of(noted.batch);
     if records.len() != count || !are_right_accesses(workers, count, records) {
         return false;
     }
-    are_accesses(records, rows) && are_fitting(batch, touched, records)
+    are_accesses(records, rows) && are_fitting(noted)
 }

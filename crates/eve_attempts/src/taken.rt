@@ -11,13 +11,13 @@ ghost use Rattle.eve_attempts.specs.inner.AttemptParts.{IsTakenOf};
 
 use crate::fault::CloseFault;
 use crate::groups::groups_of;
-use crate::noted::are_noted;
+use crate::noted::{BatchRecords, are_noted};
 use crate::order::{Key, certificate_of, order_of};
 use crate::replies::{accesses_of, replies_of};
 use eve_grammar::{MOST_REQUESTS, is_certificate};
-use eve_smallbank::{Entry, Reply, Touched};
+use eve_smallbank::{Entry, Reply};
 use eve_stamps::AccessRecord;
-use eve_write::{AccessList, BatchData};
+use eve_write::AccessList;
 use std::alloc::{AllocError, Global};
 
 /// The order of records, and what of an attempt doesn't depend on what the rows have.
@@ -55,29 +55,32 @@ pub fn take(
     workers: u8,
     serial: bool,
     rows: usize,
-    batch: &BatchData,
-    touched: &[Touched],
-    records: &[AccessRecord],
+    noted: BatchRecords<'_>,
 ) -> Result<Taken, CloseFault>
-    requires batch { IsTrue (is_batch (plain batch.now)) }
-    requires touched { (names : List (List ℕ)) × (touched.now ≡ touched_in_batch names (plain batch.now)) }
-    ensures taken { IfOk result (IsTakenOf records.now) }
-    ensures noted { OnOk result (AreNoted workers rows (plain batch.now) touched.now records.now) }
-    ensures order { IfOk result (λ t.
-        IsTrue (is_certificate (plain batch.now).sizes (length (plain batch.now).requests) serial
-        t.certificate.items)) }
-    ensures mismatch { result ≡ Err CloseFault.Mismatch → (ordered : List Applied) → IsByTicks records.now ordered
-        → AreNoted workers rows (plain batch.now) touched.now records.now
-        → ¬ IsTrue (is_certificate (plain batch.now).sizes (length (plain batch.now).requests) serial
-        (indexes_of ordered)) }
+    requires batch { IsTrue (is_batch (plain noted.batch.now)) }
+    requires touched { (names : List (List ℕ)) × (noted.touched.now ≡ touched_in_batch names (plain noted.batch.now)) }
+    ensures taken { IfOk result (IsTakenOf noted.entry.records.now) }
+    ensures noted { OnOk result
+        (AreNoted workers rows (plain noted.entry.batch.now) noted.entry.touched.now noted.entry.records.now) }
+    ensures order { IfOk result (λ t. IsTrue (is_certificate (plain noted.entry.batch.now).sizes
+        (length (plain noted.entry.batch.now).requests) serial t.certificate.items)) }
+    ensures mismatch { result ≡ Err CloseFault.Mismatch
+        → (ordered : List Applied) → IsByTicks noted.entry.records.now ordered
+        → AreNoted workers rows (plain noted.entry.batch.now) noted.entry.touched.now noted.entry.records.now
+        → ¬ IsTrue (is_certificate (plain noted.entry.batch.now).sizes
+        (length (plain noted.entry.batch.now).requests) serial (indexes_of ordered)) }
 {
-    if !are_noted(workers, rows, batch, touched, records) {
+    if !are_noted(workers, rows, noted) {
         return Err(CloseFault::Mismatch);
     }
-    let Ok(taken) = gather(alloc, records) else {
+    let Ok(taken) = gather(alloc, noted.records) else {
         return Err(CloseFault::Memory);
     };
-    if !is_certificate(&groups_of(batch), serial, taken.certificate.as_slice()) {
+    if !is_certificate(
+        &groups_of(noted.batch),
+        serial,
+        taken.certificate.as_slice(),
+    ) {
         return Err(CloseFault::Mismatch);
     }
     Ok(taken)

@@ -10,17 +10,19 @@ use Rattle.eve_attempts.proofs.noted.are_fitting.Goals as goal
 
 pub is_fitting-requires-clause-index : goal.is_fitting-requires-clause-index
 is_fitting-requires-clause-index c =
-    subst (λ (r : Applied). r.index < length (plain c.args.batch.now).requests) (sym c.record-item.is)
-    (all-get_or (λ r. r.index < length (plain c.args.batch.now).requests) c.args.records.now c.loop-record.record-index
+    let b = plain c.args.noted.batch.now in
+    subst (λ (r : Applied). r.index < length b.requests) (sym c.record-item.is)
+    (all-get_or (λ r. r.index < length b.requests) c.args.noted.records.now c.loop-record.record-index
     c.record-item.result c.requires.indexes c.loop-record-test.true)
 
 pub loop-record-init : goal.loop-record-init
-loop-record-init c = λ names is. goes_start (λ r. Fits names (executed (plain c.args.batch.now) r)) c.args.records.now
+loop-record-init c = λ names is.
+    goes_start (λ r. Fits names (executed (plain c.args.noted.batch.now) r)) c.args.noted.records.now
 
 pub returns-then-not-is_fitting : goal.returns-then-not-is_fitting
 returns-then-not-is_fitting c = λ names is.
-    let b = plain c.args.batch.now in
-    let rs = c.args.records.now in
+    let b = plain c.args.noted.batch.now in
+    let rs = c.args.noted.records.now in
     decides_mapped (Fits names) (executed b) rs false
     (goes_stop (λ r. Fits names (executed b r)) rs c.loop-record.record-index c.record-item.result
     (c.loop-record.invariant names is)
@@ -29,14 +31,17 @@ returns-then-not-is_fitting c = λ names is.
 
 pub loop-record-preserved : goal.loop-record-preserved
 loop-record-preserved c = λ names is.
-    goes_more (λ r. Fits names (executed (plain c.args.batch.now) r)) c.args.records.now c.loop-record.record-index
+    let b = plain c.args.noted.batch.now in
+    let rs = c.args.noted.records.now in
+    goes_more (λ r. Fits names (executed b r)) rs c.loop-record.record-index
     c.record-item.result (c.loop-record.invariant names is)
-    (drop_read c.args.records.now c.loop-record.record-index c.record-item.result c.loop-record-test.true
+    (drop_read rs c.loop-record.record-index c.record-item.result c.loop-record-test.true
     c.record-item.is) ((c.is_fitting.ensures names is).0 c.if-not-is_fitting.false)
 
 pub returns : goal.returns
 returns c = λ names is.
-    let b = plain c.args.batch.now in
-    decides_mapped (Fits names) (executed b) c.args.records.now true
-    (goes_end (λ r. Fits names (executed b r)) c.args.records.now c.loop-record.record-index
+    let b = plain c.args.noted.batch.now in
+    let rs = c.args.noted.records.now in
+    decides_mapped (Fits names) (executed b) rs true
+    (goes_end (λ r. Fits names (executed b r)) rs c.loop-record.record-index
     (c.loop-record.invariant names is) c.loop-record-test.false)

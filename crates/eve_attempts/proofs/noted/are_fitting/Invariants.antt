@@ -6,5 +6,7 @@ use Rattle.eve_attempts.proofs.Lists.{Goes}
 use Rattle.eve_attempts.proofs.noted.are_fitting.Given as goal
 
 abbrev pub invariant-loop-record : goal.invariant-loop-record
-invariant-loop-record l = (names : List (List ℕ)) → l.touched ≡ touched_in_batch names (plain l.batch)
-    → Goes (λ r. Fits names (executed (plain l.batch) r)) l.records l.record-index
+invariant-loop-record l =
+    let b = plain l.noted.batch.now in
+    (names : List (List ℕ)) → l.noted.touched.now ≡ touched_in_batch names b
+    → Goes (λ r. Fits names (executed b r)) l.noted.records.now l.record-index
