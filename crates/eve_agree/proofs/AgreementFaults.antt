@@ -300,12 +300,6 @@ differs t e f n at rs own first apart = (
   },
 )
 
--- so is a state with other balances
-pub state_differs : (t : Trace) (e n at : ℕ) (x : Transfer) → how_reached_at t e n ≡ Some (ByTransfer at x)
-    → ¬ HasBalancesOfFirst t n x
-    → IsFaultSomewhere StandsInAgreement t (record { code = code.TransferBalances; offset = at; replica = Some e })
-state_differs t e n at x is apart = (e, record { stands = state_stands t e n at x is apart; inside = refl })
-
 -- ---- one replica alone
 
 only_first : {A : Type 0} (test : ℕ → Bool) (xs : List A) (f : ℕ) → length xs < 2

@@ -12,6 +12,7 @@ pub mod DiscardedAttempts
 pub mod RestoresInOrder
 pub mod RightRestores
 pub mod TokensInOrder
+pub mod RollbackRoom
 mod MajorityFaults
 pub mod Replicas
 mod SpelledReplies

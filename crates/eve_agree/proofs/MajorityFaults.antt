@@ -1,15 +1,14 @@
 -- Which commits, rollbacks and transfers no majority voted for, and which is the first.
-use Rattle.std.proofs.Common.{◌≡◌, ℕ, suc, ◌+◌, ◌-◌, ◌^◌, ◌<◌, ◌≤◌, ◌==◌, nat_lt, List, [], ◌∷◌, ◌++◌}
+use Rattle.std.proofs.Common.{◌≡◌, ℕ, suc, ◌+◌, ◌-◌, ◌<◌, ◌≤◌, ◌==◌, List, [], ◌∷◌, ◌++◌}
 use Rattle.std.proofs.Common.{length, Option, Some, None, refl, sym, subst, ap, ◌∙◌, ◌⊎◌, inl, inr, IsTrue, arith}
 use Rattle.std.specs.Prelude.{Bool, true, false, ◌↔◌, IfNone, IfSome}
 use Rattle.std.specs.Cmp.Lexicographic.{pointwise, same_text, other_text}
 use Rattle.std.specs.List.{AllByRecursion}
-use Rattle.std.proofs.lemmas.Bool.{and_parts, eqb-true, eq-eqb, ltb-true, cases_lt, false≢true}
+use Rattle.std.proofs.lemmas.Bool.{eqb-true, eq-eqb, cases_lt, false≢true}
 use Rattle.eve_grammar.specs.Trace.{Commit, Rollback, Transfer, Step, Attempts, Commits, RollsBack, Transfers, Trace}
 use Rattle.eve_grammar.specs.Frames.{OfReplica}
 use Rattle.eve_grammar.specs.Spelling.{frame_text, located, section_start, step_text, steps_of, steps_at}
 use Rattle.eve_grammar.specs.Limits.{HasLimits}
-use Rattle.eve_grammar.specs.declared.limits.TheConstants.{MOST_BATCHES}
 use Rattle.eve_grammar.proofs.FrameLaws.{few_batches}
 use Rattle.eve_frames.specs.Views.{commit_in, rollback_in, transfer_in}
 use Rattle.eve_frames.specs.declared.commit.CommitView.{CommitView}
@@ -23,13 +22,14 @@ use Rattle.eve_views.specs.Form.{IsUpTo, SomePlace, IsLeast, IsFaultSomewhere}
 use Rattle.eve_views.specs.declared.fault.Code.{Code}
 use Rattle.eve_views.specs.declared.fault.Code.TheVariants as code
 use Rattle.eve_views.specs.declared.fault.Fault.{Fault}
-use Rattle.eve_history.specs.Section.{SectionState, start, next, is_right, are_right}
+use Rattle.eve_history.specs.Section.{start, next}
 use Rattle.eve_history.specs.SectionHistory.{IsRightSection}
 use Rattle.eve_history.specs.Structure.{OfCommit, OfRollback, OfTransfer}
 use Rattle.eve_votes.specs.Votes.{IsDecided, IsRolledBack}
 use Rattle.eve_history.proofs.Places.{place_here, place_later, no_place, place_cases, located_rising, from_low}
 use Rattle.eve_agree.specs.Majority.{SomeDecided, IsBacked, IsBackedSection, AllAreBacked, StandsInMajorities}
 use Rattle.eve_agree.specs.inner.Unbacked.{HasRoom, lacks, IsUnbacked, IsUnbackedIn, IsFirstUnbackedIn}
+use Rattle.eve_agree.proofs.RollbackRoom.{room_along}
 use Rattle.eve_views.specs.First.{first_of}
 use Rattle.eve_views.proofs.Firsts.{first_of_two, up_to_from}
 use Rattle.eve_history.proofs.RightSections.{none_at}
@@ -142,29 +142,6 @@ none_unbacked t e f (s ∷ steps) backed place = elim (place_cases (λ _ x. IsUn
 ]
 
 -- ---- along a section
-
--- a right rollback has room
-room_along : (t : Trace) (s : SectionState) (steps : List (ℕ × Step)) → length t.batches ≤ MOST_BATCHES
-    → IsTrue (are_right t s steps) → AllByRecursion (λ x. HasRoom x.1) steps
-room_along t s [] few right = tt
-room_along t s ((at, Attempts a) ∷ steps) few right =
-    (tt, room_along t (next s (at, Attempts a)) steps few (and_parts (is_right t s (Attempts a)) _ right).1)
-room_along t s ((at, Commits c) ∷ steps) few right =
-    (tt, room_along t (next s (at, Commits c)) steps few (and_parts (is_right t s (Commits c)) _ right).1)
-room_along t s ((at, RollsBack r) ∷ steps) few right =
-    let parts = and_parts (is_right t s (RollsBack r)) _ right in
-    let to = and_parts (r.to == s.last) _ parts.0 in
-    let view = and_parts (nat_lt s.last (length t.batches)) _ to.1 in (
-      room r.to s.last r.view s.view (length t.batches) (eqb-true r.to s.last to.0)
-          (ltb-true s.last (length t.batches) view.0) few (eqb-true r.view (s.view + 1) view.1),
-      room_along t (next s (at, RollsBack r)) steps few parts.1,
-    )
-  where
-    room : (to last view before n : ℕ) → to ≡ last → last < n → n ≤ MOST_BATCHES → view ≡ before + 1 → (to + 1 < 2 ^ 32)
-        × (1 ≤ view)
-    room to last view before n e lt few f = (omega arith, omega arith)
-room_along t s ((at, Transfers x) ∷ steps) few right =
-    (tt, room_along t (next s (at, Transfers x)) steps few (and_parts (is_right t s (Transfers x)) _ right).1)
 
 -- The steps of replica e that are still to come; those before them are backed.
 pub record AreLeft (t : Trace) (e : ℕ) (left : List (ℕ × Step)) : Type 0 where

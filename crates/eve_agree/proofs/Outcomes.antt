@@ -1,6 +1,6 @@
 -- What a batch came to in a replica, and which replica was the first to commit it.
 use Rattle.std.proofs.Common.{◌≡◌, ℕ, zero, suc, ◌+◌, ◌-◌, ◌<◌, ◌≤◌, ℤ, Bool, true, false, List, [], ◌∷◌}
-use Rattle.std.proofs.Common.{◌++◌, map, length, take, slice_get, get_or, Option, Some, None, refl, sym, ap, subst, ◌∙◌}
+use Rattle.std.proofs.Common.{map, length, take, slice_get, get_or, Option, Some, None, refl, sym, ap, subst, ◌∙◌}
 use Rattle.std.proofs.Common.{inl, inr, arith, take_all}
 use Rattle.std.specs.List.{enumerate_from, find}
 use Rattle.std.specs.Option.{is_some, option_map}
@@ -11,7 +11,6 @@ use Rattle.std.proofs.lemmas.List.FromFn.{length-enumerate_from}
 use Rattle.std.proofs.lemmas.Option.{slice_get_within, same_Some}
 use Rattle.eve_smallbank.specs.declared.request.Reply.{Reply}
 use Rattle.eve_grammar.specs.Trace.{Attempt, Trace}
-use Rattle.eve_grammar.proofs.Lists.{take_one_more}
 use Rattle.eve_grammar.proofs.Numbered.{numbered_at}
 use Rattle.eve_history.specs.Section.{Placed}
 use Rattle.eve_history.specs.SectionHistory.{ExecutedAttempt, SectionHistory, section_history}
@@ -272,8 +271,3 @@ pub all_balances : (t : Trace) (e n : ℕ) (all : List (List ℤ)) (b : List ℤ
 all_balances t e n all b after law there is = balances_are t e n b (is_after t e n all b after there is) law
 
 -- ---- lists that agree in front
-
-pub agree_more : {A : Type 0} (xs ys : List A) (i : ℕ) (a b : A) → take i xs ≡ take i ys → slice_get xs i ≡ Some a
-    → slice_get ys i ≡ Some b → a ≡ b → take (i + 1) xs ≡ take (i + 1) ys
-agree_more xs ys i a b same own its is = take_one_more xs i a own ∙ (λ k. same k ++ is k ∷ [])
-    ∙ sym (take_one_more ys i b its)

@@ -1,9 +1,6 @@
 -- A token that another replica's attempt of the batch shows to be due.
 use Rattle.std.proofs.Common.{◌≡◌, ℕ, ℤ, List, Some, sym, subst, ◌∙◌}
-use Rattle.std.specs.List.{flat_map}
 use Rattle.std.proofs.lemmas.Option.{same_Some}
-use Rattle.eve_smallbank.specs.declared.request.Reply.{Reply}
-use Rattle.eve_smallbank.specs.Spelling.{reply_text}
 use Rattle.eve_grammar.specs.Trace.{Attempt, Trace}
 use Rattle.eve_token.specs.Token.{token_of}
 use Rattle.eve_history.specs.Section.{Placed}
@@ -45,16 +42,11 @@ token_due t f n offset decoded b read due = read.of.token ∙ due n read.of.item
 
 -- where replica f has its due token, replica e has its own, if both are one and what it is made of is the same
 pub shown : (t : Trace) (e f n o q : ℕ) (decoded other : Attempt) (b c : List ℤ)
-    → ((version seq : ℕ) (d : List ℤ) (rs ss : List Reply) → flat_map reply_text rs ≡ flat_map reply_text ss
-    → token_of version seq d rs ≡ token_of version seq d ss)
     → IsReadOf t e n o decoded b → IsReadOf t f n q other c → TokensAreDue t f
-    → (decoded.token ≡ other.token) × (flat_map reply_text decoded.replies ≡ flat_map reply_text other.replies)
-    × (b ≡ c)
-    → IsDueIn t e n
-shown t e f n o q decoded other b c law own its due same p at =
+    → decoded.token ≡ other.token → decoded.replies ≡ other.replies → b ≡ c → IsDueIn t e n
+shown t e f n o q decoded other b c own its due same replies balances p at =
     let here : p ≡ own.of.item = same_Some p own.of.item (sym at ∙ own.of.at) in
     let token : decoded.token ≡ token_of t.head.version decoded.seq b decoded.replies =
-    same.0 ∙ token_due t f n q other c its due
-    ∙ (λ k. token_of t.head.version ((its.seq ∙ sym own.seq) k) (sym same.2 k) other.replies)
-    ∙ law t.head.version decoded.seq b other.replies decoded.replies (sym same.1) in
+    same ∙ token_due t f n q other c its due
+    ∙ (λ k. token_of t.head.version ((its.seq ∙ sym own.seq) k) (sym balances k) (sym replies k)) in
     subst (λ (x : Placed). x.attempt.token ≡ due_token t e x) (sym here) (sym own.of.token ∙ token ∙ own.due)

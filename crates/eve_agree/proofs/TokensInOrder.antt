@@ -4,13 +4,11 @@ use Rattle.std.proofs.Common.{◌++◌, length, take, refl, sym, ap, ◌∙◌, 
 use Rattle.std.proofs.Common.{add-one, take_all}
 use Rattle.std.proofs.lemmas.List.{take_more}
 use Rattle.eve_smallbank.specs.Access.{balance_of_row}
-use Rattle.eve_smallbank.specs.declared.request.Reply.{Reply}
 use Rattle.eve_grammar.specs.Trace.{Trace}
 use Rattle.eve_views.specs.declared.fault.Code.{Code}
 use Rattle.eve_views.specs.declared.fault.Code.TheVariants as code
 use Rattle.eve_views.specs.declared.fault.Fault.{Fault}
 use Rattle.eve_views.specs.Form.{IsFaultIn}
-use Rattle.eve_token.specs.Token.{token_of, flat_token}
 use Rattle.eve_grammar.proofs.OpeningRows.{length-opening_rows}
 use Rattle.eve_chains.specs.Committed.{first_rows}
 use Rattle.eve_chains.specs.CommittedValues.{settling}
@@ -33,12 +31,6 @@ rows_are b = sym (take_all (length b) b (omega arith)) ∙ rows_to b (length b) 
 pub rows_told : (t : Trace) (e : ℕ) → length (settling t e).opening ≡ 2 * length t.customers
 unfolding settling
 rows_told t e = length-opening_rows t.customers
-
--- the token of version 1
-pub first_version : (seq : ℕ) (balances : List ℤ) (replies : List Reply) → token_of 1 seq balances replies
-    ≡ flat_token seq balances replies
-unfolding token_of
-first_version seq balances replies = refl
 
 -- ---- tokens
 

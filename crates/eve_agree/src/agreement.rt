@@ -1,7 +1,7 @@
 //! The faults of agreement.
 
 ghost use Rattle.std.specs.Prelude.{◌≡◌, ◌≤◌, ◌<◌, ◌-◌, ◌↔◌, ℕ, [], IsTrue, IfOk, IfErr, IfSome, IfNone, Some, None};
-ghost use Rattle.std.specs.Prelude.{length, slice_get, slice_index_or};
+ghost use Rattle.std.specs.Prelude.{length, slice_get};
 ghost use Rattle.std.specs.List.{list_all};
 ghost use Rattle.std.specs.Option.{is_some};
 ghost use Rattle.eve_frames.specs.Decoded.{attempt_decoded, transfer_decoded};
@@ -10,13 +10,15 @@ ghost use Rattle.eve_grammar.specs.Limits.{is_reply};
 ghost use Rattle.eve_views.specs.Form.{IfFound, IsLeast, HasNone, IsFaultSomewhere};
 ghost use Rattle.eve_grammar.specs.Trace.{Trace as TraceValue};
 ghost use Rattle.eve_history.specs.SectionHistory.{ExecutedAttempt, SectionHistory, section_histories};
-ghost use Rattle.eve_chains.specs.CommittedValues.{settlings, HaveSameBalances};
+ghost use Rattle.eve_chains.specs.Committed.{balances_to};
+ghost use Rattle.eve_chains.specs.CommittedValues.{settlings};
 ghost use Rattle.eve_agree.specs.ByNumber.{told_at, told_state_at};
 ghost use Rattle.eve_agree.specs.Agreement.{first_to_commit, HasCommitted, HaveSameOutcome, ReplicasAgree};
 ghost use Rattle.eve_agree.specs.Agreement.{StandsInAgreement};
 ghost use Rattle.eve_agree.specs.inner.NumbersJudged.{NoneBefore, IsAfter, AreAfter, AllStandAt, AllHaveSame, AgreesIn};
-ghost use Rattle.eve_agree.specs.inner.NumbersJudged.{IsApart, JudgedTo, bound_of};
+ghost use Rattle.eve_agree.specs.inner.NumbersJudged.{ReplicasStandAt, IsApart, JudgedTo, bound_of};
 
+use crate::replica::{Replicas, have_same_balances, replica_at};
 use eve_accounts::Balances;
 use eve_chains::Settled;
 use eve_chains::laws::{settled_values_are_the_banks, states_are_the_balances};
@@ -60,7 +62,8 @@ pub fn equal_balances(
     let mut least = None;
     for n in 0..last_of_all(histories) {
         advance_all(settled, n + 1, &mut all);
-        least = judge_number(trace, histories, settled, &all, n + 1, least);
+        // lent again, both for as long as the balances
+        least = judge_number(trace, &*histories, &*settled, &all, n + 1, least);
     }
     match least {
         Some(fault) => Err(CheckFault::Found(fault)),
@@ -135,22 +138,28 @@ pub(crate) fn advance(settled: &Settled<'_>, n: u32, balances: &mut Balances)
 }
 
 /// Judges number n, of the replicas that are left: gives the fault found so far, or one of a lower replica.
-fn judge_number(
+fn judge_number<'r, 'a>(
     trace: &Trace<'_>,
-    histories: &[History<'_>],
-    settled: &[Settled<'_>],
-    all: &[Balances],
+    histories: &'r [History<'a>],
+    settled: &'r [Settled<'a>],
+    balances: &'r [Balances],
     n: u32,
     least: Option<Fault>,
 ) -> Option<Fault>
     requires one { 1 ≤ n }
-    requires after { AllStandAt trace.now histories.now settled.now all.now n }
+    requires all { AllStandAt trace.now histories.now settled.now balances.now n }
     requires before { JudgedTo trace.now (n - 1) least }
     ensures { JudgedTo trace.now n result }
 {
+    let replicas = Replicas {
+        number: n,
+        histories,
+        settled,
+        balances,
+    };
     let first = first_to_commit(histories, n);
     for e in 0..bound(histories.len(), &least) {
-        if let Some(fault) = wrong_in(trace, histories, settled, all, n, first, e) {
+        if let Some(fault) = wrong_in(trace, replicas, first, e) {
             return Some(fault);
         }
     }
@@ -170,60 +179,57 @@ fn bound(count: usize, least: &Option<Fault>) -> usize
     }
 }
 
-/// What is wrong where replica e reached number n: its outcome is not that of the first that committed the batch, or
+/// What is wrong where replica e reached the number: its outcome is not that of the first that committed the batch, or
 /// the state that was transferred to it hasn't the balances of that one.
 fn wrong_in(
     trace: &Trace<'_>,
-    histories: &[History<'_>],
-    settled: &[Settled<'_>],
-    all: &[Balances],
-    n: u32,
+    replicas: Replicas<'_, '_>,
     first: Option<usize>,
     e: usize,
 ) -> Option<Fault>
-    requires one { 1 ≤ n }
+    requires one { 1 ≤ replicas.number }
     requires there { e < length trace.now.sections }
-    requires after { AllStandAt trace.now histories.now settled.now all.now n }
-    requires first { first ≡ first_to_commit trace.now n }
-    requires before { AllHaveSame trace.now e (n - 1) }
-    ensures agrees { IfNone result (AgreesIn trace.now e n) }
-    ensures apart { IfSome result (IsApart trace.now e n) }
+    requires all { ReplicasStandAt trace.now replicas }
+    requires first { first ≡ first_to_commit trace.now replicas.number }
+    requires before { AllHaveSame trace.now e (replicas.number - 1) }
+    ensures agrees { IfNone result (AgreesIn trace.now e replicas.entry.number) }
+    ensures apart { IfSome result (IsApart trace.now e replicas.entry.number) }
 {
     numbers_are_reached();
-    let history = &histories[e];
-    if has_committed(history, n) {
-        if has_outcome_of(trace, histories, settled, all, n, first, e) {
+    let history = replica_at(trace, replicas, e).history;
+    if has_committed(history, replicas.number) {
+        if has_outcome_of(trace, replicas, first, e) {
             return None;
         }
-        let attempt = committed_attempt(history, n);
+        let attempt = committed_attempt(history, replicas.number);
         return Some(fault_at(Code::Outcome, attempt.offset(), history.replica()));
     }
-    let Some(state) = transferred_state(history, n) else {
+    let Some(state) = transferred_state(history, replicas.number) else {
         return None;
     };
-    let same = has_balances_of(all, first, e);
+    let same = has_balances_of(trace, replicas, first, e);
     if same {
         return None;
     }
     Some(fault_at(Code::TransferBalances, state.offset(), history.replica()))
 }
 
-/// Whether the attempt by which replica e committed batch n has the outcome of the first that committed it.
+/// Whether the attempt by which replica e committed the batch has the outcome of the first that committed it: the same
+/// replies, and the same balances after it. Those after the batch before are the same.
+/// Decides F80 Outcome.
 fn has_outcome_of(
     trace: &Trace<'_>,
-    histories: &[History<'_>],
-    settled: &[Settled<'_>],
-    all: &[Balances],
-    n: u32,
+    replicas: Replicas<'_, '_>,
     first: Option<usize>,
     e: usize,
 ) -> bool
-    requires one { 1 ≤ n }
-    requires committed { HasCommitted trace.now e n }
-    requires after { AllStandAt trace.now histories.now settled.now all.now n }
-    requires first { first ≡ first_to_commit trace.now n }
-    requires before { AllHaveSame trace.now e (n - 1) }
-    ensures { IsTrue result ↔ IfSome (first_to_commit trace.now n) (λ f. HaveSameOutcome trace.now e f n) }
+    requires one { 1 ≤ replicas.number }
+    requires committed { HasCommitted trace.now e replicas.number }
+    requires all { ReplicasStandAt trace.now replicas }
+    requires first { first ≡ first_to_commit trace.now replicas.number }
+    requires before { AllHaveSame trace.now e (replicas.number - 1) }
+    ensures { IsTrue result ↔ IfSome (first_to_commit trace.now replicas.entry.number)
+        (λ f. HaveSameOutcome trace.now e f replicas.entry.number) }
 {
     let Some(f) = first else {
         return true;
@@ -231,29 +237,35 @@ fn has_outcome_of(
     if f == e {
         return true;
     }
-    let attempt = committed_attempt(&histories[e], n);
-    let other = committed_attempt(&histories[f], n);
-    is_same(
-        &attempt,
-        &settled[e],
-        &all[e],
-        &other,
-        &settled[f],
-        &all[f],
-        n,
-    )
+    let n = replicas.number;
+    let own = replica_at(trace, replicas, e);
+    let its = replica_at(trace, replicas, f);
+    let attempt = committed_attempt(own.history, n);
+    let other = committed_attempt(its.history, n);
+    let replies = have_same_replies(&attempt, &other);
+    replies && have_same_balances(own, its, n, true)
 }
 
 /// Whether the balances of replica e are those of the first that committed the batch; no others are where none did.
 /// Decides F81 TransferBalances.
-fn has_balances_of(all: &[Balances], first: Option<usize>, e: usize) -> bool
-    requires there { e < length all.now }
-    requires first { IfSome first (λ f. f < length all.now) }
-    ensures { IsTrue result
-        ↔ ((f : ℕ) × (first ≡ Some f) × (slice_index_or all.now e [] ≡ slice_index_or all.now f [])) }
+fn has_balances_of(
+    trace: &Trace<'_>,
+    replicas: Replicas<'_, '_>,
+    first: Option<usize>,
+    e: usize,
+) -> bool
+    requires there { e < length trace.now.sections }
+    requires all { ReplicasStandAt trace.now replicas }
+    requires first { first ≡ first_to_commit trace.now replicas.number }
+    ensures { IsTrue result ↔ ((f : ℕ) × (first_to_commit trace.now replicas.entry.number ≡ Some f)
+        × (balances_to trace.now e replicas.entry.number ≡ balances_to trace.now f replicas.entry.number)) }
 {
     match first {
-        Some(f) => are_same(&all[e], &all[f]),
+        Some(f) => {
+            let own = replica_at(trace, replicas, e);
+            let its = replica_at(trace, replicas, f);
+            are_same(own.balances, its.balances)
+        }
         None => false,
     }
 }
@@ -312,8 +324,10 @@ pub fn committed_attempt<'a>(history: &History<'a>, n: u32) -> AttemptView<'a>
     history.attempt(history.committed_attempt(n))
 }
 
-/// The state by which a replica reached number n, if it had one transferred there.
-fn transferred_state<'a>(history: &History<'a>, n: u32) -> Option<TransferView<'a>>
+/// The state by which a replica reached number n; None where no transfer reached it.
+///
+/// docs/MODEL.md, "Section state, fate".
+pub fn transferred_state<'a>(history: &History<'a>, n: u32) -> Option<TransferView<'a>>
     ensures some { IfSome result (λ x. told_state_at history.now n ≡ Some (x.offset, transfer_decoded x)) }
     ensures none { IfNone result (told_state_at history.now n ≡ None) }
 {
@@ -327,34 +341,8 @@ fn transferred_state<'a>(history: &History<'a>, n: u32) -> Option<TransferView<'
     }
 }
 
-/// Whether two replicas' attempts of batch n have the same replies, and the balances after them are the same. Those
-/// after the batch before are.
-/// Decides F80 Outcome.
-fn is_same(
-    attempt: &AttemptView<'_>,
-    settled: &Settled<'_>,
-    balances: &Balances,
-    other: &AttemptView<'_>,
-    others_settled: &Settled<'_>,
-    others: &Balances,
-    n: u32,
-) -> bool
-    requires one { 1 ≤ n }
-    requires there { n ≤ length settled.now.numbers }
-    requires others_there { n ≤ length others_settled.now.numbers }
-    requires after { IsAfter settled.now n balances.now }
-    requires others_after { IsAfter others_settled.now n others.now }
-    requires before { HaveSameBalances settled.now others_settled.now (n - 1) }
-    ensures { IsTrue result ↔
-        ((balances.now ≡ others.now)
-        × ((attempt_decoded attempt.now).replies ≡ (attempt_decoded other.now).replies)) }
-{
-    let replies = have_same_replies(attempt, other);
-    replies && settled.are_same_after(n, balances, others_settled, others, true)
-}
-
 /// Whether two attempts have the same replies, by request index.
-fn have_same_replies(attempt: &AttemptView<'_>, other: &AttemptView<'_>) -> bool
+pub(crate) fn have_same_replies(attempt: &AttemptView<'_>, other: &AttemptView<'_>) -> bool
     ensures { IsTrue result ↔ ((attempt_decoded attempt.now).replies ≡ (attempt_decoded other.now).replies) }
 {
     recall_replies(attempt.bytes());

@@ -9,12 +9,13 @@ mod first_seen;
 mod hashed_rows;
 pub mod laws;
 mod majority;
+mod replica;
 mod restores;
 mod sent_replies;
 mod shown_tokens;
 mod wrong_restore;
 
-pub use agreement::{committed_attempt, equal_balances, has_committed};
+pub use agreement::{committed_attempt, equal_balances, has_committed, transferred_state};
 pub use due_tokens::tokens;
 pub use majority::majorities;
 pub use restores::rollbacks;

@@ -36,43 +36,51 @@ fn note_attempt(marks: &mut FirstSeen, history: &History<'_>, i: usize)
     }
 }
 
-/// Marks the rows that the attempts from one number up to another wrote, one after another.
-pub(crate) fn note_attempts(marks: &mut FirstSeen, history: &History<'_>, first: usize, end: usize)
-    requires rising { first ≤ end }
-    requires there { end ≤ length history.now.attempts }
-    requires within { AllByRecursion (λ r. AreWithin (length marks.old) r.ordered) history.now.attempts }
+/// The attempts that a rollback discards: those that are open where it stands, by their numbers in the section.
+#[derive(Clone, Copy)]
+pub(crate) struct Discarded<'h, 'a> {
+    /// What the replica's section tells.
+    pub history: &'h History<'a>,
+    /// The first of them.
+    pub first: usize,
+    /// The attempt behind the last.
+    pub end: usize,
+}
+
+/// Marks the rows that the discarded attempts wrote, one after another.
+pub(crate) fn note_attempts(marks: &mut FirstSeen, discarded: Discarded<'_, '_>)
+    requires rising { discarded.first ≤ discarded.end }
+    requires there { discarded.end ≤ length discarded.history.now.attempts }
+    requires within { AllByRecursion (λ r. AreWithin (length marks.old) r.ordered) discarded.history.now.attempts }
     ensures as_many { length marks.new ≡ length marks.old }
-    ensures marks { marking_of marks.new
-        ≡ marked (marking_of marks.old) (noted_between history.now.attempts first end) }
+    ensures marks { marking_of marks.new ≡ marked (marking_of marks.old)
+        (noted_between discarded.entry.history.now.attempts discarded.entry.first discarded.entry.end) }
 {
-    for i in first..end {
-        note_attempt(marks, history, i);
+    for i in discarded.first..discarded.end {
+        note_attempt(marks, discarded.history, i);
     }
 }
 
-/// Whether a rollback that discards these attempts restores exactly the rows that they wrote, as the first write of
-/// each saw it.
+/// Whether a rollback restores exactly the rows that the discarded attempts wrote, each as the first write of it saw it.
 fn is_right(
     marks: &mut FirstSeen,
-    history: &History<'_>,
-    first: usize,
-    end: usize,
+    discarded: Discarded<'_, '_>,
     rollback: &RollbackView<'_>,
 ) -> bool
-    requires rising { first ≤ end }
-    requires there { end ≤ length history.now.attempts }
-    requires within { AllByRecursion (λ r. AreWithin (length marks.old) r.ordered) history.now.attempts }
+    requires rising { discarded.first ≤ discarded.end }
+    requires there { discarded.end ≤ length discarded.history.now.attempts }
+    requires within { AllByRecursion (λ r. AreWithin (length marks.old) r.ordered) discarded.history.now.attempts }
     requires rows { IsTrue (list_all (is_restore (length marks.old)) (rollback_decoded rollback.now).restores) }
     requires restores { IsTrue (is_rising (rollback_decoded rollback.now).restores) }
     requires none { marking_of marks.old ≡ unmarked }
     ensures as_many { length marks.new ≡ length marks.old }
-    ensures right { (table : Table) → marked unmarked (noted_between history.now.attempts first end)
-        ≡ written_in table (noted_between history.now.attempts first end)
-        → result ≡ are_written_in table (noted_between history.now.attempts first end)
-        (rollback_decoded rollback.now).restores }
+    ensures right { let es = noted_between discarded.entry.history.now.attempts discarded.entry.first
+        discarded.entry.end in
+        (table : Table) → marked unmarked es ≡ written_in table es
+        → result ≡ are_written_in table es (rollback_decoded rollback.now).restores }
     ensures none { IsTrue result → marking_of marks.new ≡ unmarked }
 {
-    note_attempts(marks, history, first, end);
+    note_attempts(marks, discarded);
     marks.take_all(rollback.restores())
 }
 
@@ -106,7 +114,12 @@ pub(crate) fn judge(
             }
             Step::Commit(_) => first += 1,
             Step::Rollback(rollback) => {
-                if !is_right(&mut marks, history, first, end, &rollback) {
+                let discarded = Discarded {
+                    history,
+                    first,
+                    end,
+                };
+                if !is_right(&mut marks, discarded, &rollback) {
                     return Err(wrong(history.replica(), rollback.offset()));
                 }
                 first = end;

@@ -1,9 +1,6 @@
 //! The faults of tokens, judged beside a replica whose tokens are due.
 
-ghost use Rattle.std.specs.Prelude.{◌≡◌, ◌≤◌, ◌-◌, ◌↔◌, IsTrue, IfOk, IfErr, length};
-ghost use Rattle.std.specs.List.{flat_map};
-ghost use Rattle.eve_smallbank.specs.Spelling.{reply_text};
-ghost use Rattle.eve_frames.specs.Decoded.{attempt_decoded};
+ghost use Rattle.std.specs.Prelude.{◌≡◌, ◌≤◌, ◌-◌, IsTrue, IfOk, IfErr, length};
 ghost use Rattle.eve_views.specs.Form.{IfFound, IsLeast, HasNone, IsFaultIn};
 ghost use Rattle.eve_history.specs.SectionHistory.{section_history};
 ghost use Rattle.eve_chains.specs.CommittedValues.{settling, HaveSameBalances};
@@ -13,16 +10,15 @@ ghost use Rattle.eve_agree.specs.inner.NumbersJudged.{IsAfter};
 ghost use Rattle.eve_agree.specs.ShownTokens.{IsDueReplica};
 ghost use Rattle.eve_agree.specs.inner.Stretches.{AreOfSection};
 
-use crate::agreement::{advance, committed_attempt, has_committed};
+use crate::agreement::{advance, committed_attempt, has_committed, have_same_replies};
 use crate::due_tokens::{answer, wrong_of};
 use crate::hashed_rows::HashedRows;
+use crate::replica::{Replica, have_same_balances};
 use eve_accounts::Balances;
 use eve_chains::Settled;
 use eve_chains::laws::settled_values_are_the_banks;
-use eve_frames::AttemptView;
 use eve_grammar::laws::right_heads_have_limits;
 use eve_history::{History, HowReached};
-use eve_token::laws::replies_are_hashed_as_spelled;
 use eve_views::{CheckFault, Trace};
 use std::alloc::{AllocError, Global};
 
@@ -35,32 +31,13 @@ pub struct Peer<'b, 'a> {
     pub settled: &'b Settled<'a>,
 }
 
-/// Whether two replicas' attempts of batch n have the same token and the same replies, and the balances after them are
-/// the same. `before` says that those after the batch before are known to be.
-fn is_alike(
-    attempt: &AttemptView<'_>,
-    settled: &Settled<'_>,
-    balances: &Balances,
-    other: &AttemptView<'_>,
-    others_settled: &Settled<'_>,
-    others: &Balances,
-    n: u32,
-    before: bool,
-) -> bool
-    requires one { 1 ≤ n }
-    requires there { n ≤ length settled.now.numbers }
-    requires others_there { n ≤ length others_settled.now.numbers }
-    requires after { IsAfter settled.now n balances.now }
-    requires others_after { IsAfter others_settled.now n others.now }
-    requires before { IsTrue before → HaveSameBalances settled.now others_settled.now (n - 1) }
-    ensures { IsTrue result ↔ (((attempt_decoded attempt.now).token ≡ (attempt_decoded other.now).token)
-        × (flat_map reply_text (attempt_decoded attempt.now).replies
-        ≡ flat_map reply_text (attempt_decoded other.now).replies)
-        × (balances.now ≡ others.now)) }
-{
-    let token = attempt.token() == other.token();
-    let replies = attempt.reply_bytes() == other.reply_bytes();
-    token && replies && settled.are_same_after(n, balances, others_settled, others, before)
+/// The replica whose tokens are judged.
+#[derive(Clone, Copy)]
+struct Judged<'b, 'a> {
+    /// What its section tells.
+    history: &'b History<'a>,
+    /// What its committed batches wrote.
+    settled: &'b Settled<'a>,
 }
 
 /// Whether the peer shows the token of batch n, from 1, to be due: it committed the batch too, with that token and
@@ -69,50 +46,38 @@ fn is_alike(
 /// a token may take less than that, and nothing is shown.
 fn is_shown(
     trace: &Trace<'_>,
-    history: &History<'_>,
-    settled: &Settled<'_>,
+    own: Replica<'_, '_>,
+    peer: Replica<'_, '_>,
     n: u32,
-    balances: &Balances,
-    peer: Peer<'_, '_>,
-    others: &Balances,
     before: bool,
 ) -> bool
-    requires section { AreOfSection trace.now history.now settled.now }
+    requires own { AreOfSection trace.now own.history.now own.settled.now }
     requires peer { IsDueReplica trace.now peer.history.now peer.settled.now }
     requires one { 1 ≤ n }
-    requires after { IsAfter settled.now n balances.now }
-    requires others { IsAfter peer.settled.now n others.now }
-    requires before { IsTrue before → HaveSameBalances settled.now peer.settled.now (n - 1) }
-    ensures due { IsTrue result → IsDueIn trace.now history.now.replica n }
-    ensures same { IsTrue result → HaveSameBalances settled.now peer.entry.settled.now n }
+    requires after { IsAfter own.settled.now n own.balances.now }
+    requires peers_after { IsAfter peer.settled.now n peer.balances.now }
+    requires before { IsTrue before → HaveSameBalances own.settled.now peer.settled.now (n - 1) }
+    ensures due { IsTrue result → IsDueIn trace.now own.entry.history.now.replica n }
+    ensures same { IsTrue result → HaveSameBalances own.entry.settled.now peer.entry.settled.now n }
 {
     trace.recall_limits();
-    history.recall_right();
+    own.history.recall_right();
     peer.history.recall_right();
     settled_values_are_the_banks();
-    replies_are_hashed_as_spelled();
     if !before && trace.head().version != 1 {
         return false;
     }
-    if !has_committed(history, n) || !has_committed(peer.history, n) {
+    if !has_committed(own.history, n) || !has_committed(peer.history, n) {
         return false;
     }
-    let attempt = committed_attempt(history, n);
+    let attempt = committed_attempt(own.history, n);
     let other = committed_attempt(peer.history, n);
-    is_alike(
-        &attempt,
-        settled,
-        balances,
-        &other,
-        peer.settled,
-        others,
-        n,
-        before,
-    )
+    let token = attempt.token() == other.token();
+    let replies = have_same_replies(&attempt, &other);
+    token && replies && have_same_balances(own, peer, n, before)
 }
 
-/// The offset of the attempt of batch n, from 1, if its token is not the one that is due. Where the peer shows it to be
-/// due nothing is hashed.
+/// The offset of the attempt of batch n, from 1, if the replica committed one and its token is not the one that is due.
 fn wrong_beside(
     alloc: Global,
     trace: &Trace<'_>,
@@ -120,18 +85,13 @@ fn wrong_beside(
     settled: &Settled<'_>,
     n: u32,
     rows: &mut HashedRows,
-    shown: bool,
 ) -> Result<Option<u64>, AllocError>
     requires section { AreOfSection trace.now history.now settled.now }
     requires one { 1 ≤ n }
     requires after { IsAfter settled.now n (balances_in rows.old) }
-    requires shown { IsTrue shown → IsDueIn trace.now history.now.replica n }
     ensures wrong { IfOk result (IsFirstWrong trace.now history.now.replica (n - 1) n) }
     ensures same { balances_in rows.new ≡ balances_in rows.old }
 {
-    if shown {
-        return Ok(None);
-    }
     if !has_committed(history, n) {
         return Ok(None);
     }
@@ -157,21 +117,13 @@ fn was_transferred(history: &History<'_>, n: u32) -> bool
 
 /// Whether the balances of both after number n, from 1, are known to be the same: the peer shows the token there, or
 /// one of both had a state transferred, which is as long as what is compared, and they are.
-fn are_known_same(
-    history: &History<'_>,
-    settled: &Settled<'_>,
-    n: u32,
-    balances: &Balances,
-    peer: Peer<'_, '_>,
-    others: &Balances,
-    shown: bool,
-) -> bool
+fn are_known_same(own: Replica<'_, '_>, peer: Replica<'_, '_>, n: u32, shown: bool) -> bool
     requires one { 1 ≤ n }
-    requires there { n ≤ length settled.now.numbers }
-    requires after { IsAfter settled.now n balances.now }
-    requires others { IsAfter peer.settled.now n others.now }
-    requires shown { IsTrue shown → HaveSameBalances settled.now peer.settled.now n }
-    ensures { IsTrue result → HaveSameBalances settled.now peer.entry.settled.now n }
+    requires there { n ≤ length own.settled.now.numbers }
+    requires after { IsAfter own.settled.now n own.balances.now }
+    requires peers_after { IsAfter peer.settled.now n peer.balances.now }
+    requires shown { IsTrue shown → HaveSameBalances own.settled.now peer.settled.now n }
+    ensures { IsTrue result → HaveSameBalances own.entry.settled.now peer.entry.settled.now n }
 {
     if shown {
         return true;
@@ -179,67 +131,62 @@ fn are_known_same(
     if peer.settled.committed() < n {
         return false;
     }
-    if !was_transferred(history, n) && !was_transferred(peer.history, n) {
+    if !was_transferred(own.history, n) && !was_transferred(peer.history, n) {
         return false;
     }
-    settled.are_same_after(n, balances, peer.settled, others, false)
+    have_same_balances(own, peer, n, false)
 }
 
 /// The offset of the first of a replica's attempts with a token that is not due, of all its committed batches, from the
-/// opening balances of both replicas.
-#[tactic(auto, using(crate::proofs::JoinedStretches::one_more, crate::proofs::JoinedStretches::wrong_first))]
+/// opening balances of both replicas. Where the peer shows a token to be due nothing is hashed.
 fn first_wrong_beside(
     alloc: Global,
     trace: &Trace<'_>,
-    history: &History<'_>,
-    settled: &Settled<'_>,
+    judged: Judged<'_, '_>,
     peer: Peer<'_, '_>,
     rows: &mut HashedRows,
     others: &mut Balances,
 ) -> Result<Option<u64>, AllocError>
-    requires section { AreOfSection trace.now history.now settled.now }
+    requires judged { AreOfSection trace.now judged.history.now judged.settled.now }
     requires peer { IsDueReplica trace.now peer.history.now peer.settled.now }
-    requires balances { IsAfter settled.now 0 (balances_in rows.old) }
+    requires balances { IsAfter judged.settled.now 0 (balances_in rows.old) }
     requires others { IsAfter peer.settled.now 0 others.old }
-    ensures { IfOk result (IsFirstWrong trace.now history.now.replica 0 (length settled.now.numbers)) }
+    ensures { IfOk result (IsFirstWrong trace.now judged.entry.history.now.replica 0
+        (length judged.entry.settled.now.numbers)) }
 {
+    let Judged { history, settled } = judged;
     let mut same = true;
     for n in 0..settled.committed() {
         rows.advance(settled, n + 1);
         advance(peer.settled, n + 1, others);
-        let shown = is_shown(
-            trace,
+        let own = Replica {
             history,
             settled,
-            n + 1,
-            rows.balances(),
-            peer,
-            others,
-            same,
-        );
-        let wrong = wrong_beside(alloc, trace, history, settled, n + 1, rows, shown)?;
-        if wrong.is_some() {
-            return Ok(wrong);
+            balances: rows.balances(),
+        };
+        let its = Replica {
+            history: peer.history,
+            settled: peer.settled,
+            balances: others,
+        };
+        let shown = is_shown(trace, own, its, n + 1, same);
+        same = are_known_same(own, its, n + 1, shown);
+        if !shown {
+            let wrong = wrong_beside(alloc, trace, history, settled, n + 1, rows)?;
+            if wrong.is_some() {
+                return Ok(wrong);
+            }
         }
-        same = are_known_same(
-            history,
-            settled,
-            n + 1,
-            rows.balances(),
-            peer,
-            others,
-            shown,
-        );
     }
     Ok(None)
 }
 
 /// The offset of the first of a replica's attempts with a token that is not due, of all its committed batches.
-fn first_beside(
+fn first_beside<'b, 'a>(
     alloc: Global,
     trace: &Trace<'_>,
-    history: &History<'_>,
-    settled: &Settled<'_>,
+    history: &'b History<'a>,
+    settled: &'b Settled<'a>,
     peer: Peer<'_, '_>,
 ) -> Result<Option<u64>, AllocError>
     requires section { AreOfSection trace.now history.now settled.now }
@@ -248,7 +195,8 @@ fn first_beside(
 {
     let mut rows = HashedRows::Plain(settled.balances_after(alloc, 0)?);
     let mut others = peer.settled.balances_after(alloc, 0)?;
-    first_wrong_beside(alloc, trace, history, settled, peer, &mut rows, &mut others)
+    let judged = Judged { history, settled };
+    first_wrong_beside(alloc, trace, judged, peer, &mut rows, &mut others)
 }
 
 /// Judges the tokens of a replica's committed attempts, as `tokens` does, beside another replica whose tokens are due:
@@ -276,6 +224,7 @@ pub fn tokens_beside(
     ensures least { IfErr result (λ why. IfFound why
         (IsLeast (IsFaultIn StandsInTokens trace.now history.now.replica))) }
 {
-    let wrong = first_beside(alloc, trace, history, settled, peer)?;
+    // lent again, both for equally long
+    let wrong = first_beside(alloc, trace, &*history, &*settled, peer)?;
     answer(trace, history, settled, wrong)
 }

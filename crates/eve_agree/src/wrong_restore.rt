@@ -12,7 +12,7 @@ ghost use Rattle.eve_agree.specs.Marks.{marking_of, unmarked, marked, noted_betw
 ghost use Rattle.eve_agree.specs.Restores.{StandsInRestores, restores_by_row, IsFirstWrongRow, IsWrongRestore};
 
 use crate::first_seen::FirstSeen;
-use crate::restores::note_attempts;
+use crate::restores::{Discarded, note_attempts};
 use eve_accounts::Row;
 use eve_chains::laws::{faults_tell_what_is_wrong, sound_attempts_fit_and_see};
 use eve_frames::RollbackView;
@@ -67,28 +67,29 @@ fn first_apart(trace: &Trace<'_>, found: &FirstSeen, due: &FirstSeen) -> Option<
     None
 }
 
-/// The first row that a rollback restores otherwise than to what the first write of these attempts saw, if the rollback
-/// begins at this byte and there is one.
+/// The first row that a rollback restores otherwise than to what the first write of the discarded attempts saw, if the
+/// rollback begins at this byte and there is one.
 fn wrong_at(
     alloc: Global,
     trace: &Trace<'_>,
-    history: &History<'_>,
-    first: usize,
-    end: usize,
+    discarded: Discarded<'_, '_>,
     rollback: &RollbackView<'_>,
     at: u64,
 ) -> Result<Option<WrongRestore>, AllocError>
-    requires rising { first ≤ end }
-    requires there { end ≤ length history.now.attempts }
-    requires within { AllByRecursion (λ r. AreWithin (2 * length trace.now.customers) r.ordered) history.now.attempts }
+    requires rising { discarded.first ≤ discarded.end }
+    requires there { discarded.end ≤ length discarded.history.now.attempts }
+    requires within { AllByRecursion (λ r. AreWithin (2 * length trace.now.customers) r.ordered)
+        discarded.history.now.attempts }
     requires rows { IsTrue (list_all (is_restore (2 * length trace.now.customers))
         (rollback_decoded rollback.now).restores) }
     ensures some { IfOk result (λ x. IfSome x (λ w. (rollback.now.offset ≡ at)
         × IsFirstWrongRow (restores_by_row (rollback_decoded rollback.now).restores)
-        (marked unmarked (noted_between history.now.attempts first end)) w)) }
+        (marked unmarked (noted_between discarded.entry.history.now.attempts discarded.entry.first
+        discarded.entry.end)) w)) }
     ensures none { IfOk result (λ x. IfNone x (rollback.now.offset ≡ at
         → restores_by_row (rollback_decoded rollback.now).restores
-        ≡ marked unmarked (noted_between history.now.attempts first end))) }
+        ≡ marked unmarked (noted_between discarded.entry.history.now.attempts discarded.entry.first
+        discarded.entry.end))) }
 {
     if rollback.offset() != at {
         return Ok(None);
@@ -97,7 +98,7 @@ fn wrong_at(
     let mut found = FirstSeen::new(alloc, rows)?;
     found.note_restores(rollback.restores());
     let mut due = FirstSeen::new(alloc, rows)?;
-    note_attempts(&mut due, history, first, end);
+    note_attempts(&mut due, discarded);
     Ok(first_apart(trace, &found, &due))
 }
 
@@ -132,7 +133,12 @@ pub fn first_wrong_restore(
             }
             Step::Commit(_) => first += 1,
             Step::Rollback(rollback) => {
-                if let Some(wrong) = wrong_at(alloc, trace, history, first, end, &rollback, at)? {
+                let discarded = Discarded {
+                    history,
+                    first,
+                    end,
+                };
+                if let Some(wrong) = wrong_at(alloc, trace, discarded, &rollback, at)? {
                     return Ok(wrong);
                 }
                 first = end;

@@ -12,6 +12,7 @@ use Rattle.eve_history.specs.SectionHistory.{SectionHistory, section_histories, 
 use Rattle.eve_history.specs.SectionHistory.{IsRightSection}
 use Rattle.eve_chains.specs.Committed.{values_to, balances_to}
 use Rattle.eve_chains.specs.CommittedValues.{Settling, settling, settlings, values_in, HaveSameBalances}
+use Rattle.eve_agree.specs.declared.replica.Replicas.{Replicas}
 use Rattle.eve_agree.specs.ByNumber.{told_at}
 use Rattle.eve_agree.specs.Agreement.{first_to_commit, HasCommitted, HaveSameOutcome, HasBalancesOfFirst}
 use Rattle.eve_agree.specs.Agreement.{StandsInAgreement}
@@ -40,6 +41,10 @@ pub record AllStandAt (t : Trace) (hs : List SectionHistory) (settled : List Set
   pub values : (e m : ℕ) → values_in (settling t e) m ≡ values_to t e m
   pub states : (e m at : ℕ) (x : Transfer) → how_reached_at t e m ≡ Some (ByTransfer at x)
       → balances_to t e m ≡ map (λ v. v.value) x.rows
+
+-- that is known of these
+abbrev pub ReplicasStandAt : Trace → Replicas → Type 0
+ReplicasStandAt t all = AllStandAt t all.histories.now all.settled.now all.balances.now all.number
 
 -- ---- one number
 

@@ -32,8 +32,8 @@ advance_all-requires-clause-before c =
     subst (λ settled. AreAfter settled (c.loop-n.n + 1 - 1) c.loop-n.all.items) (sym c.requires.settled)
     (subst (λ n. AreAfter (settlings c.args.trace.now) n c.loop-n.all.items) one_less c.loop-n.invariant.after)
 
-pub judge_number-least-requires-clause-after : goal.judge_number-least-requires-clause-after
-judge_number-least-requires-clause-after c =
+pub judge_number-least-requires-clause-all : goal.judge_number-least-requires-clause-all
+judge_number-least-requires-clause-all c =
     let t = c.args.trace.now in
     let right = c.recall_all_right.ensures t c.requires.histories in
     record {

@@ -8,7 +8,7 @@ use Rattle.eve_agree.proofs.wrong_restore.wrong_at.Goals as goal
 pub returns-clause-some : goal.returns-clause-some
 returns-clause-some c =
     let rs = (rollback_decoded c.args.rollback.now).restores in
-    let es = noted_between c.args.history.now.attempts c.args.first c.args.end in
+    let es = noted_between c.args.discarded.history.now.attempts c.args.discarded.first c.args.discarded.end in
     let own : marking_of c.note_restores.new.self ≡ restores_by_row rs =
     found_marked c.in_ok-found.found c.note_restores.new.self _ c.restores.result rs c.in_ok-found.ensures
     c.restores.ensures c.note_restores.ensures.marks in
@@ -21,7 +21,7 @@ returns-clause-some c =
 pub returns-clause-none : goal.returns-clause-none
 returns-clause-none c =
     let rs = (rollback_decoded c.args.rollback.now).restores in
-    let es = noted_between c.args.history.now.attempts c.args.first c.args.end in
+    let es = noted_between c.args.discarded.history.now.attempts c.args.discarded.first c.args.discarded.end in
     let own : marking_of c.note_restores.new.self ≡ restores_by_row rs =
     found_marked c.in_ok-found.found c.note_restores.new.self _ c.restores.result rs c.in_ok-found.ensures
     c.restores.ensures c.note_restores.ensures.marks in
