@@ -12,7 +12,7 @@ use Rattle.eve_smallbank.specs.declared.entry.Kind.{Kind}
 use Rattle.eve_smallbank.specs.declared.entry.Kind.TheVariants.{Read, Write}
 use Rattle.eve_smallbank.specs.declared.entry.Entry.{Entry}
 use Rattle.eve_views.specs.Form.{SomePlace}
-use Rattle.eve_audit.proofs.Places.{place_here, place_later}
+use Rattle.eve_history.proofs.Places.{place_here, place_later}
 
 abbrev pub Decided : Type 0 → Type 0
 Decided P = P ⊎ ¬ P

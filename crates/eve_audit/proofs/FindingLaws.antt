@@ -1,12 +1,10 @@
 -- What was found of replicas stays true as it is kept and taken.
-use Rattle.std.proofs.Common.{◌≡◌, ℕ, sym, subst}
+use Rattle.std.proofs.Common.{ℕ}
 use Rattle.std.specs.Prelude.{Result, Ok, Err, IfOk, IfErr}
 use Rattle.eve_grammar.specs.Trace.{Trace}
 use Rattle.eve_views.specs.Form.{IfFound}
 use Rattle.eve_views.specs.declared.fault.CheckFault.{CheckFault}
-use Rattle.eve_views.specs.declared.fault.CheckFault.TheVariants.{Memory}
 use Rattle.eve_audit.specs.declared.replicas.Report.{Report}
-use Rattle.eve_audit.specs.declared.findings.Finding.{Finding}
 use Rattle.eve_audit.specs.inner.Findings.{IsAnswerBeforeTokens}
 use Rattle.eve_audit.specs.Verdict.{IsOwnFault}
 use Rattle.eve_audit.specs.Reports.{IsFirstOf, IsReportBeforeTokens}
@@ -16,10 +14,3 @@ module _ (t : Trace) (e : ℕ) where
       → IfErr answer (λ why. IfFound why (IsFirstOf (IsOwnFault t e))) → IsAnswerBeforeTokens t e answer
   settled_answer (Ok report) settled first = settled
   settled_answer (Err why) settled first = first
-
--- a finding of nothing, as it is put in another's place
-pub settled_nothing : (t : Trace) (nothing f : Finding) → nothing.answer ≡ Err Memory → f ≡ nothing
-    → IsAnswerBeforeTokens t f.replica f.answer
-settled_nothing t nothing f is same =
-    subst (λ (h : Finding). IsAnswerBeforeTokens t h.replica h.answer) (sym same)
-    (subst (IsAnswerBeforeTokens t nothing.replica) (sym is) tt)

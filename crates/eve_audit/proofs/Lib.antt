@@ -1,5 +1,4 @@
 pub mod Sections
-pub mod Places
 pub mod Phases
 pub mod FirstFaults
 pub mod Verdicts

@@ -1,14 +1,12 @@
 -- Replicas agree, since each agrees with the first that committed the batch; and their banks come from the opening
 -- balances in the orders of the first.
-use Rattle.std.proofs.Common.{◌≡◌, ℕ, zero, suc, ◌-◌, ◌≤◌, List, [], ◌∷◌, ◌++◌, map, Option, Some, IfSome, refl, sym}
+use Rattle.std.proofs.Common.{◌≡◌, ℕ, zero, suc, ◌-◌, ◌≤◌, List, [], ◌++◌, map, Option, Some, IfSome, refl, sym}
 use Rattle.std.proofs.Common.{subst, ap, ◌∙◌, inl, inr, arith}
 use Rattle.std.specs.Prelude.{IsTrue}
 use Rattle.std.specs.Option.{option_map, is_some}
 use Rattle.std.proofs.lemmas.Bool.{cases_lt}
-use Rattle.std.proofs.lemmas.List.{map-append}
 use Rattle.std.proofs.lemmas.Option.{same_Some}
 use Rattle.eve_smallbank.specs.declared.request.Reply.{Reply}
-use Rattle.eve_smallbank.specs.SmallBank.{Bank, Request, does, run}
 use Rattle.eve_smallbank.specs.Access.{Executed}
 use Rattle.eve_grammar.specs.Trace.{Transfer, Trace}
 use Rattle.eve_history.specs.Section.{Placed, ByTransfer}
@@ -16,30 +14,10 @@ use Rattle.eve_history.specs.SectionHistory.{how_reached_at, committed_at, is_re
 use Rattle.eve_chains.specs.Visible.{execution}
 use Rattle.eve_chains.specs.Committed.{opening_bank, bank_after, balances_to, Leads, IsSerialBetween}
 use Rattle.eve_agree.specs.Agreement.{first_to_commit, HaveSameOutcome, ReplicasAgree}
+use Rattle.eve_chains.proofs.SerialRuns.{leads-append}
 use Rattle.eve_audit.specs.Audited.{execution_by, execution_of, first_executions}
 use Rattle.eve_audit.proofs.NumberLaws.{IsReachedBy, by_attempt, by_state, reached_by, first_there, first_committed}
 use Rattle.eve_audit.proofs.SameBanks.{banks_agree}
-
--- ---- one run after another
-
-run-append : (bank next last : Bank) (xs ys : List Request) (rs ss : List Reply) → run bank xs ≡ (next, rs)
-    → run next ys ≡ (last, ss) → run bank (xs ++ ys) ≡ (last, rs ++ ss)
-run-append bank next last [] ys rs ss e f =
-    ap (λ (b : Bank). run b ys) (ap (λ (d : Bank × List Reply). d.0) e) ∙ f
-    ∙ ap (λ (qs : List Reply). (last, qs ++ ss)) (ap (λ (d : Bank × List Reply). d.1) e)
-run-append bank next last (x ∷ xs) ys rs ss e f =
-    let first : Bank × Reply = does bank x in
-    let rest = run-append first.0 (run first.0 xs).0 last xs ys (run first.0 xs).1 ss refl
-    (ap (λ (d : Bank × List Reply). run d.0 ys) e ∙ f) in
-    ap (λ (d : Bank × List Reply). (d.0, first.1 ∷ d.1)) rest ∙ ap (λ (d : Bank × List Reply). (last, d.1 ++ ss)) e
-
-leads-append : (bank next last : Bank) (xs ys : List Executed) → Leads bank xs next → Leads next ys last
-    → Leads bank (xs ++ ys) last
-leads-append bank next last xs ys one other =
-    ap (run bank) (map-append (λ (x : Executed). x.request) xs ys)
-    ∙ run-append bank next last (map (λ x. x.request) xs) (map (λ x. x.request) ys) (map (λ x. x.reply) xs)
-    (map (λ x. x.reply) ys) one other
-    ∙ ap (λ (rs : List Reply). (last, rs)) (sym (map-append (λ (x : Executed). x.reply) xs ys))
 
 -- ---- with the first that committed
 

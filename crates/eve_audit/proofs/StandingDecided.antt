@@ -34,7 +34,7 @@ use Rattle.eve_agree.specs.Majority.{StandsInMajorities}
 use Rattle.eve_agree.specs.Agreement.{first_to_commit, HaveSameOutcome, HasBalancesOfFirst, StandsInAgreement}
 use Rattle.eve_agree.specs.ByNumber.{SomeCommitted, SomeTransferred}
 use Rattle.eve_agree.specs.SentReplies.{StandsInReplies}
-use Rattle.eve_audit.proofs.Places.{place_here, place_later, place_cases, no_place}
+use Rattle.eve_history.proofs.Places.{place_here, place_later, place_cases, no_place}
 use Rattle.eve_audit.proofs.Decidability.{Decided, HasEquality, decided_both, decided_not, decided_as, some_if}
 use Rattle.eve_audit.proofs.Decidability.{below_or_none, numbers, integers, lists, pairs}
 use Rattle.eve_audit.proofs.DecidedVotes.{HaveVotes, enough, vote, AtVote, at_vote, IsFor, is_for, voted, some_decided}

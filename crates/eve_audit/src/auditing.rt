@@ -3,7 +3,7 @@
 ghost use Rattle.std.specs.Prelude.{◌≡◌, ◌≤◌, ℕ, List, IfOk, IfErr, length};
 ghost use Rattle.eve_grammar.specs.FrameOrder.{Spells};
 ghost use Rattle.eve_views.specs.Form.{IfFound, HasNone, IsFaultOutside};
-ghost use Rattle.eve_history.specs.SectionHistory.{names_of, section_histories};
+ghost use Rattle.eve_history.specs.SectionHistory.{section_histories};
 ghost use Rattle.eve_history.specs.Order.{StandsInOrders};
 ghost use Rattle.eve_chains.specs.CommittedValues.{settlings};
 ghost use Rattle.eve_audit.specs.Accepted.{IsAccepted};
@@ -18,9 +18,9 @@ ghost use Rattle.eve_views.specs.declared.fault.Fault.{Fault};
 
 use crate::findings::{Finding, judge_in_turn, judge_side_by_side};
 use crate::laws::accepted_traces_are_audited;
+use crate::named::NamedTrace;
 use crate::replicas::{Reports, all_reports};
 use crate::verdict::{AcceptedTrace, AuditFault, Summary, Verdict, WholeVerdict};
-use eve_accounts::Names;
 use eve_agree::{equal_balances, majorities, replies_side_by_side};
 use eve_chains::Settled;
 use eve_chains::laws::requests_take_effect_once;
@@ -39,13 +39,6 @@ use std::hash::RandomState;
 use std::sync::Wait;
 use std::thread::Threads;
 
-/// A trace that was read, and the names of its customers.
-#[derive(Drop)]
-struct NamedTrace<'a> {
-    trace: Trace<'a>,
-    names: Names<'a>,
-}
-
 /// Reads a trace and judges its orders, the first with up to `jobs` jobs.
 fn open<'a, R: Threads + Sync>(
     rt: &R,
@@ -55,7 +48,6 @@ fn open<'a, R: Threads + Sync>(
     jobs: u8,
 ) -> Result<NamedTrace<'a>, CheckFault>
     ensures read { IfOk result (λ named. IsRead bytes.now named.trace) }
-    ensures names { IfOk result (λ named. named.names.items ≡ names_of named.trace) }
     ensures orders { IfOk result (λ named. HasNone (IsFaultOutside StandsInOrders named.trace)) }
     ensures fault { IfErr result (λ why. IfFound why (λ f. IsAnswer bytes.now (No f))) }
 {
@@ -105,7 +97,6 @@ fn judge_trace<'a, R: Threads + Sync>(
     findings: &mut [Finding<'a>],
     jobs: u8,
 ) -> Result<AcceptedTrace<'a>, CheckFault>
-    requires names { named.names.items ≡ names_of named.trace }
     requires orders { HasNone (IsFaultOutside StandsInOrders named.trace) }
     requires findings { AreTrue named.trace findings.old }
     ensures trace { IfOk result (λ a. a.trace ≡ named.entry.trace) }
@@ -115,14 +106,14 @@ fn judge_trace<'a, R: Threads + Sync>(
     ensures none { IfOk result (λ _. HasNone (IsTraceFault named.entry.trace)) }
     ensures first { IfErr result (λ why. IfFound why (IsFirstOf (IsTraceFault named.entry.trace))) }
 {
-    let NamedTrace { trace, names } = named;
-    trace.recall_limits();
+    named.trace.recall_limits();
     right_heads_have_limits();
     requests_take_effect_once();
-    let found = match all_reports(rt, alloc, &trace, &names, findings) {
+    let found = match all_reports(rt, alloc, &named, findings) {
         Ok(found) => found,
         Err(why) => return Err(why),
     };
+    let NamedTrace { trace, names: _ } = named;
     match judge_together(rt, alloc, &trace, &found.histories, &found.settled, jobs) {
         Ok(()) => {}
         Err(why) => return Err(why),
@@ -153,7 +144,6 @@ fn verdict_on<'a, R: Threads + Sync>(
     findings: &mut [Finding<'a>],
     jobs: u8,
 ) -> Result<WholeVerdict<'a>, AuditFault>
-    requires names { named.names.items ≡ names_of named.trace }
     requires orders { HasNone (IsFaultOutside StandsInOrders named.trace) }
     requires findings { AreTrue named.trace findings.old }
     ensures { IfOk result (λ w. (bytes : List ℕ) → IsRead bytes named.entry.trace → IsWholeAnswer bytes w) }
@@ -198,7 +188,7 @@ pub fn audit_one<R: Threads + Sync>(
         Err(CheckFault::Found(fault)) => return Ok(Verdict::No(fault)),
         Err(CheckFault::Memory) => return Err(AuditFault::Memory),
     };
-    let mut findings = match judge_in_turn(rt, alloc, &named.trace, &named.names) {
+    let mut findings = match judge_in_turn(rt, alloc, &named) {
         Ok(findings) => findings,
         Err(AllocError) => return Err(AuditFault::Memory),
     };
@@ -268,8 +258,7 @@ pub fn audit_whole<'a, R: Threads + Wait + Sync, G: Gate>(
         Err(CheckFault::Found(fault)) => return Ok(WholeVerdict::No(fault)),
         Err(CheckFault::Memory) => return Err(AuditFault::Memory),
     };
-    let (trace, names) = (&named.trace, &named.names);
-    match judge_side_by_side(rt, alloc, trace, names, workers, gate) {
+    match judge_side_by_side(rt, alloc, &named, workers, gate) {
         Ok(mut findings) => verdict_on(rt, alloc, named, findings.as_mut_slice(), workers),
         Err(AllocError) => Err(AuditFault::Memory),
     }

@@ -1,16 +1,15 @@
 //! What was found of the replicas, each judged by itself.
 
-ghost use Rattle.std.specs.Prelude.{◌≡◌, ◌<◌, ◌≤◌, ◌*◌, min, IfOk, IfSome, All, length, slice_index_or};
+ghost use Rattle.std.specs.Prelude.{◌≡◌, ◌<◌, ◌≤◌, ◌*◌, min, IfOk, IfSome, length, slice_index_or};
 ghost use Rattle.std.specs.Thread.{IsSync};
 ghost use Rattle.eve_views.specs.declared.fault.CheckFault.TheVariants.{Memory};
-ghost use Rattle.eve_history.specs.SectionHistory.{names_of};
 ghost use Rattle.eve_audit.specs.declared.findings.Finding.{Finding as FindingValue};
 ghost use Rattle.eve_audit.specs.inner.Findings.{AreTrueSoFar, AreTrue, IsAnswerOf, IsAnswerBeforeTokens};
 ghost use Rattle.eve_audit.specs.inner.Findings.{AreOfReplicas};
 ghost use Rattle.eve_audit.specs.inner.Peers.{IsSoundPeer};
 
+use crate::named::NamedTrace;
 use crate::replicas::{Report, report_before_tokens};
-use eve_accounts::Names;
 use eve_agree::Peer;
 use eve_gate::Gate;
 use eve_history::History;
@@ -45,17 +44,15 @@ impl<'a> Finding<'a> {
     pub fn of_replica<R: Threads + Sync>(
         rt: &R,
         alloc: Global,
-        trace: &Trace<'a>,
-        names: &Names<'_>,
+        named: &NamedTrace<'a>,
         e: u8,
     ) -> Self
-        requires there { e < length trace.now.sections }
-        requires names { names.now.items ≡ names_of trace.now }
-        ensures { IsAnswerOf trace.now e result.answer }
+        requires { e < length named.now.trace.sections }
+        ensures { IsAnswerOf named.now.trace e result.answer }
     {
         let mut finding = Finding::of_nothing(e);
-        finding.judge_section(rt, alloc, trace, names, 1);
-        finding.judge_tokens(rt, alloc, trace, 1, None);
+        finding.judge_section(rt, alloc, named, 1);
+        finding.judge_tokens(rt, alloc, &named.trace, 1, None);
         finding
     }
 
@@ -75,17 +72,15 @@ impl<'a> Finding<'a> {
         &mut self,
         rt: &R,
         alloc: Global,
-        trace: &Trace<'a>,
-        names: &Names<'_>,
+        named: &NamedTrace<'a>,
         jobs: u8,
     )
-        requires there { self.old.replica < length trace.now.sections }
-        requires names { names.now.items ≡ names_of trace.now }
+        requires there { self.old.replica < length named.now.trace.sections }
         requires jobs { 1 ≤ jobs }
-        ensures settled { IsAnswerBeforeTokens trace.now self.new.replica self.new.answer }
+        ensures settled { IsAnswerBeforeTokens named.now.trace self.new.replica self.new.answer }
         ensures replica { self.new.replica ≡ self.old.replica }
     {
-        self.answer = report_before_tokens(rt, alloc, trace, names, self.replica, jobs);
+        self.answer = report_before_tokens(rt, alloc, named, self.replica, jobs);
     }
 
     /// Judges the replica's tokens, if nothing was found against it.
@@ -129,16 +124,15 @@ fn nothing_of_each<'a>(alloc: Global, trace: &Trace<'a>) -> Result<Vec<Finding<'
 pub fn judge_in_turn<'a, R: Threads + Sync>(
     rt: &R,
     alloc: Global,
-    trace: &Trace<'a>,
-    names: &Names<'_>,
+    named: &NamedTrace<'a>,
 ) -> Result<Vec<Finding<'a>>, AllocError>
-    requires names { names.now.items ≡ names_of trace.now }
-    ensures found { IfOk result (λ findings. AreTrue trace.now findings.items) }
+    ensures { IfOk result (λ findings. AreTrue named.now.trace findings.items) }
 {
+    let trace = &named.trace;
     let mut findings = Vec::with_capacity(alloc, trace.section_count() as usize)?;
     for e in 0..trace.section_count() {
         let mut finding = Finding::of_nothing(e);
-        finding.judge_section(rt, alloc, trace, names, 1);
+        finding.judge_section(rt, alloc, named, 1);
         findings.push(finding)?;
     }
     judge_all_tokens(rt, alloc, trace, findings.as_mut_slice(), 1);
@@ -153,26 +147,16 @@ pub fn judge_in_turn<'a, R: Threads + Sync>(
 pub fn judge_side_by_side<'a, R: Threads + Wait + Sync, G: Gate>(
     rt: &R,
     alloc: Global,
-    trace: &Trace<'a>,
-    names: &Names<'_>,
+    named: &NamedTrace<'a>,
     workers: u8,
     gate: &G,
 ) -> Result<Vec<Finding<'a>>, AllocError>
-    requires some { 1 ≤ workers }
-    requires names { names.now.items ≡ names_of trace.now }
-    ensures found { IfOk result (λ findings. AreTrue trace.now findings.items) }
+    requires { 1 ≤ workers }
+    ensures { IfOk result (λ findings. AreTrue named.now.trace findings.items) }
 {
-    let mut findings = nothing_of_each(alloc, trace)?;
-    judge_sections(
-        rt,
-        alloc,
-        trace,
-        names,
-        gate,
-        findings.as_mut_slice(),
-        workers,
-    );
-    judge_all_tokens(rt, alloc, trace, findings.as_mut_slice(), workers);
+    let mut findings = nothing_of_each(alloc, &named.trace)?;
+    judge_sections(rt, alloc, named, gate, findings.as_mut_slice(), workers);
+    judge_all_tokens(rt, alloc, &named.trace, findings.as_mut_slice(), workers);
     Ok(findings)
 }
 
@@ -183,29 +167,27 @@ pub fn judge_side_by_side<'a, R: Threads + Wait + Sync, G: Gate>(
 fn judge_sections<'a, R: Threads + Wait + Sync, G: Gate>(
     rt: &R,
     alloc: Global,
-    trace: &Trace<'a>,
-    names: &Names<'_>,
+    named: &NamedTrace<'a>,
     gate: &G,
     findings: &mut [Finding<'a>],
     workers: u8,
 )
-    requires names { names.now.items ≡ names_of trace.now }
     requires workers { 1 ≤ workers }
-    requires replicas { AreOfReplicas trace.now findings.old }
-    ensures settled { AreTrueSoFar trace.now findings.new }
+    requires replicas { AreOfReplicas named.now.trace findings.old }
+    ensures { AreTrueSoFar named.now.trace findings.new }
 {
-    let jobs = jobs_of_each(workers, trace.section_count());
+    let jobs = jobs_of_each(workers, named.trace.section_count());
     thread::for_each_mut(
         rt,
         findings,
         workers as usize,
         &|_: usize, finding: &mut Finding|
-            requires { IsSync R.row × IsSync G.row × (names.now.items ≡ names_of trace.now) × (1 ≤ jobs)
-                × (finding.old.replica < length trace.now.sections) }
-            ensures { IsAnswerBeforeTokens trace.entry.now finding.new.replica finding.new.answer }
+            requires { IsSync R.row × IsSync G.row × (1 ≤ jobs)
+                × (finding.old.replica < length named.now.trace.sections) }
+            ensures { IsAnswerBeforeTokens named.entry.now.trace finding.new.replica finding.new.answer }
         {
             gate.enter(rt, u32::from(finding.replica));
-            finding.judge_section(rt, alloc, trace, names, jobs);
+            finding.judge_section(rt, alloc, named, jobs);
         },
     );
 }

@@ -4,6 +4,7 @@
 mod auditing;
 mod findings;
 pub mod laws;
+mod named;
 mod replicas;
 mod verdict;
 

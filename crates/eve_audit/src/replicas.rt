@@ -2,7 +2,7 @@
 
 ghost use Rattle.std.specs.Prelude.{◌≡◌, ◌++◌, ◌∷◌, [], ℕ, IfOk, IfErr, OnOk, ◌<◌, ◌≤◌, ◌^◌, length, min};
 ghost use Rattle.eve_views.specs.Form.{IfFound, HasNone, IsFaultIn};
-ghost use Rattle.eve_history.specs.SectionHistory.{names_of, section_history, section_histories};
+ghost use Rattle.eve_history.specs.SectionHistory.{section_history, section_histories};
 ghost use Rattle.eve_history.specs.Structure.{StandsInStructure};
 ghost use Rattle.eve_chains.specs.CommittedValues.{settling, settlings};
 ghost use Rattle.eve_audit.specs.inner.Findings.{AreTrue, IsAnswerOf};
@@ -12,7 +12,7 @@ ghost use Rattle.eve_audit.specs.Reports.{IsFirstOf, IsReportOf, IsReportBeforeT
 ghost use Rattle.eve_audit.specs.Reports.{IsSoundReplica, IsLeastBelow, IsFaultBelow};
 
 use crate::findings::Finding;
-use eve_accounts::Names;
+use crate::named::NamedTrace;
 use eve_agree::{Peer, rollbacks, tokens, tokens_beside};
 use eve_chains::{Settled, check};
 use eve_history::History;
@@ -82,18 +82,18 @@ pub struct Reports<'a> {
 pub fn all_reports<'a, R: Threads + Sync>(
     rt: &R,
     alloc: Global,
-    trace: &Trace<'a>,
-    names: &Names<'_>,
+    named: &NamedTrace<'a>,
     findings: &mut [Finding<'a>],
 ) -> Result<Reports<'a>, CheckFault>
-    requires names { names.now.items ≡ names_of trace.now }
-    requires findings { AreTrue trace.now findings.old }
-    ensures histories { IfOk result (λ reports. reports.histories.items ≡ section_histories trace.now) }
-    ensures settled { IfOk result (λ reports. reports.settled.items ≡ settlings trace.now) }
-    ensures committed { IfOk result (λ reports. IsLeastBelow trace.now (length trace.now.sections) reports.committed) }
-    ensures sound { IfOk result (λ _. (e : ℕ) → IsSoundReplica trace.now e) }
-    ensures none { IfOk result (λ _. HasNone (IsFaultBelow trace.now (length trace.now.sections))) }
-    ensures first { IfErr result (λ why. IfFound why (IsFirstOf (IsFaultBelow trace.now (length trace.now.sections)))) }
+    requires { AreTrue named.now.trace findings.old }
+    ensures histories { IfOk result (λ reports. reports.histories.items ≡ section_histories named.now.trace) }
+    ensures settled { IfOk result (λ reports. reports.settled.items ≡ settlings named.now.trace) }
+    ensures committed { IfOk result (λ reports.
+        IsLeastBelow named.now.trace (length named.now.trace.sections) reports.committed) }
+    ensures sound { IfOk result (λ _. (e : ℕ) → IsSoundReplica named.now.trace e) }
+    ensures none { IfOk result (λ _. HasNone (IsFaultBelow named.now.trace (length named.now.trace.sections))) }
+    ensures first { IfErr result (λ why. IfFound why
+        (IsFirstOf (IsFaultBelow named.now.trace (length named.now.trace.sections)))) }
 {
     faults_come_one_before_another();
     let mut first: Option<Fault> = None;
@@ -102,8 +102,8 @@ pub fn all_reports<'a, R: Threads + Sync>(
         settled: Vec::new(alloc),
         committed: u32::MAX,
     };
-    'replicas: for e in 0..trace.section_count() {
-        match report_of(rt, alloc, trace, names, findings, e) {
+    'replicas: for e in 0..named.trace.section_count() {
+        match report_of(rt, alloc, named, findings, e) {
             Ok(report) => keep(&mut kept, report)?,
             Err(CheckFault::Found(fault)) => {
                 first = first_of(first, Some(fault));
@@ -123,22 +123,20 @@ pub fn all_reports<'a, R: Threads + Sync>(
 pub fn report_before_tokens<'a, R: Threads + Sync>(
     rt: &R,
     alloc: Global,
-    trace: &Trace<'a>,
-    names: &Names<'_>,
+    named: &NamedTrace<'a>,
     e: u8,
     jobs: u8,
 ) -> Result<Report<'a>, CheckFault>
-    requires there { e < length trace.now.sections }
-    requires names { names.now.items ≡ names_of trace.now }
+    requires there { e < length named.now.trace.sections }
     requires jobs { 1 ≤ jobs }
-    ensures report { IfOk result (IsReportBeforeTokens trace.now e) }
-    ensures first { IfErr result (λ why. IfFound why (IsFirstOf (IsOwnFault trace.now e))) }
+    ensures report { IfOk result (IsReportBeforeTokens named.now.trace e) }
+    ensures first { IfErr result (λ why. IfFound why (IsFirstOf (IsOwnFault named.now.trace e))) }
 {
-    let history = match History::of(alloc, trace, e) {
+    let history = match History::of(alloc, &named.trace, e) {
         Ok(history) => history,
         Err(why) => return Err(why),
     };
-    match settled_of(rt, alloc, trace, names, &history, jobs) {
+    match settled_of(rt, alloc, named, &history, jobs) {
         Ok(settled) => Ok(Report { history, settled }),
         Err(why) => Err(why),
     }
@@ -148,22 +146,20 @@ pub fn report_before_tokens<'a, R: Threads + Sync>(
 fn settled_of<'a, R: Threads + Sync>(
     rt: &R,
     alloc: Global,
-    trace: &Trace<'a>,
-    names: &Names<'_>,
+    named: &NamedTrace<'a>,
     history: &History<'a>,
     jobs: u8,
 ) -> Result<Settled<'a>, CheckFault>
-    requires history { history.now ≡ section_history trace.now history.now.replica }
-    requires none { HasNone (IsFaultIn StandsInStructure trace.now history.now.replica) }
-    requires names { names.now.items ≡ names_of trace.now }
+    requires history { history.now ≡ section_history named.now.trace history.now.replica }
+    requires none { HasNone (IsFaultIn StandsInStructure named.now.trace history.now.replica) }
     requires jobs { 1 ≤ jobs }
-    ensures settled { IfOk result (λ settled. settled ≡ settling trace.now history.now.replica) }
-    ensures sound { IfOk result (λ _. IsSoundBeforeTokens trace.now history.now.replica) }
-    ensures first { IfErr result (λ why. IfFound why (IsFirstOf (IsOwnFault trace.now history.now.replica))) }
+    ensures settled { IfOk result (λ settled. settled ≡ settling named.now.trace history.now.replica) }
+    ensures sound { IfOk result (λ _. IsSoundBeforeTokens named.now.trace history.now.replica) }
+    ensures first { IfErr result (λ why. IfFound why (IsFirstOf (IsOwnFault named.now.trace history.now.replica))) }
 {
     history.recall_right();
-    let settled = check(rt, alloc, history, trace, names, jobs)?;
-    rollbacks(alloc, trace, history, &settled)?;
+    let settled = check(rt, alloc, history, &named.trace, &named.names, jobs)?;
+    rollbacks(alloc, &named.trace, history, &settled)?;
     Ok(settled)
 }
 
@@ -171,19 +167,17 @@ fn settled_of<'a, R: Threads + Sync>(
 fn report_of<'a, R: Threads + Sync>(
     rt: &R,
     alloc: Global,
-    trace: &Trace<'a>,
-    names: &Names<'_>,
+    named: &NamedTrace<'a>,
     findings: &mut [Finding<'a>],
     e: u8,
 ) -> Result<Report<'a>, CheckFault>
-    requires there { e < length trace.now.sections }
-    requires names { names.now.items ≡ names_of trace.now }
-    requires findings { AreTrue trace.now findings.old }
-    ensures answer { IsAnswerOf trace.now e result }
-    ensures left { AreTrue trace.now findings.new }
+    requires there { e < length named.now.trace.sections }
+    requires findings { AreTrue named.now.trace findings.old }
+    ensures answer { IsAnswerOf named.now.trace e result }
+    ensures left { AreTrue named.now.trace findings.new }
 {
-    match take_found(trace, findings, e) {
-        Err(CheckFault::Memory) => Finding::of_replica(rt, alloc, trace, names, e).answer,
+    match take_found(&named.trace, findings, e) {
+        Err(CheckFault::Memory) => Finding::of_replica(rt, alloc, named, e).answer,
         answer => answer,
     }
 }

@@ -6,7 +6,7 @@ use Rattle.eve_audit.proofs.findings.judge_in_turn.Goals as goal
 
 pub loop-e-preserved : goal.loop-e-preserved
 loop-e-preserved g c =
-    let t = c.args.trace.now in
+    let t = c.args.named.now.trace in
     let P : Finding → Type 0 = λ f. IsAnswerBeforeTokens t f.replica f.answer in
     let found = All-push P c.loop-e.findings.items _ c.loop-e.invariant c.judge_section.ensures.settled in
     subst (AreTrueSoFar t) (sym c.in_ok-push.ensures.items) found

@@ -8,7 +8,7 @@ use Rattle.eve_audit.proofs.replicas.all_reports.Goals as goal
 
 pub replicas-preserved : goal.replicas-preserved
 replicas-preserved g c =
-    let t = c.args.trace.now in
+    let t = c.args.named.now.trace in
     let e = c.replicas.e in (
       elim c.match-report_of.branch [
         | in-Ok+in_ok-keep-in-Ok w ↦ (
@@ -42,14 +42,14 @@ replicas-preserved g c =
 
 pub returns-in-Some-clause-first : goal.returns-in-Some-clause-first
 returns-in-Some-clause-first g c =
-    let t = c.args.trace.now in
+    let t = c.args.named.now.trace in
     let last : c.replicas.e ≡ length t.sections = search rules in
     subst (λ (n : ℕ). IsFirstOf (IsFaultBelow t n) c.in-Some.fault) last
     (subst (IsFoundBelow t c.replicas.e) c.in-Some.is c.replicas.invariant.0.found)
 
 pub returns-clause-histories : goal.returns-clause-histories
 returns-clause-histories g c =
-    let t = c.args.trace.now in
+    let t = c.args.named.now.trace in
     let last : c.replicas.e ≡ length t.sections = search rules in
     let kept = subst (λ (n : ℕ). AreKept t n c.replicas.kept.histories.items c.replicas.kept.settled.items) last
     (c.replicas.invariant.0.kept c.in-None.is) in
@@ -57,7 +57,7 @@ returns-clause-histories g c =
 
 pub returns-clause-settled : goal.returns-clause-settled
 returns-clause-settled g c =
-    let t = c.args.trace.now in
+    let t = c.args.named.now.trace in
     let last : c.replicas.e ≡ length t.sections = search rules in
     let kept = subst (λ (n : ℕ). AreKept t n c.replicas.kept.histories.items c.replicas.kept.settled.items) last
     (c.replicas.invariant.0.kept c.in-None.is) in
@@ -65,7 +65,7 @@ returns-clause-settled g c =
 
 pub returns-clause-sound : goal.returns-clause-sound
 returns-clause-sound g c =
-    let t = c.args.trace.now in
+    let t = c.args.named.now.trace in
     let last : c.replicas.e ≡ length t.sections = search rules in
     let kept = subst (λ (n : ℕ). AreKept t n c.replicas.kept.histories.items c.replicas.kept.settled.items) last
     (c.replicas.invariant.0.kept c.in-None.is) in
@@ -73,7 +73,7 @@ returns-clause-sound g c =
 
 pub returns-clause-none : goal.returns-clause-none
 returns-clause-none g c =
-    let t = c.args.trace.now in
+    let t = c.args.named.now.trace in
     let last : c.replicas.e ≡ length t.sections = search rules in
     subst (λ (n : ℕ). HasNone (IsFaultBelow t n)) last
     (subst (IsFoundBelow t c.replicas.e) c.in-None.is c.replicas.invariant.0.found)

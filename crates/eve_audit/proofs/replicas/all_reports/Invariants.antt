@@ -4,5 +4,5 @@ use Rattle.eve_audit.specs.Reports.{IsJudgedBelow}
 use Rattle.eve_audit.proofs.replicas.all_reports.Given as goal
 
 abbrev pub invariant-replicas : goal.invariant-replicas
-invariant-replicas g l = IsJudgedBelow l.trace l.e l.first l.kept.histories.items l.kept.settled.items
-    l.kept.committed × AreTrue l.trace l.findings
+invariant-replicas g l = IsJudgedBelow l.named.trace l.e l.first l.kept.histories.items l.kept.settled.items
+    l.kept.committed × AreTrue l.named.trace l.findings

@@ -10,23 +10,23 @@ use Rattle.eve_audit.proofs.replicas.report_before_tokens.Goals as goal
 
 pub returns-in-Err-clause-first : goal.returns-in-Err-clause-first
 returns-in-Err-clause-first g c =
-    let t = c.args.trace.now in
+    let t = c.args.named.now.trace in
     found_weaker (IsLeast (IsFaultIn StandsInStructure t c.args.e)) (IsFirstOf (IsOwnFault t c.args.e)) c.in-Err.why
     (structure_first t c.args.e) c.in-Err.ensures.least
 
 pub settled_of-requires-clause-history : goal.settled_of-requires-clause-history
-settled_of-requires-clause-history g c κs within = section_history_by_its_own c.args.trace.now c.args.e
+settled_of-requires-clause-history g c κs within = section_history_by_its_own c.args.named.now.trace c.args.e
     c.in-Ok.history c.in-Ok.ensures.section_history
 
 pub settled_of-requires-clause-none : goal.settled_of-requires-clause-none
 settled_of-requires-clause-none g c κs within =
-    subst (λ (k : ℕ). HasNone (IsFaultIn StandsInStructure c.args.trace.now k))
-    (sym (replica_told c.args.trace.now c.args.e c.in-Ok.history c.in-Ok.ensures.section_history))
+    subst (λ (k : ℕ). HasNone (IsFaultIn StandsInStructure c.args.named.now.trace k))
+    (sym (replica_told c.args.named.now.trace c.args.e c.in-Ok.history c.in-Ok.ensures.section_history))
     c.in-Ok.ensures.none
 
 pub returns-in-Ok-settled_of-clause-report : goal.returns-in-Ok-settled_of-clause-report
 returns-in-Ok-settled_of-clause-report g c =
-    let t = c.args.trace.now in
+    let t = c.args.named.now.trace in
     let is = replica_told t c.args.e c.in-Ok.history c.in-Ok.ensures.section_history in
     record {
       history = c.in-Ok.ensures.section_history;
@@ -36,6 +36,6 @@ returns-in-Ok-settled_of-clause-report g c =
 
 pub returns-clause-first : goal.returns-clause-first
 returns-clause-first g c =
-    subst (λ (k : ℕ). IfFound c.in-Err-settled_of.why (IsFirstOf (IsOwnFault c.args.trace.now k)))
-    (replica_told c.args.trace.now c.args.e c.in-Ok.history c.in-Ok.ensures.section_history)
+    subst (λ (k : ℕ). IfFound c.in-Err-settled_of.why (IsFirstOf (IsOwnFault c.args.named.now.trace k)))
+    (replica_told c.args.named.now.trace c.args.e c.in-Ok.history c.in-Ok.ensures.section_history)
     c.in-Err-settled_of.ensures.first
