@@ -1,19 +1,17 @@
 -- A certificate, place after place.
 use Rattle.std.proofs.Common.{◌≡◌, ℕ, zero, suc, ◌+◌, ◌-◌, ◌<◌, ◌≤◌, ◌==◌, nat_lt, nat_le, Bool, true, false, cond}
 use Rattle.std.proofs.Common.{List, [], ◌∷◌, ◌++◌, length, take, drop, slice_get, Some, inl, inr, refl, sym, ap, subst}
-use Rattle.std.proofs.Common.{◌∙◌, append_assoc, add-one, add-zero, zero-add, arith}
+use Rattle.std.proofs.Common.{◌∙◌, append_assoc, add-one, add-zero, arith}
 use Rattle.std.specs.Prelude.{IsTrue, get_or}
 use Rattle.std.specs.List.{list_all}
 use Rattle.std.proofs.lemmas.Bool.{and_from, cases_lt, cases_eq, eq-eqb, ne_eqb, le-leb, lt-ltb, le-ltb, cond-true}
 use Rattle.std.proofs.lemmas.Bool.{cond-false}
-use Rattle.std.proofs.lemmas.List.{take_all, drop_all, length-take-le, length-append, get_or_past}
+use Rattle.std.proofs.lemmas.List.{take_all, drop_all, length-take-le, length-append}
 use Rattle.std.proofs.lemmas.Option.{same_Some, slice_get_within, slice_get-get_or}
 use Rattle.eve_grammar.specs.Certificate.{occurrences, group_of, is_permutation, is_grouped, counts_from, keeps_groups}
 use Rattle.eve_grammar.specs.Certificate.{is_certificate}
-use Rattle.eve_grammar.specs.Trace.{Attempt, Batch, Trace}
 use Rattle.eve_grammar.proofs.Orders.{occurrences-append, permutes}
 use Rattle.eve_grammar.proofs.Lists.{take_one_more, drop_here, slice_get-behind}
-use Rattle.eve_history.specs.Section.{no_batch, batch_at, request_count, is_right_certificate}
 use Rattle.eve_history.proofs.Places.{weaker_place}
 use Rattle.eve_evidence.specs.Certificate.{HasNot, IsFirstPlace, IsMissing, IsRightPlace, AreRightPlaces}
 use Rattle.eve_evidence.proofs.Lists.{take-take, get-take, all-take, no_place_of_all}
@@ -24,14 +22,6 @@ use Rattle.eve_evidence.proofs.Lists.{take-take, get-take, all-take, no_place_of
 pub record Walked (sizes : List ℕ) (group start : ℕ) : Type 0 where
   pub below : (m : ℕ) → m < start → group_of sizes m < group
   pub above : (m : ℕ) → start ≤ m → group_of sizes m ≡ group + group_of (drop group sizes) (m - start)
-
-pub walked_first : (sizes : List ℕ) → Walked sizes 0 0
-walked_first sizes = record {
-  below = λ m lt. absurd (omega arith);
-  above = λ m le.
-      let same : m ≡ m - 0 = omega arith in
-      ap (group_of sizes) same ∙ sym (zero-add (group_of sizes (m - 0)));
-}
 
 group_here : (size i : ℕ) (sizes : List ℕ) → i < size → group_of (size ∷ sizes) i ≡ 0
 group_here size i sizes lt = cond-true (nat_lt i size) 0 (suc (group_of sizes (i - size))) (lt-ltb i size lt)
@@ -113,9 +103,6 @@ none_missing sizes before index start below all none later m missing = elim (cas
 ]
 
 -- ---- a place more
-
-pub right_first : (sizes : List ℕ) (r : ℕ) (serial : Bool) → AreRightPlaces sizes r serial []
-right_first sizes r serial place index got = absurd cc
 
 pub right_more : (sizes : List ℕ) (r : ℕ) (serial : Bool) (order : List ℕ) (place index : ℕ)
     → slice_get order place ≡ Some index → AreRightPlaces sizes r serial (take place order)
@@ -240,18 +227,3 @@ module _ (sizes : List ℕ) (r : ℕ) (serial : Bool) (order : List ℕ) (right 
       by : (b : Bool) → serial ≡ b → cond b (counts_from 0 order) true ≡ true
       by true is = listed_from is [] order refl
       by false is = refl
-
--- where no request is there is nothing to order
-none_ordered : (sizes order : List ℕ) (serial : Bool) → length order ≡ 0 → is_certificate sizes 0 serial order ≡ true
-none_ordered sizes [] true count = refl
-none_ordered sizes [] false count = refl
-none_ordered sizes (i ∷ order) serial count = absurd (omega arith)
-
--- an attempt of no batch
-pub nothing_to_order : (t : Trace) (a : Attempt) → length t.batches ≤ a.seq - 1
-    → length a.certificate ≡ request_count t a → is_right_certificate t a ≡ true
-nothing_to_order t a past count =
-    let none : request_count t a ≡ 0 =
-    ap (λ (b : Batch). length b.requests) (get_or_past t.batches (a.seq - 1) no_batch past) in
-    ap (λ (n : ℕ). is_certificate (batch_at t a.seq).sizes n a.serial a.certificate) none
-    ∙ none_ordered (batch_at t a.seq).sizes a.certificate a.serial (count ∙ none)

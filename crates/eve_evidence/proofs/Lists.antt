@@ -7,7 +7,7 @@ use Rattle.std.specs.Option.{option_map}
 use Rattle.std.proofs.lemmas.Option.{slice_get-map}
 use Rattle.std.specs.Prelude.{IfSome, IfNone}
 use Rattle.std.proofs.lemmas.Bool.{false≢true}
-use Rattle.std.proofs.lemmas.List.{take_all, take-append-drop}
+use Rattle.std.proofs.lemmas.List.{take-append-drop}
 use Rattle.eve_grammar.proofs.Lists.{drop_here, take_one_more, all-push, item_within}
 use Rattle.eve_views.specs.Form.{SomePlace}
 use Rattle.eve_history.proofs.Places.{no_place, place_cases, place_push}
@@ -77,9 +77,6 @@ same_more xs ys i x y got other same prefix =
     take_one_more xs i x got
     ∙ (λ j. prefix j ++ same j ∷ [])
     ∙ sym (take_one_more ys i y other)
-
-pub same_whole : {A : Type 0} (xs ys : List A) (i : ℕ) → length xs ≤ i → length ys ≤ i → take i xs ≡ take i ys → xs ≡ ys
-same_whole xs ys i x y same = sym (take_all i xs x) ∙ same ∙ take_all i ys y
 
 -- ---- what a test of an option says
 

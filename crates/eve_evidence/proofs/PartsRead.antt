@@ -17,7 +17,7 @@ use Rattle.eve_grammar.specs.declared.head.TheConstants.{HEADER_LEN}
 use Rattle.eve_grammar.proofs.Lists.{slice_get-behind}
 use Rattle.eve_frames.specs.Decoded.{attempt_decoded}
 use Rattle.eve_views.proofs.FrameOffsets.{located_get}
-use Rattle.eve_history.specs.Section.{Placed, SectionState, no_batch, batch_at, commits_first}
+use Rattle.eve_history.specs.Section.{Placed, SectionState, batch_at, commits_first}
 use Rattle.eve_history.specs.Section.{is_right_commit}
 use Rattle.eve_history.specs.Section.{is_due, is_right_attempt, is_right_access, request_count, worker_count}
 use Rattle.eve_history.specs.SectionHistory.{names_of, placed_at}
@@ -75,11 +75,6 @@ pub no_request_there : (t : Trace) (seq read index n : ℕ) (b : ℕ × (ℕ × 
 no_request_there t seq read index n b same got count past =
     sym (get_or_past b.1.1.requests index no_request (omega (arith, count)))
     ∙ ap (λ (c : Batch). get_or c.requests index no_request) (sym (read_batch t seq read b same got))
-
--- no such batch
-pub no_batch_there : (t : Trace) (seq index : ℕ) → length t.batches ≤ seq - 1 → no_request ≡ request_in t seq index
-no_batch_there t seq index past =
-    ap (λ (c : Batch). get_or c.requests index no_request) (sym (get_or_past t.batches (seq - 1) no_batch past))
 
 -- the name of a row's customer
 pub read_name : (t : Trace) (row customer : ℕ) (c : ℕ × Customer) (name : List ℕ) → customer ≡ row / 2

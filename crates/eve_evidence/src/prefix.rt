@@ -17,8 +17,9 @@ ghost use Rattle.eve_evidence.specs.inner.LastSource.{since_commit, since_discar
 
 use crate::evidence::Source;
 use crate::sought::{Sought, first_found, has, last_found_in};
-use crate::sources::{opening_value, row_in};
+use crate::sources::opening_value;
 use eve_accounts::Row;
+use eve_chains::row_in;
 use eve_frames::{RollbackView, TransferView};
 use eve_grammar::Restore;
 use eve_smallbank::Versioned;

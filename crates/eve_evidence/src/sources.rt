@@ -8,10 +8,10 @@ ghost use Rattle.eve_grammar.specs.Spelling.{accesses_at};
 ghost use Rattle.eve_smallbank.specs.Access.{writes_row};
 ghost use Rattle.eve_smallbank.specs.Chain.{left_by};
 ghost use Rattle.eve_grammar.specs.declared.limits.TheConstants.{MOST_VERSIONS};
-ghost use Rattle.eve_frames.specs.Decoded.{access_decoded, attempt_decoded, transfer_decoded};
+ghost use Rattle.eve_frames.specs.Decoded.{access_decoded, attempt_decoded};
 ghost use Rattle.eve_history.specs.Section.{SectionState};
 ghost use Rattle.eve_history.specs.SectionHistory.{access_with, no_access};
-ghost use Rattle.eve_chains.specs.Visible.{opening_of, before_index, transferred_table, visible_to};
+ghost use Rattle.eve_chains.specs.Visible.{opening_of, before_index, visible_to};
 ghost use Rattle.eve_evidence.specs.Course.{IsCourse, IsOnPath, last_state, placed_on, standing, state_decoded};
 ghost use Rattle.eve_evidence.specs.Told.{placed_in};
 ghost use Rattle.eve_evidence.specs.Sources.{passed, passed_by, passed_in, way_to};
@@ -22,7 +22,8 @@ ghost use Rattle.eve_evidence.specs.inner.Lasts.{IsLast, IsLeftAlone};
 use crate::course::{Course, OnPath};
 use crate::evidence::Source;
 use eve_accounts::{Cents, Row};
-use eve_frames::{AccessView, AttemptView, TransferView};
+use eve_chains::row_in;
+use eve_frames::{AccessView, AttemptView};
 use eve_smallbank::{Entry, Versioned};
 use eve_views::{Accesses, Trace};
 
@@ -194,20 +195,6 @@ pub fn opening_value(trace: &Trace<'_>, row: Row) -> Cents
         return customer.saving();
     }
     customer.checking()
-}
-
-/// What a row has in a state.
-pub fn row_in(state: &TransferView<'_>, row: Row) -> Versioned
-    ensures { result ≡ transferred_table (transfer_decoded state.now).rows row }
-{
-    let number = row.number() as usize;
-    if number < state.len() {
-        return state.row(number);
-    }
-    Versioned {
-        version: 0,
-        value: Cents::ZERO,
-    }
 }
 
 /// What a row has where the path begins, and who left it: the last state that was transferred, or the opening.

@@ -1,6 +1,6 @@
 //! The first wrong field of an Access frame's body.
 
-ghost use Rattle.std.specs.Prelude.{◌≡◌, ◌<◌, ◌≤◌, ◌+◌, ◌*◌, ◌^◌};
+ghost use Rattle.std.specs.Prelude.{◌≡◌, ◌<◌, ◌+◌, ◌*◌, ◌^◌};
 ghost use Rattle.eve_evidence_form.specs.Header.{decoded};
 ghost use Rattle.eve_evidence_form.specs.Fields.{first_wrong_there, first_wrong_field, fields_of};
 ghost use Rattle.eve_evidence_form.specs.AccessBody.{stands_after, entry_fields, access_fields};

@@ -1,6 +1,5 @@
 //! The evidence of a fault of form.
 
-ghost use Rattle.std.specs.Prelude.{◌≡◌};
 ghost use Rattle.eve_views.specs.Form.{IsLeast, StandsInForm, IsFaultOutside};
 ghost use Rattle.eve_evidence_form.specs.Form.{TellsForm};
 

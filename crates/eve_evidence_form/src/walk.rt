@@ -1,6 +1,6 @@
 //! How far the frames before a byte have come.
 
-ghost use Rattle.std.specs.Prelude.{◌≡◌, ◌<◌, ◌≤◌, ℕ, ◌++◌, List, IfSome, length};
+ghost use Rattle.std.specs.Prelude.{◌≡◌, ◌<◌, ◌≤◌, IfSome, length};
 ghost use Rattle.eve_grammar.specs.Kinds.{kind_byte};
 ghost use Rattle.eve_grammar.specs.Frames.{Frame, kind_of, next_place};
 ghost use Rattle.eve_grammar.specs.Limits.{FitsAt};

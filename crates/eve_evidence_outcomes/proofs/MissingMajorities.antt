@@ -1,52 +1,23 @@
 -- A step without a majority that is still to come.
-use Rattle.std.proofs.Common.{◌≡◌, ℕ, ◌+◌, ◌<◌, ◌≤◌, ◌^◌, nat_lt, ◌==◌, List, [], ◌∷◌, ◌++◌, length, refl, sym}
+use Rattle.std.proofs.Common.{◌≡◌, ℕ, ◌+◌, List, [], ◌∷◌, ◌++◌, refl, sym}
 use Rattle.std.proofs.Common.{subst, ◌∙◌}
-use Rattle.std.proofs.Common.{inl, inr, append_assoc, arith}
-use Rattle.std.specs.Prelude.{IsTrue}
+use Rattle.std.proofs.Common.{inl, inr, append_assoc}
 use Rattle.std.specs.List.{AllByRecursion}
-use Rattle.std.proofs.lemmas.Bool.{and_parts, eqb-true, ltb-true}
-use Rattle.eve_grammar.specs.Trace.{Transfer, Step, Attempts, Commits, RollsBack}
+use Rattle.eve_grammar.specs.Trace.{Transfer, Step}
 use Rattle.eve_grammar.specs.Trace.{Transfers, Trace}
 use Rattle.eve_grammar.specs.Limits.{HasLimits}
-use Rattle.eve_grammar.specs.declared.limits.TheConstants.{MOST_BATCHES}
 use Rattle.eve_grammar.specs.Spelling.{steps_at}
 use Rattle.eve_grammar.proofs.FrameLaws.{few_batches}
 use Rattle.eve_views.specs.declared.fault.Code.{Code}
 use Rattle.eve_views.specs.declared.fault.Code.TheVariants as code
-use Rattle.eve_views.specs.declared.steps.Step as step_read
 use Rattle.eve_views.specs.Form.{SomePlace}
-use Rattle.eve_views.specs.StepKinds.{IsStep}
-use Rattle.eve_history.specs.Section.{SectionState, start, next, are_right, is_right}
+use Rattle.eve_history.specs.Section.{start}
 use Rattle.eve_history.specs.SectionHistory.{IsRightSection}
 use Rattle.eve_history.proofs.Places.{place_cases, no_place}
 use Rattle.eve_agree.specs.inner.Unbacked.{HasRoom}
 use Rattle.eve_agree.specs.Majority.{SomeDecided, StandsInMajorities}
+use Rattle.eve_agree.proofs.RollbackRoom.{room_along}
 use Rattle.eve_evidence_outcomes.specs.Majority.{LacksMajority}
-
--- ---- rooms
-
-room : (to last view before n : ℕ) → to ≡ last → last < n → n ≤ MOST_BATCHES → view ≡ before + 1
-    → (to + 1 < 2 ^ 32) × (1 ≤ view)
-room to last view before n e lt few f = (omega arith, omega arith)
-
--- the rollbacks of a right section have room
-room_along : (t : Trace) (s : SectionState) (steps : List (ℕ × Step)) → length t.batches ≤ MOST_BATCHES
-    → IsTrue (are_right t s steps) → AllByRecursion (λ x. HasRoom x.1) steps
-room_along t s [] few right = tt
-room_along t s ((at, Attempts a) ∷ steps) few right =
-    (tt, room_along t (next s (at, Attempts a)) steps few (and_parts (is_right t s (Attempts a)) _ right).1)
-room_along t s ((at, Commits c) ∷ steps) few right =
-    (tt, room_along t (next s (at, Commits c)) steps few (and_parts (is_right t s (Commits c)) _ right).1)
-room_along t s ((at, RollsBack r) ∷ steps) few right =
-    let parts = and_parts (is_right t s (RollsBack r)) _ right in
-    let to = and_parts (r.to == s.last) _ parts.0 in
-    let view = and_parts (nat_lt s.last (length t.batches)) _ to.1 in (
-      room r.to s.last r.view s.view (length t.batches) (eqb-true r.to s.last to.0)
-          (ltb-true s.last (length t.batches) view.0) few (eqb-true r.view (s.view + 1) view.1),
-      room_along t (next s (at, RollsBack r)) steps few parts.1,
-    )
-room_along t s ((at, Transfers x) ∷ steps) few right =
-    (tt, room_along t (next s (at, Transfers x)) steps few (and_parts (is_right t s (Transfers x)) _ right).1)
 
 -- ---- one step
 
@@ -61,10 +32,6 @@ transfer_has c t x seq view is one two decided lacks =
 
 abbrev pub LacksHere : Code → Trace → ℕ → ℕ × Step → Type 0
 LacksHere c t place step = (step.0 ≡ place) × LacksMajority c t step.1
-
--- the step that was met has no such fault at this byte
-abbrev pub AtNone : Code → Trace → ℕ → step_read.Step → Type 0
-AtNone c t place step = (is : ℕ × Step) → IsStep step is → is.0 ≡ place → ¬ LacksMajority c t is.1
 
 -- These steps are still to come, and the fault stands at one of them.
 pub record Ahead (c : Code) (t : Trace) (e place : ℕ) (rest : List (ℕ × Step)) : Type 0 where

@@ -1,14 +1,13 @@
 -- Attempts that gave a reply, one after another.
-use Rattle.std.proofs.Common.{◌≡◌, ◌≢◌, ℕ, ◌+◌, ◌<◌, ◌≤◌, Bool, true, false, length, slice_get, Some, sym, ap, subst}
+use Rattle.std.proofs.Common.{◌≡◌, ◌≢◌, ℕ, ◌+◌, ◌<◌, ◌≤◌, length, slice_get, Some, sym, ap, subst}
 use Rattle.std.proofs.Common.{◌∙◌}
 use Rattle.std.proofs.Common.{inl, inr, arith}
 use Rattle.std.proofs.lemmas.Bool.{cases_lt}
 use Rattle.std.proofs.lemmas.Option.{same_Some, slice_get_within}
 use Rattle.eve_smallbank.specs.declared.request.Reply.{Reply}
 use Rattle.eve_history.specs.SectionHistory.{ExecutedAttempt, SectionHistory}
-use Rattle.eve_history.specs.declared.fate.Fate.TheVariants.{Committed}
 use Rattle.eve_evidence.specs.declared.evidence.GivenBy.{GivenBy}
-use Rattle.eve_evidence_outcomes.specs.Given.{GaveReply, left_as}
+use Rattle.eve_evidence_outcomes.specs.Given.{GaveReply}
 
 module _ (h : SectionHistory) (seq index : ℕ) (reply : Reply) (i : ℕ) (r : ExecutedAttempt)
     (is : slice_get h.attempts i ≡ Some r) where
@@ -23,16 +22,6 @@ module _ (h : SectionHistory) (seq index : ℕ) (reply : Reply) (i : ℕ) (r : E
   otherwise apart g gave =
       apart (ap (λ (x : ExecutedAttempt). slice_get x.attempt.replies index)
       (same_Some r gave.item (sym is ∙ gave.is)) ∙ gave.reply_is)
-
-not_left : (b : Bool) → left_as b ≡ Committed → ⊥
-not_left true e = cc
-not_left false e = cc
-
--- nor one that was committed
-pub is_committed_one : (h : SectionHistory) (seq index : ℕ) (reply : Reply) (i : ℕ) → slice_get h.fates i ≡ Some Committed
-    → (g : GivenBy) → ¬ GaveReply h seq index reply i g
-is_committed_one h seq index reply i fate g gave =
-    not_left g.open (same_Some (left_as g.open) Committed (sym gave.fate_is ∙ fate))
 
 -- none of the first attempts gave it
 abbrev pub NoneGave : SectionHistory → ℕ → ℕ → Reply → ℕ → Type 0

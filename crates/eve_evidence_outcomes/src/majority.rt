@@ -1,6 +1,6 @@
 //! The evidence of a commit, a rollback or a state transferred without a majority.
 
-ghost use Rattle.std.specs.Prelude.{◌≡◌, ◌<◌, ◌≤◌, ◌+◌, ◌-◌, ◌^◌, ℕ, IfSome, IfNone, length};
+ghost use Rattle.std.specs.Prelude.{◌≡◌, ◌<◌, ◌≤◌, ◌+◌, ◌-◌, ℕ, IfSome, IfNone, length};
 ghost use Rattle.eve_grammar.specs.Trace.{Step as StepValue, Commits, RollsBack, Transfers};
 ghost use Rattle.eve_frames.specs.Decoded.{commit_decoded, rollback_decoded, transfer_decoded};
 ghost use Rattle.eve_grammar.specs.Bodies.{borrowed_choice as choice_of};

@@ -1,12 +1,10 @@
 //! The evidence of a state that was transferred and isn't the one that was committed.
 
 ghost use Rattle.std.specs.Prelude.{◌≡◌, ◌<◌, ◌≤◌, IfOk, IfSome, IfNone, None, Some, length};
-ghost use Rattle.eve_frames.specs.Decoded.{transfer_decoded};
 ghost use Rattle.eve_views.specs.declared.fault.Code.TheVariants as code;
 ghost use Rattle.eve_history.specs.SectionHistory.{section_histories};
 ghost use Rattle.eve_chains.specs.Committed.{balances_to};
 ghost use Rattle.eve_chains.specs.CommittedValues.{settling, settlings};
-ghost use Rattle.eve_agree.specs.ByNumber.{told_state_at};
 ghost use Rattle.eve_agree.specs.Agreement.{StandsInAgreement};
 ghost use Rattle.eve_evidence_outcomes.specs.Outcomes.{IsRowFoundApart, TellsStateFault, TellsState, HasThoseOfFirst};
 ghost use Rattle.eve_evidence_outcomes.specs.Outcomes.{IsRightAt};
@@ -16,11 +14,10 @@ use crate::balances::balances_to;
 use crate::committed::first_committed;
 use crate::replicas::{Replicas, history_at, settled_at};
 use eve_accounts::Balances;
+use eve_agree::transferred_state;
 use eve_chains::laws::states_are_the_balances;
 use eve_evidence::{Evidence, StateFault, told_transfer};
-use eve_frames::TransferView;
 use eve_history::laws::numbers_are_reached;
-use eve_history::{History, HowReached};
 use eve_views::Trace;
 use std::alloc::{AllocError, Global};
 
@@ -103,21 +100,6 @@ fn state_fault<'a>(
     }
 }
 
-/// The state by which a replica reached number n, if it had one transferred there.
-fn transferred<'a>(history: &History<'a>, n: u32) -> Option<TransferView<'a>>
-    ensures some { IfSome result (λ x. told_state_at history.now n ≡ Some (x.offset, transfer_decoded x)) }
-    ensures none { IfNone result (told_state_at history.now n ≡ None) }
-{
-    if n == 0 || history.committed() < n {
-        return None;
-    }
-    match history.how_reached(n) {
-        HowReached::Attempt(_) => None,
-        HowReached::Transfer(i) => Some(history.transfer(i as usize)),
-        HowReached::Skipped => None,
-    }
-}
-
 /// What is wrong with the state of number n, if replica e had it transferred at this byte and it isn't the committed
 /// one.
 fn at_number<'a>(
@@ -141,7 +123,7 @@ fn at_number<'a>(
     trace.recall_limits();
     let history = history_at(trace, replicas.histories, e);
     history.recall_right();
-    let Some(state) = transferred(history, n) else {
+    let Some(state) = transferred_state(history, n) else {
         return Ok(None);
     };
     if state.offset() != place {

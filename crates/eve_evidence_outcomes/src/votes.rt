@@ -6,13 +6,14 @@ ghost use Rattle.std.specs.Option.{option_map};
 ghost use Rattle.eve_grammar.specs.Bodies.{borrowed_choice as choice_of};
 ghost use Rattle.eve_grammar.specs.Trace.{Vote as VoteValue};
 ghost use Rattle.eve_frames.specs.Decoded.{vote_decoded};
-ghost use Rattle.eve_votes.specs.Votes.{same_choice, is_vote_on};
+ghost use Rattle.eve_votes.specs.Votes.{is_vote_on};
 ghost use Rattle.eve_evidence_outcomes.specs.Polls.{votes_on, vote_told, only_commit, TellsChoice};
 
 use eve_evidence::{VerifierChoice, VerifierVote};
 use eve_frames::VoteView;
 use eve_grammar::Choice;
 use eve_views::Votes;
+use eve_votes::is_same_choice;
 
 /// Whether a vote is on the batch in the view.
 pub(crate) fn is_on(vote: &VoteView<'_>, n: u32, view: u32) -> bool
@@ -51,19 +52,6 @@ fn has_more(votes: &Votes<'_, '_>, from: usize, n: u32, view: u32) -> bool
     }
 }
 
-/// Whether two votes are for the same.
-fn is_same(a: Choice<'_>, b: Choice<'_>) -> bool
-    ensures { result ≡ same_choice (choice_of a.entry) (choice_of b.entry) }
-{
-    match a {
-        Choice::ForRollback => matches!(b, Choice::ForRollback),
-        Choice::ForCommit(token) => match b {
-            Choice::ForRollback => false,
-            Choice::ForCommit(other) => token == other,
-        },
-    }
-}
-
 /// What a verifier did about a choice on the batch in the view: with two votes there it counts for none.
 pub(crate) fn told_vote(
     votes: &Votes<'_, '_>,
@@ -81,7 +69,7 @@ pub(crate) fn told_vote(
     if has_more(votes, i + 1, n, view) {
         return VerifierVote::Otherwise(first.offset());
     }
-    if is_same(first.choice(), choice) {
+    if is_same_choice(first.choice(), choice) {
         VerifierVote::For(first.offset())
     } else {
         VerifierVote::Otherwise(first.offset())

@@ -12,7 +12,7 @@ use Rattle.eve_views.specs.Code.{code_number, phase_of}
 use Rattle.eve_views.specs.declared.fault.Code.{Code}
 use Rattle.eve_views.specs.declared.fault.Code.TheVariants as code
 use Rattle.eve_views.specs.declared.fault.Fault.{Fault}
-use Rattle.eve_views.specs.Form.{SomePlace, StandsInForm, HasNone, IsFaultIn, IsFaultOutside, IsLeast, IsUpTo, Precedes}
+use Rattle.eve_views.specs.Form.{SomePlace, HasNone, IsFaultIn, Precedes}
 use Rattle.eve_history.specs.Section.{ByTransfer}
 use Rattle.eve_history.specs.Order.{StandsInOrders}
 use Rattle.eve_history.specs.Structure.{StandsInStructure}
@@ -26,12 +26,12 @@ use Rattle.eve_agree.specs.Agreement.{StandsInAgreement}
 use Rattle.eve_agree.specs.SentReplies.{StandsInReplies}
 use Rattle.eve_votes.specs.Faults.{StandsInVotes}
 use Rattle.eve_audit.specs.Verdict.{IsOwnFault, of_structure, of_records, of_chains, of_restores, of_tokens}
-use Rattle.eve_audit.specs.Verdict.{IsTraceFault, in_section, Stands, in_form, in_trace, Masks, IsJudged, IsFirst}
+use Rattle.eve_audit.specs.Verdict.{IsTraceFault, in_section, Stands, in_form, in_trace, Masks, IsJudged}
 use Rattle.eve_audit.proofs.Phases.{form_phase, structure_phase, record_phase, chain_phase, restore_phase, token_phase}
 use Rattle.eve_evidence.specs.Section.{StandsAlong}
 use Rattle.eve_explain.specs.inner.Behind.{IsFirstInTrace, IsBehind}
 use Rattle.eve_explain.specs.Explained.{is_of_majority, is_of_orders, is_told_along}
-use Rattle.eve_explain.proofs.Phases.{orders_phase, along_phase, majority_code_phase, some_phase, orders_in, own_in}
+use Rattle.eve_explain.proofs.Phases.{orders_phase, along_phase, majority_code_phase, orders_in, own_in}
 use Rattle.eve_explain.proofs.Phases.{restores_in, tokens_in, votes_in, majorities_in, agreement_in, replies_in}
 
 -- bytes spell one trace
@@ -218,26 +218,3 @@ module _ (one : OneTrace) (t : Trace) (f : Fault) (first : IsFirstInTrace t f) w
       named_there StandsAlong own.0 e own.1 is.0 is.1 named
 
 -- ---- form
-
--- where the bytes spell no trace, the first fault is the first of form
-pub first_of_form : (bytes : List ℕ) (f : Fault) → ((t : Trace) → ¬ Spells bytes t) → IsFirst bytes f
-    → IsLeast (IsFaultOutside StandsInForm bytes) f
-first_of_form bytes f none first = record { is = is; least = least }
-  where
-    own : Stands bytes f → IsFaultOutside StandsInForm bytes f
-    own (in_form is) = is
-    own (in_trace t spelled is) = absurd (none t spelled)
-
-    is : IsFaultOutside StandsInForm bytes f
-    is = own first.judged.stands
-
-    least : (g : Fault) → IsFaultOutside StandsInForm bytes g → IsUpTo f g
-    least g other = after (first.first g (record {
-      stands = in_form other;
-      alone = λ h stands masks.
-          absurd (omega (arith, masks.0, form_phase bytes g other, some_phase h.code));
-    }))
-      where
-        after : Precedes f g → IsUpTo f g
-        after (inl lt) = absurd (omega (arith, lt, form_phase bytes f is, form_phase bytes g other))
-        after (inr same) = same.1

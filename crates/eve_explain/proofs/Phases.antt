@@ -49,13 +49,6 @@ majority_code_phase code.RollbackNoMajority told = refl
 majority_code_phase code.TransferNoMajority told = refl
 majority_code_phase c told = absurd (false≢true told)
 
-one_at_least : (n : ℕ) (b : Bool) → 1 ≤ n + (if b then 1 else 2)
-one_at_least n true = omega arith
-one_at_least n false = omega arith
-
-pub some_phase : (c : Code) → 1 ≤ phase_of c
-some_phase c = one_at_least (code_number c / 10) (nat_lt (code_number c) 72)
-
 -- ---- a fault of one phase
 
 module _ (t : Trace) (f : Fault) where

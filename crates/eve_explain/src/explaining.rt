@@ -1,6 +1,6 @@
 //! The verdict on a trace, with its evidence.
 
-ghost use Rattle.std.specs.Prelude.{◌≡◌, ◌≢◌, ◌≤◌, ℕ, List, IfOk, length};
+ghost use Rattle.std.specs.Prelude.{◌≡◌, ◌≤◌, ℕ, List, IfOk, length};
 ghost use Rattle.eve_views.specs.declared.fault.Code.TheVariants as code;
 ghost use Rattle.eve_grammar.specs.FrameOrder.{Spells};
 ghost use Rattle.eve_views.specs.declared.fault.Fault.{Fault as FaultValue};
@@ -8,7 +8,6 @@ ghost use Rattle.eve_audit.specs.declared.verdict.Summary.{Summary as SummaryVal
 ghost use Rattle.eve_audit.specs.declared.verdict.Verdict.TheVariants.{Yes, No};
 ghost use Rattle.eve_audit.specs.Verdict.{IsFirst, IsVerdict, SpellsAudited};
 ghost use Rattle.eve_audit.specs.Where.{NamesItsSection};
-ghost use Rattle.eve_grammar.specs.Trace.{Trace as TraceValue};
 ghost use Rattle.eve_history.specs.SectionHistory.{section_histories};
 ghost use Rattle.std.specs.Prelude.{Some, IsTrue};
 ghost use Rattle.eve_evidence.specs.Section.{TellsAlong};
@@ -19,8 +18,8 @@ ghost use Rattle.eve_explain.specs.Explained.{IsEvidence, IsEvidenceOf, IsExplai
 use crate::explained::Explained;
 use crate::names::names_in_order;
 use crate::outcomes::{
-    evidence_of_majority, evidence_of_outcome, evidence_of_reply, evidence_of_restore,
-    evidence_of_state, evidence_of_token,
+    evidence_of_agreement, evidence_of_majority, evidence_of_reply, evidence_of_restore,
+    evidence_of_token,
 };
 use crate::phase::{is_of_majority, is_of_orders, is_told_along};
 use eve_audit::{AcceptedTrace, AuditFault, WholeVerdict, audit_whole};
@@ -86,8 +85,9 @@ fn evidence_in<'a, R: Threads + Sync>(
         Code::TwoDecisions => decisions_evidence(alloc, trace, fault.offset),
         Code::Restore => evidence_of_restore(alloc, trace, fault),
         Code::Token => evidence_of_token(rt, alloc, trace, fault, random, jobs),
-        Code::Outcome => evidence_of_outcome(rt, alloc, trace, fault, random, jobs),
-        Code::TransferBalances => evidence_of_state(rt, alloc, trace, fault, random, jobs),
+        Code::Outcome | Code::TransferBalances => {
+            evidence_of_agreement(rt, alloc, trace, fault, random, jobs)
+        }
         Code::Reply => evidence_of_reply(alloc, trace, fault),
         _ => Ok(Evidence::Untold),
     }

@@ -1,6 +1,7 @@
 //! Evidence of restores, of tokens, of majorities, of what replicas come to together, and of replies that were sent.
 
 ghost use Rattle.std.specs.Prelude.{◌≡◌, ◌≤◌, ℕ, IfOk, IsTrue, Some};
+ghost use Rattle.eve_views.specs.Code.{phase_of};
 ghost use Rattle.eve_views.specs.declared.fault.Code.TheVariants as code;
 ghost use Rattle.eve_evidence_outcomes.specs.Majority.{TellsMajority};
 ghost use Rattle.eve_evidence_outcomes.specs.Outcome.{TellsOutcome};
@@ -20,7 +21,7 @@ use eve_evidence_outcomes::{
 };
 use eve_grammar::laws::bytes_spell_one_trace;
 use eve_history::laws::right_sections_have_no_fault;
-use eve_views::{Fault, Trace};
+use eve_views::{Code, Fault, Trace};
 use std::alloc::{AllocError, Global};
 use std::hash::RandomState;
 use std::thread::Threads;
@@ -96,8 +97,9 @@ pub(crate) fn evidence_of_reply<'a>(
     Ok(reply_evidence(trace, &histories, fault.offset))
 }
 
-/// The evidence of an outcome that isn't that of the first replica that committed the batch.
-pub(crate) fn evidence_of_outcome<'a, R: Threads + Sync>(
+/// The evidence of an outcome that isn't that of the first replica that committed the batch, or of a state that was
+/// transferred and isn't the one that was committed.
+pub(crate) fn evidence_of_agreement<'a, R: Threads + Sync>(
     rt: &R,
     alloc: Global,
     trace: &Trace<'a>,
@@ -106,9 +108,12 @@ pub(crate) fn evidence_of_outcome<'a, R: Threads + Sync>(
     jobs: u8,
 ) -> Result<Evidence<'a>, AllocError>
     requires first { IsFirstInTrace trace.now fault.now }
-    requires outcome { fault.now.code ≡ code.Outcome }
+    requires agreement { phase_of fault.now.code ≡ phase_of code.Outcome }
     requires jobs { 1 ≤ jobs }
-    ensures { IfOk result (λ x. (e : ℕ) → fault.now.replica ≡ Some e → TellsOutcome trace.now e fault.now.offset x) }
+    ensures outcome { fault.now.code ≡ code.Outcome
+        → IfOk result (λ x. (e : ℕ) → fault.now.replica ≡ Some e → TellsOutcome trace.now e fault.now.offset x) }
+    ensures state { fault.now.code ≡ code.TransferBalances
+        → IfOk result (λ x. (e : ℕ) → fault.now.replica ≡ Some e → TellsState trace.now e fault.now.offset x) }
 {
     bytes_spell_one_trace();
     let Some(e) = fault.replica else {
@@ -121,33 +126,9 @@ pub(crate) fn evidence_of_outcome<'a, R: Threads + Sync>(
         histories: &histories,
         settled: &settled,
     };
-    outcome_evidence(alloc, trace, replicas, e, fault.offset)
-}
-
-/// The evidence of a state that was transferred and isn't the one that was committed.
-pub(crate) fn evidence_of_state<'a, R: Threads + Sync>(
-    rt: &R,
-    alloc: Global,
-    trace: &Trace<'a>,
-    fault: &Fault,
-    random: RandomState,
-    jobs: u8,
-) -> Result<Evidence<'a>, AllocError>
-    requires first { IsFirstInTrace trace.now fault.now }
-    requires state { fault.now.code ≡ code.TransferBalances }
-    requires jobs { 1 ≤ jobs }
-    ensures { IfOk result (λ x. (e : ℕ) → fault.now.replica ≡ Some e → TellsState trace.now e fault.now.offset x) }
-{
-    bytes_spell_one_trace();
-    let Some(e) = fault.replica else {
-        return Ok(Evidence::Untold);
-    };
-    let histories = histories_of(alloc, trace, fault)?;
-    let names = names_in_order(alloc, trace, random)?;
-    let settled = all_settled(rt, alloc, trace, &histories, &names, jobs)?;
-    let replicas = Replicas {
-        histories: &histories,
-        settled: &settled,
-    };
-    state_evidence(alloc, trace, replicas, e, fault.offset)
+    match fault.code {
+        Code::Outcome => outcome_evidence(alloc, trace, replicas, e, fault.offset),
+        Code::TransferBalances => state_evidence(alloc, trace, replicas, e, fault.offset),
+        _ => Ok(Evidence::Untold),
+    }
 }

@@ -7,7 +7,7 @@ use Rattle.eve_frames.specs.Decoded.{batch_decoded}
 use Rattle.eve_evidence.proofs.Lists.{if_none_weaker, if_some}
 use Rattle.eve_evidence_form.specs.declared.requests.AskedAgain.{AskedAgain}
 use Rattle.eve_evidence_form.specs.Requests.{requests_listed, NoneAgain, IsFirstAgain}
-use Rattle.eve_evidence_form.proofs.FrameCounts.{few_requests}
+use Rattle.eve_history.proofs.AllRequests.{few_requests}
 use Rattle.eve_evidence_form.proofs.requests.again_at.Goals as goal
 
 pub again_in-requires-clause-few : goal.again_in-requires-clause-few

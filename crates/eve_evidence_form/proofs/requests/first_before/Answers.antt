@@ -6,7 +6,7 @@ use Rattle.eve_grammar.proofs.Lists.{all-append}
 use Rattle.eve_grammar.specs.Spelling.{batches_at}
 use Rattle.eve_frames.specs.Decoded.{batch_decoded}
 use Rattle.eve_evidence_form.specs.Requests.{Listed, requests_listed, NoneAsked, IsFirstAsked}
-use Rattle.eve_evidence_form.proofs.FrameCounts.{few_requests}
+use Rattle.eve_history.proofs.AllRequests.{few_requests}
 use Rattle.eve_evidence_form.proofs.RequestSearches.{length-listed, one_batch_more, first_in_batch}
 use Rattle.eve_evidence_form.proofs.requests.first_before.Goals as goal
 
