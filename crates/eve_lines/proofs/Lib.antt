@@ -2,5 +2,5 @@ mod AppendedParts
 pub mod Digits
 mod KindNames
 mod StateRows
-pub mod Tables
+pub mod BodiesReread
 mod WordsOfFrames

@@ -11,21 +11,13 @@ use Rattle.eve_grammar.specs.declared.restore.Restore.{Restore}
 use Rattle.eve_lines.specs.Words.{name_words, token_words, mode_words, list_words, list_or_none, reply_words}
 use Rattle.eve_lines.specs.Words.{asked_words, row_words, entry_words}
 
--- the version, who takes part, and how many decide: ` version 1 replicas 2 verifiers 3 quorum 2`
-unfoldable pub party_words : Head → List ℕ
-party_words h =
-    codes " version " ++ (decimal h.version ++ (codes " replicas " ++ (decimal h.replicas
-    ++ (codes " verifiers " ++ (decimal h.verifiers ++ (codes " quorum " ++ decimal h.quorum))))))
-
--- how much there may be of the rest: ` window 1 workers 2 customers 2 batches 3`
-unfoldable pub extent_words : Head → List ℕ
-extent_words h =
-    codes " window " ++ (decimal h.window ++ (codes " workers " ++ (decimal h.workers
-    ++ (codes " customers " ++ (decimal h.customers ++ (codes " batches " ++ decimal h.batches))))))
-
--- the header
+-- the header: ` version 1 replicas 2 verifiers 3 quorum 2 window 1 workers 2 customers 2 batches 3`
 unfoldable pub header_words : Head → List ℕ
-header_words h = party_words h ++ extent_words h
+header_words h =
+    codes " version " ++ (decimal h.version ++ (codes " replicas " ++ (decimal h.replicas
+    ++ (codes " verifiers " ++ (decimal h.verifiers ++ (codes " quorum " ++ (decimal h.quorum
+    ++ (codes " window " ++ (decimal h.window ++ (codes " workers " ++ (decimal h.workers
+    ++ (codes " customers " ++ (decimal h.customers ++ (codes " batches " ++ decimal h.batches))))))))))))))
 
 -- ` saving 0 checking 0`
 unfoldable pub balance_words : Customer → List ℕ

@@ -1,20 +1,18 @@
 //! What a frame says, in words.
 
-ghost use Rattle.std.specs.Prelude.{◌≡◌, ◌+◌, ◌<◌, ◌≤◌, ◌++◌, [], false, IfNone, IfSome, IsFalse, IsTrue, length};
+ghost use Rattle.std.specs.Prelude.{◌≡◌, ◌+◌, ◌<◌, ◌≤◌, ◌++◌, false, IsFalse, IsTrue, length};
 ghost use Rattle.arrayvec.specs.ArrayVec.{array_vec_len};
 ghost use Rattle.eve_grammar.specs.declared.frame_kind.TheConstants.{FRAME_HEAD_LEN};
-ghost use Rattle.eve_lines.specs.Rest.{items_left, short_words, words_in, words_left, words_of_kind};
-ghost use Rattle.eve_lines.specs.Table.{labelled_room, labelled_words};
+ghost use Rattle.eve_lines.specs.Rest.{PutsPart, items_left, short_words, words_in, words_left, words_of_kind};
 ghost use Rattle.eve_lines.specs.Words.{list_words};
 
 use crate::heads::{
-    begin_attempt, begin_batch, begin_rollback, begin_transfer, put_access, put_commit,
+    begin_access, begin_attempt, begin_batch, begin_rollback, begin_transfer, put_commit,
     put_customer, put_number_frame, put_sent, put_vote,
 };
 use crate::line::{LINE_ROOM, LONGEST_PART, Line};
 use crate::lists::{Items, Numbers};
-use crate::table::{Value, Word, put_word};
-use crate::words::parting;
+use crate::table::{Value, put_word};
 use eve_grammar::{
     ACCESS_FRAME, ATTEMPT_FRAME, BATCH_FRAME, COMMIT_FRAME, CUSTOMER_FRAME, FRAME_HEAD_LEN,
     REPLICA_FRAME, ROLLBACK_FRAME, SENT_FRAME, TRANSFER_FRAME, VERIFIER_FRAME, VOTE_FRAME,
@@ -40,7 +38,6 @@ fn put_short(line: &mut Line, kind: u8, number: usize, frame: &[u8])
     ensures { line.new.items ≡ line.old.items ++ short_words kind number frame.now }
 {
     match kind {
-        ACCESS_FRAME => put_access(line, frame),
         COMMIT_FRAME => put_commit(line, frame),
         CUSTOMER_FRAME => put_customer(line, number, frame),
         REPLICA_FRAME => put_number_frame(line, " replica ", frame),
@@ -59,6 +56,7 @@ fn begin_kind<'a>(line: &mut Line, kind: u8, number: usize, frame: &'a [u8]) -> 
     ensures { line.new.items ++ words_left result ≡ line.old.items ++ words_of_kind kind number frame.now }
 {
     match kind {
+        ACCESS_FRAME => begin_access(line, frame),
         ATTEMPT_FRAME => begin_attempt(line, frame),
         BATCH_FRAME => begin_batch(line, frame),
         ROLLBACK_FRAME => begin_rollback(line, frame),
@@ -94,25 +92,24 @@ impl<'a> FrameWords<'a> {
         begin_kind(line, frame[0], number, frame)
     }
 
-    /// The next word.
+    /// Appends the next part of them; no, where that was the last.
     #[tactic(auto, unfolding(crate::specs::Rest::words_left))]
-    fn next(&mut self) -> Option<Word<'a>>
-        ensures some { IfSome result (λ word. words_left self.old ≡ labelled_words word ++ words_left self.new) }
-        ensures none { IfNone result (words_left self.old ≡ []) }
-        ensures long { IfSome result (λ word. 0 < length word.0.now) }
-        ensures short { IfSome result (λ word. labelled_room word ≤ LONGEST_PART) }
+    fn put_next(&mut self, line: &mut Line) -> bool
+        requires { array_vec_len line.old + LONGEST_PART ≤ LINE_ROOM }
+        ensures { PutsPart result line.old.items line.new.items (words_left self.old) (words_left self.new) }
     {
         if let Some(number) = self.numbers.next() {
-            return Some(Word(" ", Value::Number(u64::from(number))));
+            put_word(line, " ", Value::Number(u64::from(number)));
+            return true;
         }
-        if let Some(item) = self.items.next() {
-            let label = parting(self.has_begun);
+        if self.items.put_next(line, self.has_begun) {
             self.has_begun = true;
-            return Some(Word(label, item));
+            return true;
         }
-        let token = self.token?;
-        self.token = None;
-        Some(Word(" token ", Value::Token(token)))
+        if let Some(token) = self.token {
+            put_word(line, " token ", Value::Token(token));
+        }
+        false
     }
 
     /// Appends as many of them as there is room for; no, where all have come.
@@ -122,10 +119,9 @@ impl<'a> FrameWords<'a> {
         ensures full { IsTrue result → LINE_ROOM < array_vec_len line.new + LONGEST_PART }
     {
         'parts: while line.len() <= LINE_ROOM - LONGEST_PART {
-            let Some(word) = self.next() else {
+            if !self.put_next(line) {
                 return false;
-            };
-            put_word(line, &word);
+            }
         }
         true
     }

@@ -1,6 +1,6 @@
 //! What the header and each kind of frames say, up to a frame's first list.
 
-ghost use Rattle.std.specs.Prelude.{◌≡◌, ◌+◌, ◌≤◌, ◌++◌, length, map};
+ghost use Rattle.std.specs.Prelude.{◌≡◌, ◌+◌, ◌≤◌, ◌++◌, length};
 ghost use Rattle.arrayvec.specs.ArrayVec.{array_vec_len};
 ghost use Rattle.eve_grammar.specs.Bodies.{borrowed_choice};
 ghost use Rattle.eve_grammar.specs.Readers.{number_of};
@@ -12,17 +12,13 @@ ghost use Rattle.eve_frames.specs.Views.{sent_in, transfer_in, vote_in};
 ghost use Rattle.eve_lines.specs.FrameLines.{access_words, attempt_words, batch_words, choice_words, commit_words};
 ghost use Rattle.eve_lines.specs.FrameLines.{customer_words, header_words, rollback_words, sent_words, transfer_words};
 ghost use Rattle.eve_lines.specs.FrameLines.{vote_words};
-ghost use Rattle.eve_lines.specs.Rest.{is_state_body, nth_entry, number_words, words_if, words_left};
-ghost use Rattle.eve_lines.specs.Table.{labelled_room, labelled_words};
-ghost use Rattle.eve_lines.specs.Words.{entry_words, list_or_none};
+ghost use Rattle.eve_lines.specs.Rest.{is_state_body, number_words, words_if, words_left};
 
 use crate::frame::FrameWords;
 use crate::line::{LINE_ROOM, LONGEST_PART, Line, put};
 use crate::lists::{Items, Numbers, Sizes, StateRows};
-use crate::number::put_numbered;
-use crate::table::Value::{Mode, Name, Nothing, Number, Reply, Signed, Token};
-use crate::table::{Word, put_words};
-use crate::words::{parting, put_entry};
+use crate::table::Value::{Mode, Name, Number, Reply, Signed, Token};
+use crate::table::put_word;
 use eve_frames::{
     AccessView, AttemptView, BatchView, CommitView, CustomerView, RollbackView, SentView,
     TransferView, VoteView,
@@ -40,63 +36,35 @@ pub fn put_header(line: &mut Line, head: &Head)
     ensures items { line.new.items ≡ line.old.items ++ header_words head.now }
     ensures len { array_vec_len line.new ≤ array_vec_len line.old + 300 }
 {
-    put_words(
-        line,
-        &[
-            Word(" version ", Number(u64::from(head.version))),
-            Word(" replicas ", Number(u64::from(head.replicas))),
-            Word(" verifiers ", Number(u64::from(head.verifiers))),
-            Word(" quorum ", Number(u64::from(head.quorum))),
-            Word(" window ", Number(u64::from(head.window))),
-            Word(" workers ", Number(u64::from(head.workers))),
-            Word(" customers ", Number(u64::from(head.customers))),
-            Word(" batches ", Number(u64::from(head.batches))),
-        ],
-    );
+    put_word(line, " version ", Number(u64::from(head.version)));
+    put_word(line, " replicas ", Number(u64::from(head.replicas)));
+    put_word(line, " verifiers ", Number(u64::from(head.verifiers)));
+    put_word(line, " quorum ", Number(u64::from(head.quorum)));
+    put_word(line, " window ", Number(u64::from(head.window)));
+    put_word(line, " workers ", Number(u64::from(head.workers)));
+    put_word(line, " customers ", Number(u64::from(head.customers)));
+    put_word(line, " batches ", Number(u64::from(head.batches)));
 }
 
-/// Appends entry number `i`, from 0, where there is one, behind what parts it from what stands before it.
-#[inline(always)]
-fn put_nth(line: &mut Line, access: &AccessView, i: usize)
-    requires { array_vec_len line.old + 112 ≤ LINE_ROOM }
-    ensures items { line.new.items ≡ line.old.items ++ nth_entry i (access_in access.now.bytes.now).entries }
-    ensures len { array_vec_len line.new ≤ array_vec_len line.old + 112 }
-{
-    if i < access.len() {
-        put(line, parting(0 < i));
-        put_entry(line, &access.entry(i));
-    }
-}
-
-/// Appends the entries, `none` where there are none.
-fn put_entries(line: &mut Line, access: &AccessView)
-    requires { array_vec_len line.old + 336 ≤ LINE_ROOM }
-    ensures { line.new.items ≡ line.old.items
-        ++ list_or_none (map entry_words (access_in access.now.bytes.now).entries) }
-{
-    if access.len() == 0 {
-        return put(line, ": none");
-    }
-    put_nth(line, access, 0);
-    put_nth(line, access, 1);
-    put_nth(line, access, 2);
-}
-
-/// Appends ` worker 0 place 0 request 0: ` and the entries of an Access frame.
+/// Appends ` worker 0 place 0 request 0` of an Access frame, and gives its entries.
 #[tactic(auto, unfolding(crate::specs::FrameLines::access_words))]
-pub(crate) fn put_access(line: &mut Line, frame: &[u8])
+pub(crate) fn begin_access<'a>(line: &mut Line, frame: &'a [u8]) -> FrameWords<'a>
     requires room { array_vec_len line.old + LONGEST_PART ≤ LINE_ROOM }
     requires framed { FRAME_HEAD_LEN ≤ length frame.now }
-    ensures { line.new.items
-        ≡ line.old.items ++ words_if (has_access_body frame.now) (access_words (access_in frame.now)) }
+    ensures { line.new.items ++ words_left result ≡ line.old.items
+        ++ words_if (has_access_body frame.now) (access_words (access_in frame.now)) }
 {
-    if is_access_body(MOST_ROWS, &frame[FRAME_HEAD_LEN..]) {
-        let access = AccessView::new(0, frame);
-        put_numbered(line, " worker ", u64::from(access.worker()));
-        put_numbered(line, " place ", u64::from(access.place()));
-        put_numbered(line, " request ", u64::from(access.index()));
-        put_entries(line, &access);
+    if !is_access_body(MOST_ROWS, &frame[FRAME_HEAD_LEN..]) {
+        return FrameWords::of(Items::None);
     }
+    let access = AccessView::new(0, frame);
+    put_word(line, " worker ", Number(u64::from(access.worker())));
+    put_word(line, " place ", Number(u64::from(access.place())));
+    put_word(line, " request ", Number(u64::from(access.index())));
+    if access.len() == 0 {
+        put(line, ": none");
+    }
+    FrameWords::of(Items::Entries(access.entries()))
 }
 
 /// Appends ` batch 1 view 0 parallel order` of an Attempt frame, and gives the lists behind it.
@@ -111,15 +79,10 @@ pub(crate) fn begin_attempt<'a>(line: &mut Line, frame: &'a [u8]) -> FrameWords<
         return FrameWords::of(Items::None);
     }
     let attempt = AttemptView::new(0, frame);
-    put_words(
-        line,
-        &[
-            Word(" batch ", Number(u64::from(attempt.seq()))),
-            Word(" view ", Number(u64::from(attempt.view()))),
-            Word(" ", Mode(attempt.is_serial())),
-            Word(" order", Nothing),
-        ],
-    );
+    put_word(line, " batch ", Number(u64::from(attempt.seq())));
+    put_word(line, " view ", Number(u64::from(attempt.view())));
+    put_word(line, " ", Mode(attempt.is_serial()));
+    put(line, " order");
     FrameWords {
         numbers: Numbers::Indexes(attempt.certificate()),
         items: Items::Replies(attempt.replies()),
@@ -140,13 +103,8 @@ pub(crate) fn begin_batch<'a>(line: &mut Line, frame: &'a [u8]) -> FrameWords<'a
         return FrameWords::of(Items::None);
     }
     let batch = BatchView::new(0, frame);
-    put_words(
-        line,
-        &[
-            Word(" batch ", Number(u64::from(batch.seq()))),
-            Word(" sizes", Nothing),
-        ],
-    );
+    put_word(line, " batch ", Number(u64::from(batch.seq())));
+    put(line, " sizes");
     FrameWords {
         numbers: Numbers::Sizes(Sizes { batch, came: 0 }),
         items: Items::Requests(batch.requests()),
@@ -167,13 +125,8 @@ pub(crate) fn begin_rollback<'a>(line: &mut Line, frame: &'a [u8]) -> FrameWords
         return FrameWords::of(Items::None);
     }
     let rollback = RollbackView::new(0, frame);
-    put_words(
-        line,
-        &[
-            Word(" to ", Number(u64::from(rollback.to()))),
-            Word(" view ", Number(u64::from(rollback.view()))),
-        ],
-    );
+    put_word(line, " to ", Number(u64::from(rollback.to())));
+    put_word(line, " view ", Number(u64::from(rollback.view())));
     if rollback.len() == 0 {
         put(line, ": none");
     }
@@ -201,13 +154,8 @@ pub(crate) fn begin_transfer<'a>(line: &mut Line, frame: &'a [u8]) -> FrameWords
         return FrameWords::of(Items::None);
     }
     let transfer = TransferView::new(0, frame);
-    put_words(
-        line,
-        &[
-            Word(" batch ", Number(u64::from(transfer.seq()))),
-            Word(" view ", Number(u64::from(transfer.view()))),
-        ],
-    );
+    put_word(line, " batch ", Number(u64::from(transfer.seq())));
+    put_word(line, " view ", Number(u64::from(transfer.view())));
     FrameWords::of(Items::Rows(StateRows { transfer, came: 0 }))
 }
 
@@ -221,15 +169,10 @@ pub(crate) fn put_customer(line: &mut Line, number: usize, frame: &[u8])
 {
     if is_customer_body(&frame[FRAME_HEAD_LEN..]) {
         let customer = CustomerView::new(0, frame);
-        put_words(
-            line,
-            &[
-                Word(" #", Number(number as u64)),
-                Word(" ", Name(customer.name())),
-                Word(" saving ", Signed(customer.saving())),
-                Word(" checking ", Signed(customer.checking())),
-            ],
-        );
+        put_word(line, " #", Number(number as u64));
+        put_word(line, " ", Name(customer.name()));
+        put_word(line, " saving ", Signed(customer.saving().get()));
+        put_word(line, " checking ", Signed(customer.checking().get()));
     }
 }
 
@@ -241,7 +184,7 @@ pub(crate) fn put_number_frame(line: &mut Line, word: &str, frame: &[u8])
     ensures { line.new.items ≡ line.old.items ++ number_words word.now (number_of (body_in frame.now)) }
 {
     if let Some(number) = number_of(&frame[FRAME_HEAD_LEN..]) {
-        put_numbered(line, word, u64::from(number));
+        put_word(line, word, Number(u64::from(number)));
     }
 }
 
@@ -255,25 +198,20 @@ pub(crate) fn put_commit(line: &mut Line, frame: &[u8])
 {
     if is_commit_body(&frame[FRAME_HEAD_LEN..]) {
         let commit = CommitView::new(0, frame);
-        put_words(
-            line,
-            &[
-                Word(" batch ", Number(u64::from(commit.seq()))),
-                Word(" view ", Number(u64::from(commit.view()))),
-                Word(" token ", Token(commit.token())),
-            ],
-        );
+        put_word(line, " batch ", Number(u64::from(commit.seq())));
+        put_word(line, " view ", Number(u64::from(commit.view())));
+        put_word(line, " token ", Token(commit.token()));
     }
 }
 
-/// What a vote is for: ` commit ..`, or ` rollback`.
-fn choice_word<'a>(choice: &Choice<'a>) -> Word<'a>
-    ensures words { labelled_words result ≡ choice_words (borrowed_choice choice.now) }
-    ensures short { labelled_room result ≤ 80 }
+/// Appends what a vote is for: ` commit ..`, or ` rollback`.
+fn put_choice(line: &mut Line, choice: &Choice<'_>)
+    requires { array_vec_len line.old + 80 ≤ LINE_ROOM }
+    ensures { line.new.items ≡ line.old.items ++ choice_words (borrowed_choice choice.now) }
 {
     match choice {
-        Choice::ForRollback => Word(" rollback", Nothing),
-        Choice::ForCommit(token) => Word(" commit ", Token(token)),
+        Choice::ForRollback => put(line, " rollback"),
+        Choice::ForCommit(token) => put_word(line, " commit ", Token(token)),
     }
 }
 
@@ -287,14 +225,9 @@ pub(crate) fn put_vote(line: &mut Line, frame: &[u8])
 {
     if is_vote_body(MOST_BATCHES, &frame[FRAME_HEAD_LEN..]) {
         let vote = VoteView::new(0, frame);
-        put_words(
-            line,
-            &[
-                Word(" batch ", Number(u64::from(vote.seq()))),
-                Word(" view ", Number(u64::from(vote.view()))),
-                choice_word(&vote.choice()),
-            ],
-        );
+        put_word(line, " batch ", Number(u64::from(vote.seq())));
+        put_word(line, " view ", Number(u64::from(vote.view())));
+        put_choice(line, &vote.choice());
     }
 }
 
@@ -308,15 +241,10 @@ pub(crate) fn put_sent(line: &mut Line, frame: &[u8])
 {
     if is_sent_body(MOST_REPLICAS, MOST_BATCHES, &frame[FRAME_HEAD_LEN..]) {
         let sent = SentView::new(0, frame);
-        put_words(
-            line,
-            &[
-                Word(" client ", Number(u64::from(sent.client()))),
-                Word(" number ", Number(sent.number())),
-                Word(" replica ", Number(u64::from(sent.replica()))),
-                Word(" batch ", Number(u64::from(sent.seq()))),
-                Word(" reply ", Reply(sent.reply())),
-            ],
-        );
+        put_word(line, " client ", Number(u64::from(sent.client())));
+        put_word(line, " number ", Number(sent.number()));
+        put_word(line, " replica ", Number(u64::from(sent.replica())));
+        put_word(line, " batch ", Number(u64::from(sent.seq())));
+        put_word(line, " reply ", Reply(sent.reply()));
     }
 }

@@ -9,7 +9,7 @@ use arrayvec::ArrayVec;
 /// How many bytes of a line are held at once.
 pub const LINE_ROOM: usize = 4096;
 
-/// How many bytes are put at most by one call of a part: an access record with its three entries has most.
+/// How many bytes are put at most by one call of a part.
 pub const LONGEST_PART: usize = 512;
 
 /// A line, or the part of one that is sent at once.

@@ -5,7 +5,7 @@ ghost use Rattle.std.specs.Fmt.{signed_decimal};
 ghost use Rattle.arrayvec.specs.ArrayVec.{array_vec_len};
 
 use crate::line::{LINE_ROOM, LONGEST_NUMBER, Line, put};
-use itoa::Buffer;
+use itoa::{Buffer, Integer};
 
 /// Numbers below it have few digits: eight at most.
 const FEW_DIGITS: u64 = 100_000_000;
@@ -61,20 +61,15 @@ fn put_below_10000(line: &mut Line, number: u64)
     put_pair(line, number % 100);
 }
 
-/// Appends a number of few digits.
-#[inline(always)]
-fn put_few(line: &mut Line, number: u64)
-    requires room { array_vec_len line.old + 8 ≤ LINE_ROOM }
-    requires small { number < FEW_DIGITS }
-    ensures items { line.new.items ≡ line.old.items ++ decimal number }
-    ensures len { array_vec_len line.new ≤ array_vec_len line.old + 8 }
+/// Appends a number of any length.
+#[inline(never)]
+fn put_long<I: Integer>(line: &mut Line, number: I)
+    requires { array_vec_len line.old + I.MAX_STR_LEN ≤ LINE_ROOM }
+    ensures items { line.new.items ≡ line.old.items ++ I.text number }
+    ensures len { array_vec_len line.new ≤ array_vec_len line.old + I.MAX_STR_LEN }
 {
-    if number < 10_000 {
-        return put_below_10000(line, number);
-    }
-    put_below_10000(line, number / 10_000);
-    put_pair(line, number % 10_000 / 100);
-    put_pair(line, number % 100);
+    let mut digits = Buffer::new();
+    put(line, digits.format(number));
 }
 
 /// Appends a number.
@@ -83,11 +78,15 @@ pub fn put_number(line: &mut Line, number: u64)
     ensures items { line.new.items ≡ line.old.items ++ decimal number }
     ensures len { array_vec_len line.new ≤ array_vec_len line.old + LONGEST_NUMBER }
 {
-    if number < FEW_DIGITS {
-        return put_few(line, number);
+    if number < 10_000 {
+        return put_below_10000(line, number);
     }
-    let mut digits = Buffer::new();
-    put(line, digits.format(number));
+    if number >= FEW_DIGITS {
+        return put_long(line, number);
+    }
+    put_below_10000(line, number / 10_000);
+    put_pair(line, number % 10_000 / 100);
+    put_pair(line, number % 100);
 }
 
 /// Appends a word, and a number behind it.
@@ -107,9 +106,8 @@ pub fn put_signed(line: &mut Line, amount: i64)
     ensures items { line.new.items ≡ line.old.items ++ signed_decimal amount }
     ensures len { array_vec_len line.new ≤ array_vec_len line.old + LONGEST_NUMBER }
 {
-    if amount >= 0 {
-        return put_number(line, amount.unsigned_abs());
+    if amount < 0 {
+        return put_long(line, amount);
     }
-    let mut digits = Buffer::new();
-    put(line, digits.format(amount));
+    put_number(line, amount.unsigned_abs());
 }

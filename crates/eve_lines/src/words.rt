@@ -15,7 +15,7 @@ use crate::number::{put_number, put_numbered, put_signed};
 use eve_accounts::{Amount, Cents};
 use eve_frames::FrameView;
 use eve_grammar::{Asked, FrameKind};
-use eve_smallbank::{Abort, Entry, Kind, Reply, Request, Versioned};
+use eve_smallbank::{Abort, Entry, Kind, Reply, Request};
 
 /// The name of a kind, as `eve show` prints it: of 8 bytes at most.
 pub fn kind_name(kind: FrameKind) -> &'static str
@@ -147,13 +147,14 @@ fn put_versioned(line: &mut Line, version: u64, value: Cents)
 }
 
 /// Appends a row and what it has: `row 1 version 1 value 100`.
-pub(crate) fn put_row(line: &mut Line, row: u64, has: Versioned)
+pub(crate) fn put_row(line: &mut Line, row: u64, version: u64, value: Cents)
     requires { array_vec_len line.old + 80 ≤ LINE_ROOM }
-    ensures items { line.new.items ≡ line.old.items ++ row_words (row, has) }
+    ensures items { line.new.items
+        ≡ line.old.items ++ row_words (row, record { version = version; value = value }) }
     ensures len { array_vec_len line.new ≤ array_vec_len line.old + 80 }
 {
     put_numbered(line, "row ", row);
-    put_versioned(line, has.version, has.value);
+    put_versioned(line, version, value);
 }
 
 /// Appends an entry: `read row 0 version 0 value 0`, `write row 1 version 0 value 0 to 500`.
@@ -164,12 +165,15 @@ pub fn put_entry(line: &mut Line, entry: &Entry)
     ensures items { line.new.items ≡ line.old.items ++ entry_words entry.now }
     ensures len { array_vec_len line.new ≤ array_vec_len line.old + 110 }
 {
-    put(line, kind_word(entry.kind));
-    put_numbered(line, " row ", u64::from(entry.row.number()));
-    put_versioned(line, entry.version, entry.seen);
+    let row = u64::from(entry.row.number());
     match entry.kind {
-        Kind::Read => {}
+        Kind::Read => {
+            put_numbered(line, "read row ", row);
+            put_versioned(line, entry.version, entry.seen);
+        }
         Kind::Write => {
+            put_numbered(line, "write row ", row);
+            put_versioned(line, entry.version, entry.seen);
             put(line, " to ");
             put_signed(line, entry.after.get());
         }

@@ -1,27 +1,25 @@
 -- What frames say in members, read again from their bytes.
-use Rattle.std.proofs.Common.{◌≡◌, ℕ, ◌+◌, Bool, true, false, cond, eqb, leb}
-use Rattle.std.proofs.Common.{List, length, Some, None, is_some, refl, ap, sym}
+use Rattle.std.proofs.Common.{◌≡◌, ℕ, Bool, true, false, eqb, leb}
+use Rattle.std.proofs.Common.{List, length, Some, is_some, refl, ap, sym}
 use Rattle.std.proofs.Common.{◌∙◌, arith}
 use Rattle.std.specs.Prelude.{IsTrue, codes}
 use Rattle.std.proofs.lemmas.Bool.{and_parts, and_from, eqb-true, le-leb}
 use Rattle.std.proofs.lemmas.List.{nil_from_length}
-use Rattle.std.proofs.lemmas.Option.{same_Some}
 use Rattle.eve_grammar.specs.Trace.{Batch}
 use Rattle.eve_grammar.specs.Frames.{Frame, OfCustomer, OfBatch, OfReplica, OfAttempt, OfAccess, OfCommit, OfRollback}
 use Rattle.eve_grammar.specs.Frames.{OfTransfer, OfVerifier, OfVote, OfSent, End, without_accesses}
 use Rattle.eve_grammar.specs.Limits.{FitsAt, is_attempt, is_head, row_count}
-use Rattle.eve_grammar.specs.Readers.{batch_of, body_of, number_of, transfer_of}
-use Rattle.eve_grammar.specs.Spelling.{body_text, frame_text}
+use Rattle.eve_grammar.specs.Readers.{transfer_of}
+use Rattle.eve_grammar.specs.Spelling.{frame_text}
 use Rattle.eve_grammar.specs.declared.head.Head.{Head}
 use Rattle.eve_grammar.specs.declared.place.Place.{Place}
 use Rattle.eve_grammar.proofs.BodyCodecs.{Exact-transfer}
-use Rattle.eve_grammar.proofs.Codec.{bind_some, guard_some}
-use Rattle.eve_grammar.proofs.FrameLaws.{body_of-again}
 use Rattle.eve_grammar.proofs.HeadLimits.{few_customers, head_has_limits}
-use Rattle.eve_frames.specs.Views.{body_in, batch_in, has_batch_body, state_rows_in}
+use Rattle.eve_frames.specs.Views.{body_in, state_rows_in}
 use Rattle.eve_frames.proofs.Rereading.{access_again, attempt_again, commit_again, customer_again, rollback_again}
 use Rattle.eve_frames.proofs.Rereading.{sent_again, transfer_again, vote_again}
 use Rattle.json.specs.Token.{Token}
+use Rattle.eve_lines.proofs.BodiesReread.{RowsAreTold, batch_says, replica_read, verifier_read}
 use Rattle.eve_objects.specs.FrameObjects.{access_members, attempt_members, batch_members, commit_members}
 use Rattle.eve_objects.specs.FrameObjects.{customer_members, frame_members, rollback_members, sent_members}
 use Rattle.eve_objects.specs.FrameObjects.{transfer_members, vote_members}
@@ -32,56 +30,6 @@ when : (right : Bool) (members decoded : List Token) → right ≡ true → memb
     → members_if right members ≡ decoded
 when true members decoded e same = same
 when false members decoded e same = absurd cc
-
--- what the body of a batch is read as
-batch_read : (h : Head) (p : Place) (number : ℕ) (b : Batch) → IsTrue (is_head h) → FitsAt h p (OfBatch number b)
-    → batch_of (body_text (OfBatch number b)) ≡ Some (number, b)
-unfolding body_of
-batch_read h p number b right fits =
-    let f = OfBatch number b in
-    let a = bind_some (batch_of (body_text f)) (λ x. cond (eqb x.0 (p.batches + 1)) (Some (OfBatch x.0 x.1)) None) f
-    (body_of-again h p f right fits) in
-    let g = guard_some (eqb a.0.0 (p.batches + 1)) _ f a.2 in
-    let same : OfBatch a.0.0 a.0.1 ≡ OfBatch number b = same_Some _ _ g.1 in
-    let numbers : a.0.0 ≡ number = cc in
-    let batches : a.0.1 ≡ b = cc in
-    a.1 ∙ ap (λ (n : ℕ). Some (n, a.0.1)) numbers ∙ ap (λ (x : Batch). Some (number, x)) batches
-
-batch_says : (h : Head) (p : Place) (number : ℕ) (b : Batch) → IsTrue (is_head h) → FitsAt h p (OfBatch number b)
-    → IsTrue (has_batch_body (frame_text (OfBatch number b))) × (batch_in (frame_text (OfBatch number b)) ≡ (number, b))
-unfolding batch_in
-batch_says h p number b right fits =
-    let read = batch_read h p number b right fits in
-    (ap is_some read, rw read refl)
-
-replica_read : (h : Head) (p : Place) (number : ℕ) → IsTrue (is_head h) → FitsAt h p (OfReplica number)
-    → number_of (body_text (OfReplica number)) ≡ Some number
-unfolding body_of
-replica_read h p number right fits =
-    let f = OfReplica number in
-    let a = bind_some (number_of (body_text f)) (λ n. cond (eqb n p.replicas) (Some (OfReplica n)) None) f
-    (body_of-again h p f right fits) in
-    let g = guard_some (eqb a.0 p.replicas) _ f a.2 in
-    let same : OfReplica a.0 ≡ OfReplica number = same_Some _ _ g.1 in
-    let numbers : a.0 ≡ number = cc in
-    a.1 ∙ ap Some numbers
-
-verifier_read : (h : Head) (p : Place) (number : ℕ) → IsTrue (is_head h) → FitsAt h p (OfVerifier number)
-    → number_of (body_text (OfVerifier number)) ≡ Some number
-unfolding body_of
-verifier_read h p number right fits =
-    let f = OfVerifier number in
-    let a = bind_some (number_of (body_text f)) (λ n. cond (eqb n p.verifiers) (Some (OfVerifier n)) None) f
-    (body_of-again h p f right fits) in
-    let g = guard_some (eqb a.0 p.verifiers) _ f a.2 in
-    let same : OfVerifier a.0 ≡ OfVerifier number = same_Some _ _ g.1 in
-    let numbers : a.0 ≡ number = cc in
-    a.1 ∙ ap Some numbers
-
--- the rows of a Transfer are told by its length
-abbrev pub RowsAreTold : Type 0
-RowsAreTold = (rows : ℕ) (bytes : List ℕ) → IsTrue (is_some (transfer_of rows (body_in bytes)))
-    → state_rows_in bytes ≡ rows
 
 pub says : RowsAreTold → (h : Head) (p : Place) (f : Frame) (number : ℕ) → IsTrue (is_head h) → FitsAt h p f
     → members_in number (frame_text f) ≡ frame_members number f

@@ -1,8 +1,11 @@
-use Rattle.std.proofs.Common.{arith}
+use Rattle.std.proofs.Common.{◌∙◌, append-nil, arith}
 use Rattle.std.proofs.lemmas.Bool.{ne_eqb}
 use Rattle.eve_lines.specs.Rest.{words_of_kind}
-use Rattle.eve_lines.proofs.AppendedParts.{none_left}
 use Rattle.eve_lines.proofs.frame.begin_kind.Goals as goal
+
+pub returns-in-18 : goal.returns-in-18
+unfolding words_of_kind
+returns-in-18 c = rw c.in-18.is c.begin_access.ensures
 
 pub returns-in-17 : goal.returns-in-17
 unfolding words_of_kind
@@ -24,9 +27,10 @@ pub returns-in_default : goal.returns-in_default
 unfolding words_of_kind
 returns-in_default c =
     rw (
+      ne_eqb c.args.kind 18 (λ e. absurd (omega arith)),
       ne_eqb c.args.kind 17 (λ e. absurd (omega arith)),
       ne_eqb c.args.kind 2 (λ e. absurd (omega arith)),
       ne_eqb c.args.kind 20 (λ e. absurd (omega arith)),
       ne_eqb c.args.kind 21 (λ e. absurd (omega arith)),
     )
-    (rw c.of.ensures (none_left c.args.line.now.items c.put_short.new.line.items _ c.put_short.ensures))
+    (rw c.of.ensures (append-nil c.put_short.new.line.items ∙ c.put_short.ensures))

@@ -3,10 +3,6 @@ use Rattle.std.proofs.lemmas.Bool.{ne_eqb}
 use Rattle.eve_lines.specs.Rest.{short_words}
 use Rattle.eve_lines.proofs.frame.put_short.Goals as goal
 
-pub returns-in-18 : goal.returns-in-18
-unfolding short_words
-returns-in-18 c = rw c.in-18.is c.put_access.ensures
-
 pub returns-in-19 : goal.returns-in-19
 unfolding short_words
 returns-in-19 c = rw c.in-19.is c.put_commit.ensures
@@ -35,7 +31,6 @@ pub returns-in_default : goal.returns-in_default
 unfolding short_words
 returns-in_default c =
     rw (
-      ne_eqb c.args.kind 18 (λ e. absurd (omega arith)),
       ne_eqb c.args.kind 19 (λ e. absurd (omega arith)),
       ne_eqb c.args.kind 1 (λ e. absurd (omega arith)),
       ne_eqb c.args.kind 16 (λ e. absurd (omega arith)),
