@@ -9,8 +9,6 @@ use Rattle.eve_evidence.specs.declared.evidence.AccessFault.{AccessFault}
 use Rattle.eve_evidence.specs.declared.evidence.AccessFault.TheVariants as access
 use Rattle.eve_evidence.specs.declared.evidence.AttemptFault.{AttemptFault}
 use Rattle.eve_evidence.specs.declared.evidence.AttemptFault.TheVariants as attempt
-use Rattle.eve_evidence.specs.declared.evidence.CertificateFault.{CertificateFault}
-use Rattle.eve_evidence.specs.declared.evidence.CertificateFault.TheVariants as certificate
 use Rattle.eve_evidence.specs.declared.evidence.CommitFault.{CommitFault}
 use Rattle.eve_evidence.specs.declared.evidence.CommitFault.TheVariants as commit
 use Rattle.eve_evidence.specs.declared.evidence.Counts.{Counts}
@@ -36,7 +34,7 @@ use Rattle.eve_evidence.specs.declared.evidence.ToldSent.{ToldSent}
 use Rattle.eve_evidence.specs.declared.evidence.TransferFault.{TransferFault}
 use Rattle.eve_evidence.specs.declared.evidence.TransferFault.TheVariants as transfer
 use Rattle.eve_reasons.specs.declared.lines.TheConstants.{MOST_LINES}
-use Rattle.eve_reasons.specs.Attempts.{access_fault_lines, attempt_fault_lines, place_lines, worker_lines}
+use Rattle.eve_reasons.specs.Attempts.{access_fault_lines, attempt_fault_lines, worker_lines}
 use Rattle.eve_evidence.specs.declared.evidence.Numbers.{Numbers}
 use Rattle.eve_reasons.specs.Counts.{count_lines, replica_line}
 use Rattle.eve_reasons.specs.Form.{other_magic_lines, records_lines}
@@ -67,10 +65,6 @@ few_records (Some x) = lit≤ tt
 few_attempt : (wrong : AttemptFault) → length (attempt_fault_lines wrong) ≤ 3
 few_attempt (attempt.Number is) = lit≤ tt
 few_attempt _ = lit≤ tt
-
-few_places : (wrong : CertificateFault) → length (place_lines wrong) ≤ 3
-few_places (certificate.Again index place first) = lit≤ tt
-few_places _ = lit≤ tt
 
 few_workers : (serial : Bool) (is : Numbers) → length (worker_lines serial is) ≤ 3
 few_workers true is = lit≤ tt
@@ -127,7 +121,6 @@ pub few_reasons : (evidence : Evidence) → length (reason_lines evidence) ≤ M
 few_reasons (shown.Length found wrong magic) = omega (arith, few_magic magic)
 few_reasons (shown.Frame wrong due records) = omega (arith, few_records records)
 few_reasons (shown.Attempt wrong) = omega (arith, few_attempt wrong)
-few_reasons (shown.Certificate a wrong) = omega (arith, few_places wrong)
 few_reasons (shown.Access a at wrong) = omega (arith, few_access a.serial wrong)
 few_reasons (shown.Commit wrong) = omega (arith, few_commit wrong)
 few_reasons (shown.Rollback wrong) = omega (arith, few_rollback wrong)

@@ -23,25 +23,28 @@ attempt_fault_lines (attempt.Requests is) = numbers_lines (codes "requests") is 
 attempt_fault_lines (attempt.Mode found due) =
     codes "field: mode" ∷ (codes "found: " ++ mode_words found) ∷ (codes "due: " ++ mode_words due) ∷ []
 
--- what stands at a place of its certificate, and what was due there
-abbrev pub place_lines : CertificateFault → List (List ℕ)
-place_lines (certificate.NoRequest index place requests) =
-    (codes "found: index " ++ (decimal index ++ (codes " at place " ++ decimal place)))
-    ∷ (codes "due: below " ++ decimal requests) ∷ []
-place_lines (certificate.Again index place first) =
-    (codes "found: index " ++ (decimal index ++ (codes " at places " ++ (decimal first ++ (codes " and "
-    ++ decimal place)))))
-    ∷ codes "due: each index once" ∷ []
-place_lines (certificate.OutOfOrder index place) =
-    (codes "found: index " ++ (decimal index ++ (codes " at place " ++ decimal place)))
-    ∷ (codes "due: index " ++ (decimal place ++ codes ", in serial mode")) ∷ []
-place_lines (certificate.BeforeGroup index place before) =
-    (codes "found: index " ++ (decimal index ++ (codes " at place " ++ (decimal place ++ (codes " before index "
-    ++ decimal before)))))
-    ∷ codes "due: parallelBatch after parallelBatch" ∷ []
+-- which index stands where in its certificate
+abbrev pub index_line : CertificateFault → List ℕ
+index_line (certificate.NoRequest index place requests) =
+    codes "found: index " ++ (decimal index ++ (codes " at place " ++ decimal place))
+index_line (certificate.Again index place first) =
+    codes "found: index " ++ (decimal index ++ (codes " at places " ++ (decimal first ++ (codes " and "
+    ++ decimal place))))
+index_line (certificate.OutOfOrder index place) =
+    codes "found: index " ++ (decimal index ++ (codes " at place " ++ decimal place))
+index_line (certificate.BeforeGroup index place before) =
+    codes "found: index " ++ (decimal index ++ (codes " at place " ++ (decimal place ++ (codes " before index "
+    ++ decimal before))))
+
+-- what was due there
+abbrev pub due_index_line : CertificateFault → List ℕ
+due_index_line (certificate.NoRequest index place requests) = codes "due: below " ++ decimal requests
+due_index_line (certificate.Again index place first) = codes "due: each index once"
+due_index_line (certificate.OutOfOrder index place) = codes "due: index " ++ (decimal place ++ codes ", in serial mode")
+due_index_line (certificate.BeforeGroup index place before) = codes "due: parallelBatch after parallelBatch"
 
 abbrev pub certificate_lines : ToldAttempt → CertificateFault → List (List ℕ)
-certificate_lines a wrong = attempt_line a ∷ place_lines wrong
+certificate_lines a wrong = attempt_line a ∷ index_line wrong ∷ due_index_line wrong ∷ []
 
 -- a worker that isn't there: in serial mode there is worker 0 alone
 abbrev pub worker_lines : Bool → Numbers → List (List ℕ)

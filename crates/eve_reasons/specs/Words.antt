@@ -14,9 +14,10 @@ use Rattle.eve_evidence.specs.declared.evidence.Source.{Source}
 use Rattle.eve_evidence.specs.declared.evidence.Source.TheVariants as source
 use Rattle.eve_evidence.specs.declared.evidence.ToldRequest.{ToldRequest}
 use Rattle.eve_evidence.specs.declared.evidence.ToldRow.{ToldRow}
-use Rattle.eve_reasons.specs.declared.word.TheConstants.{LONGEST_WORD}
+use Rattle.eve_reasons.specs.declared.word.TheConstants.{LONGEST_VALUE}
+use Rattle.eve_reasons.specs.declared.word.Value.{Value}
+use Rattle.eve_reasons.specs.declared.word.Value.TheVariants as value
 use Rattle.eve_reasons.specs.declared.word.Word.{Word}
-use Rattle.eve_reasons.specs.declared.word.Word.TheVariants as word
 
 -- a kind of frames: `Access`
 abbrev pub kind_words : FrameKind → List ℕ
@@ -78,37 +79,39 @@ source_words (source.Write index batch at) =
     request_index_words index batch ++ (codes ", " ++ frame_at_words kind.Access at)
 source_words (source.Transfer at) = frame_at_words kind.Transfer at
 
--- a word
-abbrev pub word_words : Word → List ℕ
-word_words (word.Text text) = text.now
-word_words (word.Number number) = decimal number
-word_words (word.Signed amount) = signed_decimal amount
-word_words (word.Name name) = name_words name.now
-word_words (word.Digits bytes) = token_words bytes.now
-word_words (word.Mode serial) = mode_words serial
-word_words (word.Access k) = kind_word k
-word_words (word.Kind k) = kind_words k
-word_words (word.Batch batch view) = batch_view_words batch view
-word_words (word.Frame k at) = frame_at_words k at
-word_words (word.Row r) = told_row_words r.now
-word_words (word.Has has) = has_words has
-word_words (word.Request r) = told_request_words r.now
-word_words (word.Reply r) = reply_words r
-word_words (word.Source s) = source_words s.now
-word_words (word.Kinds told) = kinds_words told.now
+-- a value
+abbrev pub told_value_words : Value → List ℕ
+told_value_words value.Nothing = []
+told_value_words (value.Text text) = text.now
+told_value_words (value.Number number) = decimal number
+told_value_words (value.Signed amount) = signed_decimal amount
+told_value_words (value.Name name) = name_words name.now
+told_value_words (value.Digits bytes) = token_words bytes.now
+told_value_words (value.Mode serial) = mode_words serial
+told_value_words (value.Access k) = kind_word k
+told_value_words (value.Kind k) = kind_words k
+told_value_words (value.Batch batch view) = batch_view_words batch view
+told_value_words (value.Frame k at) = frame_at_words k at
+told_value_words (value.Row r) = told_row_words r.now
+told_value_words (value.Has has) = has_words has
+told_value_words (value.Request r) = told_request_words r.now
+told_value_words (value.Reply r) = reply_words r
+told_value_words (value.Source s) = source_words s.now
+told_value_words (value.Kinds told) = kinds_words told.now
 
--- words one after another
+-- a table: labels, and the value behind each
 abbrev pub words_text : List Word → List ℕ
 words_text [] = []
-words_text (w ∷ []) = word_words w
-words_text (w ∷ x ∷ rest) = word_words w ++ words_text (x ∷ rest)
+words_text (w ∷ []) = w.0.now ++ told_value_words w.1
+words_text (w ∷ x ∷ rest) = w.0.now ++ (told_value_words w.1 ++ words_text (x ∷ rest))
 
 -- ---- the room that they take at most
 
-abbrev pub word_room : Word → ℕ
-word_room (word.Text text) = length text.now
-word_room _ = LONGEST_WORD
+abbrev pub told_value_room : Value → ℕ
+told_value_room value.Nothing = 0
+told_value_room (value.Text text) = length text.now
+told_value_room _ = LONGEST_VALUE
 
 abbrev pub words_room : List Word → ℕ
 words_room [] = 0
-words_room (w ∷ rest) = word_room w + words_room rest
+words_room (w ∷ rest) = (length w.0.now + told_value_room w.1) + words_room rest

@@ -1,13 +1,14 @@
 //! What is wrong with an attempt, its certificate, or where its records stand.
 
 ghost use Rattle.std.specs.Prelude.{◌≡◌};
-ghost use Rattle.eve_reasons.specs.Lines.{and_lines};
+ghost use Rattle.eve_reasons.specs.Lines.{and_line, and_lines};
 ghost use Rattle.eve_reasons.specs.Attempts.{access_fault_lines, access_lines, attempt_fault_lines, certificate_lines};
-ghost use Rattle.eve_reasons.specs.Attempts.{place_lines, worker_lines, worker_order_lines};
+ghost use Rattle.eve_reasons.specs.Attempts.{due_index_line, index_line, worker_lines, worker_order_lines};
 
 use crate::lines::Lines;
 use crate::shared::{say_access, say_attempt, say_numbers};
-use crate::word::Word::{Frame, Mode, Number, Text};
+use crate::word::Value::{Frame, Mode, Nothing, Number};
+use crate::word::Word;
 use eve_evidence::{AccessFault, AttemptFault, CertificateFault, Numbers, ToldAttempt};
 use eve_grammar::FrameKind;
 
@@ -22,73 +23,59 @@ pub(crate) fn say_attempt_fault(lines: &mut Lines, wrong: &AttemptFault)
         AttemptFault::View(is) => say_numbers(lines, "view", is, "due: "),
         AttemptFault::Requests(is) => say_numbers(lines, "requests", is, "due: "),
         AttemptFault::Mode { found, due } => {
-            lines.say(&[Text("field: mode")]);
-            lines.say(&[Text("found: "), Mode(*found)]);
-            lines.say(&[Text("due: "), Mode(*due)]);
+            lines.say(&[Word("field: mode", Nothing)]);
+            lines.say(&[Word("found: ", Mode(*found))]);
+            lines.say(&[Word("due: ", Mode(*due))]);
         }
     }
 }
 
-/// Says what stands at a place of a certificate, and what was due there.
-fn say_place(lines: &mut Lines, wrong: &CertificateFault)
-    ensures { lines.new ≡ and_lines (place_lines wrong.now) lines.old }
+/// Says which index stands where in a certificate: `found: index 1 at place 0`.
+fn say_index(lines: &mut Lines, wrong: &CertificateFault)
+    ensures { lines.new ≡ and_line (index_line wrong.now) lines.old }
 {
     match wrong {
-        CertificateFault::NoRequest {
-            index,
-            place,
-            requests,
-        } => {
-            lines.say(&[
-                Text("found: index "),
-                Number(*index as u64),
-                Text(" at place "),
-                Number(*place as u64),
-            ]);
-            lines.say(&[Text("due: below "), Number(*requests as u64)]);
-        }
+        CertificateFault::NoRequest { index, place, .. }
+        | CertificateFault::OutOfOrder { index, place } => lines.say(&[
+            Word("found: index ", Number(*index as u64)),
+            Word(" at place ", Number(*place as u64)),
+        ]),
         CertificateFault::Again {
             index,
             place,
             first,
-        } => {
-            lines.say(&[
-                Text("found: index "),
-                Number(*index as u64),
-                Text(" at places "),
-                Number(*first as u64),
-                Text(" and "),
-                Number(*place as u64),
-            ]);
-            lines.say(&[Text("due: each index once")]);
-        }
-        CertificateFault::OutOfOrder { index, place } => {
-            lines.say(&[
-                Text("found: index "),
-                Number(*index as u64),
-                Text(" at place "),
-                Number(*place as u64),
-            ]);
-            lines.say(&[
-                Text("due: index "),
-                Number(*place as u64),
-                Text(", in serial mode"),
-            ]);
-        }
+        } => lines.say(&[
+            Word("found: index ", Number(*index as u64)),
+            Word(" at places ", Number(*first as u64)),
+            Word(" and ", Number(*place as u64)),
+        ]),
         CertificateFault::BeforeGroup {
             index,
             place,
             before,
-        } => {
-            lines.say(&[
-                Text("found: index "),
-                Number(*index as u64),
-                Text(" at place "),
-                Number(*place as u64),
-                Text(" before index "),
-                Number(*before as u64),
-            ]);
-            lines.say(&[Text("due: parallelBatch after parallelBatch")]);
+        } => lines.say(&[
+            Word("found: index ", Number(*index as u64)),
+            Word(" at place ", Number(*place as u64)),
+            Word(" before index ", Number(*before as u64)),
+        ]),
+    }
+}
+
+/// Says what was due there.
+fn say_due_index(lines: &mut Lines, wrong: &CertificateFault)
+    ensures { lines.new ≡ and_line (due_index_line wrong.now) lines.old }
+{
+    match wrong {
+        CertificateFault::NoRequest { requests, .. } => {
+            lines.say(&[Word("due: below ", Number(*requests as u64))]);
+        }
+        CertificateFault::Again { .. } => lines.say(&[Word("due: each index once", Nothing)]),
+        CertificateFault::OutOfOrder { place, .. } => lines.say(&[
+            Word("due: index ", Number(*place as u64)),
+            Word(", in serial mode", Nothing),
+        ]),
+        CertificateFault::BeforeGroup { .. } => {
+            lines.say(&[Word("due: parallelBatch after parallelBatch", Nothing)]);
         }
     }
 }
@@ -98,7 +85,8 @@ pub(crate) fn say_certificate(lines: &mut Lines, attempt: &ToldAttempt, wrong: &
     ensures { lines.new ≡ and_lines (certificate_lines attempt.now wrong.now) lines.old }
 {
     say_attempt(lines, attempt);
-    say_place(lines, wrong);
+    say_index(lines, wrong);
+    say_due_index(lines, wrong);
 }
 
 /// Says which worker isn't there: in serial mode there is worker 0 alone.
@@ -106,9 +94,9 @@ fn say_worker(lines: &mut Lines, serial: bool, is: &Numbers)
     ensures { lines.new ≡ and_lines (worker_lines serial is.now) lines.old }
 {
     if serial {
-        lines.say(&[Text("field: worker")]);
-        lines.say(&[Text("found: "), Number(is.found)]);
-        lines.say(&[Text("due: 0")]);
+        lines.say(&[Word("field: worker", Nothing)]);
+        lines.say(&[Word("found: ", Number(is.found))]);
+        lines.say(&[Word("due: 0", Nothing)]);
     } else {
         say_numbers(lines, "worker", is, "due: below ");
     }
@@ -122,10 +110,10 @@ fn say_access_fault(lines: &mut Lines, serial: bool, wrong: &AccessFault)
         AccessFault::Worker(is) => say_worker(lines, serial, is),
         AccessFault::Index(is) => say_numbers(lines, "index", is, "due: below "),
         AccessFault::Again { index, first } => {
-            lines.say(&[Text("field: index")]);
-            lines.say(&[Text("found: "), Number(*index as u64)]);
-            lines.say(&[Text("due: once")]);
-            lines.say(&[Text("first: "), Frame(FrameKind::Access, *first)]);
+            lines.say(&[Word("field: index", Nothing)]);
+            lines.say(&[Word("found: ", Number(*index as u64))]);
+            lines.say(&[Word("due: once", Nothing)]);
+            lines.say(&[Word("first: ", Frame(FrameKind::Access, *first))]);
         }
     }
 }

@@ -6,7 +6,8 @@ ghost use Rattle.eve_reasons.specs.Lines.{and_line, and_lines, ended};
 ghost use Rattle.eve_reasons.specs.Counts.{count_lines, replica_line};
 
 use crate::lines::Lines;
-use crate::word::Word::{Number, Text};
+use crate::word::Value::{Nothing, Number};
+use crate::word::Word;
 use eve_evidence::{Counts, REPLICAS, ReplicaCounts};
 use eve_lines::Line;
 
@@ -15,19 +16,13 @@ fn say_replica(lines: &mut Lines, replica: usize, did: &ReplicaCounts)
     ensures { lines.new ≡ and_line (replica_line (replica, did.now)) lines.old }
 {
     lines.say(&[
-        Text("replica "),
-        Number(replica as u64),
-        Text(": "),
-        Number(did.committed as u64),
-        Text(" committed, "),
-        Number(did.transferred as u64),
-        Text(" taken over, "),
-        Number(did.discarded as u64),
-        Text(" discarded, "),
-        Number(did.open as u64),
-        Text(" open, "),
-        Number(did.rollbacks as u64),
-        Text(" rollbacks"),
+        Word("replica ", Number(replica as u64)),
+        Word(": ", Number(did.committed as u64)),
+        Word(" committed, ", Number(did.transferred as u64)),
+        Word(" taken over, ", Number(did.discarded as u64)),
+        Word(" discarded, ", Number(did.open as u64)),
+        Word(" open, ", Number(did.rollbacks as u64)),
+        Word(" rollbacks", Nothing),
     ]);
 }
 
@@ -35,7 +30,7 @@ fn say_replica(lines: &mut Lines, replica: usize, did: &ReplicaCounts)
 pub(crate) fn say_counts(lines: &mut Lines, counts: &Counts)
     ensures { lines.new ≡ and_lines (count_lines counts.now) lines.old }
 {
-    lines.say(&[Text("requests: "), Number(counts.requests as u64)]);
+    lines.say(&[Word("requests: ", Number(counts.requests as u64))]);
     let replicas = &counts.replicas[..(counts.many as usize).min(REPLICAS)];
     'replicas: for i in 0..replicas.len() {
         say_replica(lines, i, &replicas[i]);

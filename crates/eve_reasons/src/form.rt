@@ -8,7 +8,8 @@ ghost use Rattle.eve_reasons.specs.Form.{head_lines, head_word, length_lines, ma
 ghost use Rattle.eve_reasons.specs.Form.{other_magic_lines, range_line, records_lines};
 
 use crate::lines::Lines;
-use crate::word::Word::{Digits, Frame, Kind, Kinds, Number, Text};
+use crate::word::Value::{Digits, Frame, Kind, Kinds, Nothing, Number, Text};
+use crate::word::Word;
 use eve_evidence::{BodyField, FRAME_KINDS, FrameFault, HeadField, LengthFault, RecordsBefore};
 use eve_grammar::{FrameKind, HEADER_LEN, MOST_BYTES};
 
@@ -18,13 +19,12 @@ fn say_due_length(lines: &mut Lines, wrong: &LengthFault)
 {
     match wrong {
         LengthFault::TooShort => {
-            lines.say(&[Text("due: at least "), Number(HEADER_LEN as u64)]);
+            lines.say(&[Word("due: at least ", Number(HEADER_LEN as u64))]);
         }
-        LengthFault::TooLong => lines.say(&[Text("due: at most "), Number(MOST_BYTES as u64)]),
+        LengthFault::TooLong => lines.say(&[Word("due: at most ", Number(MOST_BYTES as u64))]),
         LengthFault::Another(total) => lines.say(&[
-            Text("due: "),
-            Number(*total),
-            Text(", by the header"),
+            Word("due: ", Number(*total)),
+            Word(", by the header", Nothing),
         ]),
     }
 }
@@ -35,10 +35,8 @@ fn say_other_magic(lines: &mut Lines, magic: &Option<[u8; 6]>)
 {
     if let Some(six) = magic {
         lines.say(&[
-            Text("magic: "),
-            Digits(&six[..]),
-            Text(", not "),
-            Text(MAGIC),
+            Word("magic: ", Digits(&six[..])),
+            Word(", not ", Text(MAGIC)),
         ]);
     }
 }
@@ -52,7 +50,7 @@ pub(crate) fn say_length(
 )
     ensures { lines.new ≡ and_lines (length_lines found wrong.now magic.now) lines.old }
 {
-    lines.say(&[Text("found: "), Number(found), Text(" bytes")]);
+    lines.say(&[Word("found: ", Number(found)), Word(" bytes", Nothing)]);
     say_due_length(lines, wrong);
     say_other_magic(lines, magic);
 }
@@ -64,8 +62,8 @@ const MAGIC: &str = "45564553424b";
 pub(crate) fn say_magic(lines: &mut Lines, found: &[u8; 6])
     ensures { lines.new ≡ and_lines (magic_lines found.now) lines.old }
 {
-    lines.say(&[Text("found: "), Digits(&found[..])]);
-    lines.say(&[Text("due: "), Text(MAGIC)]);
+    lines.say(&[Word("found: ", Digits(&found[..]))]);
+    lines.say(&[Word("due: ", Text(MAGIC))]);
 }
 
 /// The name of a field of the header.
@@ -91,7 +89,7 @@ fn say_field<'w>(lines: &mut Lines, field: &'w str, at: u64)
     requires { length field.now ≤ 13 }
     ensures { lines.new ≡ and_line (field_line field.now at) lines.old }
 {
-    lines.say(&[Text("field: "), Text(field), Text(" at byte "), Number(at)]);
+    lines.say(&[Word("field: ", Text(field)), Word(" at byte ", Number(at))]);
 }
 
 /// Says between which numbers a field of the header must lie.
@@ -100,17 +98,13 @@ fn say_range(lines: &mut Lines, field: HeadField, least: u32, most: u32)
 {
     match field {
         HeadField::Version => lines.say(&[
-            Text("due: "),
-            Number(least as u64),
-            Text(" or "),
-            Number(most as u64),
+            Word("due: ", Number(least as u64)),
+            Word(" or ", Number(most as u64)),
         ]),
-        HeadField::Zero => lines.say(&[Text("due: "), Number(least as u64)]),
+        HeadField::Zero => lines.say(&[Word("due: ", Number(least as u64))]),
         _ => lines.say(&[
-            Text("due: "),
-            Number(least as u64),
-            Text(" to "),
-            Number(most as u64),
+            Word("due: ", Number(least as u64)),
+            Word(" to ", Number(most as u64)),
         ]),
     }
 }
@@ -128,7 +122,7 @@ pub(crate) fn say_head(
     ensures { lines.new ≡ and_lines (head_lines field at found least most) lines.old }
 {
     say_field(lines, head_word(field), at);
-    lines.say(&[Text("found: "), Number(found as u64)]);
+    lines.say(&[Word("found: ", Number(found as u64))]);
     say_range(lines, field, least, most);
 }
 
@@ -138,13 +132,11 @@ fn say_byte(lines: &mut Lines, byte: u8)
 {
     let bytes = [byte];
     match FrameKind::of(byte) {
-        None => lines.say(&[Text("found: kind 0x"), Digits(&bytes[..])]),
+        None => lines.say(&[Word("found: kind 0x", Digits(&bytes[..]))]),
         Some(kind) => lines.say(&[
-            Text("found: kind 0x"),
-            Digits(&bytes[..]),
-            Text(" ("),
-            Kind(kind),
-            Text(")"),
+            Word("found: kind 0x", Digits(&bytes[..])),
+            Word(" (", Kind(kind)),
+            Word(")", Nothing),
         ]),
     }
 }
@@ -155,24 +147,19 @@ fn say_no_frame(lines: &mut Lines, wrong: &FrameFault)
 {
     match wrong {
         FrameFault::AfterEnd(count) => lines.say(&[
-            Text("found: "),
-            Number(*count),
-            Text(" bytes after End"),
+            Word("found: ", Number(*count)),
+            Word(" bytes after End", Nothing),
         ]),
         FrameFault::TooFew(count) => lines.say(&[
-            Text("found: "),
-            Number(*count),
-            Text(" bytes where a frame has 5"),
+            Word("found: ", Number(*count)),
+            Word(" bytes where a frame has 5", Nothing),
         ]),
         FrameFault::Kind(byte) => say_byte(lines, *byte),
         FrameFault::Cut { kind, body, left } => lines.say(&[
-            Text("found: "),
-            Kind(*kind),
-            Text(" with a body of "),
-            Number(*body as u64),
-            Text(" bytes where "),
-            Number(*left),
-            Text(" are left"),
+            Word("found: ", Kind(*kind)),
+            Word(" with a body of ", Number(*body as u64)),
+            Word(" bytes where ", Number(*left)),
+            Word(" are left", Nothing),
         ]),
     }
 }
@@ -183,12 +170,9 @@ fn say_records(lines: &mut Lines, records: &Option<RecordsBefore>)
 {
     if let Some(before) = records {
         lines.say(&[
-            Text("records: "),
-            Number(before.found as u64),
-            Text(" of "),
-            Number(before.due as u64),
-            Text(", of "),
-            Frame(FrameKind::Attempt, before.attempt),
+            Word("records: ", Number(before.found as u64)),
+            Word(" of ", Number(before.due as u64)),
+            Word(", of ", Frame(FrameKind::Attempt, before.attempt)),
         ]);
     }
 }
@@ -203,7 +187,7 @@ pub(crate) fn say_frame_fault(
     ensures { lines.new ≡ and_lines (frame_fault_lines wrong.now due.now records.now) lines.old }
 {
     say_no_frame(lines, wrong);
-    lines.say(&[Text("due: "), Kinds(due)]);
+    lines.say(&[Word("due: ", Kinds(due))]);
     say_records(lines, records);
 }
 
@@ -259,6 +243,6 @@ pub(crate) fn say_body(
 )
     ensures { lines.new ≡ and_lines (body_lines frame at field field_at) lines.old }
 {
-    lines.say(&[Text("frame: "), Frame(frame, at)]);
+    lines.say(&[Word("frame: ", Frame(frame, at))]);
     say_field(lines, body_word(field), field_at);
 }

@@ -5,7 +5,8 @@ ghost use Rattle.eve_reasons.specs.Lines.{and_lines};
 ghost use Rattle.eve_reasons.specs.Orders.{same_name_lines, same_request_lines};
 
 use crate::lines::Lines;
-use crate::word::Word::{Frame, Name, Number, Request, Text};
+use crate::word::Value::{Frame, Name, Number, Request};
+use crate::word::Word;
 use eve_evidence::ToldRequest;
 use eve_grammar::FrameKind;
 
@@ -13,12 +14,10 @@ use eve_grammar::FrameKind;
 pub(crate) fn say_same_name(lines: &mut Lines, name: &[u8], first: u32, first_at: u64)
     ensures { lines.new ≡ and_lines (same_name_lines name.now first first_at) lines.old }
 {
-    lines.say(&[Text("name: "), Name(name)]);
+    lines.say(&[Word("name: ", Name(name))]);
     lines.say(&[
-        Text("first: customer "),
-        Number(first as u64),
-        Text(", "),
-        Frame(FrameKind::Customer, first_at),
+        Word("first: customer ", Number(first as u64)),
+        Word(", ", Frame(FrameKind::Customer, first_at)),
     ]);
 }
 
@@ -31,11 +30,9 @@ pub(crate) fn say_same_request<'e>(
 )
     ensures { lines.new ≡ and_lines (same_request_lines request.now first.now first_at) lines.old }
 {
-    lines.say(&[Text("request: "), Request(request)]);
+    lines.say(&[Word("request: ", Request(request))]);
     lines.say(&[
-        Text("first: "),
-        Request(first),
-        Text(", "),
-        Frame(FrameKind::Batch, first_at),
+        Word("first: ", Request(first)),
+        Word(", ", Frame(FrameKind::Batch, first_at)),
     ]);
 }

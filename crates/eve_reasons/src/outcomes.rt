@@ -8,7 +8,8 @@ ghost use Rattle.eve_reasons.specs.Outcomes.{state_lines};
 
 use crate::lines::Lines;
 use crate::shared::{say_attempt, say_transfer};
-use crate::word::Word::{Frame, Number, Reply, Request, Row, Signed, Text};
+use crate::word::Value::{Frame, Nothing, Number, Reply, Request, Row, Signed};
+use crate::word::Word;
 use eve_accounts::Cents;
 use eve_evidence::{
     GivenBy, OutcomeFault, SentFault, StateFault, ToldAttempt, ToldSent, ToldTransfer,
@@ -20,10 +21,8 @@ fn say_first(lines: &mut Lines, replica: u8, at: u64)
     ensures { lines.new ≡ and_line (first_line replica at) lines.old }
 {
     lines.say(&[
-        Text("first: replica "),
-        Number(replica as u64),
-        Text(", "),
-        Frame(FrameKind::Attempt, at),
+        Word("first: replica ", Number(replica as u64)),
+        Word(", ", Frame(FrameKind::Attempt, at)),
     ]);
 }
 
@@ -31,8 +30,8 @@ fn say_first(lines: &mut Lines, replica: u8, at: u64)
 fn say_amounts(lines: &mut Lines, found: Cents, due: Cents)
     ensures { lines.new ≡ and_lines (amount_lines found due) lines.old }
 {
-    lines.say(&[Text("found: "), Signed(found)]);
-    lines.say(&[Text("due: "), Signed(due)]);
+    lines.say(&[Word("found: ", Signed(found))]);
+    lines.say(&[Word("due: ", Signed(due))]);
 }
 
 /// Says how an outcome differs: the row or the request, what was found, and what was due.
@@ -41,7 +40,7 @@ fn say_difference<'e>(lines: &mut Lines, wrong: &'e OutcomeFault<'e>)
 {
     match wrong {
         OutcomeFault::Row { row, found, due } => {
-            lines.say(&[Text("row: "), Row(row)]);
+            lines.say(&[Word("row: ", Row(row))]);
             say_amounts(lines, *found, *due);
         }
         OutcomeFault::Reply {
@@ -49,9 +48,9 @@ fn say_difference<'e>(lines: &mut Lines, wrong: &'e OutcomeFault<'e>)
             found,
             due,
         } => {
-            lines.say(&[Text("reply: "), Request(request)]);
-            lines.say(&[Text("found: "), Reply(*found)]);
-            lines.say(&[Text("due: "), Reply(*due)]);
+            lines.say(&[Word("reply: ", Request(request))]);
+            lines.say(&[Word("found: ", Reply(*found))]);
+            lines.say(&[Word("due: ", Reply(*due))]);
         }
     }
 }
@@ -77,7 +76,7 @@ fn say_state<'e>(lines: &mut Lines, wrong: &'e StateFault<'e>)
     ensures { lines.new ≡ and_lines (state_lines wrong.now) lines.old }
 {
     match wrong {
-        StateFault::NoneCommitted => lines.say(&[Text("first: none")]),
+        StateFault::NoneCommitted => lines.say(&[Word("first: none", Nothing)]),
         StateFault::Row {
             first,
             first_at,
@@ -86,7 +85,7 @@ fn say_state<'e>(lines: &mut Lines, wrong: &'e StateFault<'e>)
             due,
         } => {
             say_first(lines, *first, *first_at);
-            lines.say(&[Text("row: "), Row(row)]);
+            lines.say(&[Word("row: ", Row(row))]);
             say_amounts(lines, *found, *due);
         }
     }
@@ -109,16 +108,11 @@ fn say_sent(lines: &mut Lines, sent: &ToldSent)
     ensures { lines.new ≡ and_line (sent_line sent.now) lines.old }
 {
     lines.say(&[
-        Text("sent: client "),
-        Number(sent.client as u64),
-        Text(" number "),
-        Number(sent.number),
-        Text(", replica "),
-        Number(sent.replica as u64),
-        Text(", batch "),
-        Number(sent.batch as u64),
-        Text(", "),
-        Reply(sent.reply),
+        Word("sent: client ", Number(sent.client as u64)),
+        Word(" number ", Number(sent.number)),
+        Word(", replica ", Number(sent.replica as u64)),
+        Word(", batch ", Number(sent.batch as u64)),
+        Word(", ", Reply(sent.reply)),
     ]);
 }
 
@@ -127,11 +121,10 @@ fn say_given(lines: &mut Lines, given: &Option<GivenBy>)
     ensures { lines.new ≡ and_line (given_line given.now) lines.old }
 {
     match given {
-        None => lines.say(&[Text("given by: nobody")]),
+        None => lines.say(&[Word("given by: nobody", Nothing)]),
         Some(by) => lines.say(&[
-            Text("given by: "),
-            Frame(FrameKind::Attempt, by.at),
-            Text(if by.open { ", open" } else { ", discarded" }),
+            Word("given by: ", Frame(FrameKind::Attempt, by.at)),
+            Word(if by.open { ", open" } else { ", discarded" }, Nothing),
         ]),
     }
 }
@@ -147,26 +140,24 @@ fn say_sent_wrong<'e>(
 {
     match wrong {
         SentFault::NoRequest => lines.say(&[
-            Text("found: no request "),
-            Number(sent.client as u64),
-            Text(" "),
-            Number(sent.number),
-            Text(" in batch "),
-            Number(sent.batch as u64),
+            Word("found: no request ", Number(sent.client as u64)),
+            Word(" ", Number(sent.number)),
+            Word(" in batch ", Number(sent.batch as u64)),
         ]),
         SentFault::NotCommitted => {
             lines.say(&[
-                Text("found: batch "),
-                Number(sent.batch as u64),
-                Text(" not committed by an attempt of replica "),
-                Number(sent.replica as u64),
+                Word("found: batch ", Number(sent.batch as u64)),
+                Word(
+                    " not committed by an attempt of replica ",
+                    Number(sent.replica as u64),
+                ),
             ]);
             say_given(lines, given);
         }
         SentFault::Another { request, due } => {
-            lines.say(&[Text("request: "), Request(request)]);
-            lines.say(&[Text("found: "), Reply(sent.reply)]);
-            lines.say(&[Text("due: "), Reply(*due)]);
+            lines.say(&[Word("request: ", Request(request))]);
+            lines.say(&[Word("found: ", Reply(sent.reply))]);
+            lines.say(&[Word("due: ", Reply(*due))]);
             say_given(lines, given);
         }
     }

@@ -8,7 +8,8 @@ ghost use Rattle.eve_reasons.specs.Polls.{two_votes_lines, vote_line};
 
 use crate::lines::Lines;
 use crate::shared::say_transfer;
-use crate::word::Word::{Batch, Digits, Frame, Number, Text};
+use crate::word::Value::{Batch, Digits, Frame, Nothing, Number};
+use crate::word::Word;
 use eve_evidence::{
     Poll, SecondVote, ToldDecision, ToldTransfer, TransferPoll, VERIFIERS, VerifierChoice,
     VerifierVote,
@@ -21,19 +22,14 @@ fn say_second<'e>(lines: &mut Lines, verifier: u8, batch: u32, view: u32, choice
 {
     match choice {
         Choice::ForRollback => lines.say(&[
-            Text("vote: verifier "),
-            Number(verifier as u64),
-            Text(", "),
-            Batch(batch, view),
-            Text(", rollback"),
+            Word("vote: verifier ", Number(verifier as u64)),
+            Word(", ", Batch(batch, view)),
+            Word(", rollback", Nothing),
         ]),
         Choice::ForCommit(token) => lines.say(&[
-            Text("vote: verifier "),
-            Number(verifier as u64),
-            Text(", "),
-            Batch(batch, view),
-            Text(", commit "),
-            Digits(token),
+            Word("vote: verifier ", Number(verifier as u64)),
+            Word(", ", Batch(batch, view)),
+            Word(", commit ", Digits(token)),
         ]),
     }
 }
@@ -44,15 +40,12 @@ fn say_earliest<'e>(lines: &mut Lines, at: u64, choice: &'e Choice<'e>)
 {
     match choice {
         Choice::ForRollback => lines.say(&[
-            Text("first: "),
-            Frame(FrameKind::Vote, at),
-            Text(", rollback"),
+            Word("first: ", Frame(FrameKind::Vote, at)),
+            Word(", rollback", Nothing),
         ]),
         Choice::ForCommit(token) => lines.say(&[
-            Text("first: "),
-            Frame(FrameKind::Vote, at),
-            Text(", commit "),
-            Digits(token),
+            Word("first: ", Frame(FrameKind::Vote, at)),
+            Word(", commit ", Digits(token)),
         ]),
     }
 }
@@ -76,15 +69,11 @@ fn say_decision(lines: &mut Lines, decision: &ToldDecision, verifiers: u8)
     ensures { lines.new ≡ and_line (decision_line decision.now verifiers) lines.old }
 {
     lines.say(&[
-        Text("decided: view "),
-        Number(decision.view as u64),
-        Text(", token "),
-        Digits(&decision.token[..]),
-        Text(", by "),
-        Number(decision.votes as u64),
-        Text(" of "),
-        Number(verifiers as u64),
-        Text(" verifiers"),
+        Word("decided: view ", Number(decision.view as u64)),
+        Word(", token ", Digits(&decision.token[..])),
+        Word(", by ", Number(decision.votes as u64)),
+        Word(" of ", Number(verifiers as u64)),
+        Word(" verifiers", Nothing),
     ]);
 }
 
@@ -98,7 +87,7 @@ pub(crate) fn say_two_decisions(
 )
     ensures { lines.new ≡ and_lines (two_decisions_lines batch first.now second.now verifiers) lines.old }
 {
-    lines.say(&[Text("batch: "), Number(batch as u64)]);
+    lines.say(&[Word("batch: ", Number(batch as u64))]);
     say_decision(lines, first, verifiers);
     say_decision(lines, second, verifiers);
 }
@@ -108,12 +97,10 @@ fn say_asked<'e>(lines: &mut Lines, batch: u32, view: u32, choice: &'e Choice<'e
     ensures { lines.new ≡ and_line (asked_line batch view choice.now) lines.old }
 {
     match choice {
-        Choice::ForRollback => lines.say(&[Text("for: rollback of "), Batch(batch, view)]),
+        Choice::ForRollback => lines.say(&[Word("for: rollback of ", Batch(batch, view))]),
         Choice::ForCommit(token) => lines.say(&[
-            Text("for: commit of "),
-            Batch(batch, view),
-            Text(", token "),
-            Digits(token),
+            Word("for: commit of ", Batch(batch, view)),
+            Word(", token ", Digits(token)),
         ]),
     }
 }
@@ -123,13 +110,11 @@ fn say_found(lines: &mut Lines, found: u8, verifiers: u8, due: u8)
     ensures { lines.new ≡ and_lines (found_lines found verifiers due) lines.old }
 {
     lines.say(&[
-        Text("found: "),
-        Number(found as u64),
-        Text(" of "),
-        Number(verifiers as u64),
-        Text(" verifiers"),
+        Word("found: ", Number(found as u64)),
+        Word(" of ", Number(verifiers as u64)),
+        Word(" verifiers", Nothing),
     ]);
-    lines.say(&[Text("due: "), Number(due as u64)]);
+    lines.say(&[Word("due: ", Number(due as u64))]);
 }
 
 /// Says what the verifier of a number did: `verifier 0: for it, Vote at byte 251`.
@@ -138,21 +123,16 @@ fn say_vote(lines: &mut Lines, verifier: usize, vote: &VerifierVote)
 {
     match vote {
         VerifierVote::For(at) => lines.say(&[
-            Text("verifier "),
-            Number(verifier as u64),
-            Text(": for it, "),
-            Frame(FrameKind::Vote, *at),
+            Word("verifier ", Number(verifier as u64)),
+            Word(": for it, ", Frame(FrameKind::Vote, *at)),
         ]),
         VerifierVote::Otherwise(at) => lines.say(&[
-            Text("verifier "),
-            Number(verifier as u64),
-            Text(": otherwise, "),
-            Frame(FrameKind::Vote, *at),
+            Word("verifier ", Number(verifier as u64)),
+            Word(": otherwise, ", Frame(FrameKind::Vote, *at)),
         ]),
         VerifierVote::NoVote => lines.say(&[
-            Text("verifier "),
-            Number(verifier as u64),
-            Text(": no vote"),
+            Word("verifier ", Number(verifier as u64)),
+            Word(": no vote", Nothing),
         ]),
     }
 }
@@ -175,23 +155,17 @@ fn say_choice<'e>(lines: &mut Lines, verifier: usize, choice: &'e VerifierChoice
 {
     match choice {
         VerifierChoice::Commit { token, at } => lines.say(&[
-            Text("verifier "),
-            Number(verifier as u64),
-            Text(": commit "),
-            Digits(token),
-            Text(", "),
-            Frame(FrameKind::Vote, *at),
+            Word("verifier ", Number(verifier as u64)),
+            Word(": commit ", Digits(token)),
+            Word(", ", Frame(FrameKind::Vote, *at)),
         ]),
         VerifierChoice::Rollback(at) => lines.say(&[
-            Text("verifier "),
-            Number(verifier as u64),
-            Text(": rollback, "),
-            Frame(FrameKind::Vote, *at),
+            Word("verifier ", Number(verifier as u64)),
+            Word(": rollback, ", Frame(FrameKind::Vote, *at)),
         ]),
         VerifierChoice::NoVote => lines.say(&[
-            Text("verifier "),
-            Number(verifier as u64),
-            Text(": no vote"),
+            Word("verifier ", Number(verifier as u64)),
+            Word(": no vote", Nothing),
         ]),
     }
 }
@@ -204,9 +178,8 @@ pub(crate) fn say_transfer_poll<'e>(lines: &mut Lines, at: u64, poll: &'e Transf
     let view = poll.view;
     say_transfer(lines, &ToldTransfer { batch, view, at });
     lines.say(&[
-        Text("for: commit of "),
-        Batch(batch, view),
-        Text(", any token"),
+        Word("for: commit of ", Batch(batch, view)),
+        Word(", any token", Nothing),
     ]);
     say_found(lines, poll.found, poll.verifiers, poll.due);
     let votes = &poll.votes[..(poll.verifiers as usize).min(VERIFIERS)];

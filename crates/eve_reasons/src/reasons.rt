@@ -3,7 +3,7 @@
 ghost use Rattle.std.specs.Prelude.{◌≡◌, map, slice_get};
 ghost use Rattle.std.specs.Option.{option_map};
 ghost use Rattle.eve_reasons.specs.Lines.{and_lines, ended};
-ghost use Rattle.eve_reasons.specs.Reasons.{reason_lines};
+ghost use Rattle.eve_reasons.specs.Reasons.{agreement_lines, reason_lines, section_lines};
 
 use crate::attempts::{say_attempt_fault, say_certificate, say_record_place, say_worker_order};
 use crate::form::{say_body, say_frame_fault, say_head, say_length, say_magic};
@@ -17,7 +17,7 @@ use crate::structure::{say_commit, say_rollback, say_transfer_fault};
 use eve_evidence::Evidence;
 use eve_lines::Line;
 
-/// Says the lines of evidence, a case for each kind. Evidence of a code that isn't told has none.
+/// Says the lines of evidence, a case for each kind: here of form, and of what stands twice.
 fn say_evidence<'e>(lines: &mut Lines, evidence: &'e Evidence<'e>)
     ensures { lines.new ≡ and_lines (reason_lines evidence.now) lines.old }
 {
@@ -56,6 +56,15 @@ fn say_evidence<'e>(lines: &mut Lines, evidence: &'e Evidence<'e>)
             first,
             first_at,
         } => say_same_request(lines, request, first, *first_at),
+        _ => say_section(lines, evidence),
+    }
+}
+
+/// Says the lines of evidence of what a replica's section says, and of later phases.
+fn say_section<'e>(lines: &mut Lines, evidence: &'e Evidence<'e>)
+    ensures { lines.new ≡ and_lines (section_lines evidence.now) lines.old }
+{
+    match evidence {
         Evidence::Attempt(wrong) => say_attempt_fault(lines, wrong),
         Evidence::Certificate { attempt, wrong } => say_certificate(lines, attempt, wrong),
         Evidence::Access { attempt, at, wrong } => say_record_place(lines, attempt, *at, wrong),
@@ -85,6 +94,15 @@ fn say_evidence<'e>(lines: &mut Lines, evidence: &'e Evidence<'e>)
             due,
             matches,
         } => say_token(lines, attempt, found, due, *matches),
+        _ => say_agreement(lines, evidence),
+    }
+}
+
+/// Says the lines of evidence of votes, outcomes and replies. Evidence of a code that isn't told has none.
+fn say_agreement<'e>(lines: &mut Lines, evidence: &'e Evidence<'e>)
+    ensures { lines.new ≡ and_lines (agreement_lines evidence.now) lines.old }
+{
+    match evidence {
         Evidence::TwoVotes(second) => say_two_votes(lines, second),
         Evidence::TwoDecisions {
             batch,
@@ -102,7 +120,7 @@ fn say_evidence<'e>(lines: &mut Lines, evidence: &'e Evidence<'e>)
         } => say_outcome(lines, attempt, *first, *first_at, wrong),
         Evidence::TransferState { state, wrong } => say_state_fault(lines, state, wrong),
         Evidence::Reply { sent, wrong, given } => say_sent_fault(lines, sent, wrong, given),
-        Evidence::Untold => {}
+        _ => {}
     }
 }
 

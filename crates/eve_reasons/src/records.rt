@@ -7,7 +7,10 @@ ghost use Rattle.eve_reasons.specs.Records.{restoring, seen_by_lines, seen_from,
 
 use crate::lines::Lines;
 use crate::shared::{say_access, say_attempt};
-use crate::word::Word::{Access, Frame, Has, Number, Reply, Request, Row, Signed, Source, Text};
+use crate::word::Value::{
+    Access, Frame, Has, Nothing, Number, Reply, Request, Row, Signed, Source,
+};
+use crate::word::Word;
 use eve_evidence::{RecordFault, SeenFrom, Source as Left, ToldAttempt, ToldRequest, WrongEntry};
 use eve_grammar::FrameKind;
 
@@ -21,7 +24,7 @@ fn say_record_at<'e>(
     ensures { lines.new ≡ and_lines (record_at attempt.now request.now at []) lines.old }
 {
     say_attempt(lines, attempt);
-    lines.say(&[Text("request: "), Request(request)]);
+    lines.say(&[Word("request: ", Request(request))]);
     say_access(lines, at);
 }
 
@@ -31,29 +34,29 @@ fn say_record_field<'e>(lines: &mut Lines, wrong: &'e RecordFault<'e>)
 {
     match wrong {
         RecordFault::Entries { found, due } => {
-            lines.say(&[Text("field: entries")]);
-            lines.say(&[Text("found: "), Number(*found as u64)]);
-            lines.say(&[Text("due: "), Number(*due as u64)]);
+            lines.say(&[Word("field: entries", Nothing)]);
+            lines.say(&[Word("found: ", Number(*found as u64))]);
+            lines.say(&[Word("due: ", Number(*due as u64))]);
         }
         RecordFault::Row { entry, found, due } => {
-            lines.say(&[Text("field: row of entry "), Number(*entry as u64)]);
-            lines.say(&[Text("found: "), Row(found)]);
-            lines.say(&[Text("due: "), Row(due)]);
+            lines.say(&[Word("field: row of entry ", Number(*entry as u64))]);
+            lines.say(&[Word("found: ", Row(found))]);
+            lines.say(&[Word("due: ", Row(due))]);
         }
         RecordFault::Kind { entry, found, due } => {
-            lines.say(&[Text("field: kind of entry "), Number(*entry as u64)]);
-            lines.say(&[Text("found: "), Access(*found)]);
-            lines.say(&[Text("due: "), Access(*due)]);
+            lines.say(&[Word("field: kind of entry ", Number(*entry as u64))]);
+            lines.say(&[Word("found: ", Access(*found))]);
+            lines.say(&[Word("due: ", Access(*due))]);
         }
         RecordFault::After { entry, found, due } => {
-            lines.say(&[Text("field: after of entry "), Number(*entry as u64)]);
-            lines.say(&[Text("found: "), Signed(*found)]);
-            lines.say(&[Text("due: "), Signed(*due)]);
+            lines.say(&[Word("field: after of entry ", Number(*entry as u64))]);
+            lines.say(&[Word("found: ", Signed(*found))]);
+            lines.say(&[Word("due: ", Signed(*due))]);
         }
         RecordFault::Reply { found, due } => {
-            lines.say(&[Text("field: reply")]);
-            lines.say(&[Text("found: "), Reply(*found)]);
-            lines.say(&[Text("due: "), Reply(*due)]);
+            lines.say(&[Word("field: reply", Nothing)]);
+            lines.say(&[Word("found: ", Reply(*found))]);
+            lines.say(&[Word("due: ", Reply(*due))]);
         }
     }
 }
@@ -90,49 +93,39 @@ fn say_seen<'e>(lines: &mut Lines, from: &'e SeenFrom)
 {
     match from {
         SeenFrom::Overwritten(source) => lines.say(&[
-            Text("seen from: "),
-            Source(source),
-            Text(", overwritten since"),
+            Word("seen from: ", Source(source)),
+            Word(", overwritten since", Nothing),
         ]),
         SeenFrom::BehindIt(source) => lines.say(&[
-            Text("seen from: "),
-            Source(source),
-            Text(", behind it in the certificate"),
+            Word("seen from: ", Source(source)),
+            Word(", behind it in the certificate", Nothing),
         ]),
         SeenFrom::Restored(at) => lines.say(&[
-            Text("seen from: "),
-            Frame(FrameKind::Rollback, *at),
-            Text(", which restores that"),
+            Word("seen from: ", Frame(FrameKind::Rollback, *at)),
+            Word(", which restores that", Nothing),
         ]),
         SeenFrom::RolledBack {
             source,
             by,
             restores,
         } => lines.say(&[
-            Text("seen from: "),
-            Source(source),
-            Text(", discarded by "),
-            Frame(FrameKind::Rollback, *by),
-            Text(restoring(*restores)),
+            Word("seen from: ", Source(source)),
+            Word(", discarded by ", Frame(FrameKind::Rollback, *by)),
+            Word(restoring(*restores), Nothing),
         ]),
         SeenFrom::Discarded { source, by } => lines.say(&[
-            Text("seen from: "),
-            Source(source),
-            Text(", discarded by "),
-            Frame(FrameKind::Transfer, *by),
+            Word("seen from: ", Source(source)),
+            Word(", discarded by ", Frame(FrameKind::Transfer, *by)),
         ]),
         SeenFrom::BeforeState { source, state } => lines.say(&[
-            Text("seen from: "),
-            Source(source),
-            Text(", before "),
-            Frame(FrameKind::Transfer, *state),
+            Word("seen from: ", Source(source)),
+            Word(", before ", Frame(FrameKind::Transfer, *state)),
         ]),
         SeenFrom::Later(source) => lines.say(&[
-            Text("seen from: "),
-            Source(source),
-            Text(", later in the section"),
+            Word("seen from: ", Source(source)),
+            Word(", later in the section", Nothing),
         ]),
-        SeenFrom::Nobody => lines.say(&[Text("seen from: nobody")]),
+        SeenFrom::Nobody => lines.say(&[Word("seen from: nobody", Nothing)]),
     }
 }
 
@@ -151,9 +144,8 @@ fn say_seen_by<'e>(lines: &mut Lines, by: &'e Option<Left>)
 {
     if let Some(source) = by {
         lines.say(&[
-            Text("seen by: "),
-            Source(source),
-            Text(", before it in the certificate"),
+            Word("seen by: ", Source(source)),
+            Word(", before it in the certificate", Nothing),
         ]);
     }
 }
@@ -163,12 +155,9 @@ fn say_entry<'e>(lines: &mut Lines, wrong: &'e WrongEntry<'e>)
     ensures { lines.new ≡ and_line (entry_line wrong.now) lines.old }
 {
     lines.say(&[
-        Text("entry: "),
-        Number(wrong.entry as u64),
-        Text(", "),
-        Access(wrong.kind),
-        Text(" of "),
-        Row(&wrong.row),
+        Word("entry: ", Number(wrong.entry as u64)),
+        Word(", ", Access(wrong.kind)),
+        Word(" of ", Row(&wrong.row)),
     ]);
 }
 
@@ -185,9 +174,9 @@ pub(crate) fn say_chain<'e>(
 {
     say_record_at(lines, attempt, request, at);
     say_entry(lines, wrong);
-    lines.say(&[Text("saw: "), Has(wrong.saw)]);
+    lines.say(&[Word("saw: ", Has(wrong.saw))]);
     say_seen_from(lines, seen);
-    lines.say(&[Text("due: "), Has(wrong.due)]);
-    lines.say(&[Text("left by: "), Source(&wrong.left_by)]);
+    lines.say(&[Word("due: ", Has(wrong.due))]);
+    lines.say(&[Word("left by: ", Source(&wrong.left_by))]);
     say_seen_by(lines, &wrong.seen_by);
 }

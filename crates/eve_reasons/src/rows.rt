@@ -6,7 +6,8 @@ ghost use Rattle.eve_reasons.specs.Rows.{match_line, restore_lines, state_line, 
 
 use crate::lines::Lines;
 use crate::shared::say_attempt;
-use crate::word::Word::{Digits, Has, Number, Row, Text};
+use crate::word::Value::{Digits, Has, Nothing, Number, Row};
+use crate::word::Word;
 use eve_evidence::{RestoreFault, TokenMatch, ToldAttempt, ToldState};
 
 /// Says a row and what it has: `missing: row 1 (checking of ann), version 1, value 100`.
@@ -14,7 +15,7 @@ fn say_state<'e>(lines: &mut Lines, label: &'e str, state: &'e ToldState<'e>)
     requires { length label.now ≤ 40 }
     ensures { lines.new ≡ and_line (state_line label.now state.now) lines.old }
 {
-    lines.say(&[Text(label), Row(&state.row), Text(", "), Has(state.has)]);
+    lines.say(&[Word(label, Row(&state.row)), Word(", ", Has(state.has))]);
 }
 
 /// Says the first row in which restores differ from those that are due.
@@ -26,7 +27,7 @@ pub(crate) fn say_restore<'e>(lines: &mut Lines, wrong: &'e RestoreFault<'e>)
         RestoreFault::Extra(state) => say_state(lines, "extra: ", state),
         RestoreFault::Another { found, due } => {
             say_state(lines, "found: ", found);
-            lines.say(&[Text("due: "), Has(due.has)]);
+            lines.say(&[Word("due: ", Has(due.has))]);
         }
     }
 }
@@ -36,18 +37,23 @@ fn say_match(lines: &mut Lines, matches: TokenMatch)
     ensures { lines.new ≡ and_line (match_line matches) lines.old }
 {
     match matches {
-        TokenMatch::Before => lines.say(&[Text("matches: the balances before the attempt")]),
-        TokenMatch::Ordered => lines.say(&[Text(
+        TokenMatch::Before => lines.say(&[Word(
+            "matches: the balances before the attempt",
+            Nothing,
+        )]),
+        TokenMatch::Ordered => lines.say(&[Word(
             "matches: the replies in the certificate's order",
+            Nothing,
         )]),
-        TokenMatch::BeforeOrdered => lines.say(&[Text(
+        TokenMatch::BeforeOrdered => lines.say(&[Word(
             "matches: the balances before the attempt and the replies in the certificate's order",
+            Nothing,
         )]),
-        TokenMatch::Batch(number) => lines.say(&[Text("matches: batch "), Number(number as u64)]),
+        TokenMatch::Batch(number) => lines.say(&[Word("matches: batch ", Number(number as u64))]),
         TokenMatch::Version(version) => {
-            lines.say(&[Text("matches: version "), Number(version as u64)]);
+            lines.say(&[Word("matches: version ", Number(version as u64))]);
         }
-        TokenMatch::Nothing => lines.say(&[Text("matches: nothing that was tried")]),
+        TokenMatch::Nothing => lines.say(&[Word("matches: nothing that was tried", Nothing)]),
     }
 }
 
@@ -62,7 +68,7 @@ pub(crate) fn say_token<'e>(
     ensures { lines.new ≡ and_lines (token_lines attempt.now found.now due.now matches) lines.old }
 {
     say_attempt(lines, attempt);
-    lines.say(&[Text("found: "), Digits(found)]);
-    lines.say(&[Text("due: "), Digits(due)]);
+    lines.say(&[Word("found: ", Digits(found))]);
+    lines.say(&[Word("due: ", Digits(due))]);
     say_match(lines, matches);
 }

@@ -5,7 +5,8 @@ ghost use Rattle.eve_reasons.specs.Lines.{and_line, and_lines};
 ghost use Rattle.eve_reasons.specs.Shared.{access_line, attempt_line, numbers_lines, transfer_line};
 
 use crate::lines::Lines;
-use crate::word::Word::{Batch, Frame, Mode, Number, Text};
+use crate::word::Value::{Batch, Frame, Mode, Number, Text};
+use crate::word::Word;
 use eve_evidence::{Numbers, ToldAttempt, ToldTransfer};
 use eve_grammar::FrameKind;
 
@@ -14,12 +15,9 @@ pub(crate) fn say_attempt(lines: &mut Lines, attempt: &ToldAttempt)
     ensures { lines.new ≡ and_line (attempt_line attempt.now) lines.old }
 {
     lines.say(&[
-        Text("attempt: "),
-        Batch(attempt.batch, attempt.view),
-        Text(", "),
-        Mode(attempt.serial),
-        Text(", "),
-        Frame(FrameKind::Attempt, attempt.at),
+        Word("attempt: ", Batch(attempt.batch, attempt.view)),
+        Word(", ", Mode(attempt.serial)),
+        Word(", ", Frame(FrameKind::Attempt, attempt.at)),
     ]);
 }
 
@@ -28,10 +26,8 @@ pub(crate) fn say_transfer(lines: &mut Lines, state: &ToldTransfer)
     ensures { lines.new ≡ and_line (transfer_line state.now) lines.old }
 {
     lines.say(&[
-        Text("transfer: "),
-        Batch(state.batch, state.view),
-        Text(", "),
-        Frame(FrameKind::Transfer, state.at),
+        Word("transfer: ", Batch(state.batch, state.view)),
+        Word(", ", Frame(FrameKind::Transfer, state.at)),
     ]);
 }
 
@@ -39,7 +35,7 @@ pub(crate) fn say_transfer(lines: &mut Lines, state: &ToldTransfer)
 pub(crate) fn say_access(lines: &mut Lines, at: u64)
     ensures { lines.new ≡ and_line (access_line at) lines.old }
 {
-    lines.say(&[Text("frame: "), Frame(FrameKind::Access, at)]);
+    lines.say(&[Word("frame: ", Frame(FrameKind::Access, at))]);
 }
 
 /// Says a field, the number that was found in it, and the one that was due, behind how that bounds it.
@@ -48,7 +44,7 @@ pub(crate) fn say_numbers<'w>(lines: &mut Lines, field: &'w str, is: &Numbers, d
     requires due { length due.now ≤ 40 }
     ensures { lines.new ≡ and_lines (numbers_lines field.now is.now due.now) lines.old }
 {
-    lines.say(&[Text("field: "), Text(field)]);
-    lines.say(&[Text("found: "), Number(is.found)]);
-    lines.say(&[Text(due), Number(is.due)]);
+    lines.say(&[Word("field: ", Text(field))]);
+    lines.say(&[Word("found: ", Number(is.found))]);
+    lines.say(&[Word(due, Number(is.due))]);
 }

@@ -6,7 +6,8 @@ ghost use Rattle.eve_reasons.specs.Structure.{commit_lines, rollback_lines, tran
 
 use crate::lines::Lines;
 use crate::shared::{say_numbers, say_transfer};
-use crate::word::Word::{Digits, Text};
+use crate::word::Value::{Digits, Nothing};
+use crate::word::Word;
 use eve_evidence::{CommitFault, RollbackFault, ToldTransfer, TransferFault};
 
 /// Says what is wrong with a commit.
@@ -16,14 +17,14 @@ pub(crate) fn say_commit<'e>(lines: &mut Lines, wrong: &'e CommitFault<'e>)
     match wrong {
         CommitFault::Number(is) => say_numbers(lines, "number", is, "due: "),
         CommitFault::NoneOpen => {
-            lines.say(&[Text("field: attempt")]);
-            lines.say(&[Text("found: none open")]);
+            lines.say(&[Word("field: attempt", Nothing)]);
+            lines.say(&[Word("found: none open", Nothing)]);
         }
         CommitFault::View(is) => say_numbers(lines, "view", is, "due: "),
         CommitFault::Token { found, due } => {
-            lines.say(&[Text("field: token")]);
-            lines.say(&[Text("found: "), Digits(found)]);
-            lines.say(&[Text("due: "), Digits(due)]);
+            lines.say(&[Word("field: token", Nothing)]);
+            lines.say(&[Word("found: ", Digits(found))]);
+            lines.say(&[Word("due: ", Digits(due))]);
         }
     }
 }

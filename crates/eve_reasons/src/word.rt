@@ -1,10 +1,10 @@
-//! The words of a line, and their text.
+//! Lines as tables: labels, each with a value behind it.
 
 ghost use Rattle.std.specs.Prelude.{◌≡◌, ◌+◌, ◌≤◌, ◌++◌, length};
 ghost use Rattle.arrayvec.specs.ArrayVec.{array_vec_len};
 ghost use Rattle.eve_reasons.specs.Words.{whose_balance_words, batch_view_words, frame_at_words, has_words};
 ghost use Rattle.eve_reasons.specs.Words.{request_index_words, source_words, told_request_words, told_row_words};
-ghost use Rattle.eve_reasons.specs.Words.{word_room, word_words, words_room, words_text};
+ghost use Rattle.eve_reasons.specs.Words.{told_value_room, told_value_words, words_room, words_text};
 
 use crate::kinds::put_kinds;
 use eve_accounts::Cents;
@@ -16,19 +16,17 @@ use eve_lines::{
 };
 use eve_smallbank::{Kind, Reply, Versioned};
 
-/// How many bytes a word has at most that is no text.
-pub(crate) const LONGEST_WORD: usize = 162;
+/// How many bytes a value has at most that is no text.
+pub(crate) const LONGEST_VALUE: usize = 162;
 
-/// A word of a line.
+/// What stands behind a label.
 #[derive(Clone, Copy)]
-pub(crate) enum Word<'e> {
-    /// These letters.
+pub(crate) enum Value<'e> {
+    Nothing,
     Text(&'e str),
-    /// A number.
     Number(u64),
     /// An amount of money, which may be negative.
     Signed(Cents),
-    /// A name.
     Name(&'e [u8]),
     /// A token, or fewer bytes, in hexadecimal digits.
     Digits(&'e [u8]),
@@ -36,25 +34,27 @@ pub(crate) enum Word<'e> {
     Mode(bool),
     /// `read` or `write`.
     Access(Kind),
-    /// A kind of frames.
     Kind(FrameKind),
     /// The number of a batch, and a view: `batch 1, view 0`.
     Batch(u32, u32),
     /// A frame, and the byte at which it begins: `Access at byte 196`.
     Frame(FrameKind, u64),
-    /// A row: `row 1 (checking of ann)`.
+    /// `row 1 (checking of ann)`.
     Row(&'e ToldRow<'e>),
     /// What a row has: `version 2, value 12`.
     Has(Versioned),
-    /// A request: `#1 of batch 1: deposit 7 2 ann 7`.
+    /// `#1 of batch 1: deposit 7 2 ann 7`.
     Request(&'e ToldRequest<'e>),
-    /// A reply.
     Reply(Reply),
     /// Who left something in a row: `#0 of batch 1, Access at byte 236`.
     Source(&'e Source),
     /// Kinds of frames, of which it is told whether they may stand there: `Sent, End`.
     Kinds(&'e [bool; FRAME_KINDS]),
 }
+
+/// A label, and what stands behind it.
+#[derive(Clone, Copy)]
+pub(crate) struct Word<'e>(pub(crate) &'e str, pub(crate) Value<'e>);
 
 /// Appends a frame: `Access at byte 196`.
 fn put_frame(line: &mut Line, kind: FrameKind, at: u64)
@@ -88,9 +88,9 @@ fn put_index(line: &mut Line, index: u16, batch: u32)
 
 /// Appends a request: `#1 of batch 1: deposit 7 2 ann 7`.
 fn put_told_request(line: &mut Line, request: &ToldRequest)
-    requires { array_vec_len line.old + LONGEST_WORD ≤ LINE_ROOM }
+    requires { array_vec_len line.old + LONGEST_VALUE ≤ LINE_ROOM }
     ensures items { line.new.items ≡ line.old.items ++ told_request_words request.now }
-    ensures len { array_vec_len line.new ≤ array_vec_len line.old + LONGEST_WORD }
+    ensures len { array_vec_len line.new ≤ array_vec_len line.old + LONGEST_VALUE }
 {
     put_index(line, request.index, request.batch);
     put(line, ": ");
@@ -150,33 +150,34 @@ fn put_source(line: &mut Line, source: &Source)
     }
 }
 
-/// Appends a word.
-fn put_word(line: &mut Line, word: &Word<'_>)
-    requires { array_vec_len line.old + word_room word.now ≤ LINE_ROOM }
-    ensures items { line.new.items ≡ line.old.items ++ word_words word.now }
-    ensures len { array_vec_len line.new ≤ array_vec_len line.old + word_room word.now }
+/// Appends what stands behind a label.
+fn put_value(line: &mut Line, value: &Value<'_>)
+    requires { array_vec_len line.old + told_value_room value.now ≤ LINE_ROOM }
+    ensures items { line.new.items ≡ line.old.items ++ told_value_words value.now }
+    ensures len { array_vec_len line.new ≤ array_vec_len line.old + told_value_room value.now }
 {
-    match word {
-        Word::Text(text) => put(line, text),
-        Word::Number(number) => put_number(line, *number),
-        Word::Signed(amount) => put_signed(line, amount.get()),
-        Word::Name(name) => put_name(line, name),
-        Word::Digits(bytes) => put_token(line, bytes),
-        Word::Mode(serial) => put(line, mode_word(*serial)),
-        Word::Access(kind) => put(line, kind_word(*kind)),
-        Word::Kind(kind) => put(line, kind_name(*kind)),
-        Word::Batch(batch, view) => put_batch_and_view(line, *batch, *view),
-        Word::Frame(kind, at) => put_frame(line, *kind, *at),
-        Word::Row(row) => put_row(line, row),
-        Word::Has(has) => put_has(line, *has),
-        Word::Request(request) => put_told_request(line, request),
-        Word::Reply(reply) => put_reply(line, *reply),
-        Word::Source(source) => put_source(line, source),
-        Word::Kinds(told) => put_kinds(line, told),
+    match value {
+        Value::Nothing => {}
+        Value::Text(text) => put(line, text),
+        Value::Number(number) => put_number(line, *number),
+        Value::Signed(amount) => put_signed(line, amount.get()),
+        Value::Name(name) => put_name(line, name),
+        Value::Digits(bytes) => put_token(line, bytes),
+        Value::Mode(serial) => put(line, mode_word(*serial)),
+        Value::Access(kind) => put(line, kind_word(*kind)),
+        Value::Kind(kind) => put(line, kind_name(*kind)),
+        Value::Batch(batch, view) => put_batch_and_view(line, *batch, *view),
+        Value::Frame(kind, at) => put_frame(line, *kind, *at),
+        Value::Row(row) => put_row(line, row),
+        Value::Has(has) => put_has(line, *has),
+        Value::Request(request) => put_told_request(line, request),
+        Value::Reply(reply) => put_reply(line, *reply),
+        Value::Source(source) => put_source(line, source),
+        Value::Kinds(told) => put_kinds(line, told),
     }
 }
 
-/// Appends words.
+/// Appends a table.
 #[tactic(auto, using(crate::proofs::Words::words_steps))]
 pub(crate) fn put_words(line: &mut Line, words: &[Word<'_>])
     requires { array_vec_len line.old + words_room words.now ≤ LINE_ROOM }
@@ -184,6 +185,7 @@ pub(crate) fn put_words(line: &mut Line, words: &[Word<'_>])
     ensures len { array_vec_len line.new ≤ array_vec_len line.old + words_room words.now }
 {
     'words: for word in words {
-        put_word(line, word);
+        put(line, word.0);
+        put_value(line, &word.1);
     }
 }
