@@ -1,5 +1,5 @@
 -- Replicas commit a batch together, and in version 2 those that don't have it transferred.
-use Rattle.std.proofs.Common.{◌≡◌, ◌≢◌, ◌⊎◌, ℕ, zero, suc, ◌+◌, ◌-◌, ◌*◌, ◌<◌, Bool, true, false, List, []}
+use Rattle.std.proofs.Common.{◌≡◌, ◌≢◌, ◌⊎◌, ℕ, zero, suc, ◌+◌, ◌*◌, ◌<◌, Bool, true, false, List, []}
 use Rattle.std.proofs.Common.{◌∷◌, ◌++◌, All, IsTrue}
 use Rattle.std.proofs.Common.{length, get_or, refl, sym, ap, ◌∙◌, subst, inl, inr, arith}
 use Rattle.std.specs.Prelude.{IsFalse}
@@ -13,11 +13,11 @@ use Rattle.eve_replica.specs.declared.server.Server.{Server}
 use Rattle.eve_replica.specs.declared.standing.Standing.{Standing}
 use Rattle.eve_replica.specs.Decisions.{is_some_of}
 use Rattle.eve_replica.specs.Sections.{RunPlan, GoesThrough}
-use Rattle.eve_replica.specs.Transfers.{commits_batch, IsTransferredFrom, AreTransferredIn, AreCommittedByMost}
+use Rattle.eve_replica.specs.Transfers.{commits_batch, IsTransferredFrom, AreTransferredIn}
 use Rattle.eve_replica.specs.inner.RunInvariant.{Serves, GoesOn, CommitsNext, IsLeft, commit_move, next_token}
-use Rattle.eve_replica.specs.inner.RunInvariant.{after_commit}
 use Rattle.eve_replica.specs.inner.RunInvariant.{count_with, live_in, sections_in, IsLentBy}
-use Rattle.eve_replica.specs.inner.Commits.{CommitsOrWaits, IsLentByFirst, MayTransferOrStay, TransfersOrStays}
+use Rattle.eve_replica.specs.inner.Commits.{AwaitNext, CommitsOrWaits, IsLentByFirst, MayTransferOrStay}
+use Rattle.eve_replica.specs.inner.Commits.{ReachBatch, TransfersOrStays}
 use Rattle.eve_replica.proofs.MostReplicas.{commits_now, still_none, one_more_by_most}
 use Rattle.eve_replica.proofs.TokenCounts.{passes}
 use Rattle.eve_replica.proofs.ReplicaLists.{AreAllOn, pairs_of}
@@ -26,6 +26,7 @@ use Rattle.eve_replica.proofs.Steps.{live_with}
 use Rattle.eve_replica.proofs.TransferredStates.{GrowsRightly, IsParted, parted, all_grown, grows_by_commit}
 use Rattle.eve_replica.proofs.TransferredStates.{grows_by_state}
 use Rattle.eve_replica.proofs.TransferredStates.{grows_not, not_yet, served_to}
+use Rattle.eve_replica.proofs.UndecidedBatches.{still_undecided}
 use Rattle.eve_replica.proofs.Windows.{window_committed}
 
 -- what a commit adds commits the batch
@@ -37,7 +38,7 @@ commits_that seq old new next due =
     (commits_now seq (section old.steps) next.commit (omega arith))
 
 -- a live replica commits the batch that is next where all stand
-pub all_commit : (p : RunPlan) (at : Standing) (votes : List Vote) (token : List ℕ) (seq : ℕ)
+all_commit : (p : RunPlan) (at : Standing) (votes : List Vote) (token : List ℕ) (seq : ℕ)
     (was servers : List Server)
     → All (Serves p at votes) was → seq ≡ at.committed + 1
     → AreAllOn (λ old new. is_some_of token (next_token old) ≡ true → CommitsNext old new) was servers
@@ -90,17 +91,17 @@ pub record IsReady (seq : ℕ) (s : Server) : Type 0 where
   pub live : s.is_live ≡ true
   pub next : seq ≡ s.replica.ledger.committed + 1
 
-pub ready : (p : RunPlan) (at : Standing) (votes : List Vote) (seq : ℕ) (s : Server) → p.first.version ≡ 2
+ready : (p : RunPlan) (at : Standing) (votes : List Vote) (seq : ℕ) (s : Server) → p.first.version ≡ 2
     → seq ≡ at.committed + 1 → Serves p at votes s → IsReady seq s
 ready p at votes seq s two due serves =
     let live = serves.stays_live two in
     let here = ap (λ (x : Standing). x.committed) (serves.live live) in
     record { version = serves.version ∙ two; live = live; next = omega (arith, here, due) }
 
-pub all_ready : (p : RunPlan) (at : Standing) (votes : List Vote) (seq : ℕ) (servers : List Server)
-    → p.first.version ≡ 2 → seq ≡ at.committed + 1 → All (Serves p at votes) servers → All (IsReady seq) servers
-all_ready p at votes seq servers two due serve =
-    λ k d there. ready p at votes seq (get_or servers k d) two due (serve k d there)
+pub all_ready : {many : ℕ} (seq : ℕ) (servers : List Server) → AwaitNext 2 many seq servers
+    → All (IsReady seq) servers
+all_ready seq servers r =
+    λ k d there. ready r.plan r.at r.votes seq (get_or servers k d) r.version r.next (r.serve k d there)
 
 -- one that went on by the commit has committed the batch, and is live in the same view
 pub went_on : (token : List ℕ) (seq : ℕ) (old new : Server) → IsReady seq old → GoesOn (commit_move token) old new
@@ -171,29 +172,8 @@ pub record CameBy (token : List ℕ) (was servers : List Server) : Type 0 where
   pub on : AreAllOn (GoesOn (commit_move token)) was servers
   pub commits : AreAllOn (λ old new. is_some_of token (next_token old) ≡ true → CommitsNext old new) was servers
 
--- They serve further on,
-pub came_served : (q : RunPlan) (here : Standing) (given : List Vote) (p : RunPlan) (at : Standing) (votes : List Vote)
-    (token : List ℕ) (was servers : List Server) → All (Serves q here given) was → 0 < here.opened
-    → All (Serves p at votes) was → IsLeft p.batches at → CameBy token was servers
-    → All (Serves p (after_commit at) (votes ++ (commit_move token).votes at)) servers
-came_served q here given p at votes token was servers other some serve left came =
-    serve_on p at votes (commit_move token) was servers
-    (λ more. absurd (omega arith), λ k below. absurd (omega arith)) left
-    (λ k d there live. window_committed p at token
-    (open_there q p here at given votes (get_or was k d) (other k d there) (serve k d there) live some))
-    came.on serve
-
--- most have committed one batch more,
-pub came_by_most : (p : RunPlan) (at : Standing) (votes : List Vote) (token : List ℕ) (seq : ℕ)
-    (was servers : List Server) → All (Serves p at votes) was → seq ≡ at.committed + 1 → CameBy token was servers
-    → length was < 2 * count_with token was → AreCommittedByMost (seq - 1) (sections_in was)
-    → AreCommittedByMost seq (sections_in servers)
-came_by_most p at votes token seq was servers serve due came most before =
-    one_more_by_most seq (commit_move token) (λ s. is_some_of token (next_token s)) was servers came.on
-    (all_commit p at votes token seq was servers serve due came.commits) most before
-
--- and as many are live.
-pub live_by : (token : List ℕ) (seq : ℕ) (was servers : List Server) → All (IsReady seq) was
+-- As many are live.
+live_by : (token : List ℕ) (seq : ℕ) (was servers : List Server) → All (IsReady seq) was
     → CameBy token was servers → live_in servers ≡ live_in was
 live_by token seq was servers are came =
     live_on (λ s. s.is_live) was servers
@@ -203,46 +183,6 @@ live_by token seq was servers are came =
           let is = are k d (omega (arith, came.on.many)) in
           (went_on token seq (get_or was k d) (get_or servers k d) is (came.on.each k d there)).2 ∙ sym is.live;
     })
-
--- ---- where all commit
-
--- each has the token, since each has committed the batch
-pub all_had : (token : List ℕ) (seq : ℕ) (old mid : Server) → IsReady seq old → CommitsOrWaits token old mid
-    → mid.replica.ledger.committed ≡ seq → GoesOn (commit_move token) old mid × CommitsNext old mid
-all_had token seq old mid is waits reached = by (is_some_of token (next_token old)) refl
-  where
-    by : (b : Bool) → is_some_of token (next_token old) ≡ b → GoesOn (commit_move token) old mid × CommitsNext old mid
-    by true has = (waits.on has, waits.commits has)
-    by false none = absurd (waits_behind seq old mid is (waits.waits none) reached)
-
-pub all_came : (token : List ℕ) (seq : ℕ) (was mids : List Server) → All (IsReady seq) was
-    → AreAllOn (CommitsOrWaits token) was mids → All (λ s. s.replica.ledger.committed ≡ seq) mids
-    → CameBy token was mids
-all_came token seq was mids are waits reached = record {
-  on = record { many = waits.many; each = λ k d there. (had k d there).0 };
-  commits = record { many = waits.many; each = λ k d there has. (had k d there).1 };
-}
-  where
-    had : (k : ℕ) (d : Server) → k < length mids
-        → GoesOn (commit_move token) (get_or was k d) (get_or mids k d) × CommitsNext (get_or was k d) (get_or mids k d)
-    had k d there =
-        all_had token seq (get_or was k d) (get_or mids k d) (are k d (omega (arith, waits.many)))
-        (waits.each k d there) (reached k d there)
-
-pub all_came_transferred : (p : RunPlan) (at : Standing) (votes : List Vote) (token : List ℕ) (seq : ℕ)
-    (was mids : List Server) → All (Serves p at votes) was → All (IsReady seq) was
-    → AreAllOn (CommitsOrWaits token) was mids → All (λ s. s.replica.ledger.committed ≡ seq) mids
-    → AreTransferredIn p (sections_in was) → AreTransferredIn p (sections_in mids)
-all_came_transferred p at votes token seq was mids serve are waits reached right =
-    all_grown p at.committed was mids
-    (record {
-      many = waits.many;
-      each = λ k d there.
-          let is = are k d (omega (arith, waits.many)) in
-          grows_by_commit p at votes (sections_in mids) (get_or was k d) (get_or mids k d) is.live
-          (serve k d (omega (arith, waits.many)))
-          (all_had token seq (get_or was k d) (get_or mids k d) is (waits.each k d there) (reached k d there)).1;
-    }) right
 
 -- ---- where some get by a transfer
 
@@ -354,34 +294,97 @@ lent_transferred p at votes token seq x was mids servers left serve are number w
           rows = lent.lent.rows;
         }
 
--- and so what all of them have transferred is right
-pub some_came_transferred : (p : RunPlan) (at : Standing) (votes : List Vote) (token : List ℕ) (seq : ℕ) (x : Transfer)
-    (was mids servers : List Server) → IsLeft p.batches at → All (Serves p at votes) was → All (IsReady seq) was
-    → x.seq ≡ seq → AreAllOn (CommitsOrWaits token) was mids → AreAllOn (TransfersOrStays token x) mids servers
-    → IsLentByFirst seq mids x → AreTransferredIn p (sections_in was) → AreTransferredIn p (sections_in servers)
-some_came_transferred p at votes token seq x was mids servers left serve are number waits takes lent right =
+-- and so what all of them have transferred is right, where it is what was committed wherever one waits
+some_came_transferred : (p : RunPlan) (at : Standing) (votes : List Vote) (token : List ℕ) (seq : ℕ) (x : Transfer)
+    (was mids servers : List Server) → All (Serves p at votes) was → All (IsReady seq) was → x.seq ≡ seq
+    → AreAllOn (CommitsOrWaits token) was mids → AreAllOn (TransfersOrStays token x) mids servers
+    → All (λ s. s.replica.ledger.committed ≢ seq → IsTransferredFrom p (sections_in servers) x) mids
+    → AreTransferredIn p (sections_in was) → AreTransferredIn p (sections_in servers)
+some_came_transferred p at votes token seq x was mids servers serve are number waits takes lent right =
     all_grown p at.committed was servers
     (record {
       many = takes.many ∙ waits.many;
       each = λ k d there.
           let old = get_or was k d in
           let is = are k d (omega (arith, takes.many, waits.many)) in
-          grown old (get_or mids k d) (get_or servers k d) is (serve k d (omega (arith, takes.many, waits.many)))
+          grown old (get_or mids k d) (get_or servers k d) (lent k d (omega (arith, takes.many))) is
+          (serve k d (omega (arith, takes.many, waits.many)))
           (settled token seq x old (get_or mids k d) (get_or servers k d) is number
           (waits.each k d (omega (arith, takes.many))) (takes.each k d there));
     }) right
   where
-    transferred_now : IsTransferredFrom p (sections_in servers) x
-    transferred_now = lent_transferred p at votes token seq x was mids servers left serve are number waits takes lent
-
-    grown : (old mid new : Server) → IsReady seq old → Serves p at votes old
+    grown : (old mid new : Server)
+        → (mid.replica.ledger.committed ≢ seq → IsTransferredFrom p (sections_in servers) x)
+        → IsReady seq old → Serves p at votes old
         → Committed token seq old mid new ⊎ Transferred token x seq old mid new
         → GrowsRightly p (sections_in servers) at.committed (section old.steps) (section new.steps)
-    grown old mid new is serves (inl made) =
+    grown old mid new now is serves (inl made) =
         grows_by_commit p at votes (sections_in servers) old new is.live serves
         (subst (λ (s : Server). CommitsNext old s) (sym made.same) made.next)
-    grown old mid new is serves (inr transferred) =
-        grows_by_state p at votes (sections_in servers) x old new serves transferred.transferred transferred_now
+    grown old mid new now is serves (inr transferred) =
+        grows_by_state p at votes (sections_in servers) x old new serves transferred.transferred
+        (now transferred.behind)
+
+-- ---- what all come to
+
+-- Replicas that came by a commit reached the batch.
+pub reached_by : (format many seq : ℕ) (token : List ℕ) (was servers : List Server) → AwaitNext format many seq was
+    → length was < 2 * count_with token was → CameBy token was servers
+    → (length was < 2 * live_in was → length servers < 2 * live_in servers)
+    → ((p : RunPlan) (at : Standing) (votes : List Vote) → All (Serves p at votes) was → IsLeft p.batches at
+    → AreTransferredIn p (sections_in was) → AreTransferredIn p (sections_in servers))
+    → ReachBatch seq token was servers
+reached_by format many seq token was servers r most came majority transferred = record {
+  serve = λ p at votes serve left.
+      serve_on p at votes (commit_move token) was servers
+      (λ more. absurd (omega arith), λ k below. absurd (omega arith)) left
+      (λ k d there live. window_committed p at token
+      (open_there r.plan p r.at at r.votes votes (get_or was k d) (r.serve k d there) (serve k d there) live r.awaits))
+      came.on serve;
+  majority = majority;
+  committed = one_more_by_most seq (commit_move token) (λ s. is_some_of token (next_token s)) was servers came.on
+      (all_commit r.plan r.at r.votes token seq was servers r.serve r.next came.commits) most;
+  transferred = transferred;
+  undecided = still_undecided (GoesOn (commit_move token)) was servers came.on
+      (λ view old new goes. goes.given_up view (λ enters. omega arith));
+}
+
+-- So did those of version 2, where all committed it, or the state that the others got is what the first committed.
+pub reached_or_lent : (many seq : ℕ) (token : List ℕ) (x : Transfer) (was mids servers : List Server)
+    → AwaitNext 2 many seq was → length was < 2 * count_with token was → x.seq ≡ seq
+    → AreAllOn (CommitsOrWaits token) was mids → AreAllOn (TransfersOrStays token x) mids servers
+    → All (λ s. s.replica.ledger.committed ≡ seq) mids ⊎ IsLentByFirst seq mids x → ReachBatch seq token was servers
+reached_or_lent many seq token x was mids servers r most number waits takes source =
+    reached_by 2 many seq token was servers r most came
+    (λ majority. let live = live_by token seq was servers are came in omega (arith, majority, came.on.many, live))
+    (λ p at votes serve left.
+    some_came_transferred p at votes token seq x was mids servers serve are number waits takes
+    (given p at votes serve left source))
+  where
+    are : All (IsReady seq) was
+    are = all_ready seq was r
+
+    came : CameBy token was servers
+    came = some_came token seq x was mids servers are number waits takes
+
+    given : (p : RunPlan) (at : Standing) (votes : List Vote) → All (Serves p at votes) was → IsLeft p.batches at
+        → All (λ s. s.replica.ledger.committed ≡ seq) mids ⊎ IsLentByFirst seq mids x
+        → All (λ s. s.replica.ledger.committed ≢ seq → IsTransferredFrom p (sections_in servers) x) mids
+    given p at votes serve left (inl reached) = λ k d there behind. absurd (behind (reached k d there))
+    given p at votes serve left (inr lent) = λ k d there behind.
+        lent_transferred p at votes token seq x was mids servers left serve are number waits takes lent
+
+-- where each has committed the batch, each stays, whatever state of it
+pub stay_all : (token : List ℕ) (x : Transfer) (mids : List Server) → All (λ s. s.replica.ledger.committed ≡ x.seq) mids
+    → AreAllOn (TransfersOrStays token x) mids mids
+stay_all token x mids reached = record {
+  many = refl;
+  each = λ k d there. record {
+    stays = λ same. refl;
+    on = λ behind. absurd (behind (reached k d there));
+    transferred = λ behind. absurd (behind (reached k d there));
+  };
+}
 
 -- ---- what is asked on the way
 

@@ -1,6 +1,5 @@
 -- What was noted of the batches of a window.
 use Rattle.std.proofs.Common.{◌≡◌, ℕ, zero, suc, ◌<◌, List, [], ◌∷◌, length, get_or, map, subst, sym, arith, Vec}
-use Rattle.std.proofs.Common.{IfOk, Result, Ok, Err}
 use Rattle.std.specs.declared.alloc.Global.{Global}
 use Rattle.std.specs.List.{AllZip}
 use Rattle.eve_grammar.specs.Trace.{Batch}
@@ -9,7 +8,6 @@ use Rattle.eve_write.specs.Data.{batch as plain}
 use Rattle.eve_workload.specs.declared.mixer.MixedBatch.{MixedBatch}
 use Rattle.eve_floor.specs.declared.assignment.Assignment.{Assignment}
 use Rattle.eve_floor.specs.Recording.{AreNotedOf, IsNotedFor}
-use Rattle.eve_replica.specs.declared.fault.AttemptFault.{AttemptFault}
 use Rattle.eve_replica.specs.inner.RunInvariant.{IsNotedAs}
 
 -- of one of them
@@ -40,12 +38,3 @@ noted_as names (a ∷ given) (m ∷ window) (r ∷ noted) same all =
       subst (λ (b : Batch). AreNotedOf names b r.items) head all.0,
       noted_as names given window noted rest all.1,
     )
-
--- and where they were run
-pub noted_as_ok : (names : List (List ℕ)) (given : List Assignment) (window : List MixedBatch)
-    (result : Result (Vec (Vec Applied Global) Global) AttemptFault)
-    → map (λ (a : Assignment). plain a.batch.now) given ≡ map (λ (m : MixedBatch). plain m.batch) window
-    → IfOk result (λ noted. AllZip (IsNotedFor names) given noted.items)
-    → IfOk result (λ noted. AllZip (IsNotedAs names) window noted.items)
-noted_as_ok names given window (Ok noted) same all = noted_as names given window noted.items same all
-noted_as_ok names given window (Err why) same all = all

@@ -1,22 +1,24 @@
 -- What the sections of a run say: each is what a ledger went through, on the votes, and most reach all batches.
 use Rattle.std.proofs.Common.{◌≡◌, ℕ, ◌+◌, ◌*◌, ◌<◌, ◌≤◌, Bool, true, false, cond, List, [], ◌∷◌, All}
-use Rattle.std.proofs.Common.{ℤ, Vec}
+use Rattle.std.proofs.Common.{Vec}
 use Rattle.std.proofs.Common.{length, map, refl, sym, ap, ◌∙◌, subst, eq-eqb, arith}
 use Rattle.std.proofs.lemmas.List.{append-nil, length-map}
 use Rattle.std.proofs.lemmas.List.Elements.{All-head, All-tail, All-cons, All-nil}
 use Rattle.std.proofs.lemmas.List.Sums.{sum_by-cons}
 use Rattle.std.specs.List.{count_by}
 use Rattle.std.specs.declared.alloc.Global.{Global}
-use Rattle.eve_grammar.specs.Trace.{Batch, Step, Vote, ForCommit, opening_rows}
-use Rattle.eve_grammar.specs.declared.head.Head as header
+use Rattle.eve_grammar.specs.Trace.{Asked, Batch, Step, Vote, ForCommit, opening_rows}
+use Rattle.eve_grammar.specs.declared.head.Head.{Head}
+use Rattle.eve_write.specs.declared.customer.CustomerData.{CustomerData}
 use Rattle.eve_write.specs.declared.parts.Parts.{Parts}
 use Rattle.eve_write.specs.declared.vote.VoteData.{VoteData}
-use Rattle.eve_write.specs.Data.{batch, section, trace, vote}
+use Rattle.eve_write.specs.Data.{batch, customer, section, trace, vote}
 use Rattle.eve_write.specs.Data.{votes as votes_of}
 use Rattle.eve_workload.specs.declared.mixer.Mixer.{Mixer}
+use Rattle.eve_workload.specs.Mixers.{batch_with, cut}
 use Rattle.eve_workload.specs.Workload.{Workload, customer_names, head_asked}
 use Rattle.eve_workload.specs.declared.mixer.MixedBatch.{MixedBatch}
-use Rattle.eve_attempts.specs.Ledgers.{Ledger, Opened, opening}
+use Rattle.eve_attempts.specs.Ledgers.{Opened, opening}
 use Rattle.eve_replica.specs.declared.server.Server.{Server}
 use Rattle.eve_replica.specs.declared.standing.Standing.{Standing}
 use Rattle.eve_replica.specs.Decisions.{AreUndecided, StopsBefore, open_after}
@@ -245,19 +247,16 @@ copies_gave given (copy ∷ copies) all =
     (copies_gave given copies (All-tail (λ c. c.items ≡ given) copy copies all))
 
 -- what a run began with is the workload's plan
-pub plan_is : (w : Workload) (mixer : Mixer) (names : List (List ℕ)) (balances : List ℤ) (h : header.Head)
-    (batches : List MixedBatch) → names ≡ customer_names w.customers → balances ≡ opening_rows w.customers
-    → h.version ≡ w.format → h.workers ≡ w.deployment.workers → h.window ≡ w.deployment.window
-    → map (λ m. batch m.batch) batches ≡ batches_cut w mixer → plan_with names balances h batches ≡ run_plan w mixer
-plan_is w mixer names balances h batches named opened version workers window cut =
-    let first : opening h.version balances h.workers h.window
-    ≡ opening w.format (opening_rows w.customers) w.deployment.workers w.deployment.window =
-    ap (λ (zs : List ℤ). opening h.version zs h.workers h.window) opened
-    ∙ ap (λ (n : ℕ). opening n (opening_rows w.customers) h.workers h.window) version
-    ∙ ap (λ (n : ℕ). opening w.format (opening_rows w.customers) n h.window) workers
-    ∙ ap (opening w.format (opening_rows w.customers) w.deployment.workers) window in
-    all names (customer_names w.customers) (map (λ m. batch m.batch) batches) (batches_cut w mixer) _ _ named cut first
+pub plan_is : (w : Workload) (mixer : Mixer) (customers : List CustomerData) (names : List (List ℕ)) (h : Head)
+    (lists : List (List Asked)) (batches : List MixedBatch) → map customer customers ≡ w.customers
+    → names ≡ customer_names w.customers → h ≡ head_asked w → lists ≡ w.batches
+    → map (λ m. batch m.batch) batches ≡ map (λ requests. batch_with (cut names mixer requests)) lists
+    → plan_with names (opening_rows (map customer customers)) h batches ≡ run_plan w mixer
+plan_is w mixer customers names h lists batches given named asked listed made = λ k. record {
+  names = named k;
+  batches = batches_are k;
+  first = opening (asked k).version (opening_rows (given k)) (asked k).workers (asked k).window;
+}
   where
-    all : (a a' : List (List ℕ)) (b b' : List Batch) (c c' : Ledger) → a ≡ a' → b ≡ b' → c ≡ c'
-        → Path RunPlan (record { names = a; batches = b; first = c }) (record { names = a'; batches = b'; first = c' })
-    all a a' b b' c c' d e f = cc
+    batches_are : map (λ m. batch m.batch) batches ≡ batches_cut w mixer
+    batches_are = made ∙ (λ k. map (λ requests. batch_with (cut (named k) mixer requests)) (listed k))

@@ -20,9 +20,6 @@ rows_right rows x fits =
       four.1,
     )
 
-pub many_right : (rows : ℕ) (x : Transfer) → IsTrue (is_transfer rows x) → length x.rows ≡ rows
-many_right rows x fits = (rows_right rows x fits).0
-
 versions_of : (rows : List Versioned) → IsTrue (list_all is_versioned rows) → HaveRightVersions rows
 versions_of [] fit = tt
 versions_of (r ∷ rows) fit =

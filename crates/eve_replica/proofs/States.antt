@@ -76,7 +76,7 @@ states_on m was servers on = by was servers (pairs_of (GoesOn m) was servers on)
         omega arith
 
 -- One with the token keeps its states, and each other has one transferred.
-abbrev pub AddsState : List ℕ → Server → Server → Type 0
+abbrev AddsState : List ℕ → Server → Server → Type 0
 AddsState token old new =
     states_along (section old.steps) + cond (is_some_of token (next_token old)) 0 1 ≤ states_along (section new.steps)
 
@@ -85,7 +85,7 @@ one_added : (b : Bool) (many count a a' r r' : ℕ) → a + cond b 0 1 ≤ a' �
 one_added true many count a a' r r' one rest = omega arith
 one_added false many count a a' r r' one rest = omega arith
 
-pub states_added : (token : List ℕ) (was servers : List Server) → AreAllOn (AddsState token) was servers
+states_added : (token : List ℕ) (was servers : List Server) → AreAllOn (AddsState token) was servers
     → states_in (sections_in was) + (length was - count_with token was) ≤ states_in (sections_in servers)
 states_added token was servers on = by was servers (pairs_of (AddsState token) was servers on)
   where
@@ -114,20 +114,7 @@ adds_one : (b : Bool) → b ≡ false → Path ℕ (cond b 0 1) 1
 adds_one true is = absurd (let e : true ≡ false = is in cc)
 adds_one false is = refl
 
--- where all commit
-pub all_committed_add : (token : List ℕ) (seq : ℕ) (old mid : Server) → IsReady seq old → CommitsOrWaits token old mid
-    → mid.replica.ledger.committed ≡ seq → AddsState token old mid
-all_committed_add token seq old mid is waits reached = by (is_some_of token (next_token old)) refl
-  where
-    by : (b : Bool) → is_some_of token (next_token old) ≡ b → AddsState token old mid
-    by true has =
-        let one = kept (commit_move token) old mid (waits.on has) in
-        let none = adds_none (is_some_of token (next_token old)) has in
-        omega (arith, one, none)
-    by false lacks = absurd (waits_behind seq old mid is (waits.waits lacks) reached)
-
--- where some get by a transfer
-pub settled_add : (token : List ℕ) (seq : ℕ) (x : Transfer) (old mid new : Server) → IsReady seq old → x.seq ≡ seq
+settled_add : (token : List ℕ) (seq : ℕ) (x : Transfer) (old mid new : Server) → IsReady seq old → x.seq ≡ seq
     → CommitsOrWaits token old mid → TransfersOrStays token x mid new → AddsState token old new
 settled_add token seq x old mid new is number waits takes = by (is_some_of token (next_token old)) refl
   where
@@ -150,23 +137,16 @@ settled_add token seq x old mid new is number waits takes = by (is_some_of token
         omega (arith, added, parts, before, added_one)
 
 -- all of them
-pub all_add : (token : List ℕ) (seq : ℕ) (was mids : List Server) → All (IsReady seq) was
-    → AreAllOn (CommitsOrWaits token) was mids → All (λ s. s.replica.ledger.committed ≡ seq) mids
-    → AreAllOn (AddsState token) was mids
-all_add token seq was mids are waits reached = record {
-  many = waits.many;
-  each = λ k d there.
-      all_committed_add token seq (get_or was k d) (get_or mids k d) (are k d (omega (arith, waits.many)))
-      (waits.each k d there) (reached k d there);
-}
-
-pub some_add : (token : List ℕ) (seq : ℕ) (x : Transfer) (was mids servers : List Server) → All (IsReady seq) was
-    → x.seq ≡ seq → AreAllOn (CommitsOrWaits token) was mids → AreAllOn (TransfersOrStays token x) mids servers
-    → AreAllOn (AddsState token) was servers
-some_add token seq x was mids servers are number waits takes = record {
-  many = takes.many ∙ waits.many;
-  each = λ k d there.
-      settled_add token seq x (get_or was k d) (get_or mids k d) (get_or servers k d)
-      (are k d (omega (arith, takes.many, waits.many))) number (waits.each k d (omega (arith, takes.many)))
-      (takes.each k d there);
-}
+pub states_settled : (token : List ℕ) (seq : ℕ) (x : Transfer) (was mids servers : List Server)
+    → All (IsReady seq) was → x.seq ≡ seq → AreAllOn (CommitsOrWaits token) was mids
+    → AreAllOn (TransfersOrStays token x) mids servers
+    → states_in (sections_in was) + (length was - count_with token was) ≤ states_in (sections_in servers)
+states_settled token seq x was mids servers are number waits takes =
+    states_added token was servers
+    (record {
+      many = takes.many ∙ waits.many;
+      each = λ k d there.
+          settled_add token seq x (get_or was k d) (get_or mids k d) (get_or servers k d)
+          (are k d (omega (arith, takes.many, waits.many))) number (waits.each k d (omega (arith, takes.many)))
+          (takes.each k d there);
+    })

@@ -25,7 +25,6 @@ use Rattle.eve_replica.specs.inner.RunInvariant.{GoesOn, IsOutvoted, Move, attem
 use Rattle.eve_replica.specs.Windows.{ComesTo, WindowState, GoByWindows}
 use Rattle.eve_replica.specs.Decisions.{is_some_of, token_given_up}
 use Rattle.eve_replica.specs.inner.RunInvariant.{commit_move, rollback_move, next_token, CommitsNext, GivesUpNext}
-use Rattle.eve_replica.specs.inner.RunInvariant.{server_with}
 use Rattle.eve_replica.proofs.TokenCounts.{is_that, next_by}
 use Rattle.eve_replica.proofs.GivenUpTokens.{GivesNone, none_more, other_view, none_given_up, first_given_up}
 use Rattle.eve_replica.proofs.SectionSteps.{through_more, votes_more}
@@ -101,21 +100,6 @@ attempt_goes b a old new due live lives none still made added right =
       stands = λ stopped. absurd (false≢true (sym stopped ∙ lives));
       stops = λ stopped was. absurd (false≢true (sym stopped ∙ lives));
     }
-
-abbrev with_missing : Server → Bool → ℕ → Server
-with_missing s live missing = record s { is_live = live; missing = missing }
-
--- a live replica that misses nothing
-served : (s : Server) → s.is_live ≡ true → s.missing ≡ 0 → server_with s.replica s.steps ≡ s
-served s live none = sym (ap (λ (b : Bool). with_missing s b s.missing) live ∙ ap (with_missing s true) none)
-
--- what is said of live replicas that miss nothing
-pub served_goes : (m : Move) (old new : Server) → old.is_live ≡ true → old.missing ≡ 0 → new.is_live ≡ true
-    → new.missing ≡ 0 → GoesOn m (server_with old.replica old.steps) (server_with new.replica new.steps)
-    → GoesOn m old new
-served_goes m old new live none lives still goes =
-    subst (λ (s : Server). GoesOn m old s) (served new lives still)
-    (subst (λ (s : Server). GoesOn m s (server_with new.replica new.steps)) (served old live none) goes)
 
 -- ---- staying
 

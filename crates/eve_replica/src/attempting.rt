@@ -1,13 +1,13 @@
 //! Attempts made of what a replica's workers noted.
 
-ghost use Rattle.std.specs.Prelude.{◌≡◌, ◌+◌, ◌<◌, ◌≤◌, true, false, Err, ℕ, List, [], ◌∷◌, ◌++◌, All, length, map};
+ghost use Rattle.std.specs.Prelude.{◌≡◌, ◌+◌, ◌<◌, ◌≤◌, true, false, Err, ℕ, [], ◌∷◌, ◌++◌, All, length, map};
 ghost use Rattle.std.specs.Prelude.{IsTrue, IfOk, IfErr, IfSome, IfNone, OnOk, OnErr, Contains};
 ghost use Rattle.std.specs.List.{AllZip, list_all};
 ghost use Rattle.eve_grammar.specs.Limits.{is_batch, is_step};
 ghost use Rattle.eve_write.specs.Data.{attempt, batch as plain_batch, section, step as plain};
 ghost use Rattle.eve_attempts.specs.ClosedAttempts.{touched_in_batch, AreMismatched};
 ghost use Rattle.eve_floor.specs.Assignments.{IsRightAssignment};
-ghost use Rattle.eve_floor.specs.Recording.{AreNotedOf, IsNotedFor};
+ghost use Rattle.eve_floor.specs.Recording.{AreNotedOf};
 ghost use Rattle.eve_replica.specs.Replicas.{AttemptsDue, BreaksBy, ClosesThese, FailsAttempt, MayAttempt};
 ghost use Rattle.eve_replica.specs.Replicas.{attempt_head_of};
 ghost use Rattle.eve_replica.specs.Replicas.{IsMismatchOnly, MismatchesDue};
@@ -30,30 +30,36 @@ use std::sync::Wait;
 use std::thread::Threads;
 
 impl<'n> Replica<'n> {
-    /// Runs the batches of a window, which are the next, by the workers of a replica that isn't broken, and makes an
-    /// attempt of what they noted of each. A fault breaks the replica; the attempts before it stay open.
-    pub(crate) fn attempt_window<R: Threads + Wait + Sync, G: Gate>(
+    /// Runs the batches of a window, which are the next, by the workers of a replica that isn't broken, and returns
+    /// what they noted of each. A fault breaks the replica.
+    pub(crate) fn run_window<R: Threads + Wait + Sync, G: Gate>(
         &mut self,
         rt: &R,
         alloc: Global,
-        steps: &mut Vec<Step>,
         window: &[MixedBatch],
         gate: &G,
-    ) -> Result<(), AttemptFault>
-        requires due { MayAttemptAll self.old window.now }
-        ensures on { OnOk result (AttemptsAll window.now self.old steps.old self.new steps.new) }
-        ensures broken { OnErr result (self.new.is_broken ≡ true) }
-        ensures mismatch { IfErr result (IsMismatchOnly (MismatchesAmid window.now self.old self.new)) }
+    ) -> Result<Vec<Vec<AccessRecord>>, AttemptFault>
+        requires whole { self.old.is_broken ≡ false }
+        requires mixed { All (IsRightMixed self.old.names) window.now }
+        ensures noted { IfOk result (λ noted. AllZip (IsNotedAs self.old.names) window.now noted.items) }
+        ensures same { OnOk result (self.new ≡ self.old) }
+        ensures refused { IfErr result (λ why. BreaksBy why self.old self.new) }
     {
-        let noted = match self.run_window(rt, alloc, window, gate) {
-            Ok(noted) => noted,
-            Err(why) => return Err(why),
+        let workers = self.workers.many();
+        let serial = self.ledger.is_next_serial();
+        let Ok(assignments) = assignments_of(alloc, &self.floor, workers, window, serial) else {
+            return Err(self.broken_by(AttemptFault::Memory));
         };
-        self.close_window(alloc, steps, window, noted.as_slice())
+        let assignments = assignments.as_slice();
+        match run_batches(rt, alloc, &self.floor, &mut self.workers, assignments, gate) {
+            Ok(noted) => Ok(noted),
+            Err(why) => Err(self.broken_by(fault_of(why))),
+        }
     }
 
-    /// Makes an attempt of what was noted of each batch of the window, one after another.
-    fn close_window(
+    /// Makes an attempt of what was noted of each batch of the window, one after another. A fault breaks the replica;
+    /// the attempts before it stay open.
+    pub(crate) fn close_window(
         &mut self,
         alloc: Global,
         steps: &mut Vec<Step>,
@@ -73,72 +79,6 @@ impl<'n> Replica<'n> {
             }
         }
         Ok(())
-    }
-
-    /// Runs the batches of a window, and returns what the workers noted of each. A fault breaks the replica.
-    fn run_window<R: Threads + Wait + Sync, G: Gate>(
-        &mut self,
-        rt: &R,
-        alloc: Global,
-        window: &[MixedBatch],
-        gate: &G,
-    ) -> Result<Vec<Vec<AccessRecord>>, AttemptFault>
-        requires whole { self.old.is_broken ≡ false }
-        requires mixed { All (IsRightMixed self.old.names) window.now }
-        ensures noted { IfOk result (λ noted. AllZip (IsNotedAs self.old.names) window.now noted.items) }
-        ensures same { OnOk result (self.new ≡ self.old) }
-        ensures refused { IfErr result (λ why. BreaksBy why self.old self.new) }
-    {
-        let workers = self.workers.many();
-        let serial = self.ledger.is_next_serial();
-        let Ok(assignments) = assignments_of(alloc, &self.floor, workers, window, serial) else {
-            return Err(self.broken_by(AttemptFault::Memory));
-        };
-        self.run_assigned(rt, alloc, assignments.as_slice(), gate)
-    }
-
-    /// Runs one batch by the workers, and makes an attempt of what they noted. A fault breaks the replica.
-    pub(crate) fn run_and_close<R: Threads + Wait + Sync, G: Gate>(
-        &mut self,
-        rt: &R,
-        alloc: Global,
-        assignment: Assignment<'_>,
-        gate: &G,
-    ) -> Result<AttemptData, AttemptFault>
-        requires assignment { IsRightAssignment self.old.names self.old.ledger.workers assignment }
-        requires due { MayAttempt self.old (plain_batch assignment.batch.now) assignment.touched.now }
-        ensures attempted { IfOk result (λ a.
-            AttemptsDue self.old self.new (plain_batch assignment.entry.batch.now) (attempt a)) }
-        ensures refused { IfErr result (λ why. FailsAttempt why self.old self.new) }
-        ensures mismatch { IfErr result
-            (IsMismatchOnly (MismatchesDue self.old (plain_batch assignment.entry.batch.now))) }
-    {
-        let batch = assignment.batch;
-        let touched = assignment.touched;
-        match self.run_assigned(rt, alloc, &[assignment], gate) {
-            Ok(noted) => self.close_noted(alloc, batch, touched, noted[0].as_slice()),
-            Err(why) => Err(why),
-        }
-    }
-
-    /// Runs batches, and returns what the workers noted of each. A fault breaks the replica.
-    pub(crate) fn run_assigned<R: Threads + Wait + Sync, G: Gate>(
-        &mut self,
-        rt: &R,
-        alloc: Global,
-        assignments: &[Assignment],
-        gate: &G,
-    ) -> Result<Vec<Vec<AccessRecord>>, AttemptFault>
-        requires whole { self.old.is_broken ≡ false }
-        requires right { All (IsRightAssignment self.old.names self.old.ledger.workers) assignments.now }
-        ensures noted { IfOk result (λ noted. AllZip (IsNotedFor self.old.names) assignments.now noted.items) }
-        ensures same { OnOk result (self.new ≡ self.old) }
-        ensures refused { IfErr result (λ why. BreaksBy why self.old self.new) }
-    {
-        match run_batches(rt, alloc, &self.floor, &mut self.workers, assignments, gate) {
-            Ok(noted) => Ok(noted),
-            Err(why) => Err(self.broken_by(fault_of(why))),
-        }
     }
 
     /// Makes an attempt of what was noted of the next batch, and adds it to what the replica did.
@@ -179,16 +119,11 @@ impl<'n> Replica<'n> {
         requires due { MayAttempt self.old (plain_batch batch.now) touched.now }
         requires noted { AreNotedOf self.old.names (plain_batch batch.now) records.now }
         ensures attempted { IfOk result (λ a. AttemptsDue self.old self.new (plain_batch batch.now) (attempt a)) }
-        ensures records { let prefix = attempt_head_of self.old.ledger self.old.ledger.view
-            self.old.ledger.is_next_serial in
-            IfOk result (λ a. ClosesThese prefix self.old self.new (plain_batch batch.now) records.now (attempt a)) }
         ensures refused { IfErr result (λ why. FailsAttempt why self.old self.new) }
         ensures broken { OnErr result (self.new.is_broken ≡ true) }
         ensures mismatch { IfErr result (IsMismatchOnly (MismatchesDue self.old (plain_batch batch.now))) }
     {
-        let prefix = self.next_prefix();
-        let tick = greatest_tick(records);
-        match self.close(alloc, prefix, batch, touched, records, tick) {
+        match self.close(alloc, batch, touched, records, greatest_tick(records)) {
             Ok(attempt) => Ok(attempt),
             Err(Unclosed::Memory) => Err(self.broken_by(AttemptFault::Memory)),
             Err(Unclosed::Mismatch) => Err(self.broken_by(AttemptFault::Mismatch)),
@@ -217,30 +152,27 @@ impl<'n> Replica<'n> {
         why
     }
 
-    /// Closes the records, and keeps the tick up to which the stripes are settled at the attempt's commit.
+    /// Makes an attempt of the records in the view and in the mode that are due, opens it, and keeps the tick up to
+    /// which the stripes are settled at its commit.
     pub(crate) fn close(
         &mut self,
         alloc: Global,
-        prefix: AttemptHead,
         batch: &BatchData,
         touched: &[Touched],
         records: &[AccessRecord],
         tick: Option<u64>,
     ) -> Result<AttemptData, Unclosed>
-        requires seq { prefix.seq ≡ self.old.ledger.committed + 1 + length self.old.ledger.opened }
-        requires last { prefix.seq ≤ MOST_BATCHES }
-        requires room { length self.old.ledger.opened < self.old.ledger.window }
-        requires view { prefix.view ≡ self.old.ledger.view }
-        requires serial { prefix.serial ≡ self.old.ledger.is_next_serial }
-        requires batch { IsTrue (is_batch (plain_batch batch.now)) }
-        requires touched { touched.now ≡ touched_in_batch self.old.names (plain_batch batch.now) }
-        ensures closed { let b = plain_batch batch.now in
-            IfOk result (λ a. ClosesThese prefix self.old self.new b records.now (attempt a)) }
-        ensures mismatch { let reached = touched_in_batch self.old.names (plain_batch batch.now) in
-            result ≡ Err Unclosed.Mismatch
-            → AreMismatched prefix self.old.ledger (plain_batch batch.now) reached records.now }
+        requires due { MayAttempt self.old (plain_batch batch.now) touched.now }
+        ensures closed { let prefix = attempt_head_of self.old.ledger self.old.ledger.view
+            self.old.ledger.is_next_serial in
+            IfOk result (λ a. ClosesThese prefix self.old self.new (plain_batch batch.now) records.now (attempt a)) }
+        ensures mismatch { let prefix = attempt_head_of self.old.ledger self.old.ledger.view
+            self.old.ledger.is_next_serial in
+            result ≡ Err Unclosed.Mismatch → AreMismatched prefix self.old.ledger (plain_batch batch.now)
+            (touched_in_batch self.old.names (plain_batch batch.now)) records.now }
         ensures refused { OnErr result (self.new ≡ self.old) }
     {
+        let prefix = self.next_prefix();
         if self.settles.reserve(1).is_err() {
             return Err(Unclosed::Memory);
         }

@@ -1,8 +1,8 @@
 //! Replicas.
 
-ghost use Rattle.std.specs.Prelude.{◌≡◌, ◌+◌, ◌-◌, ◌*◌, ◌^◌, ◌<◌, ◌≤◌, ◌↔◌, ◌⊎◌, true, false, Err, Some, All, length};
+ghost use Rattle.std.specs.Prelude.{◌≡◌, ◌+◌, ◌-◌, ◌*◌, ◌^◌, ◌<◌, ◌≤◌, ◌↔◌, ◌⊎◌, true, false, Err, Some, length};
 ghost use Rattle.std.specs.Prelude.{option_map, slice_get};
-ghost use Rattle.std.specs.Prelude.{IsTrue, IfOk, IfErr, IfSome, OnOk, OnErr, IsOk, map};
+ghost use Rattle.std.specs.Prelude.{IsTrue, IfOk, IfErr, OnOk, OnErr, IsOk};
 ghost use Rattle.eve_grammar.specs.Bodies.{transfer as plain_state};
 ghost use Rattle.eve_grammar.specs.Limits.{is_batch};
 ghost use Rattle.eve_write.specs.Data.{batch as plain, attempt, commit, rollback};
@@ -17,10 +17,10 @@ ghost use Rattle.eve_replica.specs.Replicas.{attempt_head_of};
 ghost use Rattle.eve_replica.specs.Replicas.{IsDue, IsFirstOpen, CommitsFirst};
 
 use crate::attempting::assignment_of;
-use crate::fault::{AttemptFault, CloseFault, CommitFault, TransferFault};
+use crate::fault::{AttemptFault, CloseFault, CommitFault, TransferFault, fault_of};
 use eve_accounts::{Balances, Names};
-use eve_attempts::{AttemptHead, CloseFault as Unclosed, Ledger};
-use eve_floor::{Floor, Workers};
+use eve_attempts::{CloseFault as Unclosed, Ledger};
+use eve_floor::{Floor, Workers, run_batches};
 use eve_grammar::{MOST_BATCHES, MOST_WINDOW, MOST_WORKERS, TransferData};
 use eve_recorder::Gate;
 use eve_smallbank::Versioned;
@@ -230,26 +230,17 @@ impl<'n> Replica<'n> {
         };
         let touched = touched.as_slice();
         let assignment = assignment_of(&self.floor, self.workers.many(), batch, touched, serial);
-        self.run_and_close(rt, alloc, assignment, gate)
-    }
-
-    /// How many workers it has.
-    pub(crate) fn workers(&self) -> u8
-        ensures { result ≡ self.now.ledger.workers }
-    {
-        self.workers.many()
-    }
-
-    /// How many customers there are.
-    pub(crate) fn customers(&self) -> usize
-        ensures { result ≡ length self.now.names }
-    {
-        self.names.len()
-    }
-
-    /// Why the last attempt that failed did; `Broken` where none has.
-    pub(crate) fn fault(&self) -> AttemptFault {
-        self.fault.unwrap_or(AttemptFault::Broken)
+        match run_batches(
+            rt,
+            alloc,
+            &self.floor,
+            &mut self.workers,
+            &[assignment],
+            gate,
+        ) {
+            Ok(noted) => self.close_noted(alloc, batch, touched, noted[0].as_slice()),
+            Err(why) => Err(self.broken_by(fault_of(why))),
+        }
     }
 
     /// Makes an attempt of records that a caller took, and opens it.
@@ -288,9 +279,7 @@ impl<'n> Replica<'n> {
         let Ok(touched) = look_up(alloc, batch.requests.as_slice(), self.names) else {
             return Err(CloseFault::Memory);
         };
-        let prefix = AttemptHead { seq, view, serial };
-        let touched = touched.as_slice();
-        match self.close(alloc, prefix, batch, touched, records, None) {
+        match self.close(alloc, batch, touched.as_slice(), records, None) {
             Ok(attempt) => Ok(attempt),
             Err(Unclosed::Memory) => Err(CloseFault::Memory),
             Err(Unclosed::Mismatch) => Err(CloseFault::Mismatch),

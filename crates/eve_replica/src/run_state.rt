@@ -1,19 +1,18 @@
 //! The state of a run.
 
-ghost use Rattle.std.specs.Prelude.{◌≡◌, ◌≤◌, ◌+◌, ◌-◌, ◌<◌, ◌++◌, All, List, OnOk, Some, None, length};
-ghost use Rattle.eve_grammar.specs.Trace.{Vote};
+ghost use Rattle.std.specs.Prelude.{◌≡◌, ◌≤◌, ◌+◌, ◌-◌, ◌<◌, All, List, OnOk, Some, None, length};
 ghost use Rattle.eve_replica.specs.declared.standing.Standing.{Standing};
-ghost use Rattle.eve_replica.specs.Decisions.{AreUndecided};
 ghost use Rattle.eve_replica.specs.RunFaults.{EndsSoFar, IsLongOnly};
 ghost use Rattle.eve_replica.specs.Sections.{RunPlan};
-ghost use Rattle.eve_replica.specs.inner.RunInvariant.{Serves, AreAllOn, Discards, IsSameRun, IsUnderWay};
-ghost use Rattle.eve_replica.specs.inner.RunInvariant.{after_commit, after_rollback, commit_move};
-ghost use Rattle.eve_replica.specs.inner.RunInvariant.{IsDecision, IsLeft, count_with, live_in, sections_in};
+ghost use Rattle.eve_replica.specs.inner.RunInvariant.{IsSameRun, IsUnderWay};
+ghost use Rattle.eve_replica.specs.inner.RunInvariant.{after_commit, after_rollback};
+ghost use Rattle.eve_replica.specs.inner.RunInvariant.{IsDecision, count_with, sections_in};
 ghost use Rattle.eve_replica.specs.inner.RunInvariant.{states_len};
-ghost use Rattle.eve_replica.specs.inner.Commits.{CommitsOrWaits, IsLentByFirst, MayTransferOrStay, TransfersOrStays};
+ghost use Rattle.eve_replica.specs.inner.Commits.{AwaitNext, CommitsOrWaits, IsLentByFirst, MayTransferOrStay};
+ghost use Rattle.eve_replica.specs.inner.Commits.{ReachBatch, TransfersOrStays};
 ghost use Rattle.std.specs.List.{AllZip, Any};
-ghost use Rattle.eve_replica.specs.Transfers.{AreCommittedByMost, AreTransferredIn, states_in};
-ghost use Rattle.std.specs.Prelude.{◌*◌, ◌⊎◌, ℕ, true, false, IsTrue, IfOk, IfErr};
+ghost use Rattle.eve_replica.specs.Transfers.{states_in};
+ghost use Rattle.std.specs.Prelude.{◌*◌, ◌⊎◌, ℕ, false, IsTrue, IfOk, IfErr};
 ghost use Rattle.std.specs.Arc.{arc_value};
 ghost use Rattle.eve_grammar.specs.Bodies.{transfer};
 ghost use Rattle.eve_grammar.specs.Limits.{is_transfer};
@@ -50,8 +49,9 @@ pub(crate) struct RunState<'n, 'b> {
 }
 
 impl<'n, 'b> RunState<'n, 'b> {
-    /// Runs one window: each live replica attempts the next batches, a window's number of them or all that are left,
-    /// and they are decided in order.
+    /// Runs one window: each live replica attempts the next batches, a window's number of them or all that are left.
+    /// Then the first open batch is committed where its token is decided, and else all open ones are rolled back, until
+    /// none is open.
     ///
     /// docs/TRACE.md, "The deployment's procedure".
     pub(crate) fn run_window<R: Threads + Wait + Sync, G: Gate>(
@@ -80,34 +80,12 @@ impl<'n, 'b> RunState<'n, 'b> {
         attempt_each(rt, alloc, self.servers.as_mut_slice(), window, gate)?;
         self.standing.opened = window.len() as u32;
         while self.standing.opened > 0 {
-            self.decide(alloc)?;
-        }
-        Ok(())
-    }
-
-    /// Commits the first open batch where its token is decided, and else rolls back all open batches.
-    fn decide(&mut self, alloc: Global) -> Result<(), RunFault>
-        requires under_way { (p : RunPlan) × IsUnderWay p self.old }
-        requires open { 0 < self.old.standing.opened }
-        requires view { self.old.standing.view < MOST_VIEWS }
-        ensures under_way { (p : RunPlan) → IsUnderWay p self.old → OnOk result (IsUnderWay p self.new) }
-        ensures same { OnOk result (IsSameRun self.old self.new) }
-        ensures opened { OnOk result (self.new.standing.opened < self.old.standing.opened) }
-        ensures view { OnOk result (self.new.standing.view ≤ self.old.standing.view + 1) }
-        ensures same_view { 0 < self.new.standing.opened
-            → OnOk result (self.new.standing.view ≡ self.old.standing.view) }
-        ensures further { OnOk result (self.old.standing.committed + self.old.standing.view
-            < self.new.standing.committed + self.new.standing.view) }
-        ensures why { IfErr result (λ why. (p : RunPlan) → IsUnderWay p self.old
-            → EndsSoFar p self.old.head.replicas why) }
-    {
-        match decided(self.servers.as_slice()) {
-            Some(token) => self.commit(alloc, token),
-            None => {
-                self.roll_back(alloc)?;
-                Ok(())
+            match decided(self.servers.as_slice()) {
+                Some(token) => self.commit(alloc, token)?,
+                None => self.roll_back(alloc)?,
             }
         }
+        Ok(())
     }
 
     /// Every verifier votes for the commit of the first open batch. A replica with this token commits it; any other
@@ -125,10 +103,9 @@ impl<'n, 'b> RunState<'n, 'b> {
         let seq = self.standing.committed + 1;
         let batches = self.batches.len();
         vote_for_commit(&mut self.votes, batches, seq, self.standing.view, token)?;
-        let head = self.head;
         commit_each(
             alloc,
-            &head,
+            &self.head,
             &mut self.room,
             self.servers.as_mut_slice(),
             seq,
@@ -152,7 +129,10 @@ impl<'n, 'b> RunState<'n, 'b> {
         let seq = self.standing.committed + 1;
         let batches = self.batches.len();
         vote_for_rollback(&mut self.votes, batches, seq, self.standing.view)?;
-        roll_back_all(self.servers.as_mut_slice(), alloc)?;
+        let servers = self.servers.as_mut_slice();
+        for server in servers.iter_mut() {
+            server.roll_back(alloc)?;
+        }
         self.standing.view += 1;
         self.standing.opened = 0;
         Ok(())
@@ -169,22 +149,10 @@ fn commit_each(
     seq: u32,
     token: [u8; 32],
 ) -> Result<(), RunFault>
-    requires serve { (p : RunPlan) × (at : Standing) × (votes : List Vote) × All (Serves p at votes) servers.old
-        × (p.first.version ≡ head.now.version) × (length p.names ≡ head.now.customers)
-        × (seq ≡ at.committed + 1) × (0 < at.opened) }
+    requires awaits { AwaitNext head.now.version head.now.customers seq servers.old }
     requires version { (head.now.version ≡ 1) ⊎ (head.now.version ≡ 2) }
-    requires majority { length servers.old < 2 * live_in servers.old }
     requires decided { IsDecision (Some token) servers.old }
-    ensures serve { (p : RunPlan) (at : Standing) (votes : List Vote) → All (Serves p at votes) servers.old
-        → IsLeft p.batches at
-        → OnOk result (All (Serves p (after_commit at) (votes ++ (commit_move token).votes at)) servers.new) }
-    ensures majority { OnOk result (length servers.new < 2 * live_in servers.new) }
-    ensures committed { AreCommittedByMost (seq - 1) (sections_in servers.old)
-        → OnOk result (AreCommittedByMost seq (sections_in servers.new)) }
-    ensures transferred { (p : RunPlan) (at : Standing) (votes : List Vote) → All (Serves p at votes) servers.old
-        → IsLeft p.batches at → AreTransferredIn p (sections_in servers.old)
-        → OnOk result (AreTransferredIn p (sections_in servers.new)) }
-    ensures undecided { AreUndecided (sections_in servers.old) → OnOk result (AreUndecided (sections_in servers.new)) }
+    ensures on { OnOk result (ReachBatch seq token servers.old servers.new) }
     ensures spent { head.now.version ≡ 2
         → OnOk result (room.old + states_len head.now.customers (states_in (sections_in servers.old))
         ≤ room.new + states_len head.now.customers (states_in (sections_in servers.new))) }
@@ -201,17 +169,9 @@ fn commit_each(
 
 /// In format 1, each live replica commits this batch, which is the next, or stops.
 fn commit_all(servers: &mut [Server], seq: u32, token: [u8; 32]) -> Result<(), AllocError>
-    requires { (p : RunPlan) × (at : Standing) × (votes : List Vote) × All (Serves p at votes) servers.old
-        × (p.first.version ≡ 1) × (seq ≡ at.committed + 1) × (0 < at.opened) }
-    ensures serve { (p : RunPlan) (at : Standing) (votes : List Vote) → All (Serves p at votes) servers.old
-        → IsLeft p.batches at → OnOk result (All (Serves p (after_commit at)
-        (votes ++ (commit_move token).votes at)) servers.new) }
-    ensures live { OnOk result (live_in servers.new ≡ count_with token servers.old) }
-    ensures committed { IsDecision (Some token) servers.old → AreCommittedByMost (seq - 1) (sections_in servers.old)
-        → OnOk result (AreCommittedByMost seq (sections_in servers.new)) }
-    ensures transferred { (p : RunPlan) (at : Standing) (votes : List Vote) → All (Serves p at votes) servers.old
-        → AreTransferredIn p (sections_in servers.old) → OnOk result (AreTransferredIn p (sections_in servers.new)) }
-    ensures undecided { AreUndecided (sections_in servers.old) → OnOk result (AreUndecided (sections_in servers.new)) }
+    requires awaits { (many : ℕ) × AwaitNext 1 many seq servers.old }
+    requires decided { IsDecision (Some token) servers.old }
+    ensures { OnOk result (ReachBatch seq token servers.old servers.new) }
 {
     for server in servers.iter_mut() {
         server.commit_or_stop(seq, token)?;
@@ -228,20 +188,9 @@ fn commit_or_transfer(
     seq: u32,
     token: [u8; 32],
 ) -> Result<(), RunFault>
-    requires serve { (p : RunPlan) × (at : Standing) × (votes : List Vote) × All (Serves p at votes) servers.old
-        × (p.first.version ≡ 2) × (length p.names ≡ head.now.customers)
-        × (seq ≡ at.committed + 1) × (0 < at.opened) }
+    requires awaits { AwaitNext 2 head.now.customers seq servers.old }
     requires decided { IsDecision (Some token) servers.old }
-    ensures serve { (p : RunPlan) (at : Standing) (votes : List Vote) → All (Serves p at votes) servers.old
-        → IsLeft p.batches at
-        → OnOk result (All (Serves p (after_commit at) (votes ++ (commit_move token).votes at)) servers.new) }
-    ensures live { OnOk result (live_in servers.new ≡ live_in servers.old) }
-    ensures committed { AreCommittedByMost (seq - 1) (sections_in servers.old)
-        → OnOk result (AreCommittedByMost seq (sections_in servers.new)) }
-    ensures transferred { (p : RunPlan) (at : Standing) (votes : List Vote) → All (Serves p at votes) servers.old
-        → IsLeft p.batches at → AreTransferredIn p (sections_in servers.old)
-        → OnOk result (AreTransferredIn p (sections_in servers.new)) }
-    ensures undecided { AreUndecided (sections_in servers.old) → OnOk result (AreUndecided (sections_in servers.new)) }
+    ensures on { OnOk result (ReachBatch seq token servers.old servers.new) }
     ensures states { let others = length servers.old - count_with token servers.old in
         OnOk result (states_in (sections_in servers.old) + others ≤ states_in (sections_in servers.new)) }
     ensures why { IfErr result (IsLongOnly ⊥) }
@@ -270,12 +219,9 @@ fn commit_or_wait_all(servers: &mut [Server], seq: u32, token: [u8; 32]) -> Resu
 fn have_all_committed(servers: &[Server], seq: u32) -> bool
     ensures { IsTrue result → All (λ s. s.replica.ledger.committed ≡ seq) servers.now }
 {
-    for server in servers {
-        if server.replica.committed() != seq {
-            return false;
-        }
-    }
-    true
+    servers
+        .iter()
+        .all(|server| server.replica.committed() == seq)
 }
 
 /// What the lowest-numbered replica that committed the batch with this number last has committed.
@@ -330,18 +276,6 @@ fn spend(room: &mut u64, head: &Head, servers: &[Server], token: [u8; 32]) -> Re
     Ok(())
 }
 
-/// Each live replica rolls back.
-fn roll_back_all(servers: &mut [Server], alloc: Global) -> Result<(), AllocError>
-    requires { (p : RunPlan) × (at : Standing) × (votes : List Vote) × All (Serves p at votes) servers.old
-        × (at.view < MOST_VIEWS) × (0 < at.opened) }
-    ensures { OnOk result (AreAllOn Discards servers.old servers.new) }
-{
-    for server in servers.iter_mut() {
-        server.roll_back(alloc)?;
-    }
-    Ok(())
-}
-
 /// The token that more than half of all replicas are live and have for the next batch, if there is one.
 fn decided(servers: &[Server]) -> Option<[u8; 32]>
     ensures { IsDecision result servers.now }
@@ -361,11 +295,8 @@ fn decided(servers: &[Server]) -> Option<[u8; 32]>
 fn count_with(servers: &[Server], token: [u8; 32]) -> usize
     ensures { result ≡ count_with token servers.now }
 {
-    let mut count = 0;
-    for server in servers {
-        if server.has_next(token) {
-            count += 1;
-        }
-    }
-    count
+    servers
+        .iter()
+        .filter(|server| server.has_next(token))
+        .count()
 }

@@ -1,6 +1,8 @@
 //! The run of a whole deployment.
 
-ghost use Rattle.std.specs.Prelude.{◌≡◌, ◌≤◌, ◌<◌, ◌*◌, ◌⊎◌, true, [], All, IfOk, IfErr, OnOk, length, map, vec_len};
+ghost use Rattle.std.specs.Prelude.{◌≡◌, ◌≤◌, ◌<◌, ◌*◌, ◌⊎◌, true, [], All, IfOk, IfErr, IsTrue, OnOk, length, map};
+ghost use Rattle.std.specs.Prelude.{vec_len};
+ghost use Rattle.eve_grammar.specs.Limits.{is_head};
 ghost use Rattle.eve_grammar.specs.Trace.{opening_rows};
 ghost use Rattle.eve_write.specs.Data.{batch as plain, customer, section, sent};
 ghost use Rattle.eve_workload.specs.Workload.{customer_names};
@@ -21,8 +23,7 @@ use crate::server::Server;
 use crate::standing::Standing;
 use eve_accounts::{Balances, Names};
 use eve_grammar::{
-    Head, MOST_BATCHES, MOST_BYTES, MOST_CUSTOMERS, MOST_REPLICAS, MOST_WINDOW, MOST_WORKERS,
-    NEWEST_VERSION,
+    Head, MOST_BATCHES, MOST_BYTES, MOST_REPLICAS, MOST_WINDOW, MOST_WORKERS, NEWEST_VERSION,
 };
 use eve_recorder::Gate;
 use eve_workload::{MixedBatch, Mixer, Workload};
@@ -94,13 +95,8 @@ fn run_named<R: Threads + Wait + Sync, G: Gate>(
     let head = workload.head();
     let (customers, listed) = workload.into_lists();
     let batches = batches_of(alloc, listed, names, mixer)?;
-    let mut state = first_state(
-        alloc,
-        &head,
-        names,
-        customers.as_slice(),
-        batches.as_slice(),
-    )?;
+    let given = customers.as_slice();
+    let mut state = first_state(alloc, &head, names, given, batches.as_slice())?;
     run_windows(rt, alloc, &mut state, gate)?;
     let outcome = outcome_of(alloc, state)?;
     let batches = plain_batches(alloc, batches)?;
@@ -126,13 +122,8 @@ fn first_state<'n, 'b>(
     batches: &'b [MixedBatch],
 ) -> Result<RunState<'n, 'b>, AllocError>
     requires named { names.now.items ≡ customer_names (map customer customers.now) }
-    requires version { (head.now.version ≡ 1) ⊎ (head.now.version ≡ 2) }
-    requires some { 1 ≤ length customers.now }
+    requires right { IsTrue (is_head head.now) }
     requires customers { length customers.now ≡ head.now.customers }
-    requires known { length customers.now ≤ MOST_CUSTOMERS }
-    requires workers { (1 ≤ head.now.workers) × (head.now.workers ≤ MOST_WORKERS) }
-    requires window { (1 ≤ head.now.window) × (head.now.window ≤ MOST_WINDOW) }
-    requires replicas { 1 ≤ head.now.replicas }
     requires few { length batches.now ≤ MOST_BATCHES }
     requires mixed { All (IsRightMixed names.now.items) batches.now }
     ensures under_way { let opened = opening_rows (map customer customers.now) in
@@ -209,23 +200,21 @@ fn outcome_of(alloc: Global, state: RunState) -> Result<Outcome, AllocError>
         IfOk result (λ o. map sent o.sent.items
         ≡ sent_from_on batches 0 (map (λ s. section s.steps) state.entry.servers.items)) }
 {
-    let sent = replies_of(alloc, state.servers.as_slice(), state.batches)?;
-    let verifiers = copies_of(alloc, state.votes.as_slice(), state.head.verifiers)?;
-    let sections = sections_of(alloc, servers_in(state))?;
+    let RunState {
+        head,
+        batches,
+        servers,
+        votes,
+        ..
+    } = state;
+    let sent = replies_of(alloc, servers.as_slice(), batches)?;
+    let verifiers = copies_of(alloc, votes.as_slice(), head.verifiers)?;
+    let sections = sections_of(alloc, servers)?;
     Ok(Outcome {
         sections,
         verifiers,
         sent,
     })
-}
-
-/// The replicas of the run.
-fn servers_in<'n>(state: RunState<'n, '_>) -> Vec<Server<'n>>
-    ensures { result ≡ state.entry.servers }
-{
-    let RunState { servers, votes, .. } = state;
-    drop(votes);
-    servers
 }
 
 /// The replicas of the run, which have done nothing.
@@ -284,20 +273,13 @@ fn sections_of(alloc: Global, servers: Vec<Server>) -> Result<Vec<Vec<Step>>, Al
 {
     let mut sections = Vec::with_capacity(alloc, servers.len())?;
     for server in servers {
-        sections.push_reserved(steps_of(server));
+        let Server { steps, .. } = server;
+        sections.push_reserved(steps);
     }
     Ok(sections)
 }
 
-/// What the replica did.
-fn steps_of(server: Server) -> Vec<Step>
-    ensures { result ≡ server.entry.steps }
-{
-    let Server { replica, steps, .. } = server;
-    drop(replica);
-    steps
-}
-
+/// As many copies of the votes.
 fn copies_of(alloc: Global, votes: &[VoteData], count: u8) -> Result<Vec<Vec<VoteData>>, AllocError>
     ensures many { IfOk result (λ copies. vec_len copies ≡ count) }
     ensures each { IfOk result (λ copies. All (λ c. c.items ≡ votes.now) copies.items) }

@@ -31,14 +31,12 @@ pub(crate) fn replies_of(
     let mut replies = Vec::with_capacity(alloc, count_replies(servers))?;
     for place in 0..servers.len() {
         let steps = servers[place].steps.as_slice();
-        send_section(
-            alloc,
-            &mut replies,
-            place as u8,
-            servers.len(),
-            steps,
+        let sender = Sender {
+            place: place as u8,
+            replicas: servers.len(),
             batches,
-        )?;
+        };
+        sender.send_section(alloc, &mut replies, steps)?;
     }
     Ok(replies)
 }
@@ -57,130 +55,94 @@ fn count_replies(servers: &[Server]) -> usize {
     count
 }
 
-/// The replies to each batch that the replica at this place committed by these steps.
-fn send_section(
-    alloc: Global,
-    replies: &mut Vec<SentData>,
+/// A replica that sends replies: its place among the replicas of a run, their number, and the batches of the run.
+#[derive(Clone, Copy)]
+struct Sender<'b> {
     place: u8,
     replicas: usize,
-    steps: &[Step],
-    batches: &[MixedBatch],
-) -> Result<(), AllocError>
-    requires there { place < replicas }
-    requires right { AreReplies replicas (length batches.now) replies.old.items }
-    ensures limits { OnOk result (AreReplies replicas (length batches.now) replies.new.items) }
-    ensures sent { OnOk result (map plain replies.new.items ≡ map plain replies.old.items
-        ++ sent_along (map (λ m. batch m.batch) batches.now) place [] (map plain_step steps.now)) }
-{
-    let mut opened: Vec<&AttemptData> = Vec::new(alloc);
-    for step in steps {
-        match step {
-            Step::Attempt(attempt) => opened.push(attempt)?,
-            Step::Commit(_) => {
-                if !opened.is_empty() {
-                    let attempt = opened.remove(0);
-                    send_attempt(replies, place, replicas, attempt, batches)?;
+    batches: &'b [MixedBatch],
+}
+
+impl Sender<'_> {
+    /// Sends the replies to each batch that it committed by these steps.
+    fn send_section(
+        &self,
+        alloc: Global,
+        replies: &mut Vec<SentData>,
+        steps: &[Step],
+    ) -> Result<(), AllocError>
+        requires there { self.now.place < self.now.replicas }
+        requires right { AreReplies self.now.replicas (length self.now.batches.now) replies.old.items }
+        ensures limits { OnOk result (AreReplies self.now.replicas (length self.now.batches.now) replies.new.items) }
+        ensures sent { let batches = map (λ m. batch m.batch) self.now.batches.now in
+            OnOk result (map plain replies.new.items ≡ map plain replies.old.items
+            ++ sent_along batches self.now.place [] (map plain_step steps.now)) }
+    {
+        let mut opened: Vec<&AttemptData> = Vec::new(alloc);
+        for step in steps {
+            match step {
+                Step::Attempt(attempt) => opened.push(attempt)?,
+                Step::Commit(_) => {
+                    if !opened.is_empty() {
+                        let attempt = opened.remove(0);
+                        self.send_attempt(replies, attempt)?;
+                    }
                 }
+                Step::Rollback(_) => opened.clear(),
+                Step::Transfer(_) => opened.clear(),
             }
-            Step::Rollback(_) => opened.clear(),
-            Step::Transfer(_) => opened.clear(),
         }
+        Ok(())
     }
-    Ok(())
-}
 
-/// The replies of the attempt, which the replica at this place sends.
-fn send_attempt(
-    replies: &mut Vec<SentData>,
-    place: u8,
-    replicas: usize,
-    attempt: &AttemptData,
-    batches: &[MixedBatch],
-) -> Result<(), AllocError>
-    requires there { place < replicas }
-    requires right { AreReplies replicas (length batches.now) replies.old.items }
-    ensures limits { OnOk result (AreReplies replicas (length batches.now) replies.new.items) }
-    ensures sent { OnOk result (map plain replies.new.items ≡ map plain replies.old.items
-        ++ answers_of (map (λ m. batch m.batch) batches.now) place (plain_attempt attempt.now)) }
-{
-    let seq = attempt.seq;
-    if seq < 1 || seq as usize > batches.len() {
-        return Ok(());
+    /// Sends the replies of the attempt.
+    fn send_attempt(
+        &self,
+        replies: &mut Vec<SentData>,
+        attempt: &AttemptData,
+    ) -> Result<(), AllocError>
+        requires there { self.now.place < self.now.replicas }
+        requires right { AreReplies self.now.replicas (length self.now.batches.now) replies.old.items }
+        ensures limits { OnOk result (AreReplies self.now.replicas (length self.now.batches.now) replies.new.items) }
+        ensures sent { OnOk result (map plain replies.new.items ≡ map plain replies.old.items
+            ++ answers_of (map (λ m. batch m.batch) self.now.batches.now) self.now.place (plain_attempt attempt.now)) }
+    {
+        let seq = attempt.seq;
+        if seq < 1 || seq as usize > self.batches.len() {
+            return Ok(());
+        }
+        let requests = self.batches[seq as usize - 1].batch.requests.as_slice();
+        let answers = attempt.replies.as_slice();
+        let count = requests.len().min(answers.len());
+        replies.reserve(count)?;
+        for index in 0..count {
+            self.send(replies, seq, &requests[index], answers[index]);
+        }
+        Ok(())
     }
-    let requests = batches[seq as usize - 1].batch.requests.as_slice();
-    send_answers(
-        replies,
-        place,
-        replicas,
-        seq,
-        batches,
-        requests,
-        attempt.replies.as_slice(),
-    )
-}
 
-/// The replies to the requests of the batch with this number.
-fn send_answers(
-    replies: &mut Vec<SentData>,
-    place: u8,
-    replicas: usize,
-    seq: u32,
-    batches: &[MixedBatch],
-    requests: &[RequestData],
-    answers: &[Reply],
-) -> Result<(), AllocError>
-    requires there { place < replicas }
-    requires seq { (1 ≤ seq) × (seq ≤ length batches.now) }
-    requires right { AreReplies replicas (length batches.now) replies.old.items }
-    ensures limits { OnOk result (AreReplies replicas (length batches.now) replies.new.items) }
-    ensures sent { OnOk result (map plain replies.new.items ≡ map plain replies.old.items
-        ++ answered place seq (map asked requests.now) answers.now) }
-{
-    let count = requests.len().min(answers.len());
-    replies.reserve(count)?;
-    for index in 0..count {
-        send(
-            replies,
-            place,
-            replicas,
+    /// Sends the reply to a request of the batch with this number, where there is room for it.
+    fn send(&self, replies: &mut Vec<SentData>, seq: u32, request: &RequestData, reply: Reply)
+        requires there { self.now.place < self.now.replicas }
+        requires seq { (1 ≤ seq) × (seq ≤ length self.now.batches.now) }
+        requires right { AreReplies self.now.replicas (length self.now.batches.now) replies.old.items }
+        requires room { vec_len replies.old < vec_capacity replies.old }
+        ensures limits { AreReplies self.now.replicas (length self.now.batches.now) replies.new.items }
+        ensures sent { map plain replies.new.items ≡ map plain replies.old.items
+            ++ answered self.now.place seq (asked request.now ∷ []) (reply ∷ []) }
+        ensures len { vec_len replies.new ≡ vec_len replies.old + 1 }
+        ensures capacity { vec_capacity replies.new ≡ vec_capacity replies.old }
+    {
+        let sent = SentData {
+            client: request.client,
+            number: request.number,
+            replica: self.place,
             seq,
-            batches,
-            &requests[index],
-            answers[index],
-        );
+            reply,
+        };
+        sent_fits(&sent, self.replicas, self.batches.len());
+        replies.push_reserved(sent);
     }
-    Ok(())
-}
-
-/// The reply to a request of the batch with this number, where there is room for it.
-fn send(
-    replies: &mut Vec<SentData>,
-    place: u8,
-    replicas: usize,
-    seq: u32,
-    batches: &[MixedBatch],
-    request: &RequestData,
-    reply: Reply,
-)
-    requires there { place < replicas }
-    requires seq { (1 ≤ seq) × (seq ≤ length batches.now) }
-    requires right { AreReplies replicas (length batches.now) replies.old.items }
-    requires room { vec_len replies.old < vec_capacity replies.old }
-    ensures limits { AreReplies replicas (length batches.now) replies.new.items }
-    ensures sent { map plain replies.new.items ≡ map plain replies.old.items
-        ++ answered place seq (asked request.now ∷ []) (reply ∷ []) }
-    ensures len { vec_len replies.new ≡ vec_len replies.old + 1 }
-    ensures capacity { vec_capacity replies.new ≡ vec_capacity replies.old }
-{
-    let sent = SentData {
-        client: request.client,
-        number: request.number,
-        replica: place,
-        seq,
-        reply,
-    };
-    sent_fits(&sent, replicas, batches.len());
-    replies.push_reserved(sent);
 }
 
 /// Does nothing: its contract says that the reply lies within the limits of the format, by the numbers of replicas and

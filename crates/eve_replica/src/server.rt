@@ -5,14 +5,14 @@ ghost use Rattle.std.specs.Prelude.{OnOk, length};
 ghost use Rattle.std.specs.Prelude.{◌≢◌, ◌*◌, ℕ, List, IfErr, IfOk};
 ghost use Rattle.std.specs.Arc.{arc_value};
 ghost use Rattle.eve_grammar.specs.Bodies.{transfer};
-ghost use Rattle.eve_grammar.specs.Limits.{is_step, is_transfer};
+ghost use Rattle.eve_grammar.specs.Limits.{is_transfer};
 ghost use Rattle.eve_grammar.specs.Trace.{Transfers};
 ghost use Rattle.eve_attempts.specs.Ledgers.{ledger_rows};
-ghost use Rattle.eve_write.specs.Data.{section, step as plain};
+ghost use Rattle.eve_write.specs.Data.{section};
 ghost use Rattle.eve_replica.specs.Decisions.{is_some_of};
 ghost use Rattle.eve_replica.specs.RunFaults.{IsLongOnly};
 ghost use Rattle.eve_replica.specs.Sections.{RunPlan};
-ghost use Rattle.eve_replica.specs.inner.RunInvariant.{AreRightSteps, GoesOn, GivesUpNext};
+ghost use Rattle.eve_replica.specs.inner.RunInvariant.{GoesOn, GivesUpNext};
 ghost use Rattle.eve_replica.specs.inner.RunInvariant.{AttemptsUnbroken, IsDueTo};
 ghost use Rattle.eve_replica.specs.inner.RunInvariant.{commit_move, rollback_move};
 ghost use Rattle.eve_replica.specs.inner.RunInvariant.{next_token, standing_of, CommitsNext, IsLentBy, MayTransfer};
@@ -54,9 +54,13 @@ impl<'n> Server<'n> {
         if !self.is_live {
             return;
         }
+        let Ok(noted) = self.replica.run_window(rt, alloc, window, gate) else {
+            return;
+        };
+        let noted = noted.as_slice();
         match self
             .replica
-            .attempt_window(rt, alloc, &mut self.steps, window, gate)
+            .close_window(alloc, &mut self.steps, window, noted)
         {
             Ok(()) => {}
             Err(_) => {}
@@ -137,7 +141,7 @@ impl<'n> Server<'n> {
             unreachable!()
         };
         commit_fits(&commit);
-        self.did(Step::Commit(commit))
+        add_step(&mut self.steps, Step::Commit(commit))
     }
 
     /// The state that the replica has committed. That of a replica whose rows lie within the limits may always be
@@ -188,7 +192,7 @@ impl<'n> Server<'n> {
             unreachable!()
         };
         self.missing = awaited - 1;
-        self.did(Step::Transfer(shared))
+        add_step(&mut self.steps, Step::Transfer(shared))
     }
 
     /// Rolls back, if the replica is live.
@@ -205,18 +209,6 @@ impl<'n> Server<'n> {
         }
         let rollback = self.replica.rollback(alloc)?;
         self.missing = 0;
-        self.did(Step::Rollback(rollback))
-    }
-
-    /// Adds a step that the replica took.
-    fn did(&mut self, step: Step) -> Result<(), AllocError>
-        requires right { IsTrue (is_step (ledger_rows self.old.replica.ledger) (plain step)) }
-        ensures replica { self.new.replica ≡ self.old.replica }
-        ensures live { self.new.is_live ≡ self.old.is_live }
-        ensures missing { self.new.missing ≡ self.old.missing }
-        ensures steps { OnOk result (AreRightSteps self.old → AreRightSteps self.new) }
-        ensures added { OnOk result (section self.new.steps ≡ section self.old.steps ++ plain step ∷ []) }
-    {
-        add_step(&mut self.steps, step)
+        add_step(&mut self.steps, Step::Rollback(rollback))
     }
 }

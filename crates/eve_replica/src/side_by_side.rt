@@ -60,7 +60,7 @@ fn threads_for(servers: &[Server], window: &[MixedBatch]) -> usize
     if work_of(first, window) < LEAST_WORK {
         return 1;
     }
-    match first.workers() {
+    match first.workers.many() {
         1 => 8,
         2 | 3 => 4,
         _ => 2,
@@ -69,7 +69,7 @@ fn threads_for(servers: &[Server], window: &[MixedBatch]) -> usize
 
 /// How long the window takes a replica, in requests.
 fn work_of(replica: &Replica<'_>, window: &[MixedBatch]) -> usize {
-    let hashing = replica.customers() / CUSTOMERS_A_REQUEST;
+    let hashing = replica.names.len() / CUSTOMERS_A_REQUEST;
     let mut work = 0usize;
     for mixed in window {
         work = work
@@ -85,7 +85,7 @@ fn first_fault(servers: &[Server]) -> Result<(), AttemptFault>
 {
     for server in servers {
         if server.replica.is_broken() {
-            return Err(server.replica.fault());
+            return Err(server.replica.fault.unwrap_or(AttemptFault::Broken));
         }
     }
     Ok(())

@@ -1,10 +1,9 @@
-use Rattle.std.proofs.Common.{◌≡◌, ℕ, zero, suc, ◌≤◌, ◌⊎◌, inl, inr, All, IsTrue, List, length, map, refl, sym, ◌∙◌}
+use Rattle.std.proofs.Common.{◌≡◌, ℕ, All, IsTrue, List, length, map, sym, ◌∙◌}
 use Rattle.std.proofs.Common.{ap, subst, arith}
 use Rattle.std.proofs.lemmas.List.{length-map}
 use Rattle.std.specs.List.{list_all}
 use Rattle.eve_grammar.specs.Trace.{Customer, Vote, head_of, opening_rows}
 use Rattle.eve_grammar.specs.declared.head.Head as header
-use Rattle.eve_grammar.specs.declared.limits.TheConstants.{NEWEST_VERSION}
 use Rattle.eve_grammar.specs.Limits.{is_customer}
 use Rattle.eve_grammar.specs.declared.head.Head.{Head}
 use Rattle.eve_write.specs.declared.parts.Parts.{Parts}
@@ -15,24 +14,16 @@ use Rattle.eve_workload.specs.declared.mixer.MixedBatch.{MixedBatch}
 use Rattle.eve_replica.specs.declared.server.Server.{Server}
 use Rattle.eve_replica.specs.declared.run_state.RunState.{RunState}
 use Rattle.eve_replica.specs.inner.RunInvariant.{IsRightMixed, AreVotesOn, AreReplies, IsUnderWay, plan_with}
-use Rattle.eve_workload.specs.Mixers.{cut, batch_with}
 use Rattle.eve_workload.specs.Workload.{customer_names, head_asked, is_listed}
 use Rattle.eve_replica.specs.Run.{batches_cut, run_plan}
 use Rattle.eve_replica.specs.RunFaults.{EndsSoFar}
 use Rattle.eve_replica.specs.Sections.{RunPlan}
 use Rattle.eve_replica.specs.SentReplies.{sent_from_on}
-use Rattle.eve_grammar.proofs.HeadLimits.{head_has_limits, few_customers}
+use Rattle.eve_grammar.proofs.HeadLimits.{head_has_limits}
 use Rattle.eve_replica.proofs.RunLimits.{same_head, spelled}
 use Rattle.eve_replica.proofs.RunSections.{run_of, plan_is, copies_gave}
 use Rattle.eve_replica.proofs.Endings.{at_err}
 use Rattle.eve_replica.proofs.running.run_named.Goals as goal
-
--- what is the number of a format
-one_or_two : (n : ℕ) → 1 ≤ n → n ≤ NEWEST_VERSION → (n ≡ 1) ⊎ (n ≡ 2)
-one_or_two zero some few = absurd (omega arith)
-one_or_two (suc zero) some few = inl refl
-one_or_two (suc (suc zero)) some few = inr refl
-one_or_two (suc (suc (suc n))) some few = absurd (omega arith)
 
 pub returns-clause-run : goal.returns-clause-run
 returns-clause-run g c =
@@ -54,25 +45,28 @@ returns-clause-run g c =
     let last : RunState = c.run_windows.new.state in
     let servers : List Server = last.servers.items in
     let given : List VoteData = last.votes.items in
-    let slice : List MixedBatch = c.as_slice-2.result.now in
-    let opened = opening_rows (map customer c.as_slice.result.now) in
-    let plan = plan_with c.args.names.now.items opened h slice in
+    let slice : List MixedBatch = c.as_slice.result.now in
+    let lent : List CustomerData = c.as_slice-given.result.now in
+    let names : List (List ℕ) = c.args.names.now.items in
+    let plan = plan_with names (opening_rows (map customer lent)) h slice in
     let under : IsUnderWay plan last = c.in_ok-run_windows.ensures.under_way plan c.in_ok-state.ensures.under_way in
     let same : last.head ≡ h = c.in_ok-run_windows.ensures.same.0 ∙ c.in_ok-state.ensures.head in
     let all : last.batches.now ≡ mixed = ap (λ b. b.now) c.in_ok-run_windows.ensures.same.1
-    ∙ c.in_ok-state.ensures.batches ∙ c.as_slice-2.ensures.value in
+    ∙ c.in_ok-state.ensures.batches ∙ c.as_slice.ensures.value in
     let replicas : length p.sections.items ≡ h.replicas =
     sym (length-map p.sections.items section) ∙ ap length gave.sections ∙ length-map servers (λ s. section s.steps)
     ∙ omega (arith, last.servers.ok, under.many, ap (λ (x : header.Head). x.replicas) same) in
     let verifiers : length p.verifiers.items ≡ h.verifiers =
     omega (arith, p.verifiers.ok, gave.many, ap (λ (x : header.Head). x.verifiers) same) in
     let customers : (trace p).customers ≡ w.customers = c.into_lists-customers.ensures.customers in
-    let cuts : map (λ m. batch m.batch) mixed ≡ batches_cut w c.args.mixer =
-    c.in_ok-batches.ensures.cut
-    ∙ (λ k. map (λ requests. batch_with (cut (c.requires.named k) c.args.mixer requests))
-    (c.into_lists-customers.ensures.batches k)) in
-    let batches : (trace p).batches ≡ batches_cut w c.args.mixer = c.in_ok-batches-2.ensures ∙ cuts in
     let asked : h ≡ head_asked w = c.head-head.ensures.head in
+    let is : plan ≡ run_plan w c.args.mixer =
+    plan_is w c.args.mixer lent names h _ slice (ap (map customer) c.as_slice-given.ensures.value ∙ customers)
+    c.requires.named asked c.into_lists-customers.ensures.batches
+    (ap (map (λ m. batch m.batch)) c.as_slice.ensures.value ∙ c.in_ok-batches.ensures.cut) in
+    let batches : (trace p).batches ≡ batches_cut w c.args.mixer =
+    c.in_ok-batches-2.ensures ∙ ap (map (λ m. batch m.batch)) (sym c.as_slice.ensures.value)
+    ∙ ap (λ (x : RunPlan). x.batches) is in
     let many : length (trace p).batches ≡ h.batches =
     ap length batches ∙ length-map w.batches _ ∙ ap (λ (x : Head). x.batches) (sym asked) in
     let named : length (trace p).customers ≡ h.customers = ap length customers
@@ -91,21 +85,13 @@ returns-clause-run g c =
     subst (λ (ms : List MixedBatch). AreReplies (length servers) (length ms) p.sent.items) all gave.limits in
     let led : List Vote = map vote given in
     let at = last.standing in
-    let start : opened ≡ opening_rows w.customers =
-    ap (λ (cs : List CustomerData). opening_rows (map customer cs)) c.as_slice.ensures.value
-    ∙ ap opening_rows customers in
     let done : at.committed ≡ length plan.batches =
     c.in_ok-run_windows.ensures.done ∙ ap length c.in_ok-state.ensures.batches
     ∙ sym (length-map slice (λ m. batch m.batch)) in
     let sent_all : (trace p).sent ≡ sent_from_on plan.batches 0 (map (λ s. section s.steps) servers) =
     gave.sent
     ∙ ap (λ (ms : List MixedBatch). sent_from_on (map (λ m. batch m.batch) ms) 0
-    (map (λ s. section s.steps) servers)) (all ∙ sym c.as_slice-2.ensures.value) in
-    let is : plan ≡ run_plan w c.args.mixer =
-    plan_is w c.args.mixer c.args.names.now.items opened h slice
-    c.requires.named start (ap (λ (x : Head). x.version) asked) (ap (λ (x : Head). x.workers) asked)
-    (ap (λ (x : Head). x.window) asked)
-    (ap (map (λ m. batch m.batch)) c.as_slice-2.ensures.value ∙ cuts) in
+    (map (λ s. section s.steps) servers)) (all ∙ sym c.as_slice.ensures.value) in
     record {
       spelled = spelled p h plan mixed at led servers given
           head (c.head-head.ensures.right c.requires.format.0 c.requires.format.1)
@@ -125,55 +111,18 @@ returns-clause-run g c =
 pub first_state-requires-clause-named : goal.first_state-requires-clause-named
 first_state-requires-clause-named g c =
     c.requires.named
-    ∙ ap customer_names (sym (ap (map customer) c.as_slice.ensures.value ∙ c.into_lists-customers.ensures.customers))
+    ∙ ap customer_names
+    (sym (ap (map customer) c.as_slice-given.ensures.value ∙ c.into_lists-customers.ensures.customers))
 
 pub first_state-requires-clause-customers : goal.first_state-requires-clause-customers
 first_state-requires-clause-customers g c =
-    sym (length-map c.as_slice.result.now customer)
-    ∙ ap length (ap (map customer) c.as_slice.ensures.value ∙ c.into_lists-customers.ensures.customers)
+    sym (length-map c.as_slice-given.result.now customer)
+    ∙ ap length (ap (map customer) c.as_slice-given.ensures.value ∙ c.into_lists-customers.ensures.customers)
     ∙ sym (ap (λ (h : Head). h.customers) c.head-head.ensures.head)
-
-pub first_state-requires-clause-version : goal.first_state-requires-clause-version
-first_state-requires-clause-version g c =
-    let head = head_has_limits c.head-head.result
-    (c.head-head.ensures.right c.requires.format.0 c.requires.format.1) in
-    one_or_two c.head-head.result.version head.some_version head.known_version
-
-pub first_state-requires-clause-some : goal.first_state-requires-clause-some
-first_state-requires-clause-some g c =
-    let head = head_has_limits c.head-head.result
-    (c.head-head.ensures.right c.requires.format.0 c.requires.format.1) in
-    omega (arith, first_state-requires-clause-customers g c, head.some_customers)
-
-pub first_state-requires-clause-known : goal.first_state-requires-clause-known
-first_state-requires-clause-known g c =
-    omega (
-      arith,
-      first_state-requires-clause-customers g c,
-      few_customers c.head-head.result
-          (c.head-head.ensures.right c.requires.format.0 c.requires.format.1),
-    )
-
-pub first_state-requires-clause-workers : goal.first_state-requires-clause-workers
-first_state-requires-clause-workers g c =
-    let head = head_has_limits c.head-head.result
-    (c.head-head.ensures.right c.requires.format.0 c.requires.format.1) in
-    (head.some_workers, head.few_workers)
-
-pub first_state-requires-clause-window : goal.first_state-requires-clause-window
-first_state-requires-clause-window g c =
-    let head = head_has_limits c.head-head.result
-    (c.head-head.ensures.right c.requires.format.0 c.requires.format.1) in
-    (head.some_window, head.few_window)
-
-pub first_state-requires-clause-replicas : goal.first_state-requires-clause-replicas
-first_state-requires-clause-replicas g c =
-    (head_has_limits c.head-head.result
-    (c.head-head.ensures.right c.requires.format.0 c.requires.format.1)).some_replicas
 
 pub first_state-requires-clause-mixed : goal.first_state-requires-clause-mixed
 first_state-requires-clause-mixed g c =
-    subst (All (IsRightMixed c.args.names.now.items)) (sym c.as_slice-2.ensures.value) c.in_ok-batches.ensures.mixed
+    subst (All (IsRightMixed c.args.names.now.items)) (sym c.as_slice.ensures.value) c.in_ok-batches.ensures.mixed
 
 pub batches_of-requires : goal.batches_of-requires
 batches_of-requires g c =
@@ -183,8 +132,8 @@ batches_of-requires g c =
 pub outcome_of-requires : goal.outcome_of-requires
 outcome_of-requires g c =
     let h : header.Head = c.head-head.result in
-    let opened = opening_rows (map customer c.as_slice.result.now) in
-    let plan = plan_with c.args.names.now.items opened h c.as_slice-2.result.now in
+    let plan = plan_with c.args.names.now.items (opening_rows (map customer c.as_slice-given.result.now)) h
+    c.as_slice.result.now in
     let last : RunState = c.run_windows.new.state in
     let under : IsUnderWay plan last = c.in_ok-run_windows.ensures.under_way plan c.in_ok-state.ensures.under_way in
     let same : last.head ≡ h = c.in_ok-run_windows.ensures.same.0 ∙ c.in_ok-state.ensures.head in
@@ -198,8 +147,8 @@ outcome_of-requires g c =
 
 pub run_windows-requires-clause-under_way : goal.run_windows-requires-clause-under_way
 run_windows-requires-clause-under_way g c κs within =
-    let opened = opening_rows (map customer c.as_slice.result.now) in (
-      plan_with c.args.names.now.items opened c.head-head.result c.as_slice-2.result.now,
+    let opened = opening_rows (map customer c.as_slice-given.result.now) in (
+      plan_with c.args.names.now.items opened c.head-head.result c.as_slice.result.now,
       c.in_ok-state.ensures.under_way,
     )
 
@@ -207,23 +156,16 @@ pub returns-in_err-run_windows-clause-so_far : goal.returns-in_err-run_windows-c
 returns-in_err-run_windows-clause-so_far g c =
     let w = c.args.workload in
     let h : Head = c.head-head.result in
-    let mixed : List MixedBatch = c.in_ok-batches.batches.items in
-    let slice : List MixedBatch = c.as_slice-2.result.now in
-    let opened = opening_rows (map customer c.as_slice.result.now) in
-    let plan = plan_with c.args.names.now.items opened h slice in
+    let slice : List MixedBatch = c.as_slice.result.now in
+    let lent : List CustomerData = c.as_slice-given.result.now in
+    let names : List (List ℕ) = c.args.names.now.items in
+    let plan = plan_with names (opening_rows (map customer lent)) h slice in
     let asked : h ≡ head_asked w = c.head-head.ensures.head in
-    let cuts : map (λ m. batch m.batch) mixed ≡ batches_cut w c.args.mixer =
-    c.in_ok-batches.ensures.cut
-    ∙ (λ k. map (λ requests. batch_with (cut (c.requires.named k) c.args.mixer requests))
-    (c.into_lists-customers.ensures.batches k)) in
-    let start : opened ≡ opening_rows w.customers =
-    ap (λ (cs : List CustomerData). opening_rows (map customer cs)) c.as_slice.ensures.value
-    ∙ ap opening_rows c.into_lists-customers.ensures.customers in
     let is : plan ≡ run_plan w c.args.mixer =
-    plan_is w c.args.mixer c.args.names.now.items opened h slice
-    c.requires.named start (ap (λ (x : Head). x.version) asked) (ap (λ (x : Head). x.workers) asked)
-    (ap (λ (x : Head). x.window) asked)
-    (ap (map (λ m. batch m.batch)) c.as_slice-2.ensures.value ∙ cuts) in
+    plan_is w c.args.mixer lent names h _ slice
+    (ap (map customer) c.as_slice-given.ensures.value ∙ c.into_lists-customers.ensures.customers)
+    c.requires.named asked c.into_lists-customers.ensures.batches
+    (ap (map (λ m. batch m.batch)) c.as_slice.ensures.value ∙ c.in_ok-batches.ensures.cut) in
     let why = c.in_err-run_windows.field-0.0 in
     at_err c.from_residual-in_err-run_windows.result _ why c.from_residual-in_err-run_windows.ensures.1
     (subst (λ (x : Head). EndsSoFar (run_plan w c.args.mixer) x.replicas why) (c.in_ok-state.ensures.head ∙ asked)

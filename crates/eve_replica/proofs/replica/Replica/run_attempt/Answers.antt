@@ -1,18 +1,17 @@
 use Rattle.std.proofs.Common.{rules, ℕ, Bool, IfOk, sym, subst}
-use Rattle.eve_write.specs.declared.batch.BatchData.{BatchData}
 use Rattle.eve_write.specs.Data.{batch, attempt}
 use Rattle.eve_replica.specs.Replicas.{Replica, Attempts}
 use Rattle.eve_replica.proofs.replica.Replica.run_attempt.Goals as goal
 
-pub returns-clause-attempted : goal.returns-clause-attempted
-returns-clause-attempted g c =
-    let Made : ℕ → Bool → BatchData → Type 0 = λ view serial b. IfOk c.run_and_close.result
-    (λ a. Attempts view serial c.args.self.now c.run_and_close.new.self (batch b) (attempt a)) in
+pub returns-in-Ok-run_batches-clause-attempted : goal.returns-in-Ok-run_batches-clause-attempted
+returns-in-Ok-run_batches-clause-attempted g c =
     let old : Replica = c.args.self.now in
-    subst (λ (v : ℕ). Made v c.args.serial c.args.batch.now) (sym c.requires.view)
-    (subst (λ (s : Bool). Made old.ledger.view s c.args.batch.now) (sym c.requires.serial)
-    (subst (λ (b : BatchData). Made old.ledger.view old.ledger.is_next_serial b)
-    c.assignment_of-assignment.ensures.batch c.run_and_close.ensures.attempted))
+    let Made : Replica → ℕ → Bool → Type 0 = λ r view serial. IfOk c.close_noted.result
+    (λ a. Attempts view serial r c.close_noted.new.self (batch c.args.batch.now) (attempt a)) in
+    subst (λ (v : ℕ). Made old v c.args.serial) (sym c.requires.view)
+    (subst (λ (s : Bool). Made old old.ledger.view s) (sym c.requires.serial)
+    (subst (λ (r : Replica). Made r r.ledger.view r.ledger.is_next_serial) c.self.view_is
+    c.close_noted.ensures.attempted))
 
-pub run_and_close-requires-clause-due : goal.run_and_close-requires-clause-due
-run_and_close-requires-clause-due g c = search rules
+pub close_noted-requires-clause-due : goal.close_noted-requires-clause-due
+close_noted-requires-clause-due g c = search rules

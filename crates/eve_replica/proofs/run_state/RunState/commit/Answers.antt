@@ -11,27 +11,23 @@ use Rattle.eve_replica.proofs.RunsUnderWay.{batch_left, lent_majority, lent_befo
 use Rattle.eve_replica.proofs.Endings.{at_err}
 use Rattle.eve_replica.proofs.run_state.RunState.commit.Goals as goal
 
-pub commit_each-requires-clause-serve : goal.commit_each-requires-clause-serve
-commit_each-requires-clause-serve c =
+pub commit_each-requires-clause-awaits : goal.commit_each-requires-clause-awaits
+commit_each-requires-clause-awaits c =
     let was = c.requires.under_way.1 in
-    let d = c.args.self.now in (
-      c.requires.under_way.0,
-      d.standing,
-      map vote d.votes.items,
-      lent_serve c.requires.under_way.0 d c.as_mut_slice.result.now was c.as_mut_slice.ensures.value,
-      was.version,
-      was.customers,
-      omega arith,
-      omega arith,
-    )
+    let d = c.args.self.now in
+    record {
+      plan = c.requires.under_way.0;
+      at = d.standing;
+      votes = map vote d.votes.items;
+      serve = lent_serve c.requires.under_way.0 d c.as_mut_slice.result.now was c.as_mut_slice.ensures.value;
+      version = was.version;
+      customers = was.customers;
+      next = omega arith;
+      awaits = omega arith;
+    }
 
 pub commit_each-requires-clause-version : goal.commit_each-requires-clause-version
 commit_each-requires-clause-version c = c.requires.under_way.1.known
-
-pub commit_each-requires-clause-majority : goal.commit_each-requires-clause-majority
-commit_each-requires-clause-majority c =
-    lent_majority c.requires.under_way.0 c.args.self.now c.as_mut_slice.result.now c.requires.under_way.1
-    c.as_mut_slice.ensures.value
 
 pub commit_each-requires-clause-decided : goal.commit_each-requires-clause-decided
 commit_each-requires-clause-decided c =
@@ -48,15 +44,16 @@ returns-clause-under_way c = λ p was.
     let votes = map vote d.votes.items in
     let serve = lent_serve p d lent was same in
     let left = batch_left p d was in
-    let made = c.in_ok-commit_each.ensures in
+    let made = c.in_ok-commit_each.ensures.on in
     moved p d c.commit_each.new.servers (after_commit d.standing) c.vote_for_commit.new.votes c.commit_each.new.room was
     as_many (omega arith) c.in_ok-vote_for_commit.ensures.on
     (subst (λ (vs : List Vote). All (Serves p (after_commit d.standing) vs) c.commit_each.new.servers)
     (sym c.in_ok-vote_for_commit.ensures.added) (made.serve p d.standing votes serve left))
-    made.majority (made.committed (lent_before p d lent was same))
+    (made.majority (lent_majority p d lent was same)) (made.committed (lent_before p d lent was same))
     (made.transferred p d.standing votes serve left (lent_transferred p d lent was same))
     (made.undecided (lent_undecided p d lent was same))
-    (λ two. lent_spends p d lent c.commit_each.new.servers c.commit_each.new.room was same two (made.spent two))
+    (λ two. lent_spends p d lent c.commit_each.new.servers c.commit_each.new.room was same two
+    (c.in_ok-commit_each.ensures.spent two))
 
 pub returns-in_err-commit_each-clause-why : goal.returns-in_err-commit_each-clause-why
 returns-in_err-commit_each-clause-why c =

@@ -1,4 +1,5 @@
-use Rattle.std.proofs.Common.{◌-◌, ◌<◌, ℕ, List, All, get_or, length, map, take, drop, refl, sym, ap, ◌∙◌, subst, arith}
+use Rattle.std.proofs.Common.{◌-◌, ◌<◌, ℕ, List, Option, None, All, get_or, length, map, take, drop, refl, sym, ap, ◌∙◌}
+use Rattle.std.proofs.Common.{subst, arith}
 use Rattle.std.proofs.lemmas.List.{append-nil, length-map}
 use Rattle.std.proofs.lemmas.List.Elements.{All-drop, All-take}
 use Rattle.eve_grammar.specs.declared.head.Head.{Head}
@@ -7,7 +8,7 @@ use Rattle.eve_workload.specs.declared.mixer.MixedBatch.{MixedBatch}
 use Rattle.eve_replica.specs.declared.server.Server.{Server}
 use Rattle.eve_replica.specs.declared.standing.Standing.{Standing}
 use Rattle.eve_replica.specs.inner.RunInvariant.{AttemptsIfLive, IsRightMixed, IsUnderWay, AreWholeWindow, Move}
-use Rattle.eve_replica.specs.inner.RunInvariant.{attempt_move}
+use Rattle.eve_replica.specs.inner.RunInvariant.{IsDecision, attempt_move}
 use Rattle.eve_replica.specs.RunFaults.{EndsSoFar, run_fault_of}
 use Rattle.eve_replica.specs.Sections.{RunPlan}
 use Rattle.eve_replica.proofs.RunProgress.{amid, attempt_ends}
@@ -90,11 +91,16 @@ returns-in_err-attempt_each-clause-why g c =
     at_err c.from_residual.result _ (run_fault_of why) c.from_residual.ensures.1
     (λ (p : RunPlan) (was : IsUnderWay p d). attempt_ends p d.head.replicas why (amid p d was c.requires.left))
 
-pub returns-in_err-decide-clause-why : goal.returns-in_err-decide-clause-why
-returns-in_err-decide-clause-why g c =
+pub returns-in_err-commit-in-Some-clause-why : goal.returns-in_err-commit-in-Some-clause-why
+returns-in_err-commit-in-Some-clause-why g c =
     let d = c.args.self.now in
-    let why = c.in_err-decide.field-0.0 in
-    at_err c.from_residual-in_err-decide.result _ why c.from_residual-in_err-decide.ensures.1
+    let why = c.in_err-commit-in-Some.field-0.0 in
+    at_err c.from_residual-in_err-commit-in-Some.result _ why c.from_residual-in_err-commit-in-Some.ensures.1
     (λ (p : RunPlan) (was : IsUnderWay p d).
-    let made = c.in_err-decide.ensures.why p (c.loop-self.invariant.under_way p was) in
+    let made = c.in_err-commit-in-Some.ensures.why p (c.loop-self.invariant.under_way p was) in
     subst (λ (h : Head). EndsSoFar p h.replicas why) c.loop-self.invariant.same.0 made)
+
+pub roll_back-requires-clause-undecided : goal.roll_back-requires-clause-undecided
+roll_back-requires-clause-undecided g c =
+    subst (λ (ss : List Server). IsDecision None ss) c.as_slice.ensures.value
+    (subst (λ (o : Option (List ℕ)). IsDecision o c.as_slice.result.now) c.in-None.is c.decided.ensures)

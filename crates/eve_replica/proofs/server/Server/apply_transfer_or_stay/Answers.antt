@@ -1,4 +1,4 @@
-use Rattle.std.proofs.Common.{◌≡◌, ◌-◌, ◌∷◌, [], ◌++◌, IsTrue, sym, ap, ◌∙◌, subst, arith}
+use Rattle.std.proofs.Common.{rules, ◌≡◌, ◌+◌, ◌-◌, ◌∷◌, [], ◌++◌, IsTrue, sym, ap, ◌∙◌, subst, arith}
 use Rattle.std.proofs.lemmas.List.{length-map}
 use Rattle.std.specs.Arc.{arc_value}
 use Rattle.std.specs.List.{list_all}
@@ -11,7 +11,7 @@ use Rattle.eve_stamps.specs.Stripes.{HaveRightVersions}
 use Rattle.eve_attempts.specs.Ledgers.{ledger_rows}
 use Rattle.eve_attempts.specs.Transfers as state
 use Rattle.eve_write.specs.Data.{section}
-use Rattle.eve_replica.specs.Replicas.{Replica}
+use Rattle.eve_replica.specs.declared.server.Server.{Server}
 use Rattle.eve_replica.specs.inner.RunInvariant.{GoesOn, commit_move, standing_of}
 use Rattle.eve_replica.proofs.Steps.{transfer_goes}
 use Rattle.eve_replica.proofs.StateLimits.{versions_right}
@@ -29,19 +29,19 @@ returns-clause-on c = λ token other.
     let given : TransferData = arc_value c.args.state.now in
     let x = transfer given in
     let old = c.args.self.now in
-    let new = c.did.new.self in
-    let made : state.Transfers x old.replica.ledger c.transfer.new.self.ledger =
-    subst (λ (s : TransferData). state.Transfers (transfer s) old.replica.ledger c.transfer.new.self.ledger)
+    let new : Server = record old {
+      replica = c.transfer.new.self;
+      missing = c.opened.result + old.missing - 1;
+      steps = c.add_step.new.steps;
+    } in
+    let made : state.Transfers x old.replica.ledger new.replica.ledger =
+    subst (λ (s : TransferData). state.Transfers (transfer s) old.replica.ledger new.replica.ledger)
     (c.deref-2.ensures ∙ c.in_ok-shared.ensures) c.in-Ok.ensures.transferred in
     let rows = ap ledger_rows made.changed ∙ length-map x.rows (λ (r : Versioned). r.value) ∙ made.many in
-    let awaits : new.missing ≡ (standing_of old).opened - 1 =
-    omega (arith, c.did.ensures.missing, c.opened.ensures) in
-    where_well _ _ (GoesOn (commit_move token) old new) c.did.result
-    (λ right added. transfer_goes token x old new c.requires.live (c.did.ensures.live ∙ c.requires.live)
-    (c.requires.next other) awaits
-    (subst (λ (r : Replica). state.Transfers x old.replica.ledger r.ledger) (sym c.did.ensures.replica) made)
-    (subst (λ (r : Replica). r ≡ record old.replica { ledger = r.ledger }) (sym c.did.ensures.replica)
-    c.in-Ok.ensures.whole)
+    let awaits : new.missing ≡ (standing_of old).opened - 1 = omega (arith, c.opened.ensures) in
+    where_well _ _ (GoesOn (commit_move token) old new) c.add_step.result
+    (λ right added. transfer_goes token x old new c.requires.live c.requires.live (c.requires.next other) awaits made
+    c.in-Ok.ensures.whole
     (added ∙ ap (λ (s : TransferData). section old.steps ++ Transfers (transfer s) ∷ []) c.in_ok-shared.ensures)
     (λ h. right (subst (λ n. IsTrue (list_all (is_step n) (section old.steps))) (sym rows) h)))
-    c.did.ensures.steps c.did.ensures.added
+    (c.add_step.ensures.right (ledger_rows new.replica.ledger) (search rules)) c.add_step.ensures.added

@@ -1,9 +1,9 @@
-use Rattle.std.proofs.Common.{rules, ◌≡◌, true, false, IsTrue, sym, ◌∙◌, subst, arith}
+use Rattle.std.proofs.Common.{rules, ◌≡◌, true, false, IsTrue, refl, sym, subst, arith}
 use Rattle.std.specs.List.{list_all}
 use Rattle.eve_grammar.specs.Limits.{is_step}
-use Rattle.eve_attempts.specs.CommitsAndRollbacks.{RollsBack}
+use Rattle.eve_attempts.specs.Ledgers.{ledger_rows}
 use Rattle.eve_write.specs.Data.{rollback, section}
-use Rattle.eve_replica.specs.Replicas.{Replica}
+use Rattle.eve_replica.specs.declared.server.Server.{Server}
 use Rattle.eve_replica.specs.inner.RunInvariant.{GoesOn, GivesUpNext, rollback_move}
 use Rattle.eve_replica.proofs.Steps.{rests, rollback_goes, rollback_gives_up, stopped_gives_up}
 use Rattle.std.proofs.lemmas.Result.{on_ok_weaker}
@@ -13,31 +13,24 @@ use Rattle.eve_replica.proofs.server.Server.roll_back.Goals as goal
 pub returns-clause-on : goal.returns-clause-on
 returns-clause-on c =
     let made = c.in_ok-rollback.ensures.rolled_back in
-    let whole = c.in_ok-rollback.ensures.whole in
-    let same = c.did.ensures.replica in
     let r = rollback c.in_ok-rollback.rollback in
-    let steps = section c.args.self.now.steps in
-    let old = c.args.self.now.replica in
-    let live : c.args.self.now.is_live ≡ true = search rules in
-    where_well _ _ (GoesOn rollback_move c.args.self.now c.did.new.self) c.did.result
-    (λ right added. rollback_goes r c.args.self.now c.did.new.self live (c.did.ensures.live ∙ live)
-    (c.requires.awaits live) c.requires.missing c.did.ensures.missing
-    (subst (λ (x : Replica). RollsBack old.ledger x.ledger r) (sym same) made)
-    (subst (λ (x : Replica). x ≡ record old { ledger = x.ledger; is_broken = false }) (sym same) whole)
-    added
-    (λ h. right (subst (λ n. IsTrue (list_all (is_step n) steps)) (sym made.as_many) h)))
-    c.did.ensures.steps c.did.ensures.added
+    let old = c.args.self.now in
+    let new : Server = record old { replica = c.rollback.new.self; missing = 0; steps = c.add_step.new.steps } in
+    let live : old.is_live ≡ true = search rules in
+    where_well _ _ (GoesOn rollback_move old new) c.add_step.result
+    (λ right added. rollback_goes r old new live live (c.requires.awaits live) c.requires.missing refl made
+    c.in_ok-rollback.ensures.whole added
+    (λ h. right (subst (λ n. IsTrue (list_all (is_step n) (section old.steps))) (sym made.as_many) h)))
+    (c.add_step.ensures.right (ledger_rows new.replica.ledger) (search rules)) c.add_step.ensures.added
 
 pub returns-clause-given_up : goal.returns-clause-given_up
 returns-clause-given_up c = λ p.
-    let made = c.in_ok-rollback.ensures.rolled_back in
-    let r = rollback c.in_ok-rollback.rollback in
-    let old = c.args.self.now.replica in
-    let live : c.args.self.now.is_live ≡ true = search rules in
-    on_ok_weaker {Q = GivesUpNext p c.args.self.now c.did.new.self} c.did.result
-    (λ added. rollback_gives_up r p c.args.self.now c.did.new.self live
-    (subst (λ (x : Replica). RollsBack old.ledger x.ledger r) (sym c.did.ensures.replica) made) added)
-    c.did.ensures.added
+    let old = c.args.self.now in
+    let new : Server = record old { replica = c.rollback.new.self; missing = 0; steps = c.add_step.new.steps } in
+    let live : old.is_live ≡ true = search rules in
+    on_ok_weaker {Q = GivesUpNext p old new} c.add_step.result
+    (λ added. rollback_gives_up (rollback c.in_ok-rollback.rollback) p old new live c.in_ok-rollback.ensures.rolled_back
+    added) c.add_step.ensures.added
 
 pub returns-then-not-self-clause-on : goal.returns-then-not-self-clause-on
 returns-then-not-self-clause-on c =

@@ -1,7 +1,0 @@
-use Rattle.std.proofs.Common.{◌≡◌, ℕ, ◌<◌, get_or}
-use Rattle.eve_replica.specs.declared.server.Server.{Server}
-use Rattle.eve_replica.proofs.run_state.have_all_committed.Given as goal
-
-abbrev pub invariant-loop-server : goal.invariant-loop-server
-invariant-loop-server l =
-    (k : ℕ) → k < l.server-index → (d : Server) → (get_or l.servers k d).replica.ledger.committed ≡ l.seq
