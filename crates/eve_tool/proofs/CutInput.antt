@@ -17,19 +17,13 @@ use Rattle.eve_views.specs.declared.fault.Code.{Code}
 use Rattle.eve_views.specs.declared.fault.Code.TheVariants as code
 use Rattle.eve_views.specs.declared.fault.Fault.{Fault}
 use Rattle.eve_views.proofs.WholeTraces.{spells_frames}
-use Rattle.eve_tool.specs.declared.fault.ToolFault.{ToolFault}
-use Rattle.eve_tool.specs.declared.fault.ToolFault.TheVariants as fault
-use Rattle.eve_tool.specs.Audit.{Audits, AuditsAs, Judges}
-use Rattle.eve_tool.specs.Calls.{AsksForRandom, Leaves}
+use Rattle.eve_tool.specs.Audit.{AuditsAs, Judges}
 use Rattle.eve_explain.specs.Explained.{verdict_in}
 use Rattle.eve_explain.specs.declared.explained.Explained.{Explained}
 use Rattle.eve_tool.specs.Explain.{Explains}
 use Rattle.eve_tool_arguments.specs.declared.style.Style.{Style}
 use Rattle.eve_tool.specs.Lines.{status_of_verdict}
-use Rattle.eve_grammar.specs.declared.limits.TheConstants.{MOST_BYTES}
-use Rattle.eve_tool.specs.Show.{Shows}
-use Rattle.eve_tool.specs.Long.{AreLinesBefore, AreLinesIf, ShowsLong, is_countable}
-use Rattle.eve_tool_arguments.specs.Arguments.{Show, ShowLong, Subcommand}
+use Rattle.eve_tool.specs.Show.{AreLinesBefore, AreLinesIf, Shows, ShowsLong, is_countable}
 use Rattle.eve_tool.specs.Writes.{WritesAll, WritesAllOf, WritesPrefix, WritesPrefixOf}
 
 number-least : (c : Code) → 1 ≤ code_number c
@@ -230,9 +224,9 @@ Judges-cut limit bytes v enough judges =
       | inr all ↦ subst (λ (b : List ℕ). Judges b v) (take_all (limit + 1) bytes all) judges
     ]
 
-pub Audits-cut : (limit : ℕ) (bytes text : List ℕ) (status : ℕ) → 2 ^ 30 ≤ limit
-    → Audits (take (limit + 1) bytes) text status → Audits bytes text status
-Audits-cut limit bytes text status enough audits =
+pub AuditsAs-cut : (printed : Verdict → List ℕ) (limit : ℕ) (bytes text : List ℕ) (status : ℕ) → 2 ^ 30 ≤ limit
+    → AuditsAs printed (take (limit + 1) bytes) text status → AuditsAs printed bytes text status
+AuditsAs-cut printed limit bytes text status enough audits =
     let judges = Judges-cut limit bytes audits.verdict enough (record { is = audits.is; yes = audits.yes }) in
     record {
       verdict = audits.verdict;
@@ -245,30 +239,29 @@ Audits-cut limit bytes text status enough audits =
 -- ---- what was written
 
 -- where what is said of the prefix of the bytes is said of all, so is what was written of it
-pub WritesAllOf-cut : (says : List ℕ → List ℕ → ℕ → Type 0) (limit : ℕ) (known : Option (List ℕ)) (lent read : List ℕ)
+pub WritesAllOf-cut : (says : List ℕ → List ℕ → ℕ → Type 0) (limit : ℕ) (known : Option (List ℕ)) (read : List ℕ)
     (old new : Option (List ℕ)) (status : ℕ)
-    → ((bytes text : List ℕ) (s : ℕ) → says (take (limit + 1) bytes) text s → says bytes text s) → lent ≡ read
-    → IfSome known (λ bytes. read ≡ take (limit + 1) bytes) → WritesAll says lent old new status
+    → ((bytes text : List ℕ) (s : ℕ) → says (take (limit + 1) bytes) text s → says bytes text s)
+    → IfSome known (λ bytes. read ≡ take (limit + 1) bytes) → WritesAll says read old new status
     → WritesAllOf says known old new status
-WritesAllOf-cut says limit None lent read old new status cuts same cut all = tt
-WritesAllOf-cut says limit (Some bytes) lent read old new status cuts same cut all = record {
+WritesAllOf-cut says limit None read old new status cuts cut all = tt
+WritesAllOf-cut says limit (Some bytes) read old new status cuts cut all = record {
   text = all.text;
-  said = cuts bytes all.text status (subst (λ (b : List ℕ). says b all.text status) (same ∙ cut) all.said);
+  said = cuts bytes all.text status (subst (λ (b : List ℕ). says b all.text status) cut all.said);
   written = all.written;
 }
 
-pub WritesPrefixOf-cut : (says : List ℕ → List ℕ → ℕ → Type 0) (limit : ℕ) (known : Option (List ℕ))
-    (lent read : List ℕ)
+pub WritesPrefixOf-cut : (says : List ℕ → List ℕ → ℕ → Type 0) (limit : ℕ) (known : Option (List ℕ)) (read : List ℕ)
     (old new : Option (List ℕ))
-    → ((bytes text : List ℕ) (s : ℕ) → says (take (limit + 1) bytes) text s → says bytes text s) → lent ≡ read
-    → IfSome known (λ bytes. read ≡ take (limit + 1) bytes) → WritesPrefix says lent old new
+    → ((bytes text : List ℕ) (s : ℕ) → says (take (limit + 1) bytes) text s → says bytes text s)
+    → IfSome known (λ bytes. read ≡ take (limit + 1) bytes) → WritesPrefix says read old new
     → WritesPrefixOf says known old new
-WritesPrefixOf-cut says limit None lent read old new cuts same cut prefix = tt
-WritesPrefixOf-cut says limit (Some bytes) lent read old new cuts same cut prefix = record {
+WritesPrefixOf-cut says limit None read old new cuts cut prefix = tt
+WritesPrefixOf-cut says limit (Some bytes) read old new cuts cut prefix = record {
   text = prefix.text;
   status = prefix.status;
   said = cuts bytes prefix.text prefix.status
-      (subst (λ (b : List ℕ). says b prefix.text prefix.status) (same ∙ cut) prefix.said);
+      (subst (λ (b : List ℕ). says b prefix.text prefix.status) cut prefix.said);
   written = prefix.written;
 }
 
@@ -297,42 +290,3 @@ explained_of printed (Some bytes) old new status all is =
         → SpellsAudited bytes
     by (Yes s) e said = said s refl
     by (No f) e said = absurd (omega (arith, e))
-
--- ---- what is left by a fault
-
--- where no random words were given, nothing is asked of the bytes
-pub random_left : {O : Type 0} (written : O → Option (List ℕ)) (failures : O → ℕ) (call : Subcommand)
-    (known : Option (List ℕ)) (failed : Type 0) (old : O) (why : ToolFault) → AsksForRandom MOST_BYTES call known
-    → why ≡ fault.Random → Leaves MOST_BYTES written failures call known failed old old why
-random_left written failures call known failed old why asks is = rw is (asks, refl)
-
--- what a call that reads no further than a limit left of the bytes that were read
-pub show_left : {O : Type 0} (written : O → Option (List ℕ)) (failures : O → ℕ) (known : Option (List ℕ))
-    (failed : Type 0) (bytes : List ℕ) (old new : O) (why : ToolFault)
-    → (WritesPrefix Shows bytes (written old) (written new) → WritesPrefixOf Shows known (written old) (written new))
-    → Leaves MOST_BYTES written failures Show (Some bytes) ⊥ old new why
-    → Leaves MOST_BYTES written failures Show known failed old new why
-show_left written failures known failed bytes old new fault.Read cut left = absurd left.0
-show_left written failures known failed bytes old new (fault.Line number) cut left = absurd left.0
-show_left written failures known failed bytes old new fault.TooLong cut left = absurd left.0
-show_left written failures known failed bytes old new fault.Broken cut left = absurd left.0
-show_left written failures known failed bytes old new fault.Random cut left = absurd left.0
-show_left written failures known failed bytes old new fault.Memory cut (inl same) = inl same
-show_left written failures known failed bytes old new fault.Memory cut (inr prefix) = inr (prefix.0, cut prefix.1)
-show_left written failures known failed bytes old new fault.Write cut left = (left.0, cut left.1)
-
-pub long_left : {O : Type 0} (style : Style) (written : O → Option (List ℕ)) (failures : O → ℕ)
-    (known : Option (List ℕ)) (failed : Type 0) (bytes : List ℕ) (old new : O) (why : ToolFault)
-    → (WritesPrefix (ShowsLong style) bytes (written old) (written new)
-    → WritesPrefixOf (ShowsLong style) known (written old) (written new))
-    → Leaves MOST_BYTES written failures (ShowLong style) (Some bytes) ⊥ old new why
-    → Leaves MOST_BYTES written failures (ShowLong style) known failed old new why
-long_left style written failures known failed bytes old new fault.Read cut left = absurd left.0
-long_left style written failures known failed bytes old new (fault.Line number) cut left = absurd left.0
-long_left style written failures known failed bytes old new fault.TooLong cut left = absurd left.0
-long_left style written failures known failed bytes old new fault.Broken cut left = absurd left.0
-long_left style written failures known failed bytes old new fault.Random cut left = absurd left.0
-long_left style written failures known failed bytes old new fault.Write cut left = (left.0, cut left.1)
-long_left style written failures known failed bytes old new fault.Memory cut (inl same) = inl same
-long_left style written failures known failed bytes old new fault.Memory cut (inr prefix) =
-    inr (prefix.0, cut prefix.1)

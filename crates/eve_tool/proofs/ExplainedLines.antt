@@ -1,6 +1,6 @@
 -- A verdict's line, and the lines behind it, sent one after another.
 use Rattle.std.proofs.Common.{◌≡◌, ◌≤◌, ◌+◌, ◌^◌, ℕ, zero, suc, List, [], ◌∷◌, ◌++◌, map, length, take, drop}
-use Rattle.std.proofs.Common.{Option, None, Some, inl, inr, refl, ap, sym, subst, ◌∙◌, ◌-◌, arith}
+use Rattle.std.proofs.Common.{Option, None, Some, refl, ap, sym, subst, ◌∙◌, ◌-◌, arith}
 use Rattle.std.proofs.Common.{append-nil, append_assoc, add-one, length-append, lit≤}
 use Rattle.std.specs.Prelude.{slice_get}
 use Rattle.std.specs.List.{flat_map}
@@ -14,23 +14,17 @@ use Rattle.eve_reasons.proofs.Few.{few_counts, few_reasons}
 use Rattle.eve_reasons.specs.declared.lines.TheConstants.{MOST_LINES}
 use Rattle.eve_streams.specs.Prefix.{AppendsPrefix}
 use Rattle.eve_streams.proofs.JoinedSends.{AppendsPrefix-after, AppendsPrefix-more}
-use Rattle.eve_tool.specs.declared.fault.ToolFault.{ToolFault}
-use Rattle.eve_tool.specs.declared.fault.ToolFault.TheVariants as fault
-use Rattle.eve_tool.specs.Calls.{Leaves, StopsSending}
 use Rattle.eve_tool.specs.Explain.{Explains, explained_text, lines_behind}
 use Rattle.eve_streams.specs.Failures.{after_failure}
 use Rattle.eve_write.specs.Writes.{Stopped}
 use Rattle.eve_tool_arguments.specs.declared.style.Style.{Style}
 use Rattle.eve_audit.specs.Verdict.{IsVerdict, SpellsAudited}
 use Rattle.eve_audit.specs.declared.verdict.Summary.{Summary}
-use Rattle.eve_audit.specs.declared.verdict.Verdict.{Verdict}
 use Rattle.eve_audit.specs.declared.verdict.Verdict.TheVariants.{Yes}
 use Rattle.eve_explain.specs.Explained.{IsExplained, verdict_in}
 use Rattle.eve_explain.specs.declared.explained.Explained.{Explained}
 use Rattle.eve_explain.specs.declared.explained.Explained.TheVariants as explained
 use Rattle.eve_tool.specs.Lines.{status_of_verdict}
-use Rattle.eve_tool.specs.Writes.{WritesPrefix, WritesPrefixOf}
-use Rattle.eve_tool_arguments.specs.Arguments.{Explain}
 use Rattle.eve_tool.proofs.CutInput.{Judges-cut}
 
 -- ---- lines
@@ -156,23 +150,6 @@ stops_behind written failures start mid new first more sent fine prefix counted 
   counted = counted ∙ ap after_failure fine;
 }
 
--- where a text was not sent, one that begins with it wasn't
-pub stops-further : {O : Type 0} (written : O → Option (List ℕ)) (failures : O → ℕ) (old new : O) (text more : List ℕ)
-    (why : ToolFault) → StopsSending written failures old new text why
-    → StopsSending written failures old new (text ++ more) why
-stops-further written failures old new text more fault.Read stopped = absurd stopped
-stops-further written failures old new text more (fault.Line number) stopped = absurd stopped
-stops-further written failures old new text more fault.TooLong stopped = absurd stopped
-stops-further written failures old new text more fault.Broken stopped = absurd stopped
-stops-further written failures old new text more fault.Random stopped = absurd stopped
-stops-further written failures old new text more fault.Memory stopped = stopped
-stops-further written failures old new text more fault.Write stopped =
-    record {
-      prefix = AppendsPrefix-more (written old) (written new) text more stopped.prefix;
-      counted =
-          stopped.counted;
-    }
-
 -- ---- bytes of which only a prefix was read
 
 -- a number of bytes that no trace has is enough to say what is to be said of all of them
@@ -186,19 +163,3 @@ Explains-cut printed bytes text status said = record {
   whole = said.whole;
   ends = said.ends;
 }
-
--- what a call that reads no further than a limit left of the bytes that were read
-pub explain_left : {O : Type 0} (style : Style) (written : O → Option (List ℕ)) (failures : O → ℕ)
-    (known : Option (List ℕ)) (failed : Type 0) (bytes : List ℕ) (old new : O) (why : ToolFault)
-    → (WritesPrefix (Explains (explained_text style)) bytes (written old) (written new)
-    → WritesPrefixOf (Explains (explained_text style)) known (written old) (written new))
-    → Leaves MOST_BYTES written failures (Explain style) (Some bytes) ⊥ old new why
-    → Leaves MOST_BYTES written failures (Explain style) known failed old new why
-explain_left style written failures known failed bytes old new fault.Read cut left = absurd left.0
-explain_left style written failures known failed bytes old new (fault.Line number) cut left = absurd left.0
-explain_left style written failures known failed bytes old new fault.TooLong cut left = absurd left.0
-explain_left style written failures known failed bytes old new fault.Broken cut left = absurd left.0
-explain_left style written failures known failed bytes old new fault.Random cut left = left
-explain_left style written failures known failed bytes old new fault.Memory cut (inl same) = inl same
-explain_left style written failures known failed bytes old new fault.Memory cut (inr prefix) = absurd prefix.0
-explain_left style written failures known failed bytes old new fault.Write cut left = (left.0, cut left.1)

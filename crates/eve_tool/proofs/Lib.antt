@@ -1,10 +1,9 @@
 mod CutInput
-mod SentLines
-mod WholeInput
+mod ReadInput
 pub mod UnsentText
 pub mod RunText
 mod LinesPut
-mod LongLines
+mod ListedLines
 mod ExplainedLines
 mod CallWords
 mod Judging

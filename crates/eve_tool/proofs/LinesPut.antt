@@ -1,10 +1,15 @@
 -- What is put into a line that is sent where it is full.
-use Rattle.std.proofs.Common.{◌≡◌, ℕ, List, [], ◌++◌, Option, ap, sym, subst, ◌∙◌, append_assoc, append-nil, refl}
+use Rattle.std.proofs.Common.{◌≡◌, ◌<◌, ℕ, List, [], ◌++◌, Option, ap, sym, subst, ◌∙◌, append_assoc, append-nil}
+use Rattle.std.proofs.Common.{length, refl}
 use Rattle.std.specs.Io.KnownBytes.{Appends}
 use Rattle.std.proofs.KnownBytes.{Appends-nil, Appends-trans}
 use Rattle.eve_streams.specs.Prefix.{AppendsPrefix}
 use Rattle.eve_streams.proofs.JoinedSends.{AppendsPrefix-after, AppendsPrefix-more}
 use Rattle.eve_tool.specs.inner.LineSends.{PutsText}
+
+-- nothing was sent
+pub AppendsPrefix-none : (a : Option (List ℕ)) (all : List ℕ) → 0 < length all → AppendsPrefix a a all
+AppendsPrefix-none a all more = record { count = 0; proper = more; appended = Appends-nil a }
 
 -- ---- a text
 

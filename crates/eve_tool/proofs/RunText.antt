@@ -57,13 +57,12 @@ pub unrun_left : {O : Type 0} (written : O → Option (List ℕ)) (failures : O 
     (asked : Format) (bytes : List ℕ) (out : O) (why : ToolFault) → length bytes ≤ limit
     → StopsRun mixer asked bytes why
     → Leaves limit written failures (Run mixer asked) (Some bytes) ⊥ out out why
-unrun_left written failures limit mixer asked bytes out fault.Read short stopped = absurd stopped
 unrun_left written failures limit mixer asked bytes out (fault.Line number) short stopped = ((short, stopped), refl)
 unrun_left written failures limit mixer asked bytes out fault.TooLong short stopped = (inr (inr stopped), refl)
 unrun_left written failures limit mixer asked bytes out fault.Broken short stopped = ((short, stopped), refl)
-unrun_left written failures limit mixer asked bytes out fault.Write short stopped = absurd stopped
 unrun_left written failures limit mixer asked bytes out fault.Random short stopped = ((short, stopped), refl)
 unrun_left written failures limit mixer asked bytes out fault.Memory short stopped = inl refl
+unrun_left written failures limit mixer asked bytes out _ short stopped = absurd stopped
 
 -- what was left where the trace of a run is too long, or out failed
 pub unsent_left : {O : Type 0} (written : O → Option (List ℕ)) (failures : O → ℕ) (limit : ℕ) (mixer : Mixer)

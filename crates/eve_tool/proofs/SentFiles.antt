@@ -1,29 +1,27 @@
 -- What is said of several files, one after the other.
 use Rattle.std.proofs.Common.{◌≡◌, ◌∙◌, ℕ, ◌<◌, ◌≤◌, ◌⊎◌, inl, inr, max, List, [], ◌∷◌, ◌++◌, Some, None}
-use Rattle.std.proofs.Common.{append-nil, append_assoc, ap, arith, drop, length, refl, subst, sym, take}
-use Rattle.std.specs.Prelude.{IfSome, OnErr, Option, Result, Ok, Err, ◌≢◌}
+use Rattle.std.proofs.Common.{append-nil, append_assoc, ap, arith, length, refl, subst, sym, take}
+use Rattle.std.specs.Prelude.{IfSome, OnErr, Option, Result, Ok, Err}
 use Rattle.std.specs.Io.KnownBytes.{Appends, append_known}
 use Rattle.std.proofs.KnownBytes.{Appends-trans}
-use Rattle.std.proofs.lemmas.Bool.{cases_lt}
-use Rattle.std.proofs.lemmas.List.{take-append-drop, take_all}
+use Rattle.std.proofs.lemmas.List.{take_all}
 use Rattle.eve_audit.specs.Verdict.{SpellsAudited}
 use Rattle.eve_streams.specs.Buffers.{held_bytes}
 use Rattle.eve_streams.specs.declared.buffered.Buffered.{Buffered}
 use Rattle.eve_tool.specs.Audit.{AuditsAs, Judges, named_text, verdict_text}
-use Rattle.eve_tool.specs.Explain.{explained_text}
 use Rattle.eve_tool.specs.Fault.{status_of}
-use Rattle.eve_tool.specs.Files.{AllSpellAudited, JudgesAll, JudgesFile, JudgesFiles, ServesCall, ServesFile}
+use Rattle.eve_tool.specs.Files.{AllSpellAudited, JudgesAll, JudgesFile, JudgesFiles, ServesCall}
 use Rattle.eve_tool.specs.Files.{StopsAmong}
-use Rattle.eve_tool.specs.Files.{all_bytes, all_failures, first_named}
+use Rattle.eve_tool.specs.Files.{all_bytes, all_failures}
 use Rattle.eve_tool.specs.Lines.{status_of_verdict}
 use Rattle.eve_tool.specs.Writes.{WritesAll, WritesAllOf}
 use Rattle.eve_audit.specs.declared.verdict.Verdict.{Verdict}
 use Rattle.eve_tool.specs.declared.fault.ToolFault.{ToolFault}
 use Rattle.eve_tool.specs.declared.fault.ToolFault.TheVariants as fault
 use Rattle.eve_tool.specs.declared.files.OpenFault.{OpenFault}
-use Rattle.eve_tool_arguments.specs.Arguments.{Audit, Explain, Run, Show, ShowLong, Subcommand}
+use Rattle.eve_tool_arguments.specs.Arguments.{Audit}
 use Rattle.eve_tool_arguments.specs.declared.style.Style.{Style}
-use Rattle.eve_tool.proofs.CutInput.{audited, audited_of, explained_of}
+use Rattle.eve_tool.proofs.CutInput.{audited, audited_of}
 use Rattle.eve_tool.proofs.Judging.{audits_as}
 
 -- what is so of what an input had is so of the bytes of its file, where they are known
@@ -40,16 +38,6 @@ named_as style name None v text status judges is ends = tt
 named_as style name (Some bytes) v text status judges is ends =
     subst (λ (t : List ℕ). AuditsAs (named_text style name) bytes t status) (sym is)
     (audits_as (named_text style name) bytes v status judges ends)
-
--- where a prefix of what was held was sent, and the rest is held, nothing is lost
-pub holds_back : (a b : Option (List ℕ)) (held left : List ℕ) (n : ℕ) → Appends a b (take n held)
-    → left ≡ drop n held → Appends (append_known a held) (append_known b left) []
-holds_back None b held left n sent kept = tt
-holds_back (Some xs) None held left n sent kept = absurd sent
-holds_back (Some xs) (Some ys) held left n sent kept =
-    ap (λ l. l ++ left) sent ∙ (append_assoc xs (take n held) left
-    ∙ (ap (λ l. xs ++ (take n held ++ l)) kept ∙ (ap (λ l. xs ++ l) (take-append-drop n held)
-    ∙ sym (append-nil (xs ++ held)))))
 
 pub flushed : (a b : Option (List ℕ)) (held left : List ℕ) → Appends a b held → left ≡ []
     → Appends (append_known a held) (append_known b left) []
@@ -260,25 +248,7 @@ said_of_file says (Some bytes) input old mid new before status is all more same 
       written = subst (Appends old new) (append-nil of.text) (Appends-trans old mid new of.text [] of.written more);
     }
 
-pub decoded_of_opened : (says : List ℕ → List ℕ → ℕ → Type 0) (known input old new : Option (List ℕ)) (status : ℕ)
-    → IfSome known (λ bytes. input ≡ Some bytes) → WritesAllOf says input old new status
-    → WritesAllOf says known old new status
-decoded_of_opened says None input old new status is all = tt
-decoded_of_opened says (Some bytes) input old new status is all =
-    subst (λ (o : Option (List ℕ)). WritesAllOf says o old new status) is all
-
 -- ---- calls
-
--- a call is some call
-pub some_call : (found : Option Subcommand) (call : Subcommand) → found ≡ Some call → found ≢ None
-some_call found call is none = cc
-
--- an answer below 2 that is not 1
-pub is_zero : (n : ℕ) → n < 2 → n ≢ 1 → n ≡ 0
-is_zero n few other = elim (cases_lt n 1) [
-  | inl less ↦ omega (arith, less)
-  | inr reached ↦ (let one : n ≡ 1 = omega (arith, few, reached) in absurd (other one))
-]
 
 -- of several files
 pub serves_several : {I E O : Type 0} (remaining : I → Option (List ℕ)) (fetched : I → ℕ)
@@ -294,28 +264,6 @@ serves_several remaining fetched told untold written failures bytes refuses styl
     absurd (omega (arith, many))
 serves_several remaining fetched told untold written failures bytes refuses style (n ∷ m ∷ names) a b old new status
     many is = is
-
--- of one
-pub serves_one : {I E O : Type 0} (remaining : I → Option (List ℕ)) (fetched : I → ℕ)
-    (told : E → Option (List ℕ)) (untold : E → ℕ) (written : O → Option (List ℕ)) (failures : O → ℕ)
-    (bytes : List ℕ → Option (List ℕ)) (refuses : List ℕ → OpenFault → Type 0) (call : Subcommand)
-    (names : List (List ℕ)) (a b : E) (old new : Buffered O) (status : ℕ)
-    → ((style : Style) → call ≡ Audit style → length names < 2)
-    → ServesFile remaining fetched told untold written failures bytes refuses call (first_named names) a b old new
-    status
-    → ServesCall remaining fetched told untold written failures bytes refuses call names a b old new status
-serves_one remaining fetched told untold written failures bytes refuses (Audit style) [] a b old new status few is = is
-serves_one remaining fetched told untold written failures bytes refuses (Audit style) (n ∷ []) a b old new status few is
-    = is
-serves_one remaining fetched told untold written failures bytes refuses (Audit style) (n ∷ m ∷ names) a b old new status
-    few is = let less = few style refl in absurd (omega (arith, less))
-serves_one remaining fetched told untold written failures bytes refuses (Explain style) names a b old new status few
-    is = is
-serves_one remaining fetched told untold written failures bytes refuses (Run mixer format) names a b old new status few
-    is = is
-serves_one remaining fetched told untold written failures bytes refuses Show names a b old new status few is = is
-serves_one remaining fetched told untold written failures bytes refuses (ShowLong style) names a b old new status few
-    is = is
 
 -- a yes
 pub call_yes : {I E O : Type 0} (remaining : I → Option (List ℕ)) (fetched : I → ℕ)
@@ -334,18 +282,3 @@ call_yes remaining fetched told untold written failures bytes refuses style (n �
 call_yes remaining fetched told untold written failures bytes refuses style (n ∷ m ∷ names) a b old new status
     (inr stops) zero =
     let three : status ≡ 3 = stops.ends in absurd (omega (arith, three, zero))
-
-pub explain_yes : {I E O : Type 0} (remaining : I → Option (List ℕ)) (fetched : I → ℕ)
-    (told : E → Option (List ℕ)) (untold : E → ℕ) (written : O → Option (List ℕ)) (failures : O → ℕ)
-    (bytes : List ℕ → Option (List ℕ)) (refuses : List ℕ → OpenFault → Type 0) (style : Style)
-    (names : List (List ℕ)) (name : List ℕ) (a b : E) (old new : Buffered O) (status : ℕ)
-    → ServesCall remaining fetched told untold written failures bytes refuses (Explain style) names a b old new status
-    → names ≡ name ∷ [] → status ≡ 0 → IfSome (bytes name) SpellsAudited
-explain_yes remaining fetched told untold written failures bytes refuses style names name a b old new status serves is
-    zero =
-    let served : ServesFile remaining fetched told untold written failures bytes refuses (Explain style) name a b
-    old new status =
-    subst (λ (ns : List (List ℕ)). ServesCall remaining fetched told untold written failures bytes refuses
-    (Explain style) ns a b old new status) is serves in
-    let said = served.said (omega (arith, zero)) in
-    explained_of (explained_text style) (bytes name) _ _ status said.0.said zero

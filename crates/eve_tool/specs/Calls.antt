@@ -2,7 +2,6 @@
 -- docs/USING.md, "Lines and statuses".
 use Rattle.std.specs.Prelude.{◌≡◌, ◌≢◌, ℕ, ◌+◌, ◌≤◌, ◌⊎◌, List, length, drop, Option, Some, IfSome, ⊤}
 use Rattle.eve_streams.specs.Failures.{after_failure}
-use Rattle.eve_streams.specs.Prefix.{AppendsPrefix}
 use Rattle.eve_grammar.specs.declared.limits.TheConstants.{MOST_BYTES}
 use Rattle.eve_workload.specs.Steps.{IsBadLine}
 use Rattle.eve_write.specs.Writes.{Wrote, Stopped}
@@ -13,10 +12,11 @@ use Rattle.eve_tool.specs.Audit.{AuditsAs, verdict_text}
 use Rattle.eve_tool.specs.Explain.{Explains, explained_text}
 use Rattle.eve_tool.specs.Fault.{error_line, status_of}
 use Rattle.eve_tool.specs.Run.{Runs, IsTooLong, IsRunnable, EndsRun}
-use Rattle.eve_tool.specs.Show.{Shows}
-use Rattle.eve_tool.specs.Long.{ShowsLong, StopsInLines, StopsUpTo}
+use Rattle.eve_tool.specs.Show.{Shows, ShowsLong, StopsInLines, StopsUpTo}
+use Rattle.eve_tool.specs.declared.listing.Listing.{Listing}
+use Rattle.eve_tool.specs.declared.listing.Listing.TheVariants.{Full}
 use Rattle.eve_tool_arguments.specs.declared.style.Style.{Style}
-use Rattle.eve_tool_arguments.specs.declared.style.Style.TheVariants.{Json, Plain}
+use Rattle.eve_tool_arguments.specs.declared.style.Style.TheVariants.{Json}
 use Rattle.eve_tool_arguments.specs.Formats.{version_of}
 use Rattle.eve_tool_arguments.specs.Arguments.{Subcommand, Audit, Explain, Run, Show, ShowLong, call_of}
 use Rattle.eve_tool.specs.Writes.{WritesPrefixOf}
@@ -63,15 +63,14 @@ AsksForRandom limit (Run mixer asked) known = CallRuns limit (Run mixer asked) k
 AsksForRandom limit Show known = ⊥
 AsksForRandom limit (ShowLong style) known = ⊥
 
--- memory may run out while lines are sent in this style: each object is made in memory
-abbrev pub MakesLines : Style → Type 0
-MakesLines Plain = ⊥
-MakesLines Json = ⊤
+-- memory may run out while frames are listed so: each object is made in memory
+abbrev pub MakesLines : Listing → Type 0
+MakesLines (Full Json) = ⊤
+MakesLines _ = ⊥
 
 -- memory may run out while the call sends in parts what it says
 abbrev pub SendsInParts : Subcommand → Type 0
-SendsInParts Show = ⊤
-SendsInParts (ShowLong style) = MakesLines style
+SendsInParts (ShowLong style) = MakesLines (Full style)
 SendsInParts _ = ⊥
 
 -- What a call left that ended by a fault: what stands of the bytes that were in the input, where they are `known`, and
@@ -98,32 +97,25 @@ StopsSending written failures old new text fault.Memory = new ≡ old
 StopsSending written failures old new text fault.Write = Stopped written failures old new text
 StopsSending written failures old new text _ = ⊥
 
--- what was left of a text that was to be sent in parts: where memory ran out, out did not fail
-abbrev pub StopsInParts : {O : Type 0} → (O → Option (List ℕ)) → (O → ℕ) → O → O → List ℕ → ToolFault → Type 0
-StopsInParts written failures old new text fault.Memory =
-    AppendsPrefix (written old) (written new) text × (failures new ≡ failures old)
-StopsInParts written failures old new text fault.Write = Stopped written failures old new text
-StopsInParts written failures old new text _ = ⊥
-
--- why lines were not all sent, in this style: out failed, or there was no memory for an object
-abbrev pub FailsLines : {O : Type 0} → Style → (O → ℕ) → O → O → ToolFault → Type 0
-FailsLines style failures old new fault.Memory = MakesLines style × (failures new ≡ failures old)
-FailsLines style failures old new fault.Write = failures new ≡ after_failure (failures old)
-FailsLines style failures old new _ = ⊥
+-- why frames were not all listed so: out failed, or there was no memory for an object
+abbrev pub FailsLines : {O : Type 0} → Listing → (O → ℕ) → O → O → ToolFault → Type 0
+FailsLines listing failures old new fault.Memory = MakesLines listing × (failures new ≡ failures old)
+FailsLines listing failures old new fault.Write = failures new ≡ after_failure (failures old)
+FailsLines listing failures old new _ = ⊥
 
 -- what was left of lines of which the fact holds
 abbrev pub StopsListing : {O : Type 0} → Style → (O → Option (List ℕ)) → (O → ℕ) → O → O → (List ℕ → Type 0)
     → ToolFault → Type 0
 StopsListing style written failures old new Are why =
     ((why ≡ fault.Memory) × (new ≡ old))
-    ⊎ (StopsInLines (written old) (written new) Are × FailsLines style failures old new why)
+    ⊎ (StopsInLines (written old) (written new) Are × FailsLines (Full style) failures old new why)
 
 -- what was left of lines of which the fact holds and then this one, which is made before any of them is sent
 abbrev pub StopsLong : {O : Type 0} → Style → (O → Option (List ℕ)) → (O → ℕ) → O → O → (List ℕ → Type 0) → List ℕ
     → ToolFault → Type 0
 StopsLong style written failures old new Are last why =
     ((why ≡ fault.Memory) × (new ≡ old))
-    ⊎ (StopsUpTo (written old) (written new) Are last × FailsLines style failures old new why)
+    ⊎ (StopsUpTo (written old) (written new) Are last × FailsLines (Full style) failures old new why)
 
 -- The input was read, where its bytes are `known`: to its end, but no further than `limit + 1` bytes. `left` is what is
 -- left of them.

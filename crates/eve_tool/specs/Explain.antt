@@ -2,7 +2,6 @@
 use Rattle.std.specs.Prelude.{◌≡◌, ℕ, ◌+◌, Bool, true, false, List, ◌++◌, codes, take}
 use Rattle.std.specs.List.{flat_map}
 use Rattle.eve_grammar.specs.declared.limits.TheConstants.{MOST_BYTES}
-use Rattle.eve_evidence.specs.declared.evidence.Evidence.{Evidence}
 use Rattle.eve_evidence.specs.declared.evidence.Evidence.TheVariants as shown
 use Rattle.eve_explain.specs.Explained.{IsExplained, verdict_in}
 use Rattle.eve_explain.specs.declared.explained.Explained.{Explained}
@@ -31,16 +30,12 @@ text_behind x = flat_map ended (lines_behind x)
 abbrev pub read_of : List ℕ → List ℕ
 read_of bytes = take (MOST_BYTES + 1) bytes
 
--- whether a text of the evidence that is a number is told as one: not where it may be a name or hexadecimal digits
-abbrev pub tells_numbers : Evidence → Bool
-tells_numbers (shown.Magic found) = false
-tells_numbers (shown.SameName name first first_at) = false
-tells_numbers _ = true
-
--- the same of the lines behind the verdict's
+-- whether what is a number in the lines behind the verdict's is told as one: not where it may be a name or hexadecimal
+-- digits
 abbrev pub has_numbers : Explained → Bool
-has_numbers (Yes s counts) = true
-has_numbers (No f evidence) = tells_numbers evidence
+has_numbers (No f (shown.Magic found)) = false
+has_numbers (No f (shown.SameName name first first_at)) = false
+has_numbers _ = true
 
 -- the object of an explanation: the members of the verdict, and then an array with an object for each line behind it
 abbrev pub explained_object : Explained → List ℕ

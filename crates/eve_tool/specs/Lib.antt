@@ -2,8 +2,8 @@ pub mod Fault
 pub mod Lines
 pub mod Objects
 pub mod Writes
+pub mod Listing
 pub mod Show
-pub mod Long
 pub mod Audit
 pub mod Explain
 pub mod Run

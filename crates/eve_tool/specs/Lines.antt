@@ -10,12 +10,7 @@ use Rattle.eve_views.specs.declared.fault.Fault.{Fault}
 abbrev pub line_feed : List ℕ
 line_feed = 10 ∷ []
 
--- a frame: where it begins, its kind, how many bytes its body has
-unfoldable pub frame_line : ℕ → List ℕ → ℕ → List ℕ
-frame_line offset name body_len =
-    decimal offset ++ (codes " " ++ (name ++ (codes " " ++ (decimal body_len ++ line_feed))))
-
--- the prefix of a frame's line: what `show` prints of it, without the line feed
+-- the prefix of a frame's line: where it begins, its kind, how many bytes its body has
 unfoldable pub line_prefix : ℕ → List ℕ → ℕ → List ℕ
 line_prefix offset name body_len = decimal offset ++ (codes " " ++ (name ++ (codes " " ++ decimal body_len)))
 

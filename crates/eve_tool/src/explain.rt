@@ -10,14 +10,14 @@ ghost use Rattle.eve_streams.specs.Failures.{after_failure};
 ghost use Rattle.eve_streams.specs.Prefix.{AppendsPrefix};
 ghost use Rattle.eve_explain.specs.Explained.{verdict_in};
 ghost use Rattle.eve_objects.specs.Evidence.{line_object};
-ghost use Rattle.eve_tool.specs.Calls.{WasRead, Leaves, StopsSending};
+ghost use Rattle.eve_tool.specs.Calls.{Leaves, StopsSending};
 ghost use Rattle.eve_tool.specs.Explain.{Explains, explained_object, explained_text, has_numbers, lines_behind};
-ghost use Rattle.eve_tool.specs.Explain.{tells_numbers, text_behind};
+ghost use Rattle.eve_tool.specs.Explain.{text_behind};
 ghost use Rattle.eve_tool.specs.Lines.{status_of_verdict};
-ghost use Rattle.eve_tool.specs.Writes.{WritesAll, WritesAllOf};
+ghost use Rattle.eve_tool.specs.Writes.{WritesAll};
 ghost use Rattle.eve_tool_arguments.specs.Arguments.{Explain};
 
-use crate::audit::{send_verdict, status_of};
+use crate::audit::{AuditOptions, send_verdict, status_of};
 use crate::fault::ToolFault;
 use crate::objects::put_verdict;
 use crate::random::random_words;
@@ -28,11 +28,10 @@ use eve_lines::Line;
 use eve_objects::{begin_line, end_line, put_line_object};
 use eve_reasons::{MOST_LINES, count_line, reason_line};
 use eve_recorder::OpenGate;
-use eve_streams::{SendFault, Sink, Source, read_all, send_all};
-use eve_tool_arguments::{Style, WorkerCount};
+use eve_streams::{SendFault, Sink, send_all};
+use eve_tool_arguments::Style;
 use json::Writer;
 use std::alloc::{AllocError, Global};
-use std::hash::RandomState;
 use std::random::RandomSource;
 use std::sync::Wait;
 use std::thread::Threads;
@@ -63,23 +62,14 @@ fn send_reasons<'e, O: Sink>(explained: &'e Explained<'e>, out: &mut O) -> Resul
     Ok(())
 }
 
-/// Whether a text of the evidence that is a number is told as one.
-fn tells_numbers(evidence: &Evidence<'_>) -> bool
-    ensures { result ≡ tells_numbers evidence.now }
-{
-    match evidence {
-        Evidence::Magic { .. } | Evidence::SameName { .. } => false,
-        _ => true,
-    }
-}
-
-/// The same of the lines behind the verdict's.
+/// Whether what is a number in the lines behind the verdict's is told as one: not where it may be a name or hexadecimal
+/// digits.
 fn has_numbers(explained: &Explained<'_>) -> bool
     ensures { result ≡ has_numbers explained.now }
 {
     match explained {
-        Explained::Yes(_, _) => true,
-        Explained::No(_, evidence) => tells_numbers(evidence),
+        Explained::No(_, Evidence::Magic { .. } | Evidence::SameName { .. }) => false,
+        _ => true,
     }
 }
 
@@ -136,7 +126,7 @@ fn send_explained<'e, O: Sink>(
 {
     match style {
         Style::Plain => {
-            let status = send_verdict(alloc, &explained.verdict(), out)?;
+            let status = send_verdict(alloc, Style::Plain, &explained.verdict(), out)?;
             send_reasons(explained, out)?;
             Ok(status)
         }
@@ -148,58 +138,29 @@ fn send_explained<'e, O: Sink>(
     }
 }
 
-/// Sends the verdict on the bytes and why it is so, in this style, and returns the exit status.
-fn explain_bytes<R: Threads + Wait + Sync, O: Sink>(
+/// Asks for random words, and sends the verdict on the bytes and why it is so, as it is asked for. Returns 0 where the
+/// verdict is yes, and 1 where it is the first fault.
+pub(crate) fn explain<R: AllocGlobal + RandomSource + Threads + Wait + Sync, O: Sink>(
     rt: &R,
-    alloc: Global,
+    options: &AuditOptions,
     bytes: &[u8],
-    workers: WorkerCount,
-    style: Style,
-    random: RandomState,
     out: &mut O,
 ) -> Result<u8, ToolFault>
     requires read { length bytes.now ≤ MOST_BYTES + 1 }
-    ensures all { IfOk result (WritesAll (Explains (explained_text style)) bytes.now (O.written out.old)
+    ensures said { IfOk result (WritesAll (Explains (explained_text options.now.style)) bytes.now (O.written out.old)
         (O.written out.new)) }
     ensures status { IfOk result (λ status. status < 2) }
     ensures fine { OnOk result (O.failures out.new ≡ O.failures out.old) }
-    ensures left { IfErr result (Leaves MOST_BYTES O.written O.failures (Explain style) (Some bytes.now) ⊥ out.old
-        out.new) }
-    ensures wrote { IfErr result (λ why. why ≢ ToolFault.Write → O.failures out.new ≡ O.failures out.old) }
-{
-    let Ok(explained) = eve_explain::explain(rt, alloc, bytes, workers.get(), random, &OpenGate)
-    else {
-        return Err(ToolFault::Memory);
-    };
-    let status = send_explained(alloc, style, &explained, out)?;
-    Ok(status)
-}
-
-/// Reads a trace, asks for random words, and sends the line of the verdict, which `workers` workers find, and then why
-/// it is so, or both as an object. Returns 0 where it is yes, and 1 where it is the first fault. It reads at most one
-/// byte more than a trace may have: the verdict is F1 Length then.
-pub(crate) fn explain<R: AllocGlobal + RandomSource + Threads + Wait + Sync, I: Source, O: Sink>(
-    rt: &R,
-    workers: WorkerCount,
-    style: Style,
-    input: &mut I,
-    out: &mut O,
-) -> Result<u8, ToolFault>
-    ensures all { IfOk result (WritesAllOf (Explains (explained_text style)) (I.remaining input.old) (O.written out.old)
-        (O.written out.new)) }
-    ensures status { IfOk result (λ status. status < 2) }
-    ensures fine { OnOk result ((I.failures input.new ≡ I.failures input.old)
-        × (O.failures out.new ≡ O.failures out.old)) }
-    ensures left { IfErr result (Leaves MOST_BYTES O.written O.failures (Explain style) (I.remaining input.old)
-        (I.failures input.new ≡ after_failure (I.failures input.old)) out.old out.new) }
-    ensures read { IfErr result (λ why. why ≢ ToolFault.Read → I.failures input.new ≡ I.failures input.old) }
-    ensures ended { IfErr result (λ why. why ≢ ToolFault.Read → why ≢ ToolFault.Memory
-        → WasRead MOST_BYTES (I.remaining input.old) (I.remaining input.new)) }
-    ensures consumed { OnOk result (WasRead MOST_BYTES (I.remaining input.old) (I.remaining input.new)) }
+    ensures left { IfErr result (Leaves MOST_BYTES O.written O.failures (Explain options.now.style) (Some bytes.now) ⊥
+        out.old out.new) }
     ensures wrote { IfErr result (λ why. why ≢ ToolFault.Write → O.failures out.new ≡ O.failures out.old) }
 {
     let alloc = rt.alloc();
-    let bytes = read_all(alloc, input, MOST_BYTES as u32)?;
     let random = random_words(rt)?;
-    explain_bytes(rt, alloc, bytes.as_slice(), workers, style, random, out)
+    let workers = options.workers.get();
+    let Ok(explained) = eve_explain::explain(rt, alloc, bytes, workers, random, &OpenGate) else {
+        return Err(ToolFault::Memory);
+    };
+    let status = send_explained(alloc, options.style, &explained, out)?;
+    Ok(status)
 }

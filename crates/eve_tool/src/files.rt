@@ -1,7 +1,7 @@
 //! The program over the files that its arguments name.
 
-ghost use Rattle.std.specs.Prelude.{◌≡◌, ◌≢◌, ◌≤◌, ◌<◌, ◌⊎◌, ℕ, [], ◌∷◌, ◌++◌, List, Option, Some, map, take, length};
-ghost use Rattle.std.specs.Prelude.{IfErr, IfOk, IfSome, IsNone, OnErr, OnOk, max};
+ghost use Rattle.std.specs.Prelude.{◌≡◌, ◌≢◌, ◌≤◌, ◌<◌, ◌⊎◌, ℕ, [], ◌∷◌, List, Option, Some, map, take, length};
+ghost use Rattle.std.specs.Prelude.{IfErr, IfOk, IfSome, IsNone, OnErr, OnOk};
 ghost use Rattle.std.specs.Io.KnownBytes.{Appends};
 ghost use Rattle.std.specs.String.{string_bytes};
 ghost use Rattle.eve_audit.specs.Verdict.{SpellsAudited};
@@ -15,18 +15,18 @@ ghost use Rattle.eve_tool.specs.Files.{RunsOut, ServesCall, ServesFile, all_byte
 ghost use Rattle.eve_tool.specs.Files.{named_fault, open_line, open_text};
 ghost use Rattle.eve_tool.specs.declared.files.OpenFault.{OpenFault};
 ghost use Rattle.eve_tool_arguments.specs.Arguments.{AsksForHelp, Audit, CallsAudit, CallsExplain, CallsNothing};
-ghost use Rattle.eve_tool_arguments.specs.Arguments.{IsRefused, Subcommand, call_of, files_of, subcommand_of_call};
+ghost use Rattle.eve_tool_arguments.specs.Arguments.{IsRefused, Subcommand, files_of, subcommand_of_call};
 ghost use Rattle.eve_tool_arguments.specs.declared.style.Style.{Style};
 
-use crate::audit::{status_of, verdict_on};
+use crate::audit::{AuditOptions, status_of, verdict_on};
 use crate::fault::ToolFault;
 use crate::lines::push_verdict_line;
 use crate::objects::verdict_object;
-use crate::program::{serve, stop};
-use crate::sending::tell;
+use crate::program::{refuse, serve_call, serve_help, stop, tell};
 use eve_audit::Verdict;
-use eve_streams::{Buffered, Sink, Source, SourceOf, send_all};
-use eve_tool_arguments::{Asked, Call, Style, WorkerCount, read_arguments};
+use eve_grammar::MOST_BYTES;
+use eve_streams::{Buffered, Sink, Source, read_all, send_all};
+use eve_tool_arguments::{Asked, Call, Style, read_arguments};
 use std::alloc::{AllocError, Global};
 use std::convert::AsStr;
 use std::random::RandomSource;
@@ -70,7 +70,7 @@ pub trait Folder {
     // Why the file of this name may be refused.
     ghost refuses: { Self → List ℕ → OpenFault → Type 0 };
 
-    /// IsOpened the file of this name. `-` names standard input. Refused with `Missing`, `Denied` or `IsFolder`, where
+    /// Opens the file of this name. `-` names standard input. Refused with `Missing`, `Denied` or `IsFolder`, where
     /// that is why, else with `Unknown`.
     fn open(&self, name: &str) -> Result<Self::Input, OpenFault>
         ensures bytes { IfOk result (λ input. IfSome (bytes self.now name.now)
@@ -130,21 +130,8 @@ fn stop_named<E: Sink>(alloc: Global, name: &str, why: ToolFault, err: &mut E) -
     }
 }
 
-/// A line that begins with the name of a file, and has the verdict on it.
-fn named_verdict(alloc: Global, name: &str, verdict: &Verdict) -> Result<Vec<u8>, AllocError>
-    ensures { IfOk result (λ line. line.items ≡ named_text Style.Plain name.now verdict.now) }
-{
-    let mut text = String::new(alloc);
-    push_verdict_line(&mut text, verdict)?;
-    let mut line = Vec::new(alloc);
-    line.extend_from_slice(name.as_bytes())?;
-    line.extend_from_slice(": ".as_bytes())?;
-    line.extend_from_slice(text.as_str().as_bytes())?;
-    Ok(line)
-}
-
-/// What is printed of the verdict on a file of several.
-fn named_line(
+/// What is printed of the verdict on a file of several, in this style.
+fn named_text(
     alloc: Global,
     style: Style,
     name: &str,
@@ -153,7 +140,12 @@ fn named_line(
     ensures { IfOk result (λ line. line.items ≡ named_text style name.now verdict.now) }
 {
     match style {
-        Style::Plain => named_verdict(alloc, name, verdict),
+        Style::Plain => {
+            let mut line = String::new(alloc);
+            write!(line, "{name}: ")?;
+            push_verdict_line(&mut line, verdict)?;
+            Ok(line.into_bytes())
+        }
         Style::Json => verdict_object(alloc, Some(name), verdict),
     }
 }
@@ -161,19 +153,19 @@ fn named_line(
 /// The line of a file of several, and the exit status.
 fn judged<R: AllocGlobal + RandomSource + Threads + Wait + Sync, I: Source>(
     rt: &R,
-    workers: WorkerCount,
-    style: Style,
+    options: &AuditOptions,
     name: &str,
     input: &mut I,
 ) -> Result<(Vec<u8>, u8), ToolFault>
     ensures status { IfOk result (λ said. said.1 < 2) }
     ensures said { IfOk result (λ said. IfSome (I.remaining input.old)
-        (λ bytes. AuditsAs (named_text style name.now) bytes said.0.items said.1)) }
+        (λ bytes. AuditsAs (named_text options.now.style name.now) bytes said.0.items said.1)) }
     ensures stopped { IfErr result (StopsJudging (I.failures input.new ≡ after_failure (I.failures input.old))) }
     ensures read { IfErr result (λ why. why ≢ ToolFault.Read → I.failures input.new ≡ I.failures input.old) }
 {
-    let verdict = verdict_on(rt, workers, input)?;
-    let line = named_line(rt.alloc(), style, name, &verdict)?;
+    let bytes = read_all(rt.alloc(), input, MOST_BYTES as u32)?;
+    let verdict = verdict_on(rt, options.workers, bytes.as_slice())?;
+    let line = named_text(rt.alloc(), options.style, name, &verdict)?;
     Ok((line, status_of(&verdict)))
 }
 
@@ -212,8 +204,7 @@ fn audit_one<
     E: Sink,
 >(
     rt: &R,
-    workers: WorkerCount,
-    style: Style,
+    options: &AuditOptions,
     name: &str,
     folder: &F,
     out: &mut Buffered<O>,
@@ -221,11 +212,12 @@ fn audit_one<
 ) -> Result<u8, ToolFault>
     ensures said { IfOk result (λ status. (text : List ℕ)
         × JudgesFile F.Input.remaining F.Input.failures E.written E.failures (F.bytes folder.now)
-        (F.refuses folder.now) style name.now err.old err.new text status
+        (F.refuses folder.now) options.now.style name.now err.old err.new text status
         × Appends (all_bytes O.written out.old) (all_bytes O.written out.new) text) }
     ensures empty { held_bytes out.old ≡ [] → OnOk result (held_bytes out.new ≡ []) }
     ensures fine { OnOk result (all_failures O.failures out.new ≡ all_failures O.failures out.old) }
-    ensures part { OnErr result ((part : List ℕ) × BeginsNext (F.bytes folder.now) style (name.now ∷ []) part
+    ensures part { OnErr result ((part : List ℕ)
+        × BeginsNext (F.bytes folder.now) options.now.style (name.now ∷ []) part
         × Appends (all_bytes O.written out.old) (all_bytes O.written out.new) part) }
     ensures failed { OnErr result ((err.new ≡ err.old)
         × (all_failures O.failures out.new ≡ after_failure (all_failures O.failures out.old))) }
@@ -235,18 +227,12 @@ fn audit_one<
         Ok(input) => input,
         Err(why) => return Ok(stop_unopened(rt.alloc(), name, why, err)),
     };
-    let (line, status) = match judged(rt, workers, style, name, &mut input) {
+    let (line, status) = match judged(rt, options, name, &mut input) {
         Ok(said) => said,
         Err(why) => return Ok(stop_named(rt.alloc(), name, why, err)),
     };
     send_on(line.as_slice(), out)?;
     Ok(status)
-}
-
-fn greatest(a: u8, b: u8) -> u8
-    ensures { result ≡ max a b }
-{
-    if a < b { b } else { a }
 }
 
 /// Judges the files of these names one after the other. Sends the line of each as soon as it is judged, and says on
@@ -258,27 +244,26 @@ fn audit_files<
     E: Sink,
 >(
     rt: &R,
-    workers: WorkerCount,
-    style: Style,
+    options: &AuditOptions,
     files: &[String],
     folder: &F,
     out: &mut Buffered<O>,
     err: &mut E,
 ) -> Result<u8, ToolFault>
     ensures said { IfOk result (JudgesAll F.Input.remaining F.Input.failures E.written E.failures O.written O.failures
-        (F.bytes folder.now) (F.refuses folder.now) style (map string_bytes files.now) err.old err.new out.old
-        out.new) }
+        (F.bytes folder.now) (F.refuses folder.now) options.now.style (map string_bytes files.now) err.old err.new
+        out.old out.new) }
     ensures status { IfOk result (λ status. status ≤ 3) }
     ensures stopped { OnErr result (FailsAmong F.Input.remaining F.Input.failures E.written E.failures O.written
-        O.failures (F.bytes folder.now) (F.refuses folder.now) style (map string_bytes files.now) err.old err.new
-        out.old out.new) }
+        O.failures (F.bytes folder.now) (F.refuses folder.now) options.now.style (map string_bytes files.now) err.old
+        err.new out.old out.new) }
     ensures why { IfErr result (λ why. why ≡ ToolFault.Write) }
 {
     flush(out)?;
-    let mut status = 0;
+    let mut status: u8 = 0;
     'files: for file in files {
-        let one = audit_one(rt, workers, style, file.as_str(), folder, out, err)?;
-        status = greatest(status, one);
+        let one = audit_one(rt, options, file.as_str(), folder, out, err)?;
+        status = status.max(one);
     }
     Ok(status)
 }
@@ -301,36 +286,37 @@ fn finish<O: Sink + Drop, E: Sink>(status: u8, out: &mut Buffered<O>, err: &mut 
     }
 }
 
-/// Serves the arguments over the file of this name, and sends on what was said.
+/// Serves the call over the file of this name, and sends on what was said.
 fn serve_file<
     R: AllocGlobal + RandomSource + Threads + Wait + Sync,
-    S: AsStr,
     F: Folder,
     O: Sink + Drop,
     E: Sink,
->(rt: &R, arguments: &[S], name: &str, folder: &F, out: &mut Buffered<O>, err: &mut E) -> u8
-    ensures serves { (call : Subcommand) → Calls call (map S.text arguments.now)
-        → ServesFile F.Input.remaining F.Input.failures E.written E.failures O.written O.failures
-        (F.bytes folder.now) (F.refuses folder.now) call name.now err.old err.new out.old out.new result }
+>(rt: &R, call: Call, name: &str, folder: &F, out: &mut Buffered<O>, err: &mut E) -> u8
+    ensures serves { ServesFile F.Input.remaining F.Input.failures E.written E.failures O.written O.failures
+        (F.bytes folder.now) (F.refuses folder.now) (subcommand_of_call call) name.now err.old err.new out.old out.new
+        result }
     ensures status { result ≤ 3 }
 {
     let mut input = match folder.open(name) {
         Ok(input) => input,
         Err(why) => return stop_unopened(rt.alloc(), name, why, err),
     };
-    let status = serve(rt, arguments, &mut input, out, err);
+    let status = serve_call(rt, call, &mut input, out, err);
     finish(status, out, err)
 }
 
-/// How many workers judge each file, and what style its line has, where the call is `audit` and there are several.
-fn several(call: Call, files: &[String]) -> Option<(WorkerCount, Style)>
-    ensures several { IfSome result (λ found. (2 ≤ length files.now) × (subcommand_of_call call ≡ Audit found.1)) }
-    ensures none { IsNone result → (style : Style) → subcommand_of_call call ≡ Audit style → length files.now < 2 }
+/// How each file is audited, where the call is `audit` and there are several.
+fn several(call: &Call, files: &[String]) -> Option<AuditOptions>
+    ensures several { IfSome result (λ options. (2 ≤ length files.now)
+        × (subcommand_of_call call.now ≡ Audit options.style)) }
+    ensures none { IsNone result → (style : Style) → subcommand_of_call call.now ≡ Audit style
+        → length files.now < 2 }
 {
-    match call {
+    match *call {
         Call::Audit(workers, style) => {
             if files.len() > 1 {
-                Some((workers, style))
+                Some(AuditOptions { workers, style })
             } else {
                 None
             }
@@ -349,57 +335,34 @@ fn first_name(files: &[String]) -> &str
     }
 }
 
-/// Serves the arguments, which are this call over the files of these names.
-fn serve_call<
+/// Serves the call over the files of these names, and sends on what was said.
+fn serve_named<
     R: AllocGlobal + RandomSource + Threads + Wait + Sync,
-    S: AsStr,
     F: Folder,
     O: Sink + Drop,
     E: Sink,
->(
-    rt: &R,
-    arguments: &[S],
-    call: Call,
-    files: &[String],
-    folder: &F,
-    out: &mut Buffered<O>,
-    err: &mut E,
-) -> u8
-    requires { call_of (map S.text arguments.now) ≡ Some (subcommand_of_call call) }
+>(rt: &R, call: Call, files: &[String], folder: &F, out: &mut Buffered<O>, err: &mut E) -> u8
     ensures serves { ServesCall F.Input.remaining F.Input.failures E.written E.failures O.written O.failures
         (F.bytes folder.now) (F.refuses folder.now) (subcommand_of_call call) (map string_bytes files.now) err.old
         err.new out.old out.new result }
     ensures status { result ≤ 3 }
 {
-    match several(call, files) {
-        Some((workers, style)) => {
-            match audit_files(rt, workers, style, files, folder, out, err) {
-                Ok(status) => status,
-                Err(why) => stop(why, err),
-            }
-        }
-        None => serve_file(rt, arguments, first_name(files), folder, out, err),
+    match several(&call, files) {
+        Some(options) => match audit_files(rt, &options, files, folder, out, err) {
+            Ok(status) => status,
+            Err(why) => stop(why, err),
+        },
+        None => serve_file(rt, call, first_name(files), folder, out, err),
     }
 }
 
-/// Serves arguments that are no call, which opens no file, and sends on what was said.
-fn serve_none<
-    R: AllocGlobal + RandomSource + Threads + Wait + Sync,
-    S: AsStr,
-    O: Sink + Drop,
-    E: Sink,
->(rt: &R, arguments: &[S], out: &mut Buffered<O>, err: &mut E) -> u8
-    requires { CallsNothing (map S.text arguments.now) }
-    ensures helped { result ≡ 0 → AsksForHelp (map S.text arguments.now) }
-    ensures refused { result ≢ 1 }
-    ensures wrong { result ≡ 2 → IsRefused (map S.text arguments.now) × (out.new ≡ out.old) }
-    ensures unhelped { result ≡ 3 → StopsHelp E.written E.failures (all_failures O.failures) err.old err.new out.old
-        out.new result }
-    ensures empty { result < 2 → held_bytes out.new ≡ [] }
-    ensures status { result ≤ 3 }
+/// Prints the help that was asked for, and sends it on.
+fn print_help<O: Sink + Drop, E: Sink>(text: &str, out: &mut Buffered<O>, err: &mut E) -> u8
+    ensures helped { result < 2 → (result ≡ 0) × (held_bytes out.new ≡ []) }
+    ensures unhelped { 2 ≤ result → (result ≡ 3) × StopsHelp E.written E.failures (all_failures O.failures) err.old
+        err.new out.old out.new result }
 {
-    let mut nothing = SourceOf::new("".as_bytes());
-    let status = serve(rt, arguments, &mut nothing, out, err);
+    let status = serve_help(text, out, err);
     finish(status, out, err)
 }
 
@@ -443,9 +406,10 @@ pub fn serve_files<
 {
     match read_arguments(rt.alloc(), arguments) {
         Ok(Asked::Call(call, files)) => {
-            serve_call(rt, arguments, call, files.as_slice(), folder, out, err)
+            serve_named(rt, call, files.as_slice(), folder, out, err)
         }
-        Ok(_) => serve_none(rt, arguments, out, err),
+        Ok(Asked::Help(text)) => print_help(text.as_str(), out, err),
+        Ok(Asked::Refused(text)) => refuse(text.as_str(), err),
         Err(_) => stop(ToolFault::Memory, err),
     }
 }

@@ -6,12 +6,11 @@ mod explain;
 mod fault;
 mod files;
 mod lines;
-mod long;
+mod listing;
 mod objects;
 mod program;
 mod random;
 mod run;
-mod sending;
 mod show;
 
 pub use eve_tool_arguments;

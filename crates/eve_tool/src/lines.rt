@@ -1,32 +1,38 @@
-//! The lines that the program prints.
+//! The lines that the program prints of a verdict.
 
-ghost use Rattle.std.specs.Prelude.{◌≡◌, ◌++◌, OnOk};
+ghost use Rattle.std.specs.Prelude.{◌≡◌, ◌++◌, IfOk, OnOk};
 ghost use Rattle.std.specs.String.{string_bytes};
-ghost use Rattle.eve_tool.specs.Lines.{fault_line, frame_line, verdict_line, yes_line};
+ghost use Rattle.eve_tool.specs.Audit.{verdict_text};
+ghost use Rattle.eve_tool.specs.Lines.{fault_line, verdict_line, yes_line};
 
+use crate::objects::verdict_object;
 use eve_audit::{Summary, Verdict};
+use eve_tool_arguments::Style;
 use eve_views::Fault;
-use std::alloc::AllocError;
+use std::alloc::{AllocError, Global};
 
-/// Appends the line of a frame: the byte at which it begins, its kind's name, and how many bytes
-/// its body has.
-#[tactic(auto, unfolding(crate::specs::Lines::frame_line))]
-pub(crate) fn push_frame_line(
-    text: &mut String,
-    offset: u64,
-    name: &str,
-    body_len: usize,
-) -> Result<(), AllocError>
-    ensures { OnOk result (string_bytes text.new
-        ≡ string_bytes text.old ++ frame_line offset name.now body_len) }
+/// What is printed of a verdict in this style.
+pub(crate) fn verdict_text(
+    alloc: Global,
+    style: Style,
+    verdict: &Verdict,
+) -> Result<Vec<u8>, AllocError>
+    ensures { IfOk result (λ text. text.items ≡ verdict_text style verdict.now) }
 {
-    writeln!(text, "{offset} {name} {body_len}")
+    match style {
+        Style::Plain => {
+            let mut line = String::new(alloc);
+            push_verdict_line(&mut line, verdict)?;
+            Ok(line.into_bytes())
+        }
+        Style::Json => verdict_object(alloc, None, verdict),
+    }
 }
 
 /// Appends the line that says yes: how many replicas and batches there are, and the least last
 /// committed number over the replicas.
 #[tactic(auto, unfolding(crate::specs::Lines::yes_line))]
-pub(crate) fn push_yes_line(text: &mut String, summary: &Summary) -> Result<(), AllocError>
+fn push_yes_line(text: &mut String, summary: &Summary) -> Result<(), AllocError>
     ensures { OnOk result (string_bytes text.new ≡ string_bytes text.old ++ yes_line summary.now) }
 {
     let replicas = summary.replicas;
@@ -51,7 +57,7 @@ pub(crate) fn push_verdict_line(text: &mut String, verdict: &Verdict) -> Result<
 /// Appends the line that says no: the fault's code, the byte at which it stands, and the replica in
 /// whose section that is, if any.
 #[tactic(auto, unfolding(crate::specs::Lines::fault_line))]
-pub(crate) fn push_fault_line(text: &mut String, fault: &Fault) -> Result<(), AllocError>
+fn push_fault_line(text: &mut String, fault: &Fault) -> Result<(), AllocError>
     ensures { OnOk result (string_bytes text.new ≡ string_bytes text.old ++ fault_line fault.now) }
 {
     let number = fault.code.number();

@@ -1,29 +1,34 @@
 //! The program over any streams.
 
-ghost use Rattle.std.specs.Prelude.{◌≡◌, ◌≢◌, ◌≤◌, ◌<◌, map, IfOk, IfErr, IfSome, OnOk, OnErr};
+ghost use Rattle.std.specs.Prelude.{◌≡◌, ◌≢◌, ◌+◌, ◌≤◌, ◌<◌, map, vec_len, IfOk, IfErr, IfSome, OnOk, Some};
 ghost use Rattle.eve_audit.specs.Verdict.{SpellsAudited};
 ghost use Rattle.eve_streams.specs.Failures.{after_failure};
-ghost use Rattle.eve_tool.specs.Calls.{Calls, WasRead, Leaves, LeavesHelp, Stops, StopsHelp, Tells, CallSays};
+ghost use Rattle.eve_tool.specs.Calls.{Calls, WasRead, Leaves, Stops, StopsHelp, Tells, TellsLine, CallSays};
 ghost use Rattle.eve_tool.specs.Fault.{status_of};
 ghost use Rattle.eve_tool_arguments.specs.Arguments.{AsksForHelp, AsksForVerdict, CallsNothing, CallsSome};
 ghost use Rattle.eve_tool_arguments.specs.Arguments.{IsRefused, Subcommand, subcommand_of_call};
 ghost use Rattle.eve_tool.specs.Words.{WordsAreCalls};
-ghost use Rattle.eve_tool.specs.Writes.{WritesAllOf};
+ghost use Rattle.eve_tool.specs.Writes.{WritesAll, WritesAllOf};
 
-use crate::audit::audit;
+use crate::audit::{AuditOptions, audit};
 use crate::explain::explain;
 use crate::fault::ToolFault;
-use crate::long::show_long;
-use crate::run::run_within;
-use crate::sending::tell;
-use crate::show::show;
+use crate::run::{RunOptions, run_bytes};
+use crate::show::{show, show_long};
 use eve_grammar::MOST_BYTES;
-use eve_streams::{Sink, Source, send_all};
+use eve_streams::{Sink, Source, read_all, send_all};
 use eve_tool_arguments::{Asked, Call, read_arguments};
 use std::convert::AsStr;
 use std::random::RandomSource;
 use std::sync::Wait;
 use std::thread::Threads;
+
+/// Says a line on the error stream. What can't be said is lost.
+pub(crate) fn tell<E: Sink>(err: &mut E, line: &[u8])
+    ensures { TellsLine E.written E.failures err.old err.new line.now }
+{
+    let _ = send_all(err, line);
+}
 
 /// Says on `err` why the program ends without an answer, and returns the exit status. What can't be said is lost.
 pub fn stop<E: Sink>(fault: ToolFault, err: &mut E) -> u8
@@ -34,7 +39,52 @@ pub fn stop<E: Sink>(fault: ToolFault, err: &mut E) -> u8
     fault.status()
 }
 
-/// Does what the call asks for, and returns the exit status.
+/// Says on `err` why the arguments are no call, and returns the exit status.
+pub(crate) fn refuse<E: Sink>(text: &str, err: &mut E) -> u8
+    ensures { result ≡ 2 }
+{
+    tell(err, text.as_bytes());
+    2
+}
+
+/// Answers the call about these bytes, and returns the exit status.
+fn answer_bytes<R: AllocGlobal + RandomSource + Threads + Wait + Sync, O: Sink>(
+    rt: &R,
+    call: Call,
+    mut bytes: Vec<u8>,
+    out: &mut O,
+) -> Result<u8, ToolFault>
+    requires { vec_len bytes ≤ MOST_BYTES + 1 }
+    ensures said { IfOk result (WritesAll (CallSays MOST_BYTES (subcommand_of_call call)) bytes.items
+        (O.written out.old) (O.written out.new)) }
+    ensures status { IfOk result (λ status. status < 2) }
+    ensures fine { OnOk result (O.failures out.new ≡ O.failures out.old) }
+    ensures left { IfErr result (Leaves MOST_BYTES O.written O.failures (subcommand_of_call call) (Some bytes.items) ⊥
+        out.old out.new) }
+    ensures wrote { IfErr result (λ why. why ≢ ToolFault.Write → O.failures out.new ≡ O.failures out.old) }
+{
+    match call {
+        Call::Audit(workers, style) => {
+            audit(rt, &AuditOptions { workers, style }, bytes.as_slice(), out)
+        }
+        Call::Explain(workers, style) => {
+            explain(rt, &AuditOptions { workers, style }, bytes.as_slice(), out)
+        }
+        Call::Run(mixer, format) => {
+            let options = RunOptions {
+                mixer,
+                format,
+                limit: MOST_BYTES as u32,
+            };
+            run_bytes(rt, options, bytes, out)
+        }
+        Call::Show => show(rt.alloc(), bytes.as_slice(), out),
+        Call::ShowLong(style) => show_long(rt.alloc(), style, bytes.as_mut_slice(), out),
+    }
+}
+
+/// Reads the input, and answers the call about it. Returns the exit status. It reads at most one byte more than a trace
+/// or a workload may have.
 fn answer_call<R: AllocGlobal + RandomSource + Threads + Wait + Sync, I: Source, O: Sink>(
     rt: &R,
     call: Call,
@@ -54,66 +104,44 @@ fn answer_call<R: AllocGlobal + RandomSource + Threads + Wait + Sync, I: Source,
     ensures consumed { OnOk result (WasRead MOST_BYTES (I.remaining input.old) (I.remaining input.new)) }
     ensures wrote { IfErr result (λ why. why ≢ ToolFault.Write → O.failures out.new ≡ O.failures out.old) }
 {
-    match call {
-        Call::Audit(workers, style) => audit(rt, workers, style, input, out),
-        Call::Explain(workers, style) => explain(rt, workers, style, input, out),
-        Call::Run(mixer, format) => { run_within(rt, mixer, format, MOST_BYTES as u32, input, out) }
-        Call::Show => show(rt.alloc(), input, out),
-        Call::ShowLong(style) => show_long(rt.alloc(), style, input, out),
-    }
+    let bytes = read_all(rt.alloc(), input, MOST_BYTES as u32)?;
+    answer_bytes(rt, call, bytes, out)
 }
 
-/// Does what the arguments ask for, and returns the exit status.
-fn answer<
+/// Answers the call about this input, or says on `err` why it doesn't. Returns the exit status.
+pub(crate) fn serve_call<
     R: AllocGlobal + RandomSource + Threads + Wait + Sync,
-    S: AsStr,
     I: Source,
     O: Sink,
     E: Sink,
->(rt: &R, arguments: &[S], input: &mut I, out: &mut O, err: &mut E) -> Result<u8, ToolFault>
-    ensures said { (call : Subcommand) → Calls call (map S.text arguments.now)
-        → IfOk result (λ status. (status < 2) × WritesAllOf (CallSays MOST_BYTES call) (I.remaining input.old)
-        (O.written out.old) (O.written out.new) status) }
-    ensures status { CallsSome (map S.text arguments.now) → IfOk result (λ status. status < 2) }
-    ensures fine { CallsSome (map S.text arguments.now)
-        → OnOk result ((I.failures input.new ≡ I.failures input.old)
-        × (O.failures out.new ≡ O.failures out.old)) }
-    ensures left { (call : Subcommand) → Calls call (map S.text arguments.now)
-        → IfErr result (Leaves MOST_BYTES O.written O.failures call (I.remaining input.old)
-        (I.failures input.new ≡ after_failure (I.failures input.old)) out.old out.new) }
-    ensures read { IfErr result (λ why. why ≢ ToolFault.Read → I.failures input.new ≡ I.failures input.old) }
-    ensures ended { CallsSome (map S.text arguments.now)
-        → IfErr result (λ why. why ≢ ToolFault.Read → why ≢ ToolFault.Memory
-        → WasRead MOST_BYTES (I.remaining input.old) (I.remaining input.new)) }
-    ensures consumed { CallsSome (map S.text arguments.now)
-        → OnOk result (WasRead MOST_BYTES (I.remaining input.old) (I.remaining input.new)) }
-    ensures wrote { IfErr result (λ why. why ≢ ToolFault.Write → O.failures out.new ≡ O.failures out.old) }
-    ensures quiet { CallsSome (map S.text arguments.now) → err.new ≡ err.old }
-    ensures unread { CallsNothing (map S.text arguments.now) → input.new ≡ input.old }
-    ensures help { CallsNothing (map S.text arguments.now) → IfOk result (λ status. status ≡ 0
-        → AsksForHelp (map S.text arguments.now)) }
-    ensures heard { CallsNothing (map S.text arguments.now) → IfOk result (λ status. status ≡ 0
-        → (O.failures out.new ≡ O.failures out.old) × (err.new ≡ err.old)) }
-    ensures wrong { CallsNothing (map S.text arguments.now) → IfOk result (λ status. status ≢ 0
-        → (status ≡ 2) × IsRefused (map S.text arguments.now) × (out.new ≡ out.old)) }
-    ensures nothing { CallsNothing (map S.text arguments.now) → IfErr result (LeavesHelp O.failures out.old out.new) }
-    ensures unheard { OnErr result (err.new ≡ err.old) }
-    ensures silent { IfErr result (λ e. status_of e ≡ 2 → out.new ≡ out.old) }
+>(rt: &R, call: Call, input: &mut I, out: &mut O, err: &mut E) -> u8
+    ensures said { result < 2 → WritesAllOf (CallSays MOST_BYTES (subcommand_of_call call)) (I.remaining input.old)
+        (O.written out.old) (O.written out.new) result }
+    ensures fine { result < 2 → (I.failures input.new ≡ I.failures input.old)
+        × (O.failures out.new ≡ O.failures out.old) × (err.new ≡ err.old) }
+    ensures consumed { result < 2 → WasRead MOST_BYTES (I.remaining input.old) (I.remaining input.new) }
+    ensures stopped { 2 ≤ result → Stops E.written E.failures O.written O.failures (subcommand_of_call call)
+        (I.remaining input.old) (I.failures input.new ≡ after_failure (I.failures input.old))
+        (I.failures input.new ≡ I.failures input.old)
+        (WasRead MOST_BYTES (I.remaining input.old) (I.remaining input.new)) err.old err.new out.old out.new result }
+    ensures status { result ≤ 3 }
+    ensures silent { result ≡ 2 → out.new ≡ out.old }
 {
-    match read_arguments(rt.alloc(), arguments)? {
-        Asked::Call(call, files) => {
-            drop(files);
-            answer_call(rt, call, input, out)
-        }
-        Asked::Help(text) => {
-            let sent = send_all(out, text.as_str().as_bytes());
-            sent?;
-            Ok(0)
-        }
-        Asked::Refused(text) => {
-            let _ = send_all(err, text.as_str().as_bytes());
-            Ok(2)
-        }
+    match answer_call(rt, call, input, out) {
+        Ok(status) => status,
+        Err(why) => stop(why, err),
+    }
+}
+
+/// Prints the help that was asked for, or says on `err` why it can't. Returns the exit status.
+pub(crate) fn serve_help<O: Sink, E: Sink>(text: &str, out: &mut O, err: &mut E) -> u8
+    ensures heard { result < 2 → (result ≡ 0) × (O.failures out.new ≡ O.failures out.old) × (err.new ≡ err.old) }
+    ensures unhelped { 2 ≤ result → (result ≡ 3)
+        × StopsHelp E.written E.failures O.failures err.old err.new out.old out.new result }
+{
+    match send_all(out, text.as_bytes()) {
+        Ok(()) => 0,
+        Err(_) => stop(ToolFault::Write, err),
     }
 }
 
@@ -167,8 +195,13 @@ pub fn serve<
     ensures status { result ≤ 3 }
     ensures silent { result ≡ 2 → out.new ≡ out.old }
 {
-    match answer(rt, arguments, input, out, err) {
-        Ok(status) => status,
-        Err(fault) => stop(fault, err),
+    match read_arguments(rt.alloc(), arguments) {
+        Ok(Asked::Call(call, files)) => {
+            drop(files);
+            serve_call(rt, call, input, out, err)
+        }
+        Ok(Asked::Help(text)) => serve_help(text.as_str(), out, err),
+        Ok(Asked::Refused(text)) => refuse(text.as_str(), err),
+        Err(_) => stop(ToolFault::Memory, err),
     }
 }

@@ -1,6 +1,6 @@
 //! The call `run`: a deployment serves a workload, and the trace of the run is written.
 
-ghost use Rattle.std.specs.Prelude.{◌≡◌, ◌≢◌, ◌≤◌, ◌<◌, ◌⊎◌, Some, Err, length};
+ghost use Rattle.std.specs.Prelude.{◌≡◌, ◌≢◌, ◌≤◌, ◌<◌, ◌⊎◌, Some, Err};
 ghost use Rattle.std.specs.Prelude.{IfOk, IfErr, OnOk};
 ghost use Rattle.eve_grammar.specs.Spelling.{length_of, spelling};
 ghost use Rattle.eve_streams.specs.Failures.{after_failure};
@@ -21,10 +21,20 @@ use eve_replica::run_consuming;
 use eve_streams::{Sink, Source, read_all};
 use eve_tool_arguments::Format;
 use eve_write::{GatherFault, Parts, gather_spelled};
-use std::alloc::Global;
 use std::random::RandomSource;
 use std::sync::Wait;
 use std::thread::Threads;
+
+/// How a run is asked for.
+#[derive(Clone, Copy)]
+pub(crate) struct RunOptions {
+    /// Which mixer cuts the batches.
+    pub(crate) mixer: Mixer,
+    /// Which format the trace has.
+    pub(crate) format: Format,
+    /// How many bytes the workload has at most, and the trace too.
+    pub(crate) limit: u32,
+}
 
 /// Sends the trace of the parts, if it has at most `limit` bytes.
 fn send_trace<O: Sink>(parts: &Parts, limit: u32, out: &mut O) -> Result<(), ToolFault>
@@ -46,50 +56,49 @@ fn send_trace<O: Sink>(parts: &Parts, limit: u32, out: &mut O) -> Result<(), Too
     }
 }
 
-/// Runs the workload that these bytes are in this format, and returns the parts of its trace. The bytes go once it is
-/// read.
-fn parts_of<R: RandomSource + Threads + Wait + Sync>(
+/// Runs the workload that these bytes are, as it is asked for, and returns the parts of its trace. The bytes go once it
+/// is read.
+fn parts_of<R: AllocGlobal + RandomSource + Threads + Wait + Sync>(
     rt: &R,
-    alloc: Global,
+    options: RunOptions,
     bytes: Vec<u8>,
-    mixer: Mixer,
-    format: Format,
 ) -> Result<Parts, ToolFault>
-    ensures run { IfOk result (IsRunOfText mixer format bytes.items) }
-    ensures stopped { IfErr result (StopsRun mixer format bytes.items) }
+    ensures run { IfOk result (IsRunOfText options.mixer options.format bytes.items) }
+    ensures stopped { IfErr result (StopsRun options.mixer options.format bytes.items) }
 {
-    let workload = Workload::read(alloc, bytes.as_slice(), format.version())?;
+    let alloc = rt.alloc();
+    let workload = Workload::read(alloc, bytes.as_slice(), options.format.version())?;
     drop(bytes);
     let random = random_words(rt)?;
-    match run_consuming(rt, alloc, workload, mixer, random, &OpenGate) {
+    match run_consuming(rt, alloc, workload, options.mixer, random, &OpenGate) {
         Ok(parts) => Ok(parts),
         Err(why) => Err(ToolFault::from(why)),
     }
 }
 
-/// Runs the workload that these bytes are in this format, sends the trace, of at most `limit` bytes, and returns the
-/// exit status.
-fn run_bytes<R: RandomSource + Threads + Wait + Sync, O: Sink>(
+/// Runs the workload that these bytes are, as it is asked for, sends the trace, and returns the exit status. Bytes or a
+/// trace past the limit are too long.
+pub(crate) fn run_bytes<R: AllocGlobal + RandomSource + Threads + Wait + Sync, O: Sink>(
     rt: &R,
-    alloc: Global,
+    options: RunOptions,
     bytes: Vec<u8>,
-    mixer: Mixer,
-    format: Format,
-    limit: u32,
     out: &mut O,
 ) -> Result<u8, ToolFault>
-    requires short { length bytes.items ≤ limit }
-    requires limit { limit ≤ MOST_BYTES }
-    ensures all { IfOk result (WritesAll (Runs limit mixer format) bytes.items (O.written out.old)
-        (O.written out.new)) }
+    requires { options.limit ≤ MOST_BYTES }
+    ensures said { IfOk result (WritesAll (Runs options.limit options.mixer options.format) bytes.items
+        (O.written out.old) (O.written out.new)) }
     ensures status { IfOk result (λ status. status ≡ 0) }
     ensures fine { OnOk result (O.failures out.new ≡ O.failures out.old) }
-    ensures left { IfErr result (Leaves limit O.written O.failures (Run mixer format) (Some bytes.items) ⊥
-        out.old out.new) }
+    ensures left { IfErr result (Leaves options.limit O.written O.failures (Run options.mixer options.format)
+        (Some bytes.items) ⊥ out.old out.new) }
     ensures wrote { IfErr result (λ why. why ≢ ToolFault.Write → O.failures out.new ≡ O.failures out.old) }
 {
-    let parts = parts_of(rt, alloc, bytes, mixer, format)?;
-    send_trace(&parts, limit, out)?;
+    let is_long = bytes.len() > options.limit as usize;
+    if is_long {
+        return Err(ToolFault::TooLong);
+    }
+    let parts = parts_of(rt, options, bytes)?;
+    send_trace(&parts, options.limit, out)?;
     Ok(0)
 }
 
@@ -123,11 +132,11 @@ pub fn run_within<R: AllocGlobal + RandomSource + Threads + Wait + Sync, I: Sour
     ensures consumed { OnOk result (WasRead limit (I.remaining input.old) (I.remaining input.new)) }
     ensures wrote { IfErr result (λ why. why ≢ ToolFault.Write → O.failures out.new ≡ O.failures out.old) }
 {
-    let alloc = rt.alloc();
-    let bytes = read_all(alloc, input, limit)?;
-    let is_long = bytes.len() > limit as usize;
-    if is_long {
-        return Err(ToolFault::TooLong);
-    }
-    run_bytes(rt, alloc, bytes, mixer, format, limit, out)
+    let bytes = read_all(rt.alloc(), input, limit)?;
+    let options = RunOptions {
+        mixer,
+        format,
+        limit,
+    };
+    run_bytes(rt, options, bytes, out)
 }

@@ -1,100 +1,172 @@
-//! The call `show`: the frames of a trace, a line for each.
+//! The calls `show` and `show --long`: the frames of a trace, a line or an object for each.
 
-ghost use Rattle.std.specs.Prelude.{◌≡◌, ◌≢◌, ◌<◌, ℕ, ◌++◌, length, slice_get, Some};
-ghost use Rattle.std.specs.Prelude.{IfOk, IfErr, OnOk};
-ghost use Rattle.std.specs.String.{string_bytes};
-ghost use Rattle.std.specs.Io.KnownBytes.{Appends};
-ghost use Rattle.eve_grammar.specs.Frames.{Frame, frames_of};
-ghost use Rattle.eve_grammar.specs.Spelling.{frame_text, located};
-ghost use Rattle.eve_streams.specs.Failures.{after_failure};
-ghost use Rattle.eve_tool.specs.Calls.{WasRead, Leaves, StopsInParts};
-ghost use Rattle.eve_tool.specs.Show.{Shows, line_of, trace_lines};
-ghost use Rattle.eve_tool_arguments.specs.Arguments.{Show};
-ghost use Rattle.eve_tool.specs.Writes.{WritesAll, WritesAllOf};
+ghost use Rattle.std.specs.Prelude.{◌≡◌, ◌≢◌, ◌<◌, ◌≤◌, length, Some, IfOk, IfErr, OnOk};
+ghost use Rattle.eve_audit.specs.declared.verdict.Verdict.TheVariants.{No};
+ghost use Rattle.eve_tool.specs.Audit.{verdict_text};
+ghost use Rattle.eve_tool.specs.Calls.{Leaves, StopsListing, StopsLong};
+ghost use Rattle.eve_tool.specs.Show.{AreLinesBefore, AreLinesOf, AreLinesTo, SendsLines, SendsUpTo, Shows, ShowsLong};
+ghost use Rattle.eve_tool.specs.Show.{with_total};
+ghost use Rattle.eve_tool.specs.Writes.{WritesAll};
+ghost use Rattle.eve_tool_arguments.specs.Arguments.{Show, ShowLong};
+ghost use Rattle.eve_views.specs.Form.{IsFaultOutside, StandsInForm};
 
+use crate::audit::send_verdict;
 use crate::fault::ToolFault;
-use crate::lines::push_frame_line;
-use crate::sending::{send_fault, send_text};
-use eve_grammar::MOST_BYTES;
-use eve_streams::{Sink, Source, read_all};
-use eve_views::{CheckFault, Trace};
-use std::alloc::{AllocError, Global};
+use crate::lines::verdict_text;
+use crate::listing::{Listing, send_lines};
+use eve_audit::Verdict;
+use eve_grammar::{HEADER_LEN, MOST_BYTES};
+use eve_streams::{Sink, send_all};
+use eve_tool_arguments::Style;
+use eve_views::{CheckFault, Code, Fault, Trace};
+use std::alloc::Global;
 
-/// How many bytes of lines are sent together, about.
-const ROOM: usize = 64 * 1024;
-
-/// How many bytes a line has at most.
-const LONGEST_LINE: usize = 64;
-
-/// Appends the line of frame number i.
-fn push_frame(text: &mut String, trace: &Trace<'_>, i: usize) -> Result<(), AllocError>
-    requires { i < length (frames_of trace.now) }
-    ensures { (p : ℕ × Frame) → slice_get (located frame_text 32 (frames_of trace.now)) i ≡ Some p
-        → OnOk result (string_bytes text.new ≡ string_bytes text.old ++ line_of p) }
-{
-    let frame = trace.frame(i);
-    push_frame_line(text, frame.offset(), frame.kind_name(), frame.body_len())
-}
-
-/// Sends the lines of the header and of all frames, many at a time.
-fn send_frames<O: Sink>(alloc: Global, trace: &Trace<'_>, out: &mut O) -> Result<(), ToolFault>
-    ensures sent { OnOk result (Appends (O.written out.old) (O.written out.new)
-        (trace_lines (frames_of trace.now))) }
-    ensures fine { OnOk result (O.failures out.new ≡ O.failures out.old) }
-    ensures stopped { IfErr result (StopsInParts O.written O.failures out.old out.new
-        (trace_lines (frames_of trace.now))) }
-{
-    let mut text = String::with_capacity(alloc, ROOM)?;
-    push_frame_line(&mut text, 0, "Header", 32)?;
-    'frames: for i in 0..trace.frame_count() {
-        push_frame(&mut text, trace, i)?;
-        if text.len() > ROOM - LONGEST_LINE {
-            send_text(&mut text, out)?;
-        }
-    }
-    send_text(&mut text, out)
-}
-
-/// Sends what there is to say of the bytes, and returns the exit status.
-fn show_bytes<O: Sink>(alloc: Global, bytes: &[u8], out: &mut O) -> Result<u8, ToolFault>
-    ensures all { IfOk result (WritesAll Shows bytes.now (O.written out.old) (O.written out.new)) }
+/// Sends the lines of a trace and returns 0; or sends the line of the first fault of form and returns 1.
+pub(crate) fn show<O: Sink>(alloc: Global, bytes: &[u8], out: &mut O) -> Result<u8, ToolFault>
+    ensures said { IfOk result (WritesAll Shows bytes.now (O.written out.old) (O.written out.new)) }
+    ensures status { IfOk result (λ status. status < 2) }
     ensures fine { OnOk result (O.failures out.new ≡ O.failures out.old) }
     ensures left { IfErr result (Leaves MOST_BYTES O.written O.failures Show (Some bytes.now) ⊥ out.old out.new) }
     ensures wrote { IfErr result (λ why. why ≢ ToolFault.Write → O.failures out.new ≡ O.failures out.old) }
 {
     match Trace::read(alloc, bytes) {
         Ok(trace) => {
-            send_frames(alloc, &trace, out)?;
+            send_lines(alloc, Listing::Short, trace.bytes(), out)?;
             Ok(0)
         }
         Err(CheckFault::Found(fault)) => {
-            send_fault(alloc, &fault, out)?;
-            Ok(1)
+            let status = send_verdict(alloc, Style::Plain, &Verdict::No(fault), out)?;
+            Ok(status)
         }
         Err(CheckFault::Memory) => Err(ToolFault::Memory),
     }
 }
 
-/// Reads a trace, sends its lines and returns 0; or sends the line of its first fault of form and returns 1. It reads
-/// at most one byte more than a trace may have: the fault is F1 Length then.
-pub(crate) fn show<I: Source, O: Sink>(
+/// Sends the lines of the header and of the frames before a fault of form; none where the fault is the header's.
+fn send_before<O: Sink>(
     alloc: Global,
-    input: &mut I,
+    style: Style,
+    bytes: &[u8],
+    fault: &Fault,
+    out: &mut O,
+) -> Result<(), ToolFault>
+    requires within { fault.now.offset ≤ length bytes.now }
+    requires stands { IsFaultOutside StandsInForm bytes.now fault.now }
+    ensures sent { OnOk result (SendsLines (O.written out.old) (O.written out.new)
+        (AreLinesTo style fault.now.code bytes.now fault.now.offset)) }
+    ensures fine { OnOk result (O.failures out.new ≡ O.failures out.old) }
+    ensures stopped { IfErr result (StopsListing style O.written O.failures out.old out.new
+        (AreLinesTo style fault.now.code bytes.now fault.now.offset)) }
+{
+    let at = fault.offset as usize;
+    if at < HEADER_LEN {
+        return Ok(());
+    }
+    send_lines(alloc, Listing::Full(style), &bytes[..at], out)
+}
+
+/// Sends the lines that there are of bytes: of a trace all, else those before the first fault of form.
+fn send_there<O: Sink>(
+    alloc: Global,
+    style: Style,
+    bytes: &[u8],
+    out: &mut O,
+) -> Result<(), ToolFault>
+    ensures sent { OnOk result (SendsLines (O.written out.old) (O.written out.new) (AreLinesOf style bytes.now)) }
+    ensures fine { OnOk result (O.failures out.new ≡ O.failures out.old) }
+    ensures stopped { IfErr result (StopsListing style O.written O.failures out.old out.new
+        (AreLinesOf style bytes.now)) }
+{
+    match Trace::read(alloc, bytes) {
+        Ok(trace) => send_lines(alloc, Listing::Full(style), trace.bytes(), out),
+        Err(CheckFault::Found(fault)) => send_before(alloc, style, bytes, &fault, out),
+        Err(CheckFault::Memory) => Err(ToolFault::Memory),
+    }
+}
+
+/// Writes their number into bytes, where a header has its total.
+fn set_total(bytes: &mut [u8])
+    requires { HEADER_LEN ≤ length bytes.old }
+    ensures { bytes.new ≡ with_total bytes.old }
+{
+    let total = bytes.len() as u64;
+    bytes[24..HEADER_LEN].copy_from_slice(&total.to_be_bytes());
+}
+
+/// Sends the lines before a fault of form. Where it is that there are more or fewer bytes than the header says, the
+/// header then says how many there are.
+fn send_listed<O: Sink>(
+    alloc: Global,
+    style: Style,
+    bytes: &mut [u8],
+    fault: &Fault,
+    out: &mut O,
+) -> Result<(), ToolFault>
+    requires within { fault.now.offset ≤ length bytes.old }
+    requires stands { IsFaultOutside StandsInForm bytes.old fault.now }
+    ensures sent { OnOk result (SendsLines (O.written out.old) (O.written out.new)
+        (AreLinesBefore style fault.now.code bytes.old fault.now.offset)) }
+    ensures fine { OnOk result (O.failures out.new ≡ O.failures out.old) }
+    ensures stopped { IfErr result (StopsListing style O.written O.failures out.old out.new
+        (AreLinesBefore style fault.now.code bytes.old fault.now.offset)) }
+{
+    match fault.code {
+        Code::Length => {
+            if bytes.len() < HEADER_LEN || bytes.len() > MOST_BYTES {
+                return Ok(());
+            }
+            set_total(bytes);
+            send_there(alloc, style, bytes, out)
+        }
+        _ => send_before(alloc, style, bytes, fault, out),
+    }
+}
+
+/// Sends the lines of the header and of the frames before a fault, and then the line of the fault.
+fn send_faulty<O: Sink>(
+    alloc: Global,
+    style: Style,
+    bytes: &mut [u8],
+    fault: &Fault,
+    out: &mut O,
+) -> Result<(), ToolFault>
+    requires within { fault.now.offset ≤ length bytes.old }
+    requires stands { IsFaultOutside StandsInForm bytes.old fault.now }
+    ensures sent { OnOk result (SendsUpTo (O.written out.old) (O.written out.new)
+        (AreLinesBefore style fault.now.code bytes.old fault.now.offset) (verdict_text style (No fault.now))) }
+    ensures fine { OnOk result (O.failures out.new ≡ O.failures out.old) }
+    ensures stopped { IfErr result (StopsLong style O.written O.failures out.old out.new
+        (AreLinesBefore style fault.now.code bytes.old fault.now.offset) (verdict_text style (No fault.now))) }
+{
+    let text = verdict_text(alloc, style, &Verdict::No(*fault))?;
+    send_listed(alloc, style, bytes, fault, out)?;
+    send_all(out, text.as_slice())?;
+    Ok(())
+}
+
+/// Sends the lines of a trace with the fields of each frame, in this style, and returns 0; or sends those of the frames
+/// before the first fault of form, and then the line of that fault, and returns 1.
+pub(crate) fn show_long<O: Sink>(
+    alloc: Global,
+    style: Style,
+    bytes: &mut [u8],
     out: &mut O,
 ) -> Result<u8, ToolFault>
-    ensures all { IfOk result (WritesAllOf Shows (I.remaining input.old)
-        (O.written out.old) (O.written out.new)) }
+    ensures said { IfOk result (WritesAll (ShowsLong style) bytes.old (O.written out.old) (O.written out.new)) }
     ensures status { IfOk result (λ status. status < 2) }
-    ensures fine { OnOk result ((I.failures input.new ≡ I.failures input.old)
-        × (O.failures out.new ≡ O.failures out.old)) }
-    ensures left { IfErr result (Leaves MOST_BYTES O.written O.failures Show (I.remaining input.old)
-        (I.failures input.new ≡ after_failure (I.failures input.old)) out.old out.new) }
-    ensures read { IfErr result (λ why. why ≢ ToolFault.Read → I.failures input.new ≡ I.failures input.old) }
-    ensures ended { IfErr result (λ why. why ≢ ToolFault.Read → why ≢ ToolFault.Memory
-        → WasRead MOST_BYTES (I.remaining input.old) (I.remaining input.new)) }
-    ensures consumed { OnOk result (WasRead MOST_BYTES (I.remaining input.old) (I.remaining input.new)) }
+    ensures fine { OnOk result (O.failures out.new ≡ O.failures out.old) }
+    ensures left { IfErr result (Leaves MOST_BYTES O.written O.failures (ShowLong style) (Some bytes.old) ⊥ out.old
+        out.new) }
     ensures wrote { IfErr result (λ why. why ≢ ToolFault.Write → O.failures out.new ≡ O.failures out.old) }
 {
-    let bytes = read_all(alloc, input, MOST_BYTES as u32)?;
-    show_bytes(alloc, bytes.as_slice(), out)
+    let fault = match Trace::read(alloc, bytes) {
+        Ok(trace) => {
+            send_lines(alloc, Listing::Full(style), trace.bytes(), out)?;
+            return Ok(0);
+        }
+        Err(CheckFault::Found(fault)) => fault,
+        Err(CheckFault::Memory) => return Err(ToolFault::Memory),
+    };
+    send_faulty(alloc, style, bytes, &fault, out)?;
+    Ok(1)
 }

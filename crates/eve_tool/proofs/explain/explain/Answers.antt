@@ -1,60 +1,31 @@
-use Rattle.std.proofs.Common.{◌^◌}
-use Rattle.std.proofs.lemmas.Result.{IfErr-weaker, IfOk-weaker, on_ok_weaker}
-use Rattle.eve_tool.specs.Explain.{Explains, explained_text}
+use Rattle.std.proofs.Common.{refl}
+use Rattle.eve_explain.specs.Explained.{verdict_in}
+use Rattle.eve_tool.specs.Explain.{explained_text}
+use Rattle.eve_tool.specs.Lines.{status_of_verdict}
 use Rattle.eve_tool_arguments.specs.Arguments.{Explain}
-use Rattle.eve_tool.proofs.CutInput.{WritesAllOf-cut, WritesPrefixOf-cut, random_left}
-use Rattle.eve_tool.proofs.ExplainedLines.{Explains-cut, explain_left}
-use Rattle.eve_tool.proofs.UnsentText.{at_err}
-use Rattle.eve_tool.proofs.WholeInput.{is_read}
+use Rattle.eve_tool.proofs.ExplainedLines.{explains-of}
+use Rattle.eve_tool.proofs.UnsentText.{at_err, sent_left}
 use Rattle.eve_tool.proofs.explain.explain.Goals as goal
 
-pub returns-clause-all : goal.returns-clause-all
-returns-clause-all g c =
-    let known = g.I.Source.remaining c.args.input.now in
-    let old = g.O.Sink.written c.args.out.now in
-    let new = g.O.Sink.written c.explain_bytes.new.out in
-    IfOk-weaker c.explain_bytes.result _ _
-    (λ status all. WritesAllOf-cut (Explains (explained_text c.args.style)) (2 ^ 30) known _ _ old new status
-    (Explains-cut (explained_text c.args.style)) c.as_slice.ensures.value
-    c.in_ok-bytes.ensures.bytes all)
-    c.explain_bytes.ensures.all
+pub returns-in_err-status-clause-left : goal.returns-in_err-status-clause-left
+returns-in_err-status-clause-left g c =
+    let bytes = c.args.bytes.now in
+    let style = c.args.options.now.style in
+    let x = c.in-Ok.explained in
+    let status = status_of_verdict (verdict_in x) in
+    let why = c.in_err-status.field-0.0 in
+    let said = explains-of style bytes x status refl c.in-Ok.ensures.verdict c.in-Ok.ensures.yes
+    c.in-Ok.ensures.explained c.requires.read in
+    at_err c.from_residual-in_err-status.result _ why c.from_residual-in_err-status.ensures.1
+    (sent_left g.O.Sink.written g.O.Sink.failures (Explain style) bytes (explained_text style x) status c.args.out.now
+    c.send_explained.new.out said why c.in_err-status.ensures.stopped)
 
-pub returns-clause-left : goal.returns-clause-left
-returns-clause-left g c =
-    let known = g.I.Source.remaining c.args.input.now in
-    let old = g.O.Sink.written c.args.out.now in
-    let new = g.O.Sink.written c.explain_bytes.new.out in
-    IfErr-weaker c.explain_bytes.result _ _
-    (λ why. explain_left c.args.style g.O.Sink.written g.O.Sink.failures known _ c.as_slice.result.now c.args.out.now
-    c.explain_bytes.new.out why
-    (λ prefix. WritesPrefixOf-cut (Explains (explained_text c.args.style)) (2 ^ 30) known _ _ old new
-    (Explains-cut (explained_text c.args.style)) c.as_slice.ensures.value
-    c.in_ok-bytes.ensures.bytes prefix))
-    c.explain_bytes.ensures.left
-
-pub returns-in_err-random-clause-left : goal.returns-in_err-random-clause-left
-returns-in_err-random-clause-left g c =
-    let why = c.in_err-random.field-0.0 in
-    at_err c.from_residual-in_err-random.result _ why c.from_residual-in_err-random.ensures.1
-    (random_left g.O.Sink.written g.O.Sink.failures (Explain c.args.style)
-    (g.I.Source.remaining c.args.input.now) _ c.args.out.now why tt
-    c.in_err-random.ensures)
-
-pub returns-in_err-random-clause-ended : goal.returns-in_err-random-clause-ended
-returns-in_err-random-clause-ended g c =
-    let read = is_read (2 ^ 30) (g.I.Source.remaining c.args.input.now) (g.I.Source.remaining c.read_all.new.source) _
-    c.in_ok-bytes.ensures.bytes c.in_ok-bytes.ensures.rest in
-    at_err c.from_residual-in_err-random.result _ c.in_err-random.field-0.0 c.from_residual-in_err-random.ensures.1
-    (λ unread scarce. read)
-
-pub returns-clause-ended : goal.returns-clause-ended
-returns-clause-ended g c =
-    let read = is_read (2 ^ 30) (g.I.Source.remaining c.args.input.now) (g.I.Source.remaining c.read_all.new.source) _
-    c.in_ok-bytes.ensures.bytes c.in_ok-bytes.ensures.rest in
-    IfErr-weaker c.explain_bytes.result _ _ (λ why left unread scarce. read) c.explain_bytes.ensures.left
-
-pub returns-clause-consumed : goal.returns-clause-consumed
-returns-clause-consumed g c =
-    let read = is_read (2 ^ 30) (g.I.Source.remaining c.args.input.now) (g.I.Source.remaining c.read_all.new.source) _
-    c.in_ok-bytes.ensures.bytes c.in_ok-bytes.ensures.rest in
-    on_ok_weaker c.explain_bytes.result (λ fine. read) c.explain_bytes.ensures.fine
+pub returns-clause-said : goal.returns-clause-said
+returns-clause-said g c =
+    let bytes = c.args.bytes.now in
+    let x = c.in-Ok.explained in record {
+      text = explained_text c.args.options.now.style x;
+      said = explains-of c.args.options.now.style bytes x c.in_ok-status.status c.in_ok-status.ensures.status
+          c.in-Ok.ensures.verdict c.in-Ok.ensures.yes c.in-Ok.ensures.explained c.requires.read;
+      written = c.in_ok-status.ensures.sent;
+    }

@@ -14,7 +14,8 @@ pub returns-in_err-send_reasons-in-Plain-clause-stopped : goal.returns-in_err-se
 returns-in_err-send_reasons-in-Plain-clause-stopped g c =
     let x = c.args.explained.now in
     let sent = subst (λ (v : Verdict). Appends (g.O.Sink.written c.args.out.now)
-    (g.O.Sink.written c.send_verdict.new.out) (verdict_line v)) c.verdict.ensures c.in_ok-status-in-Plain.ensures.sent in
+    (g.O.Sink.written c.send_verdict.new.out) (verdict_line v)) c.verdict.ensures
+    c.in_ok-status-in-Plain.ensures.sent in
     at_err c.from_residual-in_err-send_reasons-in-Plain.result _ Write
     c.from_residual-in_err-send_reasons-in-Plain.ensures.1
     (subst (λ (s : Style). Stopped g.O.Sink.written g.O.Sink.failures c.args.out.now c.send_reasons.new.out

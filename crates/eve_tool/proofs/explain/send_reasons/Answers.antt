@@ -1,7 +1,7 @@
 use Rattle.std.proofs.Common.{◌∙◌, arith}
 use Rattle.eve_tool.specs.Explain.{lines_behind}
 use Rattle.eve_tool.proofs.ExplainedLines.{few_behind, sends_all, sends_line, stops_at}
-use Rattle.eve_tool.proofs.LongLines.{at_any_err}
+use Rattle.eve_tool.proofs.ListedLines.{at_any_err}
 use Rattle.eve_tool.proofs.explain.send_reasons.Goals as goal
 
 pub returns-in_err-send_all-clause-prefix : goal.returns-in_err-send_all-clause-prefix

@@ -41,16 +41,16 @@ files-preserved g c =
     let named : map string_bytes (drop i files) ≡ c.as_str.result.now ∷ map string_bytes (drop (i + 1) files) =
     ap (map string_bytes) here ∙ ap (λ n. n ∷ map string_bytes (drop (i + 1) files)) (sym c.as_str.ensures.value) in
     let before = subst (λ (left : List (List ℕ)). JudgedSoFar g.F.Input.Source.remaining g.F.Input.Source.failures
-    g.E.Sink.written g.E.Sink.failures g.O.Sink.written g.O.Sink.failures bytes refuses c.args.style
+    g.E.Sink.written g.E.Sink.failures g.O.Sink.written g.O.Sink.failures bytes refuses c.args.options.now.style
     (map string_bytes files) left c.args.err.now c.files.err c.args.out.now c.files.out c.files.status) named
     c.files.invariant in
-    rw c.greatest-status.ensures (so_far_more g.F.Input.Source.remaining g.F.Input.Source.failures g.E.Sink.written
-    g.E.Sink.failures g.O.Sink.written g.O.Sink.failures bytes refuses c.args.style (map string_bytes files)
+    rw c.max-status.ensures (so_far_more g.F.Input.Source.remaining g.F.Input.Source.failures g.E.Sink.written
+    g.E.Sink.failures g.O.Sink.written g.O.Sink.failures bytes refuses c.args.options.now.style (map string_bytes files)
     c.as_str.result.now (map string_bytes (drop (i + 1) files)) _ _ _ _ _ _ c.files.status c.in_ok-one.one one.0
     before one.1 one.2 (c.in_ok-one.ensures.empty before.flushed) c.in_ok-one.ensures.fine)
 
 pub returns-clause-status : goal.returns-clause-status
 returns-clause-status g c =
     most_of_all g.F.Input.Source.remaining g.F.Input.Source.failures g.E.Sink.written g.E.Sink.failures
-    (g.F.Folder.bytes c.args.folder.now) (g.F.Folder.refuses c.args.folder.now) c.args.style
+    (g.F.Folder.bytes c.args.folder.now) (g.F.Folder.refuses c.args.folder.now) c.args.options.now.style
     c.files.invariant.before _ _ c.files.invariant.text c.files.status c.files.invariant.judges

@@ -52,7 +52,7 @@ returns-in_err-send_on-clause-part g c =
         said.0.items,
         said.1,
         part.0,
-        of_file (λ b. AuditsAs (named_text c.args.style c.args.name.now) b said.0.items
+        of_file (λ b. AuditsAs (named_text c.args.options.now.style c.args.name.now) b said.0.items
             said.1) known _ c.in-Ok.ensures.bytes c.in-Ok-judged.ensures.said,
         refl,
       ),
@@ -69,7 +69,7 @@ returns-clause-said g c =
       inl (
         c.in-Ok-judged.ensures.status,
         refl,
-        of_file (λ b. AuditsAs (named_text c.args.style c.args.name.now) b
+        of_file (λ b. AuditsAs (named_text c.args.options.now.style c.args.name.now) b
             said.0.items said.1) known _ c.in-Ok.ensures.bytes c.in-Ok-judged.ensures.said,
       ),
       subst (Appends old new) c.as_slice.ensures.value c.in_ok-send_on.ensures.sent,

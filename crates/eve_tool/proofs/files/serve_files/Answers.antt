@@ -19,17 +19,17 @@ returns-in-Ok-Call-clause-yes g c = λ style asks zero.
     ap (map string_bytes) c.as_slice.ensures.value ∙ answers.2 in
     let of_files = subst (λ (names : List (List ℕ)). ServesCall g.F.Input.Source.remaining g.F.Input.Source.failures
     g.E.Sink.written g.E.Sink.failures g.O.Sink.written g.O.Sink.failures bytes refuses
-    (subcommand_of_call c.in-Ok-Call.call) names c.args.err.now c.serve_call.new.err c.args.out.now
-    c.serve_call.new.out c.serve_call.result) named c.serve_call.ensures.serves in
+    (subcommand_of_call c.in-Ok-Call.call) names c.args.err.now c.serve_named.new.err c.args.out.now
+    c.serve_named.new.out c.serve_named.result) named c.serve_named.ensures.serves in
     call_yes g.F.Input.Source.remaining g.F.Input.Source.failures g.E.Sink.written g.E.Sink.failures
-    g.O.Sink.written g.O.Sink.failures bytes refuses style (files_of words) c.args.err.now c.serve_call.new.err
-    c.args.out.now c.serve_call.new.out c.serve_call.result
+    g.O.Sink.written g.O.Sink.failures bytes refuses style (files_of words) c.args.err.now c.serve_named.new.err
+    c.args.out.now c.serve_named.new.out c.serve_named.result
     (subst (λ (s : Subcommand). ServesCall g.F.Input.Source.remaining g.F.Input.Source.failures
     g.E.Sink.written g.E.Sink.failures g.O.Sink.written g.O.Sink.failures bytes refuses s (files_of words)
-    c.args.err.now c.serve_call.new.err c.args.out.now c.serve_call.new.out c.serve_call.result) is of_files) zero
+    c.args.err.now c.serve_named.new.err c.args.out.now c.serve_named.new.out c.serve_named.result) is of_files) zero
 
-pub returns-clause-unhelped : goal.returns-clause-unhelped
-returns-clause-unhelped g c = λ nothing three. record {
+pub returns-in-Err-clause-unhelped : goal.returns-in-Err-clause-unhelped
+returns-in-Err-clause-unhelped g c = λ nothing three. record {
   why = Memory;
   ends = sym c.stop.ensures.status;
   left = refl;

@@ -1,42 +1,54 @@
-use Rattle.std.proofs.Common.{◌^◌, lit≤}
-use Rattle.std.proofs.lemmas.Result.{IfErr-weaker, IfOk-weaker, on_ok_weaker}
-use Rattle.eve_tool.specs.Show.{Shows}
-use Rattle.eve_tool.proofs.CutInput.{Shows-cut, WritesAllOf-cut, WritesPrefixOf-cut, show_left}
-use Rattle.eve_tool.proofs.WholeInput.{is_read}
+use Rattle.std.proofs.Common.{inl, inr, refl}
+use Rattle.eve_grammar.specs.Frames.{frames_of}
+use Rattle.eve_tool.specs.Lines.{fault_line}
+use Rattle.eve_tool.specs.Listing.{listed_lines}
+use Rattle.eve_tool.specs.declared.listing.Listing.TheVariants.{Short}
+use Rattle.eve_tool_arguments.specs.Arguments.{Show}
+use Rattle.eve_tool.proofs.ListedLines.{trace_has, trace_says}
+use Rattle.eve_tool.proofs.UnsentText.{at_err, fails_fine, lines_left, sent_left}
 use Rattle.eve_tool.proofs.show.show.Goals as goal
 
-pub returns-clause-all : goal.returns-clause-all
-returns-clause-all g c =
-    let known = g.I.Source.remaining c.args.input.now in
-    let old = g.O.Sink.written c.args.out.now in
-    let new = g.O.Sink.written c.show_bytes.new.out in
-    IfOk-weaker c.show_bytes.result _ _
-    (λ status all. WritesAllOf-cut Shows (2 ^ 30) known _ _ old new status
-    (λ bytes text s. Shows-cut (2 ^ 30) bytes text s (lit≤ tt)) c.as_slice.ensures.value c.in_ok-bytes.ensures.bytes
-    all)
-    c.show_bytes.ensures.all
+pub returns-in_err-send_lines-in-Ok-clause-left : goal.returns-in_err-send_lines-in-Ok-clause-left
+returns-in_err-send_lines-in-Ok-clause-left g c =
+    let t = c.in-Ok.trace in
+    let why = c.in_err-send_lines-in-Ok.field-0.0 in
+    let prefix = c.in_err-send_lines-in-Ok.ensures.prefix t.head (frames_of t)
+    (trace_says c.bytes.result.now t c.bytes.ensures) (trace_has c.bytes.result.now t c.bytes.ensures) in
+    at_err c.from_residual.result _ why c.from_residual.ensures.1
+    (lines_left Short g.O.Sink.written g.O.Sink.failures Show c.args.bytes.now (listed_lines Short t.head (frames_of t))
+    0 c.args.out.now c.send_lines.new.out
+    (inl (record { trace = t; spelled = c.in-Ok.ensures.trace; lines = refl }, refl)) prefix (λ made. absurd made) why
+    c.in_err-send_lines-in-Ok.ensures.stopped)
 
-pub returns-clause-left : goal.returns-clause-left
-returns-clause-left g c =
-    let known = g.I.Source.remaining c.args.input.now in
-    let old = g.O.Sink.written c.args.out.now in
-    let new = g.O.Sink.written c.show_bytes.new.out in
-    IfErr-weaker c.show_bytes.result _ _
-    (λ why. show_left g.O.Sink.written g.O.Sink.failures known _ c.as_slice.result.now c.args.out.now
-    c.show_bytes.new.out why
-    (λ prefix. WritesPrefixOf-cut Shows (2 ^ 30) known _ _ old new
-    (λ bytes text s. Shows-cut (2 ^ 30) bytes text s (lit≤ tt)) c.as_slice.ensures.value c.in_ok-bytes.ensures.bytes
-    prefix))
-    c.show_bytes.ensures.left
+pub returns-in_err-send_lines-in-Ok-clause-wrote : goal.returns-in_err-send_lines-in-Ok-clause-wrote
+returns-in_err-send_lines-in-Ok-clause-wrote g c =
+    let why = c.in_err-send_lines-in-Ok.field-0.0 in
+    at_err c.from_residual.result _ why c.from_residual.ensures.1
+    (fails_fine Short g.O.Sink.failures c.args.out.now c.send_lines.new.out why
+    c.in_err-send_lines-in-Ok.ensures.stopped)
 
-pub returns-clause-ended : goal.returns-clause-ended
-returns-clause-ended g c =
-    let read = is_read (2 ^ 30) (g.I.Source.remaining c.args.input.now) (g.I.Source.remaining c.read_all.new.source) _
-    c.in_ok-bytes.ensures.bytes c.in_ok-bytes.ensures.rest in
-    IfErr-weaker c.show_bytes.result _ _ (λ why left unread scarce. read) c.show_bytes.ensures.left
+pub returns-in_ok-send_lines-in-Ok-clause-said : goal.returns-in_ok-send_lines-in-Ok-clause-said
+returns-in_ok-send_lines-in-Ok-clause-said g c =
+    let t = c.in-Ok.trace in record {
+      text = listed_lines Short t.head (frames_of t);
+      said = inl (record { trace = t; spelled = c.in-Ok.ensures.trace; lines = refl }, refl);
+      written = c.in_ok-send_lines-in-Ok.ensures.sent t.head (frames_of t)
+          (trace_says c.bytes.result.now t c.bytes.ensures) (trace_has c.bytes.result.now t c.bytes.ensures);
+    }
 
-pub returns-clause-consumed : goal.returns-clause-consumed
-returns-clause-consumed g c =
-    let read = is_read (2 ^ 30) (g.I.Source.remaining c.args.input.now) (g.I.Source.remaining c.read_all.new.source) _
-    c.in_ok-bytes.ensures.bytes c.in_ok-bytes.ensures.rest in
-    on_ok_weaker c.show_bytes.result (λ fine. read) c.show_bytes.ensures.fine
+pub returns-in_err-status-in-Err-Found-clause-left : goal.returns-in_err-status-in-Err-Found-clause-left
+returns-in_err-status-in-Err-Found-clause-left g c =
+    let why = c.in_err-status-in-Err-Found.field-0.0 in
+    at_err c.from_residual-in_err-status-in-Err-Found.result _ why
+    c.from_residual-in_err-status-in-Err-Found.ensures.1
+    (sent_left g.O.Sink.written g.O.Sink.failures Show c.args.bytes.now (fault_line c.in-Err-Found.fault) 1
+    c.args.out.now c.send_verdict.new.out
+    (inr (
+      record {
+        fault = c.in-Err-Found.fault;
+        least = rw c.in-Err-Found.field-0-is at c.in-Err-Found.ensures.least;
+        line = refl;
+      },
+      refl,
+    ))
+    why c.in_err-status-in-Err-Found.ensures.stopped)
