@@ -61,7 +61,7 @@ pub(crate) fn note_attempts(marks: &mut FirstSeen, discarded: Discarded<'_, '_>)
     }
 }
 
-/// Whether a rollback restores exactly the rows that the discarded attempts wrote, each as the first write of it saw it.
+/// Whether a rollback restores exactly the rows that the discarded attempts wrote, each as its first write saw it.
 fn is_right(
     marks: &mut FirstSeen,
     discarded: Discarded<'_, '_>,

@@ -31,7 +31,8 @@ returns-then-f-e c =
     let n = c.args.replicas.number in
     let first = sym c.requires.first ∙ c.in-Some.is in (
       λ _. subst (λ (o : Option ℕ). IfSome o (λ f. HaveSameOutcome t c.args.e f n)) (sym first)
-          (subst (λ (i : ℕ). HaveSameOutcome t i c.in-Some.f n) c.if-f-e.true (record { balances = refl; replies = refl })),
+          (subst (λ (i : ℕ). HaveSameOutcome t i c.in-Some.f n) c.if-f-e.true
+          (record { balances = refl; replies = refl })),
       λ _. refl,
     )
 

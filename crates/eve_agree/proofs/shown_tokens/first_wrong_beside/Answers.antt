@@ -46,7 +46,8 @@ pub returns-then-is_some : goal.returns-then-is_some
 returns-then-is_some c =
     let t = c.args.trace.now in
     let e = c.args.judged.history.now.replica in
-    found t e c.loop-n.n (length c.args.judged.settled.now.numbers) c.in_ok-wrong.wrong (omega (arith, c.loop-n-test.true))
+    found t e c.loop-n.n (length c.args.judged.settled.now.numbers) c.in_ok-wrong.wrong
+    (omega (arith, c.loop-n-test.true))
     (sym c.is_some.ensures ∙ c.if-is_some.true)
     (one_more t e 0 c.loop-n.n c.in_ok-wrong.wrong (omega arith) c.loop-n.invariant.due c.in_ok-wrong.ensures.wrong)
 

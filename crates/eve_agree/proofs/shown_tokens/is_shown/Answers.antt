@@ -40,7 +40,8 @@ returns-then-replies-clause-due c same =
     c.committed_attempt-other.ensures c.requires.peers_after in
     let token : (attempt_in v.bytes.now).token ≡ (attempt_in w.bytes.now).token = search rules in
     shown t e f c.args.n v.offset w.offset (attempt_in v.bytes.now) (attempt_in w.bytes.now) c.args.own.balances.now
-    c.args.peer.balances.now own its c.requires.peer.due token (c.have_same_replies-replies.ensures.0 c.if-replies.true.1)
+    c.args.peer.balances.now own its c.requires.peer.due token
+    (c.have_same_replies-replies.ensures.0 c.if-replies.true.1)
     (c.have_same_balances.ensures.0 same)
 
 pub returns-then-replies-clause-same : goal.returns-then-replies-clause-same
