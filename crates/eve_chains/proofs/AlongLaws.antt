@@ -1,12 +1,10 @@
 -- Public: other crates cite these lemmas. Records one after another: the tables between them, and the first thing that
 -- is wrong.
-use Rattle.std.proofs.Common.{◌≡◌, ℕ, zero, suc, ◌+◌, true, false, List, [], ◌∷◌, ◌++◌, take}
+use Rattle.std.proofs.Common.{◌≡◌, ℕ, suc, ◌+◌, true, false, List, [], ◌∷◌, ◌++◌, take}
 use Rattle.std.proofs.Common.{drop, length, get_or, slice_get, Some, refl, sym, subst, ap, ◌∙◌, inl, inr}
 use Rattle.std.proofs.Common.{◌⊎◌, append-nil, arith, IsTrue}
 use Rattle.std.specs.List.{list_all}
-use Rattle.std.proofs.lemmas.Bool.{and_parts}
 use Rattle.std.proofs.lemmas.Grind.{flat_map-append}
-use Rattle.std.proofs.lemmas.Option.{same_Some}
 use Rattle.eve_smallbank.specs.declared.entry.Entry.{Entry}
 use Rattle.eve_smallbank.specs.Access.{Executed}
 use Rattle.eve_smallbank.specs.Chain.{Table, table_after, table_after_all}
@@ -17,7 +15,7 @@ use Rattle.eve_views.specs.Form.{IsUpTo}
 use Rattle.eve_views.specs.declared.fault.Fault.{Fault}
 use Rattle.eve_grammar.proofs.Lists.{take_one_more}
 use Rattle.eve_chains.specs.Along.{entries_along, AreWithin}
-use Rattle.eve_chains.proofs.LinkedPaths.{none≢some}
+use Rattle.eve_chains.proofs.ByRow.{record_within}
 use Rattle.eve_views.specs.First.{is_before}
 use Rattle.eve_views.proofs.Firsts.{before_precedes, behind_precedes, up_to_from}
 
@@ -39,19 +37,6 @@ entries_along-push xs x =
 pub entries_more : (xs : List (ℕ × Access)) (k : ℕ) (x : ℕ × Access) → slice_get xs k ≡ Some x
     → entries_along (take (k + 1) xs) ≡ entries_along (take k xs) ++ x.1.entries
 entries_more xs k x at = ap entries_along (take_one_more xs k x at) ∙ entries_along-push (take k xs) x
-
--- the entries of one of the records lie within
-record_within : (rows : ℕ) (xs : List (ℕ × Access)) (k : ℕ) (x : ℕ × Access) → AreWithin rows xs
-    → slice_get xs k ≡ Some x → IsTrue (list_all (is_entry rows) x.1.entries)
-record_within rows [] k x within at = none≢some x at
-record_within rows (y ∷ xs) zero x within at =
-    subst (λ (z : ℕ × Access). IsTrue (list_all (is_entry rows) z.1.entries)) (same_Some y x at)
-    (and_parts (list_all (is_entry rows) y.1.entries) (list_all (λ z. list_all (is_entry rows) z.1.entries) xs)
-    within).0
-record_within rows (y ∷ xs) (suc k) x within at =
-    record_within rows xs k x
-    (and_parts (list_all (is_entry rows) y.1.entries) (list_all (λ z. list_all (is_entry rows) z.1.entries) xs)
-    within).1 at
 
 -- the record at this place is met, with its entries
 pub record IsCheckedRecord (xs : List (ℕ × Access)) (k : ℕ) (x : ℕ × Access) (es : List Entry) : Type 0 where

@@ -256,11 +256,6 @@ from_place [] n x at = none≢some x at
 from_place (y ∷ xs) zero x at = ap (λ (z : _). z ∷ xs) (same_Some y x at)
 from_place (y ∷ xs) (suc n) x at = from_place xs n x at
 
-pub in_at : {A : Type 0} (xs : List A) (n : ℕ) (x : A) → slice_get xs n ≡ Some x → In x xs
-in_at [] n x e = none≢some x e
-in_at (y ∷ xs) zero x e = subst (λ z. In z (y ∷ xs)) (same_Some y x e) here
-in_at (y ∷ xs) (suc n) x e = there (in_at xs n x e)
-
 pub take_length : {A : Type 0} (xs : List A) (n : ℕ) (x : A) → slice_get xs n ≡ Some x → length (take n xs) ≡ n
 take_length [] n x e = none≢some x e
 take_length (y ∷ xs) zero x e = refl

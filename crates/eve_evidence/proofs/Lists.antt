@@ -1,7 +1,6 @@
 -- Public: other crates cite these lemmas. Lists at one of their places, and what a test of an option says.
 use Rattle.std.proofs.Common.{◌≡◌, ℕ, zero, suc, ◌+◌, ◌<◌, ◌≤◌, List, [], ◌∷◌, ◌++◌, length, take, drop, slice_get, map}
 use Rattle.std.proofs.Common.{inl, inr, Option, false, is_some, Some, None, refl, sym, ap, subst, ◌∙◌, arith}
-use Rattle.std.specs.Iterator.{YieldsFirstBy, Yields, SkipsThenYields}
 use Rattle.std.specs.List.{AllByRecursion}
 use Rattle.std.specs.Option.{option_map}
 use Rattle.std.proofs.lemmas.Option.{slice_get-map}
@@ -11,19 +10,6 @@ use Rattle.std.proofs.lemmas.List.{take-append-drop}
 use Rattle.eve_grammar.proofs.Lists.{drop_here, take_one_more, all-push, item_within}
 use Rattle.eve_views.specs.Form.{SomePlace}
 use Rattle.eve_history.proofs.Places.{no_place, place_cases, place_push}
-
--- ---- `nth`
-
-skipped : {A B : Type 0} (view : A → B) (xs : List A) (s t u : List B) (x : A)
-    → Yields (YieldsFirstBy view (λ rest. rest)) s xs t → t ≡ view x ∷ u → slice_get s (length xs) ≡ Some (view x)
-skipped view [] s t u x e f = ap (λ l. slice_get l 0) (e ∙ f)
-skipped view (y ∷ ys) s t u x e f = ap (λ l. slice_get l (suc (length ys))) e.1 ∙ skipped view ys e.0 t u x e.2 f
-
--- what `nth` gave is the n-th of what was left
-pub nth_is : {A B : Type 0} (view : A → B) (s u : List B) (n : ℕ) (x : A)
-    → SkipsThenYields (YieldsFirstBy view (λ rest. rest)) s n (Some x) u → slice_get s n ≡ Some (view x)
-nth_is view s u n x ran = subst (λ (k : ℕ). slice_get s k ≡ Some (view x)) ran.2
-    (skipped view ran.0 s ran.1.0 u x ran.1.1 ran.1.2)
 
 -- ---- prefixes
 

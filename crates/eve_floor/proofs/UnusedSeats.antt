@@ -1,11 +1,7 @@
 -- Seats that no worker has used.
 use Rattle.std.proofs.Common.{◌≡◌, ◌≢◌, ℕ, zero, suc, ◌+◌, ◌<◌, ◌≤◌, Bool, true, false, if◌then◌else◌, nat_lt, arith}
 use Rattle.std.proofs.Common.{List, [], ◌∷◌, ◌++◌, length, get_or, set, Option, Some, None, refl, sym, ap, ◌∙◌, subst}
-use Rattle.std.proofs.Common.{slice_index_or}
-use Rattle.std.specs.List.{AllZip}
-use Rattle.std.proofs.lemmas.List.{get_or-set_other, length-append}
-use mathlib.Core.Logic.{dite}
-use native.Mathlib.Decide.{ℕ_discrete}
+use Rattle.std.proofs.lemmas.List.{length-append}
 use Rattle.eve_recorder.specs.RecorderViews.{Noter, Places, RecorderId, fresh_noter, fresh_places}
 use Rattle.eve_recorder.specs.SeatTables.{table_by}
 use Rattle.eve_recorder.specs.TicketViews.{Drawer, Drawers, TicketSource, fresh_seat, fresh_seats}
@@ -64,38 +60,6 @@ taken_out : {A : Type 0} (places : List (Option A)) (w : ℕ) (x : A) → get_or
 taken_out [] w x e = let h : None ≡ Some x = e in cc
 taken_out (o ∷ places) zero x e = let h : None ≡ Some x = e in cc
 taken_out (o ∷ places) (suc w) x e = taken_out places w x e
-
--- one worker's seats less, or only its seat at the tickets, where it had none
-pub unused_less : (s new : FreeSeats) (n : ℕ) → AreUnused s
-    → new.claims ≡ record s.claims { places = set s.claims.places n None }
-    → new.noters ≡ record s.noters { seats = set s.noters.seats n None } → AreUnused new
-unused_less s new n was claims noters w c is =
-    let out : get_or (set s.claims.places n None) w None ≡ Some c =
-    ap (λ (d : Drawers). get_or d.places w None) (sym claims) ∙ is in
-    dite (ℕ_discrete w n)
-    (λ same. absurd (taken_out s.claims.places n c
-    (subst (λ (k : ℕ). get_or (set s.claims.places n None) k None ≡ Some c) same out)))
-    (λ other.
-    let had = was w c (sym (get_or-set_other s.claims.places n w None None other) ∙ out) in (
-      had.0,
-      ap (λ (p : Places). get_or p.seats w None) noters ∙ get_or-set_other s.noters.seats n w None None other ∙ had.1
-          ∙ ap (λ (p : Places). Some (record { recorder = p.recorder; worker = w; noted = [] })) (sym noters),
-    ))
-
-pub unused_same : (s new : FreeSeats) (n : ℕ) → AreUnused s
-    → new.claims ≡ record s.claims { places = set s.claims.places n None } → new.noters ≡ s.noters → AreUnused new
-unused_same s new n was claims noters w c is =
-    let out : get_or (set s.claims.places n None) w None ≡ Some c =
-    ap (λ (d : Drawers). get_or d.places w None) (sym claims) ∙ is in
-    dite (ℕ_discrete w n)
-    (λ same. absurd (taken_out s.claims.places n c
-    (subst (λ (k : ℕ). get_or (set s.claims.places n None) k None ≡ Some c) same out)))
-    (λ other.
-    let had = was w c (sym (get_or-set_other s.claims.places n w None None other) ∙ out) in (
-      had.0,
-      ap (λ (p : Places). get_or p.seats w None) noters ∙ had.1
-          ∙ ap (λ (p : Places). Some (record { recorder = p.recorder; worker = w; noted = [] })) (sym noters),
-    ))
 
 -- one more number drawn on a seat that had not drawn its limit
 pub drawn_more : (old new : Drawer) (n limit : ℕ) → new ≡ record old { drawn = old.drawn ++ n ∷ [] }

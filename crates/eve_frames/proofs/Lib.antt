@@ -1,6 +1,7 @@
 mod KindNames
 mod Places
 mod Lists
+pub mod NthValue
 mod CustomerPlaces
 pub mod BatchPlaces
 mod SentPlaces

@@ -2,7 +2,7 @@
 use Rattle.std.proofs.Common.{◌≡◌, ℕ, zero, suc, ◌+◌, ◌-◌, ◌*◌, ◌<◌, ◌≤◌, false, List, [], ◌∷◌, length, get_or, take}
 use Rattle.std.proofs.Common.{drop, Option, Some, None, is_some, refl, sym, ap, subst, ◌∙◌, arith}
 use Rattle.std.specs.Prelude.{IsTrue, slice_get}
-use Rattle.std.specs.Iterator.{MakesProgress, item_count, YieldsFirstBy, Yields, SkipsThenYields}
+use Rattle.std.specs.Iterator.{MakesProgress, item_count}
 use Rattle.std.proofs.Math.Nat.{mul-suc}
 use Rattle.std.proofs.lemmas.Option.{slice_get_read}
 use Rattle.std.proofs.lemmas.List.{take_rest, length-drop, drop-drop}
@@ -222,15 +222,3 @@ goes_on can always s t x y e = record {
   keeps = always t;
   rests = λ _. tt;
 }
-
--- what is left after values that were passed over
-skipped : {A B : Type 0} (view : A → B) (xs : List A) (s t u : List B) (x : A)
-    → Yields (YieldsFirstBy view (λ rest. rest)) s xs t → t ≡ view x ∷ u → slice_get s (length xs) ≡ Some (view x)
-skipped view [] s t u x e f = ap (λ l. slice_get l 0) (e ∙ f)
-skipped view (y ∷ ys) s t u x e f = ap (λ l. slice_get l (suc (length ys))) e.1 ∙ skipped view ys e.0 t u x e.2 f
-
--- what `nth` gave is the n-th of what was left
-pub nth_is : {A B : Type 0} (view : A → B) (s u : List B) (n : ℕ) (x : A)
-    → SkipsThenYields (YieldsFirstBy view (λ rest. rest)) s n (Some x) u → slice_get s n ≡ Some (view x)
-nth_is view s u n x ran = subst (λ (k : ℕ). slice_get s k ≡ Some (view x)) ran.2
-    (skipped view ran.0 s ran.1.0 u x ran.1.1 ran.1.2)

@@ -1,17 +1,15 @@
 -- Sections in which each number was reached by an attempt, as in all of a trace whose version has no transfers.
-use Rattle.std.proofs.Common.{◌≡◌, ℕ, zero, suc, ◌<◌, List, [], ◌∷◌, ◌++◌, map, length, slice_get, Option, Some, refl}
-use Rattle.std.proofs.Common.{true, false, sym, ◌∙◌, ap, arith}
+use Rattle.std.proofs.Common.{◌≡◌, ℕ, zero, suc, ◌<◌, List, [], ◌∷◌, ◌++◌, length, slice_get, Some, refl}
+use Rattle.std.proofs.Common.{true, false, sym, ◌∙◌, arith}
 use Rattle.std.specs.Prelude.{IsFalse}
-use Rattle.std.specs.List.{AllByRecursion, flat_map, list_all}
+use Rattle.std.specs.List.{AllByRecursion, list_all}
 use Rattle.std.proofs.lemmas.Bool.{and_parts, false≢true}
-use Rattle.std.proofs.lemmas.Option.{same_Some}
 use Rattle.eve_grammar.specs.Trace.{Step, Attempts, Commits, RollsBack, Transfers, Trace}
 use Rattle.eve_grammar.specs.Frames.{has_transfers}
 use Rattle.eve_grammar.specs.Limits.{is_of_version, HasLimits}
 use Rattle.eve_grammar.proofs.Lists.{all-slice_get}
 use Rattle.eve_grammar.specs.Spelling.{steps_at}
-use Rattle.eve_history.specs.Section.{Came, Ran, Placed, HowReached, ByAttempt, ByTransfer, Skipped, came_by}
-use Rattle.eve_history.specs.Section.{attempts_by}
+use Rattle.eve_history.specs.Section.{Placed, HowReached, ByAttempt, ByTransfer, Skipped}
 use Rattle.eve_history.specs.Section.{IsByAttempt, SectionState, start, committing, next, state_after}
 use Rattle.eve_history.specs.SectionHistory.{history, ByAttemptsTo}
 use Rattle.eve_history.proofs.SectionSteps.{steps_all}
@@ -65,39 +63,3 @@ attempt_at (ByAttempt p ∷ ls) zero by lt = (p, refl)
 attempt_at (ByTransfer at x ∷ ls) zero by lt = absurd by.0
 attempt_at (Skipped ∷ ls) zero by lt = absurd by.0
 attempt_at (l ∷ ls) (suc n) by lt = attempt_at ls n by.1 (omega (arith, lt))
-
--- ---- and its attempts alone
-
--- what happened to the rows is the attempts
-pub came_alone : (ls : List HowReached) → AllByRecursion IsByAttempt ls → flat_map came_by ls
-    ≡ map (λ p. Ran p.attempt) (attempts_by ls)
-came_alone [] by = refl
-came_alone (ByAttempt p ∷ ls) by = ap (λ (cs : List Came). Ran p.attempt ∷ cs) (came_alone ls by.1)
-came_alone (ByTransfer at x ∷ ls) by = absurd by.0
-came_alone (Skipped ∷ ls) by = absurd by.0
-
-pub as_many_alone : (ls : List HowReached) → AllByRecursion IsByAttempt ls → length (attempts_by ls) ≡ length ls
-as_many_alone [] by = refl
-as_many_alone (ByAttempt p ∷ ls) by = ap suc (as_many_alone ls by.1)
-as_many_alone (ByTransfer at x ∷ ls) by = absurd by.0
-as_many_alone (Skipped ∷ ls) by = absurd by.0
-
--- the number at a place was reached by the attempt there
-pub how_reached_alone : (ls : List HowReached) (n : ℕ) (p : Placed) → AllByRecursion IsByAttempt ls
-    → slice_get (attempts_by ls) n ≡ Some p → slice_get ls n ≡ Some (ByAttempt p)
-how_reached_alone [] n p by e = absurd (cc)
-how_reached_alone (ByAttempt q ∷ ls) zero p by e = ap (λ (x : Placed). Some (ByAttempt x)) (same_Some q p e)
-how_reached_alone (ByAttempt q ∷ ls) (suc n) p by e = how_reached_alone ls n p by.1 e
-how_reached_alone (ByTransfer at x ∷ ls) n p by e = absurd by.0
-how_reached_alone (Skipped ∷ ls) n p by e = absurd by.0
-
-same_how_reached : (p q : Placed) → ◌≡◌ {A = Option HowReached} (Some (ByAttempt p)) (Some (ByAttempt q)) → p ≡ q
-same_how_reached p q e = cc
-
-pub attempt_alone : (ls : List HowReached) (n : ℕ) (p : Placed) → AllByRecursion IsByAttempt ls
-    → slice_get ls n ≡ Some (ByAttempt p) → slice_get (attempts_by ls) n ≡ Some p
-attempt_alone [] n p by e = absurd (cc)
-attempt_alone (ByAttempt q ∷ ls) zero p by e = ap (λ (x : Placed). Some x) (same_how_reached q p e)
-attempt_alone (ByAttempt q ∷ ls) (suc n) p by e = attempt_alone ls n p by.1 e
-attempt_alone (ByTransfer at x ∷ ls) n p by e = absurd by.0
-attempt_alone (Skipped ∷ ls) n p by e = absurd by.0

@@ -10,4 +10,5 @@ pub mod DecisionLaws
 pub mod Records
 pub mod RequestBalances
 pub mod DecisionEntries
+pub mod EntryValues
 mod SeenValues

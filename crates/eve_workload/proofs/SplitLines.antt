@@ -1,5 +1,5 @@
 -- A line that is split into words.
-use Rattle.std.proofs.Common.{◌≡◌, ◌≢◌, ℕ, zero, suc, ◌+◌, ◌-◌, ◌<◌, ◌≤◌, nat_le, true, false, inl, inr, ◌&&◌}
+use Rattle.std.proofs.Common.{◌≡◌, ◌≢◌, ℕ, ◌+◌, ◌-◌, ◌<◌, ◌≤◌, nat_le, true, false, inl, inr, ◌&&◌}
 use Rattle.std.proofs.Common.{◌∷◌, ◌++◌, length, take, drop, get_or, sym, ap, subst, ◌∙◌, refl, arith, append_assoc}
 use Rattle.std.proofs.Common.{length-append, below_more, List, [], IsTrue}
 use Rattle.std.specs.List.{list_all, flat_map, join_with_byte}
@@ -164,25 +164,4 @@ no_line_with text words from at split outside no_feed no_space ws behind inside 
           ∙ words_above ws inside)
       | inr before ↦ none_more text at split.none no_feed (length prefix) (omega arith)
           (ap (λ t. get_or t (length prefix) 0) same ∙ get_or_at prefix 10 behind 0 (length prefix) refl)
-    ]
-
--- the bytes of a word, one after another
-pub split_word : (text : List ℕ) (words : List (List ℕ)) (from to : ℕ) → IsSplit text words from from → from ≤ to
-    → to ≤ length text → ((k : ℕ) → from ≤ k → k < to → is_inside (get_or text k 0) ≡ true)
-    → IsSplit text words from to
-split_word text words from zero split order within inside =
-    let none : from ≡ 0 = omega arith in
-    subst (IsSplit text words from) none split
-split_word text words from (suc to) split order within inside =
-    elim (cases_lt to from) [
-      | inl less ↦
-          let same : from ≡ suc to = omega arith in
-          subst (IsSplit text words from) same split
-      | inr most ↦
-          let before : from ≤ to = most in
-          let split' = split_word text words from to split before (omega arith)
-          (λ k low high. inside k low (omega arith)) in
-          let more : to + 1 ≡ suc to = omega arith in
-          subst (IsSplit text words from) more
-          (split_inside text words from to split' (omega arith) (inside to before (omega arith)))
     ]

@@ -3,11 +3,11 @@ use Rattle.std.proofs.Common.{◌≡◌, ℕ, suc, zero, ◌+◌, ◌*◌, ◌<�
 use Rattle.std.proofs.Common.{take, drop, refl, sym, ◌∙◌, ap, arith, leb, leb-true, length-append, length-drop}
 use Rattle.std.proofs.Common.{drop-drop}
 use Rattle.std.specs.List.{flat_map, list_all, sum_by}
-use Rattle.std.proofs.lemmas.Bool.{and_parts, and_from, le-leb}
+use Rattle.std.proofs.lemmas.Bool.{and_parts, le-leb}
 use Rattle.std.proofs.lemmas.List.{nil_from_length, take_all, take-append-le, drop-append-le, take-append-drop}
 use Rattle.std.proofs.lemmas.List.{length-take-le}
 use Rattle.std.proofs.lemmas.List.Folds.{list_all-append}
-use Rattle.std.proofs.lemmas.List.Sums.{sum_by-cons, sum_by_push, sum_by_more, sum_by_more_le}
+use Rattle.std.proofs.lemmas.List.Sums.{sum_by-cons, sum_by_more, sum_by_more_le}
 use Rattle.eve_smallbank.specs.declared.entry.Entry.{Entry}
 use Rattle.eve_grammar.specs.Trace.{Access}
 use Rattle.byteorder.specs.Endian.{big_bytes}
@@ -53,16 +53,6 @@ accesses-push (n ∷ ns) entries more note all count =
     ∙ ap (λ es. noted n (take n.count entries) ∷ accesses_listed (ns ++ note ∷ []) es)
     (drop-append-le n.count entries more within)
     ∙ ap (λ xs. noted n (take n.count entries) ∷ xs) (accesses-push ns (drop n.count entries) more note rest count)
-
--- the notes of one access more
-pub notes-push : (notes : List AccessNote) (entries more : List Entry) (note : AccessNote)
-    → ShareEntries notes entries → note.count ≡ length more → note.count ≤ 3
-    → ShareEntries (notes ++ note ∷ []) (entries ++ more)
-notes-push notes entries more note are count few = record {
-  all = omega (arith, sum_by_push (λ n. n.count) notes note, are.all, count, length-append entries more);
-  few = list_all-append (λ n. leb n.count 3) notes (note ∷ [])
-      ∙ and_from _ _ are.few (and_from _ _ (le-leb note.count 3 few) refl);
-}
 
 pub length-accesses : (notes : List AccessNote) (entries : List Entry) → length (accesses_listed notes entries)
     ≡ length notes
@@ -173,17 +163,6 @@ note-within notes entries i d are within =
       sum_by_more_le (λ n. n.count) notes i d within,
       length-drop (counted (take i notes)) entries,
     )
-
--- and these are few
-pub note-few : (notes : List AccessNote) (entries : List Entry) (i : ℕ) (d : AccessNote) → ShareEntries notes entries
-    → i < length notes → (get_or notes i d).count ≤ 3
-note-few [] entries i d are within = elim within [ ]
-note-few (n ∷ ns) entries zero d are within =
-    leb-true _ _ (and_parts (leb n.count 3) (list_all (λ x. leb x.count 3) ns) are.few).0
-note-few (n ∷ ns) entries (suc i) d are within =
-    let few = (and_parts (leb n.count 3) (list_all (λ x. leb x.count 3) ns) are.few).1 in
-    note-few ns (drop n.count entries) i d (record { all = others_counted n ns entries are.all; few = few })
-    (omega (arith, within))
 
 -- what is left behind the note at a place
 pub left-behind : (notes : List AccessNote) (entries : List Entry) (i : ℕ) (d : AccessNote) → i < length notes

@@ -1,6 +1,6 @@
 use Rattle.std.proofs.Common.{◌≡◌, pos, [], ◌∷◌, length, arith}
 use Rattle.eve_frames.specs.Decoded.{access_decoded}
-use Rattle.eve_evidence.proofs.DueRecords.{seen_by_one, seen_by_two, seen_by_three}
+use Rattle.eve_smallbank.proofs.EntryValues.{seen_by_one, seen_by_two, seen_by_three}
 use Rattle.eve_evidence.proofs.record.values_seen.Goals as goal
 
 pub returns-in-1 : goal.returns-in-1

@@ -1,7 +1,7 @@
 use Rattle.std.proofs.Common.{List, sym, ap, ◌∙◌, slice_get}
 use Rattle.eve_grammar.specs.Trace.{Asked}
 use Rattle.eve_grammar.specs.Bodies.{borrowed_asked}
-use Rattle.eve_evidence.proofs.Lists.{nth_is}
+use Rattle.eve_frames.proofs.NthValue.{nth_is}
 use Rattle.eve_evidence.proofs.told.asked_at.Goals as goal
 
 pub returns : goal.returns

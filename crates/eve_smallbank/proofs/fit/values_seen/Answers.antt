@@ -1,5 +1,5 @@
 use Rattle.std.proofs.Common.{◌≡◌, pos, [], ◌∷◌, length, arith}
-use Rattle.eve_smallbank.proofs.DecisionEntries.{seen_by_one, seen_by_two, seen_by_three}
+use Rattle.eve_smallbank.proofs.EntryValues.{seen_by_one, seen_by_two, seen_by_three}
 use Rattle.eve_smallbank.proofs.fit.values_seen.Goals as goal
 
 pub returns-in-1 : goal.returns-in-1

@@ -3,7 +3,7 @@ use Rattle.std.specs.Prelude.{slice_get}
 use Rattle.std.specs.Option.{option_map}
 use Rattle.eve_grammar.specs.Trace.{Asked}
 use Rattle.eve_grammar.specs.Bodies.{borrowed_asked}
-use Rattle.eve_frames.proofs.Lists.{nth_is}
+use Rattle.eve_frames.proofs.NthValue.{nth_is}
 use Rattle.eve_frames.proofs.batch.BatchView.request.Goals as goal
 
 pub returns : goal.returns
