@@ -17,7 +17,6 @@ mod RunSections
 mod SentReplies
 mod Endings
 mod Noted
-mod Mismatches
 mod RunLimits
 mod StateLimits
 mod CommonMoves

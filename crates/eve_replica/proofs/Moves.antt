@@ -21,6 +21,7 @@ use Rattle.eve_workload.specs.declared.mixer.MixedBatch.{MixedBatch}
 use Rattle.eve_attempts.specs.declared.prefix.AttemptHead.{AttemptHead}
 use Rattle.eve_attempts.specs.Ledgers.{Ledger, Opened}
 use Rattle.eve_attempts.specs.ClosedAttempts.{touched_in_batch, Closes, opened_as}
+use Rattle.eve_floor.specs.Recording.{AreNotedOf}
 use Rattle.eve_replica.specs.declared.standing.Standing.{Standing}
 use Rattle.eve_replica.specs.declared.server.Server.{Server}
 use Rattle.eve_replica.specs.declared.run_state.RunState.{RunState}
@@ -186,6 +187,7 @@ attempts_next p old new b a due names is made =
       batch = b;
       due = is;
       records = made.1.0;
+      noted = subst (λ (ns : List (List ℕ)). AreNotedOf ns b made.1.0) names made.1.1.noted;
       closed = subst Closing names made.1.1.closed;
     }
 

@@ -7,7 +7,7 @@ use Rattle.eve_stamps.specs.Applied.{Applied}
 use Rattle.eve_grammar.specs.Trace.{Batch, Attempt, Commit, Transfer}
 use Rattle.eve_attempts.specs.declared.prefix.AttemptHead.{AttemptHead}
 use Rattle.eve_attempts.specs.Ledgers.{Ledger}
-use Rattle.eve_attempts.specs.ClosedAttempts.{touched_in_batch, AreMismatched, Closes}
+use Rattle.eve_attempts.specs.ClosedAttempts.{touched_in_batch, Closes}
 use Rattle.eve_attempts.specs.CommitsAndRollbacks.{Commits}
 use Rattle.eve_floor.specs.Recording.{AreNotedOf}
 use Rattle.eve_replica.specs.declared.fault.AttemptFault.{AttemptFault}
@@ -36,12 +36,6 @@ pub record ClosesNoted (prefix : AttemptHead) (old new : Replica) (b : Batch) (r
 abbrev pub ClosesSome : AttemptHead → Replica → Replica → Batch → Attempt → Type 0
 ClosesSome prefix old new b a = (records : List Applied) × ClosesNoted prefix old new b records a
 
--- Some records that its workers noted of the batch make no attempt of it with this number, view and mode.
-pub record MismatchesNoted (prefix : AttemptHead) (r : Replica) (b : Batch) : Type 0 where
-  pub records : List Applied
-  pub noted : AreNotedOf r.names b records
-  pub mismatched : AreMismatched prefix r.ledger b (touched_in_batch r.names b) records
-
 -- number, view and mode of an attempt of the batch that is due, in this view and this mode
 abbrev pub attempt_head_of : Ledger → ℕ → Bool → AttemptHead
 attempt_head_of s view serial = record { seq = s.committed + 1 + length s.opened; view = view; serial = serial }
@@ -55,21 +49,6 @@ Attempts view serial old new b a = (old.is_broken ≡ false)
 -- The same, in the view and in the mode that are due.
 abbrev pub AttemptsDue : Replica → Replica → Batch → Attempt → Type 0
 AttemptsDue old new b a = Attempts old.ledger.view old.ledger.is_next_serial old new b a
-
--- Such records make no attempt of the batch that is due, in the view and in the mode that are due.
-abbrev pub MismatchesDue : Replica → Batch → Type 0
-MismatchesDue r b = MismatchesNoted (attempt_head_of r.ledger r.ledger.view r.ledger.is_next_serial) r b
-
--- a fault that is Mismatch only where this holds
-abbrev pub IsMismatchOnly : Type 0 → AttemptFault → Type 0
-IsMismatchOnly Mismatched attempt_fault.Broken = ⊤
-IsMismatchOnly Mismatched attempt_fault.Memory = ⊤
-IsMismatchOnly Mismatched attempt_fault.TickOrder = ⊤
-IsMismatchOnly Mismatched attempt_fault.Full = ⊤
-IsMismatchOnly Mismatched attempt_fault.Worn = ⊤
-IsMismatchOnly Mismatched attempt_fault.Spent = ⊤
-IsMismatchOnly Mismatched attempt_fault.NoRow = ⊤
-IsMismatchOnly Mismatched attempt_fault.Mismatch = Mismatched
 
 -- its ledger stays, and it is broken
 abbrev pub Breaks : Replica → Replica → Type 0
@@ -95,21 +74,20 @@ pub record MayAttempt (r : Replica) (b : Batch) (touched : List Touched) : Type 
   pub batch : IsTrue (is_batch b)
   pub reached : touched ≡ touched_in_batch r.names b
 
--- the fault isn't that the replica was broken before
-abbrev pub IsFresh : AttemptFault → Type 0
-IsFresh attempt_fault.Broken = ⊥
-IsFresh attempt_fault.Memory = ⊤
-IsFresh attempt_fault.TickOrder = ⊤
-IsFresh attempt_fault.Full = ⊤
-IsFresh attempt_fault.Worn = ⊤
-IsFresh attempt_fault.Spent = ⊤
-IsFresh attempt_fault.NoRow = ⊤
-IsFresh attempt_fault.Mismatch = ⊤
+-- the fault is one that a worker can have
+abbrev pub IsOfWorkers : AttemptFault → Type 0
+IsOfWorkers attempt_fault.Broken = ⊥
+IsOfWorkers attempt_fault.Memory = ⊤
+IsOfWorkers attempt_fault.TickOrder = ⊤
+IsOfWorkers attempt_fault.Full = ⊤
+IsOfWorkers attempt_fault.Worn = ⊤
+IsOfWorkers attempt_fault.Spent = ⊤
+IsOfWorkers attempt_fault.NoRow = ⊤
+IsOfWorkers attempt_fault.Mismatch = ⊥
 
 -- a fault of its workers broke the replica, which kept its ledger
 pub record BreaksBy (why : AttemptFault) (old new : Replica) : Type 0 where
-  pub fresh : IsFresh why
-  pub matched : IsMismatchOnly ⊥ why
+  pub of_workers : IsOfWorkers why
   pub broken : new ≡ record old { is_broken = true }
 
 -- The replica wasn't broken, and these records were closed.

@@ -7,6 +7,7 @@ use Rattle.eve_attempts.specs.Ledgers.{Ledger}
 use Rattle.eve_attempts.specs.ClosedAttempts.{touched_in_batch, Closes}
 use Rattle.eve_attempts.specs.CommitsAndRollbacks as ledgers
 use Rattle.eve_attempts.specs.Transfers as state
+use Rattle.eve_floor.specs.Recording.{AreNotedOf}
 use Rattle.eve_replica.specs.Replicas.{attempt_head_of}
 
 -- What the replicas of a run have in common: the customers' names, the batches, and the ledger that each begins with.
@@ -19,13 +20,14 @@ pub record RunPlan : Type 0 where
 abbrev pub place_due : Ledger → ℕ
 place_due s = s.committed + length s.opened
 
--- The ledger has room for one more attempt; some records were closed to one of the batch that is due, in the view and
--- in the mode that are due.
+-- The ledger has room for one more attempt; some records that workers noted of the batch that is due were closed to an
+-- attempt of it, in the view and in the mode that are due.
 pub record AttemptsNext (p : RunPlan) (old new : Ledger) (a : Attempt) : Type 0 where
   pub room : length old.opened < old.window
   pub batch : Batch
   pub due : slice_get p.batches (place_due old) ≡ Some batch
   pub records : List Applied
+  pub noted : AreNotedOf p.names batch records
   pub closed : Closes (attempt_head_of old old.view old.is_next_serial) old new batch (touched_in_batch p.names batch)
       records
       a

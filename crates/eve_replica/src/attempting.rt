@@ -10,10 +10,9 @@ ghost use Rattle.eve_floor.specs.Assignments.{IsRightAssignment};
 ghost use Rattle.eve_floor.specs.Recording.{AreNotedOf};
 ghost use Rattle.eve_replica.specs.Replicas.{AttemptsDue, BreaksBy, ClosesThese, FailsAttempt, MayAttempt};
 ghost use Rattle.eve_replica.specs.Replicas.{attempt_head_of};
-ghost use Rattle.eve_replica.specs.Replicas.{IsMismatchOnly, MismatchesDue};
 ghost use Rattle.eve_replica.specs.inner.RunInvariant.{AreDue, GoesOn, IsRightMixed, MayAttemptAll, AttemptsAll};
 ghost use Rattle.eve_replica.specs.inner.RunInvariant.{attempt_move};
-ghost use Rattle.eve_replica.specs.inner.RunInvariant.{IsNotedAs, MismatchesAmid, server_with};
+ghost use Rattle.eve_replica.specs.inner.RunInvariant.{IsNotedAs, server_with};
 
 use crate::fault::{AttemptFault, fault_of};
 use crate::replica::Replica;
@@ -70,7 +69,6 @@ impl<'n> Replica<'n> {
         requires noted { AllZip (IsNotedAs self.old.names) window.now noted.now }
         ensures on { OnOk result (AttemptsAll window.now self.old steps.old self.new steps.new) }
         ensures broken { OnErr result (self.new.is_broken ≡ true) }
-        ensures mismatch { IfErr result (IsMismatchOnly (MismatchesAmid window.now self.old self.new)) }
     {
         for place in 0..window.len() {
             match self.add_attempt(alloc, steps, &window[place], noted[place].as_slice()) {
@@ -96,8 +94,6 @@ impl<'n> Replica<'n> {
         ensures on { OnOk result (GoesOn (attempt_move 1 (plain_batch mixed.now.batch ∷ []))
             (server_with self.old steps.old) (server_with self.new steps.new)) }
         ensures broken { OnErr result (self.new.is_broken ≡ true) }
-        ensures mismatch { IfErr result (IsMismatchOnly (MismatchesDue self.old (plain_batch mixed.now.batch)
-            × (self.new ≡ record self.old { is_broken = true }))) }
     {
         let touched = mixed.touched.as_slice();
         let attempt = self.close_noted(alloc, &mixed.batch, touched, records)?;
@@ -121,7 +117,10 @@ impl<'n> Replica<'n> {
         ensures attempted { IfOk result (λ a. AttemptsDue self.old self.new (plain_batch batch.now) (attempt a)) }
         ensures refused { IfErr result (λ why. FailsAttempt why self.old self.new) }
         ensures broken { OnErr result (self.new.is_broken ≡ true) }
-        ensures mismatch { IfErr result (IsMismatchOnly (MismatchesDue self.old (plain_batch batch.now))) }
+        ensures mismatch { let prefix = attempt_head_of self.old.ledger self.old.ledger.view
+            self.old.ledger.is_next_serial in
+            result ≡ Err AttemptFault.Mismatch → AreMismatched prefix self.old.ledger (plain_batch batch.now)
+            (touched_in_batch self.old.names (plain_batch batch.now)) records.now }
     {
         match self.close(alloc, batch, touched, records, greatest_tick(records)) {
             Ok(attempt) => Ok(attempt),

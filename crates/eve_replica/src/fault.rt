@@ -1,7 +1,7 @@
 //! Why calls of a replica and of a deployment are refused.
 
 ghost use Rattle.std.specs.Prelude.{◌≡◌};
-ghost use Rattle.eve_replica.specs.Replicas.{IsFresh, IsMismatchOnly};
+ghost use Rattle.eve_replica.specs.Replicas.{IsOfWorkers};
 ghost use Rattle.eve_replica.specs.RunFaults.{attempt_fault_of, run_fault_of};
 ghost use Rattle.eve_replica.specs.declared.fault.RunFault.TheVariants as run;
 
@@ -90,9 +90,8 @@ impl From<AttemptFault> for RunFault {
 
 /// The attempt's fault for a worker's.
 pub(crate) fn fault_of(why: ExecFault) -> AttemptFault
-    ensures fresh { IsFresh result }
+    ensures of_workers { IsOfWorkers result }
     ensures same { result ≡ attempt_fault_of why }
-    ensures matched { IsMismatchOnly ⊥ result }
 {
     match why {
         ExecFault::Memory => AttemptFault::Memory,

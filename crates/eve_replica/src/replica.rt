@@ -12,8 +12,7 @@ ghost use Rattle.eve_attempts.specs.Ledgers.{ledger_rows, opening};
 ghost use Rattle.eve_attempts.specs.ClosedAttempts.{touched_in_batch, AreMismatched};
 ghost use Rattle.eve_attempts.specs.CommitsAndRollbacks.{RollsBack};
 ghost use Rattle.eve_attempts.specs.Transfers.{IsStateOf, Transfers};
-ghost use Rattle.eve_replica.specs.Replicas.{Attempts, FailsAttempt, ClosesOwn, IsMismatchOnly, MismatchesNoted};
-ghost use Rattle.eve_replica.specs.Replicas.{attempt_head_of};
+ghost use Rattle.eve_replica.specs.Replicas.{Attempts, FailsAttempt, ClosesOwn};
 ghost use Rattle.eve_replica.specs.Replicas.{IsDue, IsFirstOpen, CommitsFirst};
 
 use crate::attempting::assignment_of;
@@ -199,10 +198,10 @@ impl<'n> Replica<'n> {
     /// docs/TRACE.md, "The deployment's procedure". `has_room`, `next_number`, `view` and `is_next_serial` say what the
     /// conditions ask; the next number is at most `MOST_BATCHES`. The gate is entered before each execution, with the
     /// request's index. Nothing that the threads did is believed: the attempt is what the replica's own ledger makes
-    /// of the records that they noted (`AreNotedOf`, `Closes`). `Mismatch` comes only where some that they noted make
-    /// none. Any other fault is one worker's, where several have one: `Full`, `Spent`, `NoRow`, `TickOrder`, `Worn`,
-    /// `Memory`. Each fault but `Broken` leaves the ledger as it was, and breaks the replica until `rollback`
-    /// succeeds. May wait for other threads.
+    /// of the records that they noted (`AreNotedOf`, `Closes`). `Mismatch` says that they make
+    /// none. `Full`, `Spent`, `NoRow`, `TickOrder`, `Worn` and `Memory` are one worker's, where several have one. Each
+    /// fault but `Broken` leaves the ledger as it was, and breaks the replica until `rollback` succeeds. May wait for
+    /// other threads.
     pub fn run_attempt<R: Threads + Wait + Sync, G: Gate>(
         &mut self,
         rt: &R,
@@ -219,8 +218,6 @@ impl<'n> Replica<'n> {
         requires batch { IsTrue (is_batch (plain batch.now)) }
         ensures attempted { IfOk result (λ a. Attempts view serial self.old self.new (plain batch.now) (attempt a)) }
         ensures refused { IfErr result (λ why. FailsAttempt why self.old self.new) }
-        ensures mismatch { let prefix = attempt_head_of self.old.ledger view serial in
-            IfErr result (IsMismatchOnly (MismatchesNoted prefix self.old (plain batch.now))) }
     {
         if self.is_broken {
             return Err(AttemptFault::Broken);

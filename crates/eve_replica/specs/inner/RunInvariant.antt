@@ -21,7 +21,7 @@ use Rattle.eve_write.specs.declared.sent.SentData.{SentData}
 use Rattle.eve_workload.specs.declared.mixer.MixedBatch.{MixedBatch}
 use Rattle.eve_stamps.specs.Applied.{Applied}
 use Rattle.eve_floor.specs.Recording.{AreNotedOf}
-use Rattle.eve_replica.specs.Replicas.{MismatchesDue, Replica}
+use Rattle.eve_replica.specs.Replicas.{Replica}
 use Rattle.eve_replica.specs.Decisions.{is_some_of, token_given_up, AreUndecided}
 use Rattle.eve_replica.specs.Sections.{RunPlan, GoesThrough, AreVotesOf, place_due, commit_vote, rollback_vote}
 use Rattle.eve_replica.specs.Sections.{reaches_batch}
@@ -369,14 +369,6 @@ abbrev pub AttemptsAll : List MixedBatch → Replica → Vec code.Step Global �
 AttemptsAll window old before new after =
     GoesOn (attempt_move (length window) (map (λ m. plain m.batch) window)) (server_with old before)
     (server_with new after)
-
--- Attempts of the first batches were made, and of the next one what the workers noted makes none.
-pub record MismatchesAmid (window : List MixedBatch) (old new : Replica) : Type 0 where
-  pub made : ℕ
-  pub opened : length new.ledger.opened ≡ length old.ledger.opened + made
-  pub mixed : MixedBatch
-  pub next : slice_get window made ≡ Some mixed
-  pub mismatched : MismatchesDue new (plain mixed.batch)
 
 -- ---- a window of attempts of all replicas
 

@@ -4,10 +4,7 @@ use Rattle.eve_grammar.specs.Limits.{is_step}
 use Rattle.eve_write.specs.Data.{batch, attempt, section}
 use Rattle.eve_attempts.specs.Ledgers.{ledger_rows}
 use Rattle.eve_replica.specs.inner.RunInvariant.{server_with}
-use Rattle.eve_replica.specs.Replicas.{MismatchesDue}
-use Rattle.eve_replica.proofs.Mismatches.{mismatch_breaks}
 use Rattle.eve_replica.proofs.Steps.{attempt_goes}
-use Rattle.eve_replica.proofs.Endings.{at_err}
 use Rattle.eve_replica.proofs.replica.Replica.add_attempt.Goals as goal
 
 pub returns-in-Ok-clause-on : goal.returns-in-Ok-clause-on
@@ -19,11 +16,3 @@ returns-in-Ok-clause-on c =
     c.requires.due refl refl refl refl made c.in-Ok.ensures.added
     (λ h. c.in-Ok.ensures.right (ledger_rows c.close_noted.new.self.ledger) (search rules)
     (subst (λ n. IsTrue (list_all (is_step n) steps)) (sym made.1.1.closed.opens.as_many) h))
-
-pub returns-in_err-attempt-clause-mismatch : goal.returns-in_err-attempt-clause-mismatch
-returns-in_err-attempt-clause-mismatch c =
-    let why = c.in_err-attempt.field-0.0 in
-    let due = MismatchesDue c.args.self.now (batch c.args.mixed.now.batch) in
-    at_err c.from_residual.result _ why c.from_residual.ensures.1
-    (mismatch_breaks due why c.args.self.now c.close_noted.new.self c.in_err-attempt.ensures.refused
-    c.in_err-attempt.ensures.mismatch)

@@ -4,13 +4,11 @@ use Rattle.std.proofs.lemmas.Option.{slice_get-map, slice_get_read}
 use Rattle.eve_write.specs.Data.{batch}
 use Rattle.eve_workload.specs.declared.mixer.MixedBatch.{MixedBatch}
 use Rattle.eve_replica.specs.declared.standing.Standing.{Standing}
-use Rattle.eve_replica.specs.inner.RunInvariant.{GoesOn, IsNotedAs, IsRightMixed, MismatchesAmid, attempt_move}
+use Rattle.eve_replica.specs.inner.RunInvariant.{GoesOn, IsNotedAs, IsRightMixed, attempt_move}
 use Rattle.eve_replica.specs.inner.RunInvariant.{server_with}
 use Rattle.eve_stamps.specs.Applied.{Applied}
 use Rattle.eve_floor.specs.Recording.{AreNotedOf}
-use Rattle.eve_replica.specs.Replicas.{MismatchesDue, Replica}
 use Rattle.eve_replica.proofs.Moves.{one_more}
-use Rattle.eve_replica.proofs.Mismatches.{mismatch_so, still_due}
 use Rattle.eve_replica.proofs.Noted.{noted_at}
 use Rattle.eve_replica.proofs.Steps.{none_made}
 use Rattle.eve_replica.proofs.replica.Replica.close_window.Goals as goal
@@ -67,24 +65,6 @@ add_attempt-requires-clause-noted c =
     (sym c.loop-place.invariant.names)
     (noted_at c.args.self.now.names c.args.window.now c.args.noted.now c.loop-place.place c.index-window-place.result
     c.index-noted-place.result c.requires.noted (omega arith) c.index-window-place.is c.index-noted-place.is))
-
-pub returns-in-Err-clause-mismatch : goal.returns-in-Err-clause-mismatch
-returns-in-Err-clause-mismatch c =
-    let window = c.args.window.now in
-    let mixed : MixedBatch = c.index-window-place.result in
-    let b = batch mixed.batch in
-    let was : Replica = c.loop-place.self in
-    let new : Replica = c.add_attempt.new.self in
-    let stands = ap (λ (s : Standing). s.opened) (c.loop-place.invariant.live refl).1 in
-    mismatch_so (MismatchesDue was b × (new ≡ record was { is_broken = true }))
-    (MismatchesAmid window c.args.self.now new) c.in-Err.why
-    (λ made. record {
-      made = c.loop-place.place;
-      opened = let same = ap (λ (r : Replica). length r.ledger.opened) made.1 in omega (arith, same, stands);
-      mixed = mixed;
-      next = slice_get_read window (length window) c.loop-place.place mixed refl (omega arith) c.index-window-place.is;
-      mismatched = subst (λ (r : Replica). MismatchesDue r b) (sym made.1) (still_due was b made.0);
-    }) c.in-Err.ensures.mismatch
 
 pub bounds-noted-place : goal.bounds-noted-place
 bounds-noted-place c =
