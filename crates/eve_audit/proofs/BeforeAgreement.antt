@@ -1,10 +1,10 @@
 -- Where the first fault is one of agreement, none of an earlier phase stands.
-use Rattle.std.proofs.Common.{◌≡◌, ℕ, ◌<◌, List, length, arith}
+use Rattle.std.proofs.Common.{◌≡◌, ℕ, ◌<◌, inl, inr, List, length, arith}
 use Rattle.eve_grammar.specs.Trace.{Trace}
 use Rattle.eve_grammar.specs.Limits.{HasLimits}
 use Rattle.eve_grammar.specs.FrameOrder.{Spells}
 use Rattle.eve_views.specs.Code.{phase_of}
-use Rattle.eve_views.specs.Form.{HasNone}
+use Rattle.eve_views.specs.Form.{HasNone, Precedes}
 use Rattle.eve_views.specs.declared.fault.Fault.{Fault}
 use Rattle.eve_audit.specs.Verdict.{IsFirst, in_trace, IsOwnFault, IsTraceFault, in_section, in_common}
 use Rattle.eve_audit.specs.Verdict.{of_votes, of_majorities}
@@ -16,9 +16,11 @@ use Rattle.eve_audit.proofs.Faultless.{Laws, all_sound, votes_hold, steps_backed
 module _ (laws : Laws) (bytes : List ℕ) (t : Trace) (f : Fault) (limits : HasLimits t) (spells : Spells bytes t)
     (first : IsFirst bytes f) (late : phase_of f.code ≡ 10) where
   none_before : (g : Fault) → IsTraceFault t g → phase_of g.code < 10 → ⊥
-  none_before g is before =
-      first.judged.alone g (in_trace t spells is)
-      (omega (arith, before, late), λ three few. absurd (omega (arith, late, few)))
+  none_before g is before = after (first.first g (in_trace t spells is))
+    where
+      after : Precedes f g → ⊥
+      after (inl later) = omega (arith, before, late, later)
+      after (inr same) = let alike = same.0 in omega (arith, before, late, alike)
 
   own_none : (e : ℕ) → e < length t.sections → HasNone (IsOwnFault t e)
   own_none e lt g is =

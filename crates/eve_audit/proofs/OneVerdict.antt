@@ -98,10 +98,10 @@ module _ (laid : (t : Trace) → IsLaidOut t) (spelled_once : (bytes : List ℕ)
 
   one_fault : (f g : Fault) → IsFirst bytes f → IsFirst bytes g → f ≡ g
   one_fault f g one other =
-      let same = both_ways f g (one.first g other.judged) (other.first f one.judged) in
+      let same = both_ways f g (one.first g other.stands) (other.first f one.stands) in
       joined f g same.0 same.1
-      (one_replica f g same.0 same.1 (placed laid bytes f one.judged.stands)
-      (placed laid bytes g other.judged.stands))
+      (one_replica f g same.0 same.1 (placed laid bytes f one.stands)
+      (placed laid bytes g other.stands))
     where
       joined : (f g : Fault) → f.offset ≡ g.offset → f.code ≡ g.code → f.replica ≡ g.replica → f ≡ g
       joined f g at same replica = ap (λ (x : ℕ). fault f.code x f.replica) at
@@ -122,6 +122,6 @@ module _ (laid : (t : Trace) → IsLaidOut t) (spelled_once : (bytes : List ℕ)
   one_verdict (Yes s) (Yes r) one other =
       ap Yes (one_summary one.0 s r one.3
       (subst (λ (t : Trace). IsSummary t r) (spelled_once bytes other.0 one.0 other.1 one.1) other.3))
-  one_verdict (Yes s) (No g) one other = absurd (one.2 g other.judged.stands)
-  one_verdict (No f) (Yes r) one other = absurd (other.2 f one.judged.stands)
+  one_verdict (Yes s) (No g) one other = absurd (one.2 g other.stands)
+  one_verdict (No f) (Yes r) one other = absurd (other.2 f one.stands)
   one_verdict (No f) (No g) one other = ap No (one_fault f g one other)

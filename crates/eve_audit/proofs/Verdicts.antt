@@ -1,8 +1,7 @@
 -- From what is found in the bytes and in their trace to the verdict.
-use Rattle.std.proofs.Common.{◌≡◌, ℕ, ◌<◌, ◌≤◌, inl, inr, List, length, sym, subst, ◌∙◌, arith}
+use Rattle.std.proofs.Common.{◌≡◌, ℕ, ◌≤◌, inl, inr, List, length, sym, subst, ◌∙◌, arith}
 use Rattle.eve_grammar.specs.Trace.{Trace}
 use Rattle.eve_grammar.specs.FrameOrder.{Spells}
-use Rattle.eve_views.specs.Code.{phase_of}
 use Rattle.eve_views.specs.Form.{Precedes, IfFound, IsLeast, HasNone, StandsInForm, IsFaultOutside}
 use Rattle.eve_views.specs.declared.fault.CheckFault.{CheckFault}
 use Rattle.eve_views.specs.declared.fault.CheckFault.TheVariants.{Found, Memory}
@@ -12,24 +11,12 @@ use Rattle.eve_audit.specs.Verdict.{Stands, in_form, in_trace, IsTraceFault, IsF
 use Rattle.eve_audit.specs.Reports.{IsFirstOf, IsLeastBelow}
 use Rattle.eve_audit.proofs.Phases.{form_phase}
 
--- what precedes all that stands is judged, and the first
-first_of_all : (bytes : List ℕ) (f : Fault) → Stands bytes f → ((g : Fault) → Stands bytes g → Precedes f g)
-    → IsFirst bytes f
-first_of_all bytes f stands first = record {
-  judged = record { stands = stands; alone = λ g other masks. late g masks.0 (first g other) };
-  first = λ g judged. first g judged.stands;
-}
-  where
-    late : (g : Fault) → phase_of g.code < phase_of f.code → Precedes f g → ⊥
-    late g lt (inl more) = omega arith
-    late g lt (inr same) = let p = same.0 in omega arith
-
 -- ---- bytes that are no trace
 
 form_first : (bytes : List ℕ) (f : Fault) → IsLeast (IsFaultOutside StandsInForm bytes) f
     → ((t : Trace) → ¬ Spells bytes t)
     → IsFirst bytes f
-form_first bytes f least none = first_of_all bytes f (in_form least.is) by
+form_first bytes f least none = record { stands = in_form least.is; first = by }
   where
     by : (g : Fault) → Stands bytes g → Precedes f g
     by g (in_form is) = inr (form_phase bytes f least.is ∙ sym (form_phase bytes g is), least.least g is)
@@ -54,8 +41,10 @@ module _ (bytes : List ℕ) (t : Trace) (spells : Spells bytes t) (once : (u : T
 
   pub trace_first : (f : Fault) → HasNone (IsFaultOutside StandsInForm bytes) → IsFirstOf (IsTraceFault t) f
       → IsFirst bytes f
-  trace_first f formed found = first_of_all bytes f (stands_in_bytes f found.is)
-      (λ g stands. found.first g (stands_in_trace g formed stands))
+  trace_first f formed found = record {
+    stands = stands_in_bytes f found.is;
+    first = λ g stands. found.first g (stands_in_trace g formed stands);
+  }
 
   pub faultless : HasNone (IsFaultOutside StandsInForm bytes) → HasNone (IsTraceFault t) → HasNone (Stands bytes)
   faultless formed none = λ f stands. none f (stands_in_trace f formed stands)

@@ -2,7 +2,6 @@
 use Rattle.std.specs.Prelude.{◌≡◌, ℕ, ◌<◌, ◌≤◌, List, length}
 use Rattle.eve_grammar.specs.Trace.{Trace}
 use Rattle.eve_grammar.specs.FrameOrder.{Spells}
-use Rattle.eve_views.specs.Code.{phase_of}
 use Rattle.eve_views.specs.Form.{Precedes, StandsInForm, IsFaultOutside, IsFaultIn}
 use Rattle.eve_views.specs.declared.fault.Fault.{Fault}
 use Rattle.eve_history.specs.SectionHistory.{history}
@@ -28,7 +27,7 @@ pub data IsOwnFault (t : Trace) (e : ℕ) (f : Fault) : Type 0 where
   of_restores : IsFaultIn StandsInRestores t e f → IsOwnFault t e f
   of_tokens : IsFaultIn StandsInTokens t e f → IsOwnFault t e f
 
--- a fault that is judged only where no replica has one of its own
+-- a fault of a phase that judges all replicas together
 pub data IsCommonFault (t : Trace) (f : Fault) : Type 0 where
   of_votes : IsFaultOutside StandsInVotes t f → IsCommonFault t f
   of_majorities : (e : ℕ) × IsFaultIn StandsInMajorities t e f → IsCommonFault t f
@@ -46,20 +45,10 @@ pub data Stands (bytes : List ℕ) (f : Fault) : Type 0 where
   in_form : IsFaultOutside StandsInForm bytes f → Stands bytes f
   in_trace : (t : Trace) → Spells bytes t → IsTraceFault t f → Stands bytes f
 
--- A fault of an earlier phase keeps another from being judged. In phases 3 to 7 a replica is judged by itself: where
--- both are of these, only a fault of the same replica does.
-abbrev pub Masks : Fault → Fault → Type 0
-Masks g f = (phase_of g.code < phase_of f.code) × (3 ≤ phase_of g.code → phase_of f.code ≤ 7 → g.replica ≡ f.replica)
-
--- a fault that stands, and that no fault of an earlier phase masks
-pub record IsJudged (bytes : List ℕ) (f : Fault) : Type 0 where
-  pub stands : Stands bytes f
-  pub alone : (g : Fault) → Stands bytes g → ¬ Masks g f
-
--- the first of the faults that are judged
+-- the first of the faults that stand: of the earliest phase, there at the lowest byte, and there of the lowest code
 pub record IsFirst (bytes : List ℕ) (f : Fault) : Type 0 where
-  pub judged : IsJudged bytes f
-  pub first : (g : Fault) → IsJudged bytes g → Precedes f g
+  pub stands : Stands bytes f
+  pub first : (g : Fault) → Stands bytes g → Precedes f g
 
 -- how many replicas and batches there are, and the least, over the replicas, of the last number that each reached
 pub record IsSummary (t : Trace) (s : Summary) : Type 0 where

@@ -12,7 +12,8 @@ use Rattle.eve_views.specs.Code.{code_number, phase_of}
 use Rattle.eve_views.specs.declared.fault.Code.{Code}
 use Rattle.eve_views.specs.declared.fault.Code.TheVariants as code
 use Rattle.eve_views.specs.declared.fault.Fault.{Fault}
-use Rattle.eve_views.specs.Form.{SomePlace, HasNone, IsFaultIn, Precedes}
+use Rattle.eve_views.specs.Form.{SomePlace, HasNone, IsFaultIn, IsFaultOutside, IsLeast, Precedes, StandsInForm}
+use Rattle.eve_views.proofs.Firsts.{up_to_from}
 use Rattle.eve_history.specs.Section.{ByTransfer}
 use Rattle.eve_history.specs.Order.{StandsInOrders}
 use Rattle.eve_history.specs.Structure.{StandsInStructure}
@@ -26,7 +27,7 @@ use Rattle.eve_agree.specs.Agreement.{StandsInAgreement}
 use Rattle.eve_agree.specs.SentReplies.{StandsInReplies}
 use Rattle.eve_votes.specs.Faults.{StandsInVotes}
 use Rattle.eve_audit.specs.Verdict.{IsOwnFault, of_structure, of_records, of_chains, of_restores, of_tokens}
-use Rattle.eve_audit.specs.Verdict.{IsTraceFault, in_section, Stands, in_form, in_trace, Masks, IsJudged}
+use Rattle.eve_audit.specs.Verdict.{IsFirst, IsTraceFault, in_section, Stands, in_form, in_trace}
 use Rattle.eve_audit.proofs.Phases.{form_phase, structure_phase, record_phase, chain_phase, restore_phase, token_phase}
 use Rattle.eve_evidence.specs.Section.{StandsAlong}
 use Rattle.eve_explain.specs.inner.Behind.{IsFirstInTrace, IsBehind}
@@ -84,7 +85,7 @@ pub record IsThere (S : Code → Trace → ℕ → ℕ → Type 0) (t : Trace) (
 module _ (one : OneTrace) (t : Trace) (f : Fault) (first : IsFirstInTrace t f) where
   -- it is one of the trace, if it is of a later phase than form
   in_this : 1 < phase_of f.code → IsTraceFault t f
-  in_this later = by first.2.judged.stands
+  in_this later = by first.2.stands
     where
       by : Stands first.0 f → IsTraceFault t f
       by (in_form is) = absurd (omega (arith, later, form_phase first.0 f is))
@@ -144,32 +145,34 @@ module _ (one : OneTrace) (t : Trace) (f : Fault) (first : IsFirstInTrace t f) w
 
   -- a fault that stands behind a phase of a replica's has none of that phase, nor of one before it, in its section
   none_behind : (phase e : ℕ) → phase ≤ 7 → IsBehind phase f e → (g : Fault) → (e < length t.sections)
-      → IsOwnFault t e g → phase_of g.code ≤ phase → g.replica ≡ Some e → ⊥
-  none_behind phase e own behind g there is early inside =
-      first.2.judged.alone g (in_trace t first.1 (in_section (e, there, is))) (masks behind)
+      → IsOwnFault t e g → phase_of g.code ≤ phase → ⊥
+  none_behind phase e own behind g there is early = after behind (first.2.first g (in_trace t first.1
+      (in_section (e, there, is))))
     where
-      masks : IsBehind phase f e → Masks g f
-      masks (inl far) = (omega (arith, own, early, far), λ low high. absurd (omega (arith, far, high)))
-      masks (inr later) = (omega (arith, early, later.0), λ low high. inside ∙ sym later.1)
+      after : IsBehind phase f e → Precedes f g → ⊥
+      after (inl far) (inl later) = omega (arith, own, early, far, later)
+      after (inl far) (inr same) = let alike = same.0 in omega (arith, own, early, far, alike)
+      after (inr behind) (inl later) = let far = behind.0 in omega (arith, early, far, later)
+      after (inr behind) (inr same) = let far = behind.0 in let alike = same.0 in omega (arith, early, far, alike)
 
   -- none of structure
   pub no_structure : (e : ℕ) → IsBehind 3 f e → e < length t.sections → HasNone (IsFaultIn StandsInStructure t e)
   no_structure e behind there g is =
-      none_behind 3 e (omega arith) behind g there (of_structure is) (omega (arith, structure_phase t e g is)) is.inside
+      none_behind 3 e (omega arith) behind g there (of_structure is) (omega (arith, structure_phase t e g is))
 
   -- none of records or chains
   pub no_records_or_chains : (e : ℕ) → IsBehind 5 f e → e < length t.sections → HasNoFault t e
   no_records_or_chains e behind there = record {
     records = λ g is. none_behind 5 e (omega arith) behind g there (of_records is)
-        (omega (arith, record_phase t e g is)) is.inside;
+        (omega (arith, record_phase t e g is));
     chains = λ g is. none_behind 5 e (omega arith) behind g there (of_chains is)
-        (omega (arith, chain_phase t e g is)) is.inside;
+        (omega (arith, chain_phase t e g is));
   }
 
   -- of a replica's certificate it has none of the same attempt beside it
-  certificate_apart : (e : ℕ) → e < length t.sections → f.replica ≡ Some e → f.code ≡ code.Certificate
+  certificate_apart : (e : ℕ) → e < length t.sections → f.code ≡ code.Certificate
       → StandsInStructure code.Attempt t e f.offset → ⊥
-  certificate_apart e there named is attempt = after (first.2.first g judged)
+  certificate_apart e there is attempt = after (first.2.first g stands)
     where
       g : Fault
       g = record { code = code.Attempt; offset = f.offset; replica = Some e }
@@ -177,18 +180,8 @@ module _ (one : OneTrace) (t : Trace) (f : Fault) (first : IsFirstInTrace t f) w
       three : phase_of f.code ≡ 3
       three = ap phase_of is
 
-      moved : (h : Fault) → Masks h g → Masks h f
-      moved h masks = (
-        subst (λ (n : ℕ). phase_of h.code < n) (sym three) masks.0,
-        λ low high. masks.1 low (omega arith) ∙ sym named,
-      )
-
-      judged : IsJudged first.0 g
-      judged = record {
-        stands = in_trace t first.1
-            (in_section (e, there, of_structure (record { stands = attempt; inside = refl })));
-        alone = λ h stands masks. first.2.judged.alone h stands (moved h masks);
-      }
+      stands : Stands first.0 g
+      stands = in_trace t first.1 (in_section (e, there, of_structure (record { stands = attempt; inside = refl })))
 
       number : code_number f.code ≡ 21
       number = ap code_number is
@@ -203,7 +196,7 @@ module _ (one : OneTrace) (t : Trace) (f : Fault) (first : IsFirstInTrace t f) w
   along_of : AlongLaws → (e : ℕ) → e < length t.sections → IsOwnFault t e f → phase_of f.code ≤ 5
       → (f.replica ≡ Some e) × StandsAlong f.code t e f.offset
   along_of laws e there (of_structure is) early =
-      (is.inside, laws.structure t f.code e f.offset is.stands (certificate_apart e there is.inside))
+      (is.inside, laws.structure t f.code e f.offset is.stands (certificate_apart e there))
   along_of laws e there (of_records is) early = (is.inside, laws.records t f.code e f.offset is.stands)
   along_of laws e there (of_chains is) early = (is.inside, laws.chains t f.code e f.offset is.stands)
   along_of laws e there (of_restores is) early = absurd (omega (arith, early, restore_phase t e f is))
@@ -218,3 +211,16 @@ module _ (one : OneTrace) (t : Trace) (f : Fault) (first : IsFirstInTrace t f) w
       named_there StandsAlong own.0 e own.1 is.0 is.1 named
 
 -- ---- form
+
+-- of bytes that are no trace it is the least fault of form
+pub least_in_form : (bytes : List ℕ) (f : Fault) → IsFirst bytes f → ((t : Trace) → ¬ Spells bytes t)
+    → IsLeast (IsFaultOutside StandsInForm bytes) f
+least_in_form bytes f first none = by first.stands
+  where
+    by : Stands bytes f → IsLeast (IsFaultOutside StandsInForm bytes) f
+    by (in_trace t spells is) = absurd (none t spells)
+    by (in_form is) = record {
+      is = is;
+      least = λ g other. up_to_from f g (form_phase bytes f is ∙ sym (form_phase bytes g other))
+          (first.first g (in_form other));
+    }

@@ -121,7 +121,7 @@ module _ (bytes : List ℕ) (t : Trace) (collides : (f : Fault) → IsTraceFault
 
   pub accepted : (v : Verdict) → IsVerdict bytes v → ((s : Summary) × IsVerdict bytes (Yes s)) ⊎ Collides t
   accepted (Yes s) is = inl (s, is)
-  accepted (No f) is = inr (standing_collides f is.judged.stands)
+  accepted (No f) is = inr (standing_collides f is.stands)
 
 -- what a yes says of it
 pub audited : (bytes : List ℕ) (t : Trace) → ((s : Summary) → IsVerdict bytes (Yes s) → IsAudited t)

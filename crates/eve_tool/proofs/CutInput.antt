@@ -6,7 +6,7 @@ use Rattle.std.specs.Prelude.{IfSome, IsFalse, Option, nat_le}
 use Rattle.std.proofs.lemmas.Bool.{cases_lt, lt-leb}
 use Rattle.std.proofs.lemmas.List.{length-take, take_all}
 use Rattle.eve_audit.proofs.FirstFaults.{trace_phase}
-use Rattle.eve_audit.specs.Verdict.{IsFirst, IsJudged, IsVerdict, SpellsAudited, Stands, in_form}
+use Rattle.eve_audit.specs.Verdict.{IsFirst, IsVerdict, SpellsAudited, Stands, in_form}
 use Rattle.eve_audit.specs.Verdict.{in_trace}
 use Rattle.eve_audit.specs.declared.verdict.Verdict.{Verdict}
 use Rattle.eve_audit.specs.declared.verdict.Verdict.TheVariants.{No, Yes}
@@ -155,13 +155,6 @@ phase-least : (c : Code) → 1 ≤ phase_of c
 phase-least code.Length = omega arith
 phase-least _ = omega arith
 
--- no fault comes before one of the first phase
-length_is_judged : (bytes : List ℕ) → 2 ^ 30 < length bytes → IsJudged bytes length_fault
-length_is_judged bytes long = record {
-  stands = in_form (length_stands bytes long);
-  alone = λ g stands masks. absurd (omega (arith, masks.0, phase-least g.code));
-}
-
 -- what stands as Length is a fault of form
 stands_outside : (bytes : List ℕ) (f : Fault) → f.code ≡ code.Length → Stands bytes f → f.replica ≡ None
 stands_outside bytes f is_length (in_form is) = is.outside
@@ -185,17 +178,13 @@ precedes_all f g prefix is_length =
 -- bytes that are too long have one first fault, whatever they are
 same_first : (xs ys : List ℕ) (f : Fault) → 2 ^ 30 < length xs → 2 ^ 30 < length ys → IsFirst xs f → IsFirst ys f
 same_first xs ys f long longer first =
-    let is_its = precedes_length f (first.first length_fault (length_is_judged xs long)) in
-    let low : phase_of f.code ≡ 1 = ap phase_of is_its.1 in
+    let is_its = precedes_length f (first.first length_fault (in_form (length_stands xs long))) in
     record {
-      judged = record {
-        stands = in_form (record {
-          stands = subst (λ (c : Code). StandsInForm c ys f.offset) (sym is_its.1) (is_its.0, too_long ys longer);
-          outside = stands_outside xs f is_its.1 first.judged.stands;
-        });
-        alone = λ g stands masks. absurd (omega (arith, masks.0, low, phase-least g.code));
-      };
-      first = λ g judged. precedes_all f g is_its.0 is_its.1;
+      stands = in_form (record {
+        stands = subst (λ (c : Code). StandsInForm c ys f.offset) (sym is_its.1) (is_its.0, too_long ys longer);
+        outside = stands_outside xs f is_its.1 first.stands;
+      });
+      first = λ g stands. precedes_all f g is_its.0 is_its.1;
     }
 
 same_verdict : (xs ys : List ℕ) (v : Verdict) → 2 ^ 30 < length xs → 2 ^ 30 < length ys → IsVerdict xs v

@@ -9,4 +9,4 @@ returns c = λ bytes t f spells verdict outcome.
     let late : phase_of f.code ≡ 10 = ap phase_of outcome in
     standing_outcome_collides bytes t f (λ u other. c.bytes_spell_one_trace.ensures bytes u t other spells) outcome
     (limits_of_spelled bytes t spells) (c.faults_of_agreement_come_late.ensures bytes t f verdict spells late)
-    verdict.judged.stands
+    verdict.stands
